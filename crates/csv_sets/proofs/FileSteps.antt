@@ -1,0 +1,231 @@
+-- The rows of a file, record by record.
+use Rattle.std.proofs.Common.{◌≡◌, ◌≤◌, ◌+◌, ◌-◌, ◌==◌, ℕ, List, [], ◌∷◌, ◌++◌, get_or, length, map, Bool, true, false, not, Option, Some, None, Result, Ok, Err, IfOk, refl, sym, ap, ◌∙◌, arith, bytes_eq, cond, String, BTreeSet, Global, Vec, string_bytes, string_cmp, nat_lt}
+use Rattle.std.proofs.lemmas.List.Elements.{All-nil, All-push}
+use Rattle.std.proofs.lemmas.List.{get_or_push, length-append, length-map, map_push}
+use Rattle.std.proofs.lemmas.List.Folds.{list_any-append}
+use Rattle.std.proofs.lemmas.Map.Text.{btree_set_updates_text}
+use Rattle.std.proofs.lemmas.Bool.Decides.{nat_tests}
+use Rattle.std.proofs.lemmas.Str.{IsUtf8-from_is_utf8, is_utf8-from_IsUtf8}
+use Rattle.std.specs.BTreeSet as sorted
+use Rattle.std.specs.Cmp.Lexicographic.{slice_cmp}
+use Rattle.std.specs.List.{All, AllByRecursion, IsDistinct}
+use Rattle.std.specs.Ordering.{nat_cmp}
+use Rattle.std.specs.Str.{is_utf8}
+use Rattle.std.specs.Prelude.{IsUtf8, ◌||◌, if◌then◌else◌}
+use Rattle.csv.specs.Reading.{default_config, records, strip_bom}
+use Rattle.csv.specs.Records.{AllText}
+use Rattle.roster_base.specs.Reading.{Fails, Gives, ◌>>=◌}
+use Rattle.roster_base.specs.declared.refusal.Refusal.{Refusal}
+use Rattle.roster_base.specs.declared.refusal.Refusal.TheVariants as refusal
+use Rattle.roster_types.specs.declared.metadata.Entry.{Entry}
+use Rattle.roster_types.specs.declared.set_row.SetRow.{SetRow}
+use Rattle.roster_types.specs.Lengths.{row_length}
+use Rattle.roster_types.specs.Records.{Record, is_dated, record_from}
+use Rattle.roster_types.specs.Rows.{longest, row_from}
+use Rattle.roster_values.specs.declared.kind.Kind.{Kind}
+use Rattle.roster_values.specs.declared.mode.Mode.{Mode}
+use Rattle.roster_values.specs.declared.value.Value.{Value}
+use Rattle.roster_values.specs.Table.{table}
+use Rattle.csv_sets.specs.declared.fault.RowFault.{RowFault}
+use Rattle.csv_sets.specs.declared.fault.SetFault.{SetFault}
+use Rattle.csv_sets.specs.declared.fault.SetFault.TheVariants.{NotUtf8, RepeatedId}
+use Rattle.csv_sets.specs.declared.fault.SetFile.TheVariants.{RowsOf}
+use Rattle.csv_sets.specs.Files.{HoldsIds, file_of, has_id, in_record, largest, rows_after, rows_of}
+use Rattle.csv_sets.specs.Headers.{Header, columns_checked, columns_of, header_from, header_of, place_of, required_checked}
+use Rattle.csv_sets.specs.Left.{AllRowsText, GivesRecord}
+use Rattle.csv_sets.specs.Rows.{metadata_at, row_at, set_row, values_at}
+
+-- how far the reading has come: the records that are left lead to the whole answer
+pub record Leads (kind : Kind) (mode : Mode) (header : Header) (front : List SetRow) (number : ℕ) (left whole : List (List (List ℕ))) : Type 0 where
+  pub same : rows_after kind mode header front number left ≡ rows_after kind mode header [] 2 whole
+  pub text : AllRowsText left
+  pub count : number + length left ≡ 2 + length whole
+
+pub leads_start : (kind : Kind) (mode : Mode) (header : Header) (whole : List (List (List ℕ))) → AllRowsText whole → Leads kind mode header [] 2 whole whole
+leads_start kind mode header whole text = record { same = refl; text = text; count = refl }
+
+-- a record that was found, and those behind it
+pub found_first : (old new : List (List (List ℕ))) (found : Bool) (cells : List (List ℕ)) → GivesRecord old found cells new → found ≡ true → old ≡ cells ∷ new
+found_first old new true cells g e = g
+found_first old new false cells g e = cc e
+
+pub found_none : (old new : List (List (List ℕ))) (found : Bool) (cells : List (List ℕ)) → GivesRecord old found cells new → found ≡ false → old ≡ []
+found_none old new true cells g e = cc e
+found_none old new false cells g e = g
+
+text_first : (old : List (List (List ℕ))) (cells : List (List ℕ)) (new : List (List (List ℕ))) → old ≡ cells ∷ new → AllRowsText old → AllText cells × AllRowsText new
+text_first old cells new e t = rw e at t
+
+pub cells_text : {old : List (List (List ℕ))} {cells : List (List ℕ)} {new : List (List (List ℕ))} → old ≡ cells ∷ new → AllRowsText old → AllText cells
+cells_text {old} {cells} {new} e t = (text_first old cells new e t).0
+
+pub leads_end : {kind : Kind} {mode : Mode} {header : Header} {front : List SetRow} {number : ℕ} {left whole : List (List (List ℕ))} → Leads kind mode header front number left whole → left ≡ []
+    → rows_after kind mode header [] 2 whole ≡ Ok front
+unfolding rows_after
+leads_end l e = sym l.same ∙ rw e refl
+
+pub leads_fail : {kind : Kind} {mode : Mode} {header : Header} {front : List SetRow} {number : ℕ} {left whole : List (List (List ℕ))} (cells : List (List ℕ)) (new : List (List (List ℕ))) (e : Refusal SetFault)
+    → Leads kind mode header front number left whole → left ≡ cells ∷ new → Fails e (in_record kind number (row_at kind mode header cells)) → Fails e (rows_after kind mode header [] 2 whole)
+unfolding rows_after
+leads_fail cells new refusal.NoMemory l d h = tt
+leads_fail cells new (refusal.Fault f) l d h = rw (sym l.same, d, h) refl
+
+pub leads_repeated : {kind : Kind} {mode : Mode} {header : Header} {front : List SetRow} {number : ℕ} {left whole : List (List (List ℕ))} (cells : List (List ℕ)) (new : List (List (List ℕ))) (row : SetRow)
+    → Leads kind mode header front number left whole → left ≡ cells ∷ new → in_record kind number (row_at kind mode header cells) ≡ Ok row → has_id row.row.id front ≡ true
+    → rows_after kind mode header [] 2 whole ≡ Err (RepeatedId (RowsOf kind) number)
+unfolding rows_after
+leads_repeated cells new row l d h r = sym l.same ∙ rw (d, h, r) refl
+
+pub leads_on : {kind : Kind} {mode : Mode} {header : Header} {front : List SetRow} {number : ℕ} {left whole : List (List (List ℕ))} (cells : List (List ℕ)) (new : List (List (List ℕ))) (row : SetRow)
+    → Leads kind mode header front number left whole → left ≡ cells ∷ new → in_record kind number (row_at kind mode header cells) ≡ Ok row → has_id row.row.id front ≡ false
+    → Leads kind mode header (front ++ row ∷ []) (number + 1) new whole
+unfolding rows_after
+leads_on {number = number} {left} cells new row l d h r = record {
+  same = rw (d, h, r) at l.same;
+  text = (text_first left cells new d l.text).1;
+  count = omega (arith, ap length d, l.count);
+}
+
+either : (a b : Bool) → cond b true a ≡ (a || (b || false))
+either true true = refl
+either true false = refl
+either false true = refl
+either false false = refl
+
+-- the ids of the rows, with one more
+pub ids_after : (ids new : BTreeSet (String Global)) (key : String Global) (rows : List SetRow) (row : SetRow) → HoldsIds ids rows → string_bytes key ≡ row.row.id
+    → sorted.UpdatesBy string_cmp (λ k. slice_cmp nat_cmp (string_bytes key) (string_bytes k)) ids new true → HoldsIds new (rows ++ row ∷ [])
+ids_after ids new key rows row h same updates q =
+    btree_set_updates_text (string_bytes key) ids new true updates q
+    ∙ rw (h q, same, list_any-append (λ (r : SetRow). bytes_eq r.row.id q) rows (row ∷ [])) (either (has_id q rows) (bytes_eq row.row.id q))
+
+-- the row that was put last
+pub last_row : (rows new : List SetRow) (row last : SetRow) (i : ℕ) → new ≡ rows ++ row ∷ [] → i ≡ length new - 1 → last ≡ get_or new i last → last ≡ row
+last_row rows new row last i e at is =
+    let here : length rows ≡ i = omega (arith, ap length e, length-append rows (row ∷ [])) in
+    is ∙ rw e (get_or_push rows row last i here)
+
+-- rows of one kind, whose ids differ
+pub record AreRows (kind : Kind) (rows : List SetRow) : Type 0 where
+  pub kinds : All (λ (r : SetRow). r.row.kind ≡ kind) rows
+  pub differ : IsDistinct bytes_eq (map (λ r. r.row.id) rows)
+
+neither : (a b : Bool) → (a || b) ≡ false → (a ≡ false) × (b ≡ false)
+neither true b e = cc e
+neither false b e = (refl, e)
+
+other_push : (id new : List ℕ) (ids : List (List ℕ)) → AllByRecursion (λ y. bytes_eq id y ≡ false) ids → bytes_eq id new ≡ false → AllByRecursion (λ y. bytes_eq id y ≡ false) (ids ++ new ∷ [])
+other_push id new [] h e = (e, tt)
+other_push id new (x ∷ ids) h e = (h.0, other_push id new ids h.1 e)
+
+distinct_push : (rows : List SetRow) (id : List ℕ) → IsDistinct bytes_eq (map (λ r. r.row.id) rows) → has_id id rows ≡ false → IsDistinct bytes_eq (map (λ r. r.row.id) rows ++ id ∷ [])
+unfolding IsDistinct
+distinct_push [] id h e = (tt, tt)
+distinct_push (r ∷ rows) id h e =
+    let parts = neither (bytes_eq r.row.id id) (has_id id rows) e in
+    (other_push r.row.id id (map (λ r. r.row.id) rows) h.0 parts.0, distinct_push rows id h.1 parts.1)
+
+rows_push : (kind : Kind) (rows : List SetRow) (row : SetRow) → AreRows kind rows → row.row.kind ≡ kind → has_id row.row.id rows ≡ false → AreRows kind (rows ++ row ∷ [])
+rows_push kind rows row h k e = record {
+  kinds = All-push (λ (r : SetRow). r.row.kind ≡ kind) rows row h.kinds k;
+  differ = rw (map_push (λ (r : SetRow). r.row.id) rows row) (distinct_push rows row.row.id h.differ e);
+}
+
+kind_short : (dated long : Bool) (r : Record) (row : SetRow) → set_row dated (if long then None else Some r) ≡ Ok row → row.row.kind ≡ r.kind
+kind_short dated true r row e = cc e
+kind_short dated false r row e = let i : record { row = r; dated = dated } ≡ row = cc e in rw (← i) refl
+
+kind_values : (kind : Kind) (metadata : List Entry) (values : Result (List (Option Value)) RowFault) (row : SetRow) → (values >>= (λ vs. set_row (is_dated vs) (row_from kind vs metadata))) ≡ Ok row → row.row.kind ≡ kind
+kind_values kind metadata (Ok vs) row e = kind_short (is_dated vs) (nat_lt longest (row_length (record_from kind vs metadata))) (record_from kind vs metadata) row e
+kind_values kind metadata (Err f) row e = cc e
+
+kind_width : (same : Bool) (f : RowFault) (read : Result SetRow RowFault) (row : SetRow) → (if not same then Err f else read) ≡ Ok row → read ≡ Ok row
+kind_width true f read row e = e
+kind_width false f read row e = cc e
+
+kind_row : (kind : Kind) (mode : Mode) (header : Header) (cells : List (List ℕ)) (row : SetRow) → row_at kind mode header cells ≡ Ok row → row.row.kind ≡ kind
+unfolding row_at
+kind_row kind mode header cells row e =
+    kind_values kind (metadata_at header.metadata cells) (values_at mode 0 (table kind) header.places cells) row (kind_width (length cells == header.width) _ _ row e)
+
+one_record : (kind : Kind) (number : ℕ) (read : Result SetRow RowFault) (row : SetRow) → in_record kind number read ≡ Ok row → read ≡ Ok row
+one_record kind number (Ok r) row e = cc e
+one_record kind number (Err f) row e = cc e
+
+-- the rows behind others, where their first record spells a row
+rows_next : (kind : Kind) (mode : Mode) (header : Header) (front : List SetRow) (number : ℕ) (rest : List (List (List ℕ))) (rows : List SetRow) (read : Result SetRow RowFault)
+    → ((row : SetRow) → read ≡ Ok row → row.row.kind ≡ kind)
+    → ((more : List SetRow) → AreRows kind more → rows_after kind mode header more (number + 1) rest ≡ Ok rows → AreRows kind rows) → AreRows kind front
+    → (in_record kind number read >>= (λ row. if has_id row.row.id front then Err (RepeatedId (RowsOf kind) number) else rows_after kind mode header (front ++ row ∷ []) (number + 1) rest)) ≡ Ok rows
+    → AreRows kind rows
+rows_next kind mode header front number rest rows (Err f) kinds more h e = cc e
+rows_next kind mode header front number rest rows (Ok row) kinds more h e = by (has_id row.row.id front) refl e
+  where
+    by : (there : Bool) → has_id row.row.id front ≡ there → (if there then Err (RepeatedId (RowsOf kind) number) else rows_after kind mode header (front ++ row ∷ []) (number + 1) rest) ≡ Ok rows → AreRows kind rows
+    by true t e = cc e
+    by false t e = more (front ++ row ∷ []) (rows_push kind front row h (kinds row refl) t) e
+
+rows_are : (kind : Kind) (mode : Mode) (header : Header) (front : List SetRow) (number : ℕ) (left : List (List (List ℕ))) (rows : List SetRow) → AreRows kind front → rows_after kind mode header front number left ≡ Ok rows
+    → AreRows kind rows
+unfolding rows_after
+rows_are kind mode header front number [] rows h e = let i : front ≡ rows = cc e in rw (← i) h
+rows_are kind mode header front number (cells ∷ rest) rows h e =
+    rows_next kind mode header front number rest rows (row_at kind mode header cells) (kind_row kind mode header cells) (λ more k e2. rows_are kind mode header more (number + 1) rest rows k e2) h e
+
+no_rows : (kind : Kind) → AreRows kind []
+unfolding IsDistinct
+no_rows kind = record { kinds = All-nil (λ (r : SetRow). r.row.kind ≡ kind); differ = tt }
+
+rows_below : (kind : Kind) (mode : Mode) (header : Result Header SetFault) (left : List (List (List ℕ))) (rows : List SetRow) → (header >>= (λ h. rows_after kind mode h [] 2 left)) ≡ Ok rows → AreRows kind rows
+rows_below kind mode (Ok h) left rows e = rows_are kind mode h [] 2 left rows (no_rows kind) e
+rows_below kind mode (Err f) left rows e = cc e
+
+rows_none : (kind : Kind) (header : Result Header SetFault) (rows : List SetRow) → (header >>= (λ h. Ok [])) ≡ Ok rows → AreRows kind rows
+rows_none kind (Ok h) rows e = let i : [] ≡ rows = cc e in rw (← i) (no_rows kind)
+rows_none kind (Err f) rows e = cc e
+
+-- the rows of a file are of its kind, and their ids differ
+rows_of_kind : (kind : Kind) (mode : Mode) (records : List (List (List ℕ))) (rows : List SetRow) → rows_of kind mode records ≡ Ok rows → AreRows kind rows
+unfolding rows_of
+rows_of_kind kind mode [] rows e = rows_none kind (header_of kind mode []) rows e
+rows_of_kind kind mode (cells ∷ rest) rows e = rows_below kind mode (header_of kind mode cells) rest rows e
+
+pub given_kinds : (kind : Kind) (mode : Mode) (records : List (List (List ℕ))) (r : Result (Vec SetRow Global) (Refusal SetFault)) → Gives (λ v. v.items) r (rows_of kind mode records) → IfOk r (λ v. All (λ (r : SetRow). r.row.kind ≡ kind) v.items)
+given_kinds kind mode records (Ok v) g = (rows_of_kind kind mode records v.items g).kinds
+given_kinds kind mode records (Err e) g = tt
+
+pub given_differ : (kind : Kind) (mode : Mode) (records : List (List (List ℕ))) (r : Result (Vec SetRow Global) (Refusal SetFault)) → Gives (λ v. v.items) r (rows_of kind mode records) → IfOk r (λ v. IsDistinct bytes_eq (map (λ (r : SetRow). r.row.id) v.items))
+given_differ kind mode records (Ok v) g = (rows_of_kind kind mode records v.items g).differ
+given_differ kind mode records (Err e) g = tt
+
+small : (bytes : List ℕ) → length bytes ≤ largest → nat_lt largest (length bytes) ≡ false
+small bytes h = grind (arith, nat_tests)
+
+-- a file of text that isn't too large has the rows of its records
+pub text_file : (kind : Kind) (mode : Mode) (bytes text : List ℕ) (r : Result (Vec SetRow Global) (Refusal SetFault)) → length bytes ≤ largest → text ≡ bytes → IsUtf8 bytes
+    → Gives (λ v. v.items) r (rows_of kind mode (records default_config (strip_bom text))) → Gives (λ v. v.items) r (file_of kind mode bytes)
+unfolding file_of
+text_file kind mode bytes text r short same u g = rw (small bytes short, is_utf8-from_IsUtf8 bytes u) (rw same at g)
+
+-- a file that is no text
+pub other_file : (kind : Kind) (mode : Mode) (bytes : List ℕ) → length bytes ≤ largest → ¬ IsUtf8 bytes → file_of kind mode bytes ≡ Err (NotUtf8 (RowsOf kind))
+unfolding file_of
+other_file kind mode bytes short h = by (is_utf8 bytes) refl
+  where
+    by : (b : Bool) → is_utf8 bytes ≡ b → file_of kind mode bytes ≡ Err (NotUtf8 (RowsOf kind))
+    by true e = absurd (h (IsUtf8-from_is_utf8 bytes e))
+    by false e = rw (small bytes short, e) refl
+
+places_below : (kind : Kind) (whole : Result Bool SetFault) (columns : List (List ℕ)) (h : Header) → (whole >>= (λ w. Ok (header_from kind columns))) ≡ Ok h → length h.places ≡ length (table kind)
+unfolding header_from
+places_below kind (Ok w) columns h e = let i : header_from kind columns ≡ h = cc e in rw (← i) (length-map (table kind) (λ c. place_of columns c.column))
+places_below kind (Err f) columns h e = cc e
+
+-- a header has a place for each field
+pub header_places : (kind : Kind) (mode : Mode) (cells : List (List ℕ)) (h : Header) → header_of kind mode cells ≡ Ok h → length h.places ≡ length (table kind)
+unfolding header_of
+header_places kind mode cells h e = by (columns_checked kind [] (columns_of cells)) e
+  where
+    by : (read : Result Bool SetFault) → (read >>= (λ r. required_checked kind mode (columns_of cells) 0 (table kind) >>= (λ w. Ok (header_from kind (columns_of cells))))) ≡ Ok h → length h.places ≡ length (table kind)
+    by (Ok r) e = places_below kind (required_checked kind mode (columns_of cells) 0 (table kind)) (columns_of cells) h e
+    by (Err f) e = cc e

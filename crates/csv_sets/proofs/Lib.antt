@@ -1,0 +1,9 @@
+mod ColumnLaws
+mod FileSteps
+mod HeaderSteps
+mod ListLaws
+mod MetadataSteps
+mod PlaceSteps
+mod RecordLaws
+mod TextLaws
+mod ValueSteps

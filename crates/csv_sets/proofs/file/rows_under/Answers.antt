@@ -1,0 +1,29 @@
+use Rattle.std.proofs.Common.{sym, ◌∙◌}
+use Rattle.std.proofs.lemmas.Result.{err_from_is_err_and}
+use Rattle.csv.specs.Records.{fields_of}
+use Rattle.csv_sets.proofs.FileSteps.{found_first, found_none, leads_end, leads_fail, leads_on, leads_repeated}
+use Rattle.csv_sets.proofs.HeaderSteps.{told_new, told_there}
+use Rattle.csv_sets.proofs.file.rows_under.Goals as goal
+
+pub returns-in_err-row : goal.returns-in_err-row
+returns-in_err-row c =
+    let first = found_first c.loop-cells.reader c.read.new.self c.in_ok-read.field-0 (fields_of c.read.new.cells) c.in_ok-read.ensures.ok c.if-branch.true in
+    let p = err_from_is_err_and c.from_residual-in_err-row.result c.from_residual-in_err-row.ensures.1 in
+    rw (p.1, p.2) (leads_fail (fields_of c.read.new.cells) c.read.new.self c.in_err-row.field-0.0 c.loop-cells.invariant.leads first c.in_err-row.ensures)
+
+pub returns-then-not-branch : goal.returns-then-not-branch
+returns-then-not-branch c =
+    let first = found_first c.loop-cells.reader c.read.new.self c.in_ok-read.field-0 (fields_of c.read.new.cells) c.in_ok-read.ensures.ok c.if-branch.true in
+    leads_repeated (fields_of c.read.new.cells) c.read.new.self c.in_ok-row.row c.loop-cells.invariant.leads first c.in_ok-row.ensures (told_there _ (sym c.if-not-branch.true ∙ c.in_ok-add.ensures.told))
+
+pub loop-cells-preserved : goal.loop-cells-preserved
+loop-cells-preserved c =
+    let first = found_first c.loop-cells.reader c.read.new.self c.in_ok-read.field-0 (fields_of c.read.new.cells) c.in_ok-read.ensures.ok c.if-branch.true in
+    record {
+      leads = rw c.in_ok-add.ensures.rows
+          (leads_on (fields_of c.read.new.cells) c.read.new.self c.in_ok-row.row c.loop-cells.invariant.leads first c.in_ok-row.ensures (told_new _ (sym c.if-not-branch.false ∙ c.in_ok-add.ensures.told)));
+      ids = c.in_ok-add.ensures.ids c.if-not-branch.false;
+    }
+
+pub returns : goal.returns
+returns c = leads_end c.loop-cells.invariant.leads (found_none c.loop-cells.reader c.read.new.self c.in_ok-read.field-0 (fields_of c.read.new.cells) c.in_ok-read.ensures.ok c.if-branch.false)

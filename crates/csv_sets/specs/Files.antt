@@ -1,0 +1,57 @@
+-- The rows of a file: those that its records spell, in their order, or the file's first fault.
+use Rattle.std.specs.Prelude.{◌≡◌, ◌+◌, ℕ, Bool, List, [], ◌∷◌, ◌++◌, Result, Ok, Err, String, bytes_eq, length, nat_lt, not, if◌then◌else◌}
+use Rattle.std.specs.BTreeSet.{BTreeSet, contains_text}
+use Rattle.std.specs.List.{list_any}
+use Rattle.std.specs.Str.{is_utf8}
+use Rattle.std.specs.declared.alloc.Global.{Global}
+use Rattle.csv.specs.Reading.{default_config, records, strip_bom}
+use Rattle.roster_base.specs.Reading.{◌>>=◌}
+use Rattle.roster_values.specs.declared.kind.Kind.{Kind}
+use Rattle.roster_values.specs.declared.mode.Mode.{Mode}
+use Rattle.roster_types.specs.declared.set_row.SetRow.{SetRow}
+use Rattle.csv_sets.specs.declared.fault.RowFault.{RowFault}
+use Rattle.csv_sets.specs.declared.fault.SetFault.{SetFault}
+use Rattle.csv_sets.specs.declared.fault.SetFault.TheVariants.{NotUtf8, RepeatedId, Row, TooLarge}
+use Rattle.csv_sets.specs.declared.fault.SetFile.TheVariants.{RowsOf}
+use Rattle.csv_sets.specs.Headers.{Header, header_of}
+use Rattle.csv_sets.specs.Rows.{row_at}
+
+-- the greatest size of a file in bytes
+abbrev pub largest : ℕ
+largest = 67108864
+
+-- the fault of a record, under its number
+abbrev pub in_record : Kind → ℕ → Result SetRow RowFault → Result SetRow SetFault
+in_record kind number (Ok row) = Ok row
+in_record kind number (Err f) = Err (Row (RowsOf kind) number f.field f.fault)
+
+abbrev pub has_id : List ℕ → List SetRow → Bool
+has_id id rows = list_any (λ r. bytes_eq r.row.id id) rows
+
+-- the rows of the records from a number on, behind the rows of the records before
+unfoldable pub rows_after : Kind → Mode → Header → List SetRow → ℕ → List (List (List ℕ)) → Result (List SetRow) SetFault
+rows_after kind mode header front number [] = Ok front
+rows_after kind mode header front number (cells ∷ rest) = do
+  row ← in_record kind number (row_at kind mode header cells)
+  if has_id row.row.id front then Err (RepeatedId (RowsOf kind) number)
+      else rows_after kind mode header (front ++ row ∷ []) (number + 1) rest
+
+-- the rows of all records, of which the first is the header: without records there is a header of no column
+unfoldable pub rows_of : Kind → Mode → List (List (List ℕ)) → Result (List SetRow) SetFault
+rows_of kind mode [] = do
+  header ← header_of kind mode []
+  Ok []
+rows_of kind mode (cells ∷ rest) = do
+  header ← header_of kind mode cells
+  rows_after kind mode header [] 2 rest
+
+-- the rows of a file's bytes
+unfoldable pub file_of : Kind → Mode → List ℕ → Result (List SetRow) SetFault
+file_of kind mode bytes =
+    if nat_lt largest (length bytes) then Err (TooLarge (RowsOf kind))
+    else if not (is_utf8 bytes) then Err (NotUtf8 (RowsOf kind))
+    else rows_of kind mode (records default_config (strip_bom bytes))
+
+-- a set holds the ids of these rows and no others
+abbrev pub HoldsIds : BTreeSet (String Global) → List SetRow → Type 0
+HoldsIds ids rows = (q : List ℕ) → contains_text ids q ≡ has_id q rows

@@ -1,0 +1,51 @@
+-- The lines that the program prints beside what a command is asked for.
+use Rattle.std.specs.Prelude.{ℕ, ◌++◌, List, codes, decimal}
+use Rattle.csv_sets.specs.declared.fault.ColumnFault.{ColumnFault}
+use Rattle.csv_sets.specs.declared.fault.ColumnFault.TheVariants.{BadKey, Missing, Repeated}
+use Rattle.csv_sets.specs.declared.fault.SetFault.{SetFault}
+use Rattle.csv_sets.specs.declared.fault.SetFault.TheVariants.{Column, MissingFile, NotUtf8, RepeatedId, Row, TooLarge}
+use Rattle.csv_sets.specs.Names.{name_of}
+use Rattle.roster_texts.specs.declared.fault.ValueFault.{ValueFault}
+use Rattle.roster_texts.specs.declared.fault.ValueFault.TheVariants.{BadDay, BadId, BadList, BadMoment, BadNumber, Empty, Fractional, NotInList, TooLong, Width}
+
+abbrev pub column_word : ColumnFault → List ℕ
+column_word Repeated = codes "repeated"
+column_word BadKey = codes "bad key"
+column_word Missing = codes "missing"
+
+abbrev pub value_word : ValueFault → List ℕ
+value_word Empty = codes "empty"
+value_word NotInList = codes "not in list"
+value_word BadDay = codes "bad day"
+value_word BadMoment = codes "bad moment"
+value_word BadNumber = codes "bad number"
+value_word Fractional = codes "fractional"
+value_word TooLong = codes "too long"
+value_word BadList = codes "bad list"
+value_word BadId = codes "bad id"
+value_word Width = codes "width"
+
+-- a fault of a record: its width is no field's
+unfoldable pub row_text : List ℕ → ℕ → List ℕ → ValueFault → List ℕ
+row_text file number field Width = codes "refused: " ++ file ++ codes " record " ++ decimal number ++ codes ": width\n"
+row_text file number field fault =
+    codes "refused: " ++ file ++ codes " record " ++ decimal number ++ codes " field " ++ field ++ codes ": " ++ value_word fault ++ codes "\n"
+
+-- the line of the first fault of a set
+unfoldable pub fault_text : SetFault → List ℕ
+fault_text (MissingFile file) = codes "refused: " ++ name_of file ++ codes ": missing file\n"
+fault_text (Column file column fault) = codes "refused: " ++ name_of file ++ codes ": column " ++ column ++ codes " " ++ column_word fault ++ codes "\n"
+fault_text (Row file number field fault) = row_text (name_of file) number field fault
+fault_text (RepeatedId file number) = codes "refused: " ++ name_of file ++ codes " record " ++ decimal number ++ codes ": repeated id\n"
+fault_text (TooLarge file) = codes "refused: " ++ name_of file ++ codes ": too large\n"
+fault_text (NotUtf8 file) = codes "refused: " ++ name_of file ++ codes ": not UTF-8\n"
+
+-- the place, from 0, of the first word that no command continues
+unfoldable pub bad_word_text : ℕ → List ℕ
+bad_word_text place = codes "bad word " ++ decimal place ++ codes "\n"
+
+abbrev pub folder_failed : List ℕ
+folder_failed = codes "folder failed\n"
+
+abbrev pub no_memory : List ℕ
+no_memory = codes "no memory\n"

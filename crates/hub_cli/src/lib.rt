@@ -1,0 +1,15 @@
+//! The program's commands: words in, a line or an output and a status out, over whatever folder, clock and sink are
+//! handed in.
+#![tactic(auto)]
+
+pub mod answer;
+pub mod lines;
+pub mod run;
+mod show;
+#[cfg(test)]
+mod tests;
+pub mod words;
+
+pub use answer::Answer;
+pub use run::{print, run_hub};
+pub use words::{Command, Parsed, WordError, split_words};

@@ -1,0 +1,164 @@
+//! The texts of all lines. No other module of the crate is named here.
+
+ghost use Rattle.std.specs.Prelude.{◌≡◌, ◌++◌, IfOk, codes, decimal, string_bytes};
+ghost use Rattle.csv_sets.specs.Names.{name_of};
+ghost use Rattle.hub_cli.specs.Lines as lines;
+
+use csv_sets::{ColumnFault, SetFault, SetFile};
+use roster_base::NoMemory;
+use roster_texts::ValueFault;
+use std::alloc::Global;
+
+/// Status 3.
+pub const FOLDER_FAILED: &str = "folder failed\n";
+
+/// Status 17.
+pub const NO_MEMORY: &str = "no memory\n";
+
+fn column_word(fault: ColumnFault) -> &'static str
+    ensures { result.now ≡ lines.column_word fault }
+{
+    match fault {
+        ColumnFault::Repeated => "repeated",
+        ColumnFault::BadKey => "bad key",
+        ColumnFault::Missing => "missing",
+    }
+}
+
+fn value_word(fault: ValueFault) -> &'static str
+    ensures { result.now ≡ lines.value_word fault }
+{
+    match fault {
+        ValueFault::Empty => "empty",
+        ValueFault::NotInList => "not in list",
+        ValueFault::BadDay => "bad day",
+        ValueFault::BadMoment => "bad moment",
+        ValueFault::BadNumber => "bad number",
+        ValueFault::Fractional => "fractional",
+        ValueFault::TooLong => "too long",
+        ValueFault::BadList => "bad list",
+        ValueFault::BadId => "bad id",
+        ValueFault::Width => "width",
+    }
+}
+
+// `refused: ` and a file's name.
+fn refused(alloc: Global, file: SetFile) -> Result<String, NoMemory>
+    ensures { IfOk result (λ s. string_bytes s ≡ codes "refused: " ++ name_of file) }
+{
+    let mut line = String::from_str(alloc, "refused: ")?;
+    line.push_str(file.name())?;
+    Ok(line)
+}
+
+// The same, with what is wrong with the whole file.
+fn file_line(alloc: Global, file: SetFile, why: &str) -> Result<String, NoMemory>
+    ensures { IfOk result (λ s. string_bytes s ≡ codes "refused: " ++ name_of file ++ why.now) }
+{
+    let mut line = refused(alloc, file)?;
+    line.push_str(why)?;
+    Ok(line)
+}
+
+// The same, with a record's number.
+fn record_line(alloc: Global, file: SetFile, number: u64) -> Result<String, NoMemory>
+    ensures { IfOk result (λ s. string_bytes s ≡ codes "refused: " ++ name_of file ++ codes " record " ++ decimal number) }
+{
+    let mut line = file_line(alloc, file, " record ")?;
+    line.push_str(format!(in alloc; "{number}")?.as_str())?;
+    Ok(line)
+}
+
+fn column_line(
+    alloc: Global,
+    file: SetFile,
+    column: &str,
+    fault: ColumnFault,
+) -> Result<String, NoMemory>
+    ensures { IfOk result (λ s. string_bytes s ≡ codes "refused: " ++ name_of file ++ codes ": column " ++ column.now ++ codes " " ++ lines.column_word fault ++ codes "\n") }
+{
+    let mut line = file_line(alloc, file, ": column ")?;
+    line.push_str(column)?;
+    line.push_str(" ")?;
+    line.push_str(column_word(fault))?;
+    line.push_str("\n")?;
+    Ok(line)
+}
+
+fn field_line(
+    alloc: Global,
+    file: SetFile,
+    number: u64,
+    field: &str,
+    fault: ValueFault,
+) -> Result<String, NoMemory>
+    ensures { IfOk result (λ s. string_bytes s ≡ codes "refused: " ++ name_of file ++ codes " record " ++ decimal number ++ codes " field " ++ field.now ++ codes ": " ++ lines.value_word fault ++ codes "\n") }
+{
+    let mut line = record_line(alloc, file, number)?;
+    line.push_str(" field ")?;
+    line.push_str(field)?;
+    line.push_str(": ")?;
+    line.push_str(value_word(fault))?;
+    line.push_str("\n")?;
+    Ok(line)
+}
+
+#[tactic(auto, unfolding(crate::specs::Lines::row_text))]
+fn row_line(
+    alloc: Global,
+    file: SetFile,
+    number: u64,
+    field: &str,
+    fault: ValueFault,
+) -> Result<String, NoMemory>
+    ensures { IfOk result (λ s. string_bytes s ≡ lines.row_text (name_of file) number field.now fault) }
+{
+    match fault {
+        ValueFault::Width => {
+            let mut line = record_line(alloc, file, number)?;
+            line.push_str(": width\n")?;
+            Ok(line)
+        }
+        _ => field_line(alloc, file, number, field, fault),
+    }
+}
+
+fn repeated_line(alloc: Global, file: SetFile, number: u64) -> Result<String, NoMemory>
+    ensures { IfOk result (λ s. string_bytes s ≡ codes "refused: " ++ name_of file ++ codes " record " ++ decimal number ++ codes ": repeated id\n") }
+{
+    let mut line = record_line(alloc, file, number)?;
+    line.push_str(": repeated id\n")?;
+    Ok(line)
+}
+
+/// The line of the first fault of a set. Status 4.
+#[tactic(auto, unfolding(crate::specs::Lines::fault_text))]
+pub fn fault_line(alloc: Global, fault: &SetFault) -> Result<String, NoMemory>
+    ensures { IfOk result (λ s. string_bytes s ≡ lines.fault_text fault.now) }
+{
+    match fault {
+        SetFault::MissingFile { file } => file_line(alloc, *file, ": missing file\n"),
+        SetFault::Column {
+            file,
+            column,
+            fault,
+        } => column_line(alloc, *file, column.as_str(), *fault),
+        SetFault::Row {
+            file,
+            record_no,
+            field,
+            fault,
+        } => row_line(alloc, *file, *record_no, field.as_str(), *fault),
+        SetFault::RepeatedId { file, record_no } => repeated_line(alloc, *file, *record_no),
+        SetFault::TooLarge { file } => file_line(alloc, *file, ": too large\n"),
+        SetFault::NotUtf8 { file } => file_line(alloc, *file, ": not UTF-8\n"),
+    }
+}
+
+/// The line of words that are no command. Status 2.
+#[tactic(auto, unfolding(crate::specs::Lines::bad_word_text))]
+pub fn bad_word_line(alloc: Global, place: usize) -> Result<String, NoMemory>
+    ensures { IfOk result (λ s. string_bytes s ≡ lines.bad_word_text place) }
+{
+    Ok(format!(in alloc; "bad word {place}\n")?)
+}

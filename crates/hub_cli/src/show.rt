@@ -1,0 +1,102 @@
+//! The command `show`.
+
+ghost use Rattle.std.specs.Prelude.{◌≡◌, ◌⊎◌, ℤ, Ok, Some, IfOk, IfSome, map, string_bytes};
+ghost use Rattle.csv_sets.specs.Files as files;
+ghost use Rattle.outside_ports.specs.Files.{IsReadOf};
+ghost use Rattle.roster_base.specs.Faults.{Rose};
+ghost use Rattle.roster_base.specs.Moments.{IsMoment};
+ghost use Rattle.hub_cli.specs.Reads.{IsAnswerTo};
+ghost use Rattle.hub_cli.specs.Runs.{IsCommandAnswer};
+ghost use Rattle.hub_cli.specs.Shows.{answer_of_rows, dated_row, shown_text};
+ghost use Rattle.hub_cli.specs.declared.words.Command.{Command};
+
+use crate::answer::Answer;
+use csv_sets::file::LARGEST;
+use csv_sets::{SetFault, SetFile, read_file};
+use outside_ports::{Clock, FileRead, Folder, IoError};
+use roster_base::{NoMemory, Refusal, Text, sorted};
+use roster_texts::Moment;
+use roster_types::row::Row;
+use roster_types::set_row::SetRow;
+use roster_values::{Kind, Mode};
+use row_json::collection_text;
+use std::alloc::Global;
+
+// The row, dated by the clock where it brings no date.
+fn dated(row: SetRow, at: Moment) -> Row
+    ensures { result ≡ dated_row at row }
+{
+    if row.dated {
+        row.row
+    } else {
+        row.row.dated(at)
+    }
+}
+
+fn dated_rows(alloc: Global, at: Moment, rows: Vec<SetRow>) -> Result<Vec<Row>, NoMemory>
+    ensures { IfOk result (λ v. v.items ≡ map (dated_row at) rows.items) }
+{
+    Ok(rows.into_iter().map(|row| dated(row, at)).collect(alloc)?)
+}
+
+// The output over the rows of a file.
+#[tactic(auto, unfolding(crate::specs::Shows::shown_text))]
+fn output(alloc: Global, kind: Kind, at: Moment, rows: Vec<SetRow>) -> Result<String, NoMemory>
+    ensures { IfOk result (λ t. string_bytes t ≡ shown_text kind at rows.items) }
+{
+    let rows = sorted(alloc, dated_rows(alloc, at, rows)?)?;
+    let mut text = collection_text(alloc, kind, rows.as_slice())?;
+    text.push_str("\n")?;
+    Ok(text)
+}
+
+// The answer over a file's bytes.
+fn answer_over(alloc: Global, kind: Kind, at: Moment, bytes: &[u8]) -> Result<Answer, NoMemory>
+    ensures { IfOk result (λ a. a ≡ answer_of_rows kind at (files.file_of kind Mode.Bulk bytes.now)) }
+{
+    match read_file(alloc, kind, Mode::Bulk, bytes) {
+        Ok(rows) => Ok(Answer::Done(Text::from_string(output(alloc, kind, at, rows)?))),
+        Err(Refusal::Fault(fault)) => Ok(Answer::Refused(fault)),
+        Err(Refusal::NoMemory) => Err(NoMemory),
+    }
+}
+
+// The answer over what a read of the file gave.
+fn answer_to(alloc: Global, kind: Kind, at: Moment, read: FileRead) -> Result<Answer, NoMemory>
+    ensures { IfOk result (λ a. IsAnswerTo kind at read a) }
+{
+    let file = SetFile::RowsOf(kind);
+    match read {
+        FileRead::Absent => Ok(Answer::Refused(SetFault::MissingFile { file })),
+        FileRead::TooLong => Ok(Answer::Refused(SetFault::TooLarge { file })),
+        FileRead::Bytes(bytes) => answer_over(alloc, kind, at, bytes.as_slice()),
+    }
+}
+
+// The moment that a clock gives.
+fn moment<K: Clock>(clock: &K) -> Moment
+    ensures told { IfSome (K.moment clock.now) (λ m. result ≡ m) }
+    ensures range { IsMoment result }
+{
+    match Moment::at(clock.now()) {
+        Some(moment) => moment,
+        None => unreachable!(),
+    }
+}
+
+/// Prints the rows of a kind's file in the root folder, read in Bulk mode, in order of id.
+pub fn show<F: Folder, K: Clock>(
+    alloc: Global,
+    kind: Kind,
+    folder: &mut F,
+    clock: &K,
+) -> Result<Answer, NoMemory>
+    ensures { IfOk result (λ a. IsCommandAnswer (Command.Show kind) (F.files folder.old) (K.moment clock.now) (F.faults folder.old) (F.faults folder.new) a) }
+{
+    let at = moment(clock);
+    match folder.read(alloc, "", kind.file_name(), LARGEST as u64) {
+        Ok(read) => answer_to(alloc, kind, at, read),
+        Err(IoError::Failed) => Ok(Answer::FolderFailed),
+        Err(IoError::NoMemory) => Err(NoMemory),
+    }
+}

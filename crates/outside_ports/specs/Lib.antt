@@ -1,0 +1,6 @@
+pub mod Calls
+pub mod Causes
+pub mod Files
+pub mod HeldBytes
+pub mod HeldFiles
+pub mod Written

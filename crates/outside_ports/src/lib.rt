@@ -1,0 +1,28 @@
+//! What the program asks of the outside, as traits with contracts: folders, sinks and a clock, each in memory and real.
+#![tactic(auto)]
+
+mod calls;
+pub mod clock;
+pub mod dir_folder;
+pub mod failed;
+pub mod fixed_clock;
+pub mod folder;
+pub mod io_sink;
+pub mod mem_folder;
+pub mod mem_sink;
+pub mod sink;
+pub mod system_clock;
+
+pub use clock::Clock;
+pub use dir_folder::DirFolder;
+pub use failed::{Failed, IoError};
+pub use fixed_clock::FixedClock;
+pub use folder::{FileRead, Folder};
+pub use io_sink::IoSink;
+pub use mem_folder::MemFolder;
+pub use mem_sink::MemSink;
+pub use sink::Sink;
+pub use system_clock::SystemClock;
+
+#[cfg(test)]
+mod tests;

@@ -1,0 +1,25 @@
+-- Lists in ascending order of their items' keys.
+use Rattle.std.specs.Prelude.{◌≡◌, ℕ, List, [], ◌∷◌, map, String, string_bytes, string_cmp}
+use Rattle.std.specs.Cmp.Lexicographic.{slice_cmp}
+use Rattle.std.specs.BTreeMap.{insert_entry}
+use Rattle.std.specs.List.Sorted.{IsStrictlySortedBy}
+use Rattle.std.specs.Ordering.{match_ordering, nat_cmp}
+use Rattle.std.specs.declared.alloc.Global.{Global}
+
+-- an item at its place among others that are in order: one with the same key gives way
+unfoldable pub placed : {A : Type 0} → (A → List ℕ) → A → List A → List A
+placed key x [] = x ∷ []
+placed key x (y ∷ ys) = match_ordering (slice_cmp nat_cmp (key x) (key y)) (x ∷ y ∷ ys) (x ∷ ys) (y ∷ placed key x ys)
+
+-- the items in ascending order of their keys' bytes
+abbrev pub in_order : {A : Type 0} → (A → List ℕ) → List A → List A
+in_order key [] = []
+in_order key (x ∷ xs) = placed key x (in_order key xs)
+
+-- each key is below those after it
+abbrev pub RiseBy : {A : Type 0} → (A → List ℕ) → List A → Type 0
+RiseBy key xs = IsStrictlySortedBy (slice_cmp nat_cmp) (map key xs)
+
+-- the new entries are the old ones with this item at its key
+abbrev pub PutsAtKey : {A : Type 0} → (A → List ℕ) → List (String Global × A) → List (String Global × A) → A → Type 0
+PutsAtKey key old new x = (name : String Global) × (string_bytes name ≡ key x) × (new ≡ insert_entry string_cmp old name x)

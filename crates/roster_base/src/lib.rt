@@ -1,0 +1,21 @@
+//! What every crate above shares: want of memory, the owned lists of public types, and the words on faults and order.
+#![tactic(auto)]
+
+pub mod bytes;
+pub mod copies;
+pub mod items;
+pub mod memory;
+pub mod order;
+pub mod refusal;
+pub mod text;
+
+pub use bytes::Bytes;
+pub use copies::TryCopy;
+pub use items::Items;
+pub use memory::NoMemory;
+pub use order::{Keyed, sorted};
+pub use refusal::Refusal;
+pub use text::Text;
+
+#[cfg(test)]
+mod tests;

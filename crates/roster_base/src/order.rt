@@ -1,0 +1,64 @@
+//! Lists in ascending order of their items' keys.
+
+ghost use Rattle.std.specs.Prelude.{◌≡◌, ℕ, List, [], map, IfOk, OnOk, bytes_eq};
+ghost use Rattle.std.specs.BTreeMap.{values};
+ghost use Rattle.std.specs.List.{IsDistinct};
+ghost use Rattle.std.specs.List.Sorted.{IsPermutation};
+ghost use Rattle.roster_base.specs.Order.{PutsAtKey, RiseBy, in_order};
+
+use crate::memory::NoMemory;
+use std::alloc::Global;
+use std::collections::BTreeMap;
+
+/// A value that has a text by which it is found and put in order.
+pub trait Keyed {
+    ghost key_of: { Self → List ℕ };
+
+    /// The text by which the value is put in order.
+    fn key(&self) -> &str
+        ensures { result.now ≡ key_of self.now };
+}
+
+// Puts an item at its key.
+fn put<T: Keyed + Drop>(
+    entries: &mut BTreeMap<String, T>,
+    alloc: Global,
+    item: T,
+) -> Result<(), NoMemory>
+    ensures { OnOk result (PutsAtKey T.key_of entries.old.entries entries.new.entries item) }
+{
+    let key = String::from_str(alloc, item.key())?;
+    drop(entries.insert(key, item)?);
+    Ok(())
+}
+
+// The items by key.
+fn by_key<T: Keyed + Drop>(
+    alloc: Global,
+    mut items: Vec<T>,
+) -> Result<BTreeMap<String, T>, NoMemory>
+    ensures { IfOk result (λ m. values m ≡ in_order T.key_of items.items) }
+{
+    let mut entries = BTreeMap::new(alloc);
+    while let Some(item) = items.pop() {
+        put(&mut entries, alloc, item)?;
+    }
+    Ok(entries)
+}
+
+// The values of a map in order of its keys.
+fn values_of<T: Drop>(alloc: Global, entries: BTreeMap<String, T>) -> Result<Vec<T>, NoMemory>
+    ensures { IfOk result (λ v. v.items ≡ values entries) }
+{
+    Ok(entries.into_values().collect(alloc)?)
+}
+
+/// The items in ascending order of their keys' bytes. Of two with one key the first stays.
+pub fn sorted<T: Keyed + Drop>(alloc: Global, items: Vec<T>) -> Result<Vec<T>, NoMemory>
+    ensures value { IfOk result (λ v. v.items ≡ in_order T.key_of items.items) }
+    ensures rise { IfOk result (λ v. RiseBy T.key_of v.items) }
+    ensures all { IsDistinct bytes_eq (map T.key_of items.items) → IfOk result (λ v. IsPermutation items.items v.items) }
+{
+    let entries = by_key(alloc, items)?;
+    values_of(alloc, entries)
+}

@@ -1,0 +1,74 @@
+//! The ids of records.
+
+ghost use Rattle.std.specs.Prelude.{◌≡◌, ◌∷◌, [], true, false, ℕ, IfOk, MatchOption, List};
+ghost use Rattle.std.specs.List.{list_all};
+ghost use Rattle.std.specs.String.{string_bytes};
+ghost use Rattle.roster_texts.specs.Texts.{is_id, is_id_byte};
+
+use roster_base::{NoMemory, TryCopy};
+use std::alloc::Global;
+use std::marker::Model;
+
+/// A sourcedId: 1 to 255 bytes, no control character, no comma, and no space at either end.
+/// A clause sees its bytes.
+#[derive(Drop)]
+pub struct Id {
+    text: String,
+}
+
+impl Model for Id {
+    ghost Value = { List ℕ };
+
+    ghost view = { λ i. string_bytes i.text };
+
+    ghost invariant = { λ i. is_id (string_bytes i.text) ≡ true };
+}
+
+impl Id {
+    /// The text as an id, if it is one.
+    pub fn read(alloc: Global, text: &str) -> Result<Option<Id>, NoMemory>
+        ensures { IfOk result (λ o. MatchOption o (is_id text.now ≡ false)
+            (λ i. (is_id text.now ≡ true) × (i ≡ text.now))) }
+    {
+        if !Id::is_good(text) {
+            return Ok(None);
+        }
+        Ok(Some(Id {
+            text: String::from_str(alloc, text)?,
+        }))
+    }
+
+    /// Whether the text is an id.
+    pub fn is_good(text: &str) -> bool
+        ensures { result ≡ is_id text.now }
+    {
+        let bytes = text.as_bytes();
+        if bytes.is_empty() || bytes.len() > 255 {
+            return false;
+        }
+        let last = bytes[bytes.len() - 1];
+        Id::has_plain_bytes(bytes) && bytes[0] != b' ' && last != b' '
+    }
+
+    fn has_plain_bytes(bytes: &[u8]) -> bool
+        ensures { result ≡ list_all is_id_byte bytes.now }
+    {
+        bytes.iter().all(|&b| b >= b' ' && b != 127 && b != b',')
+    }
+
+    /// The id as a text.
+    pub fn as_str(&self) -> &str
+        ensures text { result.now ≡ self.now }
+        ensures good { is_id self.now ≡ true }
+    {
+        self.text.as_str()
+    }
+}
+
+impl TryCopy for Id {
+    fn copy(&self, alloc: Global) -> Result<Id, NoMemory> {
+        Ok(Id {
+            text: String::from_str(alloc, self.text.as_str())?,
+        })
+    }
+}

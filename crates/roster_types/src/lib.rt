@@ -1,0 +1,23 @@
+//! Rows: every row of the ten kinds is one type, which keeps its own validity. Contracts see a row as its kind, the
+//! fields that all have, the values of its own fields by their places in the field table, and its metadata.
+#![tactic(auto)]
+
+pub mod academic_sessions;
+mod blanks;
+pub mod categories;
+pub mod cells;
+pub mod classes;
+pub mod courses;
+pub mod demographics;
+pub mod enrollments;
+pub mod lengths;
+pub mod line_items;
+pub mod metadata;
+pub mod orgs;
+mod parts;
+pub mod results;
+pub mod row;
+pub mod set_row;
+pub mod status;
+pub mod structs;
+pub mod users;

@@ -1,0 +1,315 @@
+//! The parts of a row, before its length is tested.
+
+ghost use Rattle.std.specs.Prelude.{◌≡◌, ◌+◌, ◌<◌, true, pos, None, Some, IfOk, drop, length, min, option_map, slice_get, slice_index_or, slice_set, sum_by};
+ghost use Rattle.roster_types.specs.Lengths.{field_length, fields_length, metadata_length, row_length};
+ghost use Rattle.roster_types.specs.Records.{IsFitting, all_values, id_in, moment_in, record_from, status_in};
+ghost use Rattle.roster_types.specs.Shapes.{fits_all, own_fields, shapes_fit};
+ghost use Rattle.roster_types.specs.Structs.{kind_of, values_of};
+ghost use Rattle.roster_values.specs.Fit.{fits_parts};
+ghost use Rattle.roster_values.specs.Table.{IdForm, info_of, table};
+ghost use Rattle.roster_values.specs.Value.{shown};
+
+use crate::lengths::{CAP, add, enclosed_length, member_length, parts_length, value_length};
+use crate::metadata::Metadata;
+use crate::status::Status;
+use crate::structs::Fields;
+use roster_base::{NoMemory, TryCopy};
+use roster_texts::{Id, Moment};
+use roster_values::fields::{COMMON_FIELDS, fields};
+use roster_values::{FieldInfo, Kind, Value, ValueRef, copy_value};
+use std::alloc::Global;
+use std::marker::Model;
+
+/// A row that may be too long.
+#[derive(Drop)]
+pub struct RowParts {
+    id: Id,
+    status: Status,
+    modified: Moment,
+    fields: Fields,
+    metadata: Metadata,
+}
+
+impl Model for RowParts {
+    ghost use Rattle.roster_types.specs.Records.{Record};
+
+    ghost Value = { Record };
+
+    ghost use Rattle.roster_types.specs.Parts.{AreFitting, record_of};
+
+    ghost view = { record_of };
+
+    ghost invariant = { AreFitting };
+}
+
+// Takes the first of the values.
+fn take_first(values: &mut Vec<Option<Value>>) -> Option<Value>
+    requires { 0 < length values.old.items }
+    ensures first { result ≡ slice_index_or values.old.items 0 None }
+    ensures rest { values.new.items ≡ drop 1 values.old.items }
+{
+    values.remove(0)
+}
+
+fn id_of(value: Option<Value>) -> Id
+    requires { fits_parts IdForm true value ≡ true }
+    ensures { result ≡ id_in value }
+{
+    match value {
+        Some(Value::Id(id)) => id,
+        _ => unreachable!(),
+    }
+}
+
+// No status means active.
+fn status_of(value: Option<Value>) -> Status
+    ensures { result ≡ status_in value }
+{
+    match value {
+        Some(Value::Word(word)) => {
+            if word.as_str() == "tobedeleted" {
+                Status::ToBeDeleted
+            } else {
+                Status::Active
+            }
+        }
+        _ => Status::Active,
+    }
+}
+
+#[tactic(auto, unfolding(roster_texts::specs::Moments::moment_at))]
+fn epoch() -> Moment
+    ensures { result ≡ pos 0 }
+{
+    match Moment::at(0) {
+        Some(moment) => moment,
+        None => unreachable!(),
+    }
+}
+
+// No date means the moment 0.
+fn moment_of(value: Option<Value>) -> Moment
+    ensures { result ≡ moment_in value }
+{
+    match value {
+        Some(value) => match value {
+            Value::Moment(moment) => moment,
+            _ => epoch(),
+        },
+        None => epoch(),
+    }
+}
+
+// Takes the value at a place, and leaves none there.
+fn take_at(values: &mut Vec<Option<Value>>, place: usize) -> Option<Value>
+    requires { place < length values.old.items }
+    ensures value { result ≡ slice_index_or values.old.items place None }
+    ensures rest { values.new.items ≡ slice_set values.old.items place None }
+{
+    values[place].take()
+}
+
+// The struct of the values of a kind's own fields.
+#[tactic(auto, using(crate::proofs::Building::building))]
+fn build(alloc: Global, kind: Kind, mut values: Vec<Option<Value>>) -> Result<Fields, NoMemory>
+    requires { shapes_fit (own_fields kind) values.items ≡ true }
+    ensures values { IfOk result (λ f. values_of f ≡ values.items) }
+    ensures kind { IfOk result (λ f. kind_of f ≡ kind) }
+{
+    let mut fields = Fields::blank(alloc, kind)?;
+    for place in 0..values.len() {
+        match take_at(&mut values, place) {
+            Some(value) => fields.put(place, value),
+            None => {}
+        }
+    }
+    Ok(fields)
+}
+
+impl RowParts {
+    /// The row that the values of all its fields give.
+    pub fn from_values(
+        alloc: Global,
+        kind: Kind,
+        mut values: Vec<Option<Value>>,
+        metadata: Metadata,
+    ) -> Result<RowParts, NoMemory>
+        requires { fits_all (table kind) values.items ≡ true }
+        ensures { IfOk result (λ r. r ≡ record_from kind values.items metadata) }
+    {
+        let id = id_of(take_first(&mut values));
+        let status = status_of(take_first(&mut values));
+        let modified = moment_of(take_first(&mut values));
+        let _ = metadata.entries();
+        Ok(RowParts {
+            id,
+            status,
+            modified,
+            fields: build(alloc, kind, values)?,
+            metadata,
+        })
+    }
+
+    /// The kind of the row.
+    pub fn kind(&self) -> Kind
+        ensures kind { result ≡ self.now.kind }
+        ensures fitting { IsFitting self.now }
+    {
+        self.fields.kind()
+    }
+
+    /// The id of the row.
+    pub fn id(&self) -> &Id
+        ensures { result.now ≡ self.now.id }
+    {
+        &self.id
+    }
+
+    /// The status of the row.
+    pub fn status(&self) -> Status
+        ensures { result ≡ self.now.status }
+    {
+        self.status
+    }
+
+    /// When the row was last changed.
+    pub fn modified(&self) -> Moment
+        ensures { result ≡ self.now.modified }
+    {
+        self.modified
+    }
+
+    /// What the district says of the row beside the standard's fields.
+    pub fn metadata(&self) -> &Metadata
+        ensures { result.now ≡ self.now.metadata }
+    {
+        &self.metadata
+    }
+
+    /// The struct of the row's kind.
+    pub fn fields(&self) -> &Fields
+        ensures kind { kind_of result.now ≡ self.now.kind }
+        ensures values { values_of result.now ≡ self.now.values }
+    {
+        &self.fields
+    }
+
+    /// The value of the field at a place in the field table, as it were with this status.
+    pub fn value_with(&self, status: Status, place: usize) -> Option<ValueRef<'_>>
+        requires { place < length (all_values self.now) }
+        ensures { option_map shown result ≡ slice_index_or (all_values (record self.now { status = status })) place None }
+    {
+        match place {
+            0 => Some(ValueRef::Id(&self.id)),
+            1 => Some(ValueRef::Word(status.word())),
+            2 => Some(ValueRef::Moment(&self.modified)),
+            _ => self.fields.value(place - COMMON_FIELDS),
+        }
+    }
+
+    /// The same row with another date.
+    pub fn dated(self, at: Moment) -> RowParts
+        ensures { result ≡ record self { modified = at } }
+    {
+        let _ = at.milliseconds();
+        let RowParts {
+            id,
+            status,
+            modified: _,
+            fields,
+            metadata,
+        } = self;
+        RowParts {
+            id,
+            status,
+            modified: at,
+            fields,
+            metadata,
+        }
+    }
+
+    // The length of the member of a field, with one byte more, and nothing where the field is absent.
+    fn field_length(&self, alloc: Global, place: usize, info: &FieldInfo) -> Result<u64, NoMemory>
+        requires { slice_get (table self.now.kind) place ≡ Some (info_of info.now) }
+        ensures { IfOk result (λ n. n ≡ min (field_length (info_of info.now) (slice_index_or (all_values (record self.now { status = Status.ToBeDeleted })) place None)) CAP) }
+    {
+        let _ = &self.fields;
+        match self.value_with(Status::ToBeDeleted, place) {
+            Some(value) => {
+                let value = value_length(alloc, info.form, value)?;
+                Ok(add(member_length(info.name, value), 1))
+            }
+            None => Ok(0),
+        }
+    }
+
+    // The sum of those lengths, with the longest status.
+    fn members_length(&self, alloc: Global) -> Result<u64, NoMemory>
+        ensures { IfOk result (λ n. n ≡ min (fields_length (table self.now.kind) (all_values (record self.now { status = Status.ToBeDeleted }))) CAP) }
+    {
+        let infos = fields(self.kind());
+        let mut length = 0;
+        for place in 0..infos.len() {
+            let member = self.field_length(alloc, place, &infos[place])?;
+            length = add(length, member);
+        }
+        Ok(length)
+    }
+
+    // The length of the metadata's member, with one byte more, and nothing where there is none.
+    #[tactic(auto, unfolding(crate::specs::Lengths::metadata_length))]
+    fn metadata_length(&self) -> u64
+        ensures { result ≡ min (metadata_length self.now.metadata) CAP }
+    {
+        let entries = self.metadata.entries();
+        if entries.is_empty() {
+            return 0;
+        }
+        add(
+            member_length("metadata", enclosed_length(parts_length(entries))),
+            1,
+        )
+    }
+
+    /// The length of the row, counted up to the cap.
+    #[tactic(auto, unfolding(crate::specs::Lengths::object_length))]
+    pub fn length(&self, alloc: Global) -> Result<u64, NoMemory>
+        ensures { IfOk result (λ n. n ≡ min (row_length self.now) CAP) }
+    {
+        let members = self.members_length(alloc)?;
+        Ok(enclosed_length(add(members, self.metadata_length())))
+    }
+
+    /// An equal copy.
+    pub fn copy(&self, alloc: Global) -> Result<RowParts, NoMemory>
+        ensures { IfOk result (λ r. r ≡ self.now) }
+    {
+        Ok(RowParts {
+            id: self.id.copy(alloc)?,
+            status: self.status,
+            modified: self.modified,
+            fields: build(alloc, self.kind(), self.copied_values(alloc)?)?,
+            metadata: self.metadata.copy(alloc)?,
+        })
+    }
+
+    // How many fields the kind has of its own.
+    fn own_len(&self) -> usize
+        ensures { result ≡ length self.now.values }
+    {
+        fields(self.kind()).len() - COMMON_FIELDS
+    }
+
+    fn copied_values(&self, alloc: Global) -> Result<Vec<Option<Value>>, NoMemory>
+        ensures { IfOk result (λ v. v.items ≡ self.now.values) }
+    {
+        let mut copied = Vec::new(alloc);
+        for place in 0..self.own_len() {
+            match self.fields.value(place) {
+                Some(value) => copied.push(Some(copy_value(alloc, value)?))?,
+                None => copied.push(None)?,
+            }
+        }
+        Ok(copied)
+    }
+}

@@ -1,0 +1,9 @@
+pub mod Braces
+pub mod CellLaws
+pub mod FitLaws
+pub mod ItemLaws
+pub mod KindLaws
+pub mod ListSteps
+pub mod TrimLaws
+pub mod UserLaws
+pub mod WordLemmas

@@ -1,0 +1,57 @@
+-- The kinds of roster data and their words.
+use Rattle.std.specs.Prelude.{ℕ, ◌++◌, ◌∷◌, [], bytes_eq, codes, find, List, Option}
+use Rattle.roster_values.specs.declared.kind.Kind.{Kind}
+use Rattle.roster_values.specs.declared.kind.Kind.TheVariants.{Orgs, AcademicSessions, Courses, Classes, Users, Enrollments, Demographics, Categories, LineItems, Results}
+
+-- every kind, in order
+abbrev pub all_kinds : List Kind
+all_kinds =
+    Orgs ∷ AcademicSessions ∷ Courses ∷ Classes ∷ Users
+    ∷ Enrollments ∷ Demographics ∷ Categories ∷ LineItems ∷ Results ∷ []
+
+-- the place of a kind among all
+abbrev pub place_of_kind : Kind → ℕ
+place_of_kind Orgs = 0
+place_of_kind AcademicSessions = 1
+place_of_kind Courses = 2
+place_of_kind Classes = 3
+place_of_kind Users = 4
+place_of_kind Enrollments = 5
+place_of_kind Demographics = 6
+place_of_kind Categories = 7
+place_of_kind LineItems = 8
+place_of_kind Results = 9
+
+-- the word for many records of a kind
+abbrev pub plural_of : Kind → List ℕ
+plural_of Orgs = codes "orgs"
+plural_of AcademicSessions = codes "academicSessions"
+plural_of Courses = codes "courses"
+plural_of Classes = codes "classes"
+plural_of Users = codes "users"
+plural_of Enrollments = codes "enrollments"
+plural_of Demographics = codes "demographics"
+plural_of Categories = codes "categories"
+plural_of LineItems = codes "lineItems"
+plural_of Results = codes "results"
+
+-- the word for one record of a kind
+abbrev pub single_of : Kind → List ℕ
+single_of Orgs = codes "org"
+single_of AcademicSessions = codes "academicSession"
+single_of Courses = codes "course"
+single_of Classes = codes "class"
+single_of Users = codes "user"
+single_of Enrollments = codes "enrollment"
+single_of Demographics = codes "demographics"
+single_of Categories = codes "category"
+single_of LineItems = codes "lineItem"
+single_of Results = codes "result"
+
+-- the name of a kind's file
+abbrev pub file_of : Kind → List ℕ
+file_of kind = plural_of kind ++ codes ".csv"
+
+-- the kind whose plural word a text is
+abbrev pub kind_of_word : List ℕ → Option Kind
+kind_of_word word = find (λ kind. bytes_eq (plural_of kind) word) all_kinds

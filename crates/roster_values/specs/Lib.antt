@@ -1,0 +1,9 @@
+pub mod CellText
+pub mod Fit
+pub mod Kinds
+pub mod Lists
+pub mod Shape
+pub mod Table
+pub mod UserIds
+pub mod Value
+pub mod Values

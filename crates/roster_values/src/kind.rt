@@ -1,0 +1,137 @@
+//! The kinds of roster data.
+
+ghost use Rattle.std.specs.Prelude.{◌≡◌, bytes_eq, find, Some};
+ghost use Rattle.roster_values.specs.Kinds.{file_of, kind_of_word, place_of_kind, plural_of, single_of};
+ghost use Rattle.roster_values.specs.declared.kind.Kind.{Kind as Kinds};
+
+/// A kind of record of OneRoster 1.1: what one of its files, or one collection of its JSON form, holds.
+#[derive(Clone, Copy, Debug, PartialEq, Eq, PartialOrd, Ord)]
+pub enum Kind {
+    /// Schools, districts, departments and other organizations.
+    Orgs,
+    /// School years, semesters, terms and grading periods.
+    AcademicSessions,
+    /// What classes teach.
+    Courses,
+    /// Courses as they are taught at one school in certain terms.
+    Classes,
+    /// People.
+    Users,
+    /// Who is in which class, and as what.
+    Enrollments,
+    /// What is on record of a user's birth, sex and origin.
+    Demographics,
+    /// Kinds of line items, as homework.
+    Categories,
+    /// What is assigned and graded in a class.
+    LineItems,
+    /// What a student got for a line item.
+    Results,
+}
+
+impl Kind {
+    /// Every kind, in the order of `place`.
+    pub const ALL: [Kind; 10] = [
+        Kind::Orgs,
+        Kind::AcademicSessions,
+        Kind::Courses,
+        Kind::Classes,
+        Kind::Users,
+        Kind::Enrollments,
+        Kind::Demographics,
+        Kind::Categories,
+        Kind::LineItems,
+        Kind::Results,
+    ];
+
+    /// The kind's place in `Kind::ALL`.
+    pub fn place(self) -> usize
+        ensures { result ≡ place_of_kind self }
+    {
+        match self {
+            Kind::Orgs => 0,
+            Kind::AcademicSessions => 1,
+            Kind::Courses => 2,
+            Kind::Classes => 3,
+            Kind::Users => 4,
+            Kind::Enrollments => 5,
+            Kind::Demographics => 6,
+            Kind::Categories => 7,
+            Kind::LineItems => 8,
+            Kind::Results => 9,
+        }
+    }
+
+    /// The word for many records of the kind: the key of their array in JSON, and the stem of their file.
+    pub fn plural(self) -> &'static str
+        ensures { result.now ≡ plural_of self }
+    {
+        match self {
+            Kind::Orgs => "orgs",
+            Kind::AcademicSessions => "academicSessions",
+            Kind::Courses => "courses",
+            Kind::Classes => "classes",
+            Kind::Users => "users",
+            Kind::Enrollments => "enrollments",
+            Kind::Demographics => "demographics",
+            Kind::Categories => "categories",
+            Kind::LineItems => "lineItems",
+            Kind::Results => "results",
+        }
+    }
+
+    /// The word for one record of the kind: its key in JSON, and the `type` of a reference to it.
+    pub fn single(self) -> &'static str
+        ensures { result.now ≡ single_of self }
+    {
+        match self {
+            Kind::Orgs => "org",
+            Kind::AcademicSessions => "academicSession",
+            Kind::Courses => "course",
+            Kind::Classes => "class",
+            Kind::Users => "user",
+            Kind::Enrollments => "enrollment",
+            Kind::Demographics => "demographics",
+            Kind::Categories => "category",
+            Kind::LineItems => "lineItem",
+            Kind::Results => "result",
+        }
+    }
+
+    /// The name of the kind's file of comma-separated values.
+    pub fn file_name(self) -> &'static str
+        ensures { result.now ≡ file_of self }
+    {
+        match self {
+            Kind::Orgs => "orgs.csv",
+            Kind::AcademicSessions => "academicSessions.csv",
+            Kind::Courses => "courses.csv",
+            Kind::Classes => "classes.csv",
+            Kind::Users => "users.csv",
+            Kind::Enrollments => "enrollments.csv",
+            Kind::Demographics => "demographics.csv",
+            Kind::Categories => "categories.csv",
+            Kind::LineItems => "lineItems.csv",
+            Kind::Results => "results.csv",
+        }
+    }
+
+    /// The kind whose plural word the text is, letter by letter.
+    pub fn read(text: &str) -> Option<Kind>
+        ensures { result ≡ kind_of_word text.now }
+    {
+        first_named(&Kind::ALL, text)
+    }
+}
+
+// The first of the kinds whose plural word is this.
+fn first_named(kinds: &[Kind], word: &str) -> Option<Kind>
+    ensures { result ≡ find (λ kind. bytes_eq (plural_of kind) word.now) kinds.now }
+{
+    kinds.iter().copied().find(|kind| kind.plural() == word)
+}
+
+/// A law: the plural word of a kind reads as that kind, so no two kinds have the same.
+pub fn kinds_read_back()
+    ensures { (kind : Kinds) → kind_of_word (plural_of kind) ≡ Some kind }
+{}

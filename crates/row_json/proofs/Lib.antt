@@ -1,0 +1,6 @@
+pub mod Collecting
+pub mod Floats
+pub mod Puts
+pub mod RowLengths
+pub mod TextLengths
+pub mod Walks
