@@ -56,14 +56,6 @@ pub notes_one : (kind : Kind) (old new : BTreeSet (String Global)) (key : String
 notes_one kind old new key c same updates q reads =
     btree_set_updates_text (string_bytes key) old new true updates q ∙ rw same (or_cond (bytes_eq c q) (contains_text old q))
 
-pub told_there : (b : Bool) → false ≡ not b → b ≡ true
-told_there true e = refl
-told_there false e = cc e
-
-pub told_new : (b : Bool) → true ≡ not b → b ≡ false
-told_new true e = cc e
-told_new false e = refl
-
 -- how far the reading of a header has come
 pub record Checks (kind : Kind) (columns : List (List ℕ)) (seen : BTreeSet (String Global)) (found : List MetadataColumn) (place : ℕ) : Type 0 where
   pub before : List (List ℕ)

@@ -44,6 +44,7 @@ pub enum ColumnFault {
 pub struct RowFault {
     /// The column of the field.
     pub field: Text,
+    /// What is wrong with its value.
     pub fault: ValueFault,
 }
 

@@ -61,6 +61,7 @@ fn add(
     ensures told { IfOk result (λ is_new. is_new ≡ not (has_id row.row.id rows.old.items)) }
     ensures ids { IfOk result (λ is_new. is_new ≡ true → HoldsIds ids.new rows.new.items) }
 {
+    // The row goes in before its id is tried, so that no path drops it here: the check of such a drop takes many minutes.
     rows.push(row)?;
     let id = rows[rows.len() - 1].row.id();
     Ok(ids.insert(String::from_str(alloc, id.as_str())?)?)
@@ -112,9 +113,9 @@ fn rows_of(alloc: Global, kind: Kind, mode: Mode, text: &str) -> Result<Vec<SetR
     rows_under(alloc, kind, mode, &header, &mut reader)
 }
 
-/// The rows of a file of one kind in their order, or its first fault: first of its bytes, then of its header, then of its
-/// records in turn. The first line is the header; a fault numbers the records from it on, which is number 1, and passes over
-/// blank lines.
+/// The rows of a file of one kind in their order, or its first fault: of its size, its bytes, its header, and then of its
+/// records in turn. The first record is the header, and a fault numbers the records from it on, beginning with 1; blank
+/// lines are no records. A byte order mark at the start is passed over.
 #[tactic(auto, unfolding(crate::specs::Files::file_of))]
 pub fn read_file(
     alloc: Global,

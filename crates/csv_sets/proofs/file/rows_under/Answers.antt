@@ -1,8 +1,8 @@
 use Rattle.std.proofs.Common.{sym, ◌∙◌}
+use Rattle.std.proofs.lemmas.Bool.{not-false, not-true}
 use Rattle.std.proofs.lemmas.Result.{err_from_is_err_and}
 use Rattle.csv.specs.Records.{fields_of}
 use Rattle.csv_sets.proofs.FileSteps.{found_first, found_none, leads_end, leads_fail, leads_on, leads_repeated}
-use Rattle.csv_sets.proofs.HeaderSteps.{told_new, told_there}
 use Rattle.csv_sets.proofs.file.rows_under.Goals as goal
 
 pub returns-in_err-row : goal.returns-in_err-row
@@ -14,14 +14,14 @@ returns-in_err-row c =
 pub returns-then-not-branch : goal.returns-then-not-branch
 returns-then-not-branch c =
     let first = found_first c.loop-cells.reader c.read.new.self c.in_ok-read.field-0 (fields_of c.read.new.cells) c.in_ok-read.ensures.ok c.if-branch.true in
-    leads_repeated (fields_of c.read.new.cells) c.read.new.self c.in_ok-row.row c.loop-cells.invariant.leads first c.in_ok-row.ensures (told_there _ (sym c.if-not-branch.true ∙ c.in_ok-add.ensures.told))
+    leads_repeated (fields_of c.read.new.cells) c.read.new.self c.in_ok-row.row c.loop-cells.invariant.leads first c.in_ok-row.ensures (not-false _ (sym c.in_ok-add.ensures.told ∙ c.if-not-branch.true))
 
 pub loop-cells-preserved : goal.loop-cells-preserved
 loop-cells-preserved c =
     let first = found_first c.loop-cells.reader c.read.new.self c.in_ok-read.field-0 (fields_of c.read.new.cells) c.in_ok-read.ensures.ok c.if-branch.true in
     record {
       leads = rw c.in_ok-add.ensures.rows
-          (leads_on (fields_of c.read.new.cells) c.read.new.self c.in_ok-row.row c.loop-cells.invariant.leads first c.in_ok-row.ensures (told_new _ (sym c.if-not-branch.false ∙ c.in_ok-add.ensures.told)));
+          (leads_on (fields_of c.read.new.cells) c.read.new.self c.in_ok-row.row c.loop-cells.invariant.leads first c.in_ok-row.ensures (not-true _ (sym c.in_ok-add.ensures.told ∙ c.if-not-branch.false)));
       ids = c.in_ok-add.ensures.ids c.if-not-branch.false;
     }
 
