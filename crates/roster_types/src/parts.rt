@@ -288,8 +288,8 @@ impl RowParts {
             id: self.id.copy(alloc)?,
             status: self.status,
             modified: self.modified,
-            fields: build(alloc, self.kind(), self.copied_values(alloc)?)?,
             metadata: self.metadata.copy(alloc)?,
+            fields: build(alloc, self.kind(), self.copied_values(alloc)?)?,
         })
     }
 

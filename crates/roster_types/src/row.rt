@@ -52,10 +52,15 @@ impl Row {
         ensures { IfOk result (λ o. o ≡ row_from kind values.items metadata) }
     {
         let parts = RowParts::from_values(alloc, kind, values, metadata)?;
-        if parts.length(alloc)? > LONGEST {
-            return Ok(None);
+        match parts.length(alloc) {
+            Ok(length) if length <= LONGEST => Ok(Some(Row { parts })),
+            refused => {
+                // By name, since the check goes through all ten structs where a row is dropped unnamed.
+                drop(parts);
+                refused?;
+                Ok(None)
+            }
         }
-        Ok(Some(Row { parts }))
     }
 
     /// The kind of the row.

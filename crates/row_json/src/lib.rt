@@ -6,3 +6,6 @@ mod text;
 mod values;
 
 pub use text::{collection_text, row_text};
+
+#[cfg(test)]
+mod tests;
