@@ -1,5 +1,5 @@
 -- The rows of a file, record by record.
-use Rattle.std.proofs.Common.{◌≡◌, ◌≤◌, ◌+◌, ◌-◌, ◌==◌, ℕ, List, [], ◌∷◌, ◌++◌, get_or, length, map, Bool, true, false, not, Option, Some, None, Result, Ok, Err, IfOk, refl, sym, ap, ◌∙◌, arith, bytes_eq, cond, String, BTreeSet, Global, Vec, string_bytes, string_cmp, nat_lt}
+use Rattle.std.proofs.Common.{◌≡◌, ◌≤◌, ◌+◌, ◌-◌, ◌==◌, ℕ, List, [], ◌∷◌, ◌++◌, get_or, length, map, Bool, true, false, not, Option, Some, None, Result, Ok, Err, IfOk, refl, sym, ap, ◌∙◌, arith, bytes_eq, cond, String, BTreeSet, Global, Vec, string_bytes, string_cmp, nat_lt, pos, is_some, slice_index_or}
 use Rattle.std.proofs.lemmas.List.Elements.{All-nil, All-push}
 use Rattle.std.proofs.lemmas.List.{get_or_push, length-append, length-map, map_push}
 use Rattle.std.proofs.lemmas.List.Folds.{list_any-append}
@@ -20,7 +20,8 @@ use Rattle.roster_base.specs.declared.refusal.Refusal.TheVariants as refusal
 use Rattle.roster_types.specs.declared.metadata.Entry.{Entry}
 use Rattle.roster_types.specs.declared.set_row.SetRow.{SetRow}
 use Rattle.roster_types.specs.Lengths.{row_length}
-use Rattle.roster_types.specs.Records.{Record, is_dated, record_from}
+use Rattle.roster_types.specs.Records.{Record, is_dated, moment_in, record_from}
+use Rattle.roster_types.specs.Sets.{IsDatedOrZero}
 use Rattle.roster_types.specs.Rows.{longest, row_from}
 use Rattle.roster_values.specs.declared.kind.Kind.{Kind}
 use Rattle.roster_values.specs.declared.mode.Mode.{Mode}
@@ -105,12 +106,13 @@ last_row rows new row last i e at is =
     let here : length rows ≡ i = omega (arith, ap length e, length-append rows (row ∷ [])) in
     is ∙ rw e (get_or_push rows row last i here)
 
--- rows of one kind, whose ids differ
+-- rows of one kind, whose ids differ, and which carry the moment 0 where they bring no date
 pub record AreRows (kind : Kind) (rows : List SetRow) : Type 0 where
+  pub dates : All IsDatedOrZero rows
   pub kinds : All (λ (r : SetRow). r.row.kind ≡ kind) rows
   pub differ : IsDistinct bytes_eq (map (λ r. r.row.id) rows)
 
-neither : (a b : Bool) → (a || b) ≡ false → (a ≡ false) × (b ≡ false)
+pub neither : (a b : Bool) → (a || b) ≡ false → (a ≡ false) × (b ≡ false)
 neither true b e = cc e
 neither false b e = (refl, e)
 
@@ -125,28 +127,35 @@ distinct_push (r ∷ rows) id h e =
     let parts = neither (bytes_eq r.row.id id) (has_id id rows) e in
     (other_push r.row.id id (map (λ r. r.row.id) rows) h.0 parts.0, distinct_push rows id h.1 parts.1)
 
-rows_push : (kind : Kind) (rows : List SetRow) (row : SetRow) → AreRows kind rows → row.row.kind ≡ kind → has_id row.row.id rows ≡ false → AreRows kind (rows ++ row ∷ [])
+rows_push : (kind : Kind) (rows : List SetRow) (row : SetRow) → AreRows kind rows → (row.row.kind ≡ kind) × IsDatedOrZero row → has_id row.row.id rows ≡ false → AreRows kind (rows ++ row ∷ [])
 rows_push kind rows row h k e = record {
-  kinds = All-push (λ (r : SetRow). r.row.kind ≡ kind) rows row h.kinds k;
+  dates = All-push IsDatedOrZero rows row h.dates k.1;
+  kinds = All-push (λ (r : SetRow). r.row.kind ≡ kind) rows row h.kinds k.0;
   differ = rw (map_push (λ (r : SetRow). r.row.id) rows row) (distinct_push rows row.row.id h.differ e);
 }
 
-kind_short : (dated long : Bool) (r : Record) (row : SetRow) → set_row dated (if long then None else Some r) ≡ Ok row → row.row.kind ≡ r.kind
-kind_short dated true r row e = cc e
-kind_short dated false r row e = let i : record { row = r; dated = dated } ≡ row = cc e in rw (← i) refl
+no_date : (date : Option Value) → is_some date ≡ false → moment_in date ≡ pos 0
+no_date None e = refl
+no_date (Some v) e = cc e
 
-kind_values : (kind : Kind) (metadata : List Entry) (values : Result (List (Option Value)) RowFault) (row : SetRow) → (values >>= (λ vs. set_row (is_dated vs) (row_from kind vs metadata))) ≡ Ok row → row.row.kind ≡ kind
-kind_values kind metadata (Ok vs) row e = kind_short (is_dated vs) (nat_lt longest (row_length (record_from kind vs metadata))) (record_from kind vs metadata) row e
-kind_values kind metadata (Err f) row e = cc e
+good_short : (dated long : Bool) (r : Record) (row : SetRow) → (dated ≡ false → r.modified ≡ pos 0) → set_row dated (if long then None else Some r) ≡ Ok row → (row.row.kind ≡ r.kind) × IsDatedOrZero row
+good_short dated true r row d e = cc e
+good_short dated false r row d e = let i : record { row = r; dated = dated } ≡ row = cc e in rw (← i) (refl, d)
 
-kind_width : (same : Bool) (f : RowFault) (read : Result SetRow RowFault) (row : SetRow) → (if not same then Err f else read) ≡ Ok row → read ≡ Ok row
-kind_width true f read row e = e
-kind_width false f read row e = cc e
+good_values : (kind : Kind) (metadata : List Entry) (values : Result (List (Option Value)) RowFault) (row : SetRow) → (values >>= (λ vs. set_row (is_dated vs) (row_from kind vs metadata))) ≡ Ok row
+    → (row.row.kind ≡ kind) × IsDatedOrZero row
+good_values kind metadata (Ok vs) row e =
+    good_short (is_dated vs) (nat_lt longest (row_length (record_from kind vs metadata))) (record_from kind vs metadata) row (no_date (slice_index_or vs 2 None)) e
+good_values kind metadata (Err f) row e = cc e
 
-kind_row : (kind : Kind) (mode : Mode) (header : Header) (cells : List (List ℕ)) (row : SetRow) → row_at kind mode header cells ≡ Ok row → row.row.kind ≡ kind
+good_width : (same : Bool) (f : RowFault) (read : Result SetRow RowFault) (row : SetRow) → (if not same then Err f else read) ≡ Ok row → read ≡ Ok row
+good_width true f read row e = e
+good_width false f read row e = cc e
+
+good_row : (kind : Kind) (mode : Mode) (header : Header) (cells : List (List ℕ)) (row : SetRow) → row_at kind mode header cells ≡ Ok row → (row.row.kind ≡ kind) × IsDatedOrZero row
 unfolding row_at
-kind_row kind mode header cells row e =
-    kind_values kind (metadata_at header.metadata cells) (values_at mode 0 (table kind) header.places cells) row (kind_width (length cells == header.width) _ _ row e)
+good_row kind mode header cells row e =
+    good_values kind (metadata_at header.metadata cells) (values_at mode 0 (table kind) header.places cells) row (good_width (length cells == header.width) _ _ row e)
 
 one_record : (kind : Kind) (number : ℕ) (read : Result SetRow RowFault) (row : SetRow) → in_record kind number read ≡ Ok row → read ≡ Ok row
 one_record kind number (Ok r) row e = cc e
@@ -154,7 +163,7 @@ one_record kind number (Err f) row e = cc e
 
 -- the rows behind others, where their first record spells a row
 rows_next : (kind : Kind) (mode : Mode) (header : Header) (front : List SetRow) (number : ℕ) (rest : List (List (List ℕ))) (rows : List SetRow) (read : Result SetRow RowFault)
-    → ((row : SetRow) → read ≡ Ok row → row.row.kind ≡ kind)
+    → ((row : SetRow) → read ≡ Ok row → (row.row.kind ≡ kind) × IsDatedOrZero row)
     → ((more : List SetRow) → AreRows kind more → rows_after kind mode header more (number + 1) rest ≡ Ok rows → AreRows kind rows) → AreRows kind front
     → (in_record kind number read >>= (λ row. if has_id row.row.id front then Err (RepeatedId (RowsOf kind) number) else rows_after kind mode header (front ++ row ∷ []) (number + 1) rest)) ≡ Ok rows
     → AreRows kind rows
@@ -170,11 +179,11 @@ rows_are : (kind : Kind) (mode : Mode) (header : Header) (front : List SetRow) (
 unfolding rows_after
 rows_are kind mode header front number [] rows h e = let i : front ≡ rows = cc e in rw (← i) h
 rows_are kind mode header front number (cells ∷ rest) rows h e =
-    rows_next kind mode header front number rest rows (row_at kind mode header cells) (kind_row kind mode header cells) (λ more k e2. rows_are kind mode header more (number + 1) rest rows k e2) h e
+    rows_next kind mode header front number rest rows (row_at kind mode header cells) (good_row kind mode header cells) (λ more k e2. rows_are kind mode header more (number + 1) rest rows k e2) h e
 
 no_rows : (kind : Kind) → AreRows kind []
 unfolding IsDistinct
-no_rows kind = record { kinds = All-nil (λ (r : SetRow). r.row.kind ≡ kind); differ = tt }
+no_rows kind = record { dates = All-nil IsDatedOrZero; kinds = All-nil (λ (r : SetRow). r.row.kind ≡ kind); differ = tt }
 
 rows_below : (kind : Kind) (mode : Mode) (header : Result Header SetFault) (left : List (List (List ℕ))) (rows : List SetRow) → (header >>= (λ h. rows_after kind mode h [] 2 left)) ≡ Ok rows → AreRows kind rows
 rows_below kind mode (Ok h) left rows e = rows_are kind mode h [] 2 left rows (no_rows kind) e
@@ -197,6 +206,10 @@ given_kinds kind mode records (Err e) g = tt
 pub given_differ : (kind : Kind) (mode : Mode) (records : List (List (List ℕ))) (r : Result (Vec SetRow Global) (Refusal SetFault)) → Gives (λ v. v.items) r (rows_of kind mode records) → IfOk r (λ v. IsDistinct bytes_eq (map (λ (r : SetRow). r.row.id) v.items))
 given_differ kind mode records (Ok v) g = (rows_of_kind kind mode records v.items g).differ
 given_differ kind mode records (Err e) g = tt
+
+pub given_dates : (kind : Kind) (mode : Mode) (records : List (List (List ℕ))) (r : Result (Vec SetRow Global) (Refusal SetFault)) → Gives (λ v. v.items) r (rows_of kind mode records) → IfOk r (λ v. All IsDatedOrZero v.items)
+given_dates kind mode records (Ok v) g = (rows_of_kind kind mode records v.items g).dates
+given_dates kind mode records (Err e) g = tt
 
 small : (bytes : List ℕ) → length bytes ≤ largest → nat_lt largest (length bytes) ≡ false
 small bytes h = grind (arith, nat_tests)

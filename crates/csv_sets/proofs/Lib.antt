@@ -1,9 +1,17 @@
 mod ColumnLaws
+mod FaultLaws
 mod FileSteps
+mod HeaderBack
 mod HeaderSteps
+mod KeyLaws
+mod LineSteps
 mod ListLaws
+mod ManifestSteps
 mod MetadataSteps
 mod PlaceSteps
+mod ReadBack
 mod RecordLaws
+mod SetSteps
+mod TextBack
 mod TextLaws
 mod ValueSteps

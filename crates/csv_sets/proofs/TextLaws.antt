@@ -15,7 +15,7 @@ use Rattle.csv.specs.declared.parser.Action.{Action}
 use Rattle.csv.specs.declared.parser.Action.TheVariants as act
 use Rattle.csv_sets.specs.Left.{AllRowsText}
 
-cut_at_ascii : (p rest : List ℕ) (c : ℕ) → c < 128 → IsUtf8 (p ++ c ∷ rest) → IsUtf8 p × IsUtf8 rest
+pub cut_at_ascii : (p rest : List ℕ) (c : ℕ) → c < 128 → IsUtf8 (p ++ c ∷ rest) → IsUtf8 p × IsUtf8 rest
 cut_at_ascii p rest c small h =
     let within : length p < length (p ++ c ∷ rest) = grind (arith, common_steps) in
     let here : get_or (p ++ c ∷ rest) (length p) 0 ≡ c = grind (arith, common_steps) in

@@ -1,7 +1,13 @@
 pub mod Cells
 pub mod Columns
 pub mod Files
+pub mod Folders
 pub mod Headers
 pub mod Left
+pub mod Lines
+pub mod Manifests
 pub mod Names
+pub mod Properties
 pub mod Rows
+pub mod Sets
+pub mod Written

@@ -3,6 +3,7 @@
 ghost use Rattle.std.specs.Prelude.{◌≡◌};
 ghost use Rattle.csv_sets.specs.Names.{name_of};
 
+use crate::property::Property;
 use roster_base::{Refusal, Text};
 use roster_texts::ValueFault;
 use roster_values::Kind;
@@ -51,11 +52,37 @@ pub struct RowFault {
 /// Why no row was read.
 pub type RowError = Refusal<RowFault>;
 
+/// What is wrong with a manifest.
+#[derive(Clone, Copy, Debug, PartialEq, Eq)]
+pub enum ManifestFault {
+    /// The header isn't `propertyName,value`.
+    Header,
+    /// A record has no two cells.
+    Width { record_no: u64 },
+    /// A property stands in an earlier record.
+    Repeated { property: Property },
+    /// A version isn't the one that is read: `1.0` of manifests and `1.1` of OneRoster.
+    Version { property: Property },
+    /// A file's value is none of `bulk`, `delta` and `absent`.
+    UnknownMode { property: Property },
+    /// A version isn't there.
+    Missing { property: Property },
+}
+
+/// Why no manifest was read.
+pub type ManifestError = Refusal<ManifestFault>;
+
 /// The first fault of a file or a set. Records are numbered from 1, the header being the first.
 #[derive(Drop)]
 pub enum SetFault {
+    /// The manifest is wrong.
+    Manifest(ManifestFault),
     /// A file isn't there that ought to be.
     MissingFile {
+        file: SetFile,
+    },
+    /// A file is there that the manifest says is absent.
+    UnexpectedFile {
         file: SetFile,
     },
     /// A header's column is wrong.
@@ -84,6 +111,8 @@ pub enum SetFault {
     NotUtf8 {
         file: SetFile,
     },
+    /// The folder failed, and its count of faults tells of it.
+    Folder,
 }
 
 /// Why no set was read.

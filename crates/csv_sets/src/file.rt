@@ -5,6 +5,7 @@ ghost use Rattle.std.specs.List.{All, IsDistinct};
 ghost use Rattle.csv.specs.Reading.{default_config, records, strip_bom};
 ghost use Rattle.csv.specs.Records.{AllText, fields_of};
 ghost use Rattle.roster_base.specs.Reading.{Gives};
+ghost use Rattle.roster_types.specs.Sets.{IsDatedOrZero};
 ghost use Rattle.roster_values.specs.Table.{table};
 ghost use Rattle.csv_sets.specs.Files.{HoldsIds, file_of, has_id, in_record, largest, rows_after, rows_of};
 ghost use Rattle.csv_sets.specs.Left.{AllRowsText};
@@ -126,6 +127,7 @@ pub fn read_file(
     ensures file { Gives (λ v. v.items) result (file_of kind mode bytes.now) }
     ensures kinds { IfOk result (λ v. All (λ r. r.row.kind ≡ kind) v.items) }
     ensures differ { IfOk result (λ v. IsDistinct bytes_eq (map (λ r. r.row.id) v.items)) }
+    ensures dates { IfOk result (λ v. All IsDatedOrZero v.items) }
 {
     if bytes.len() > LARGEST {
         return Err(Refusal::Fault(SetFault::TooLarge {

@@ -1,15 +1,30 @@
-//! Files of comma-separated values: the rows of one kind that a file's records spell, or the file's first fault.
+//! Files of comma-separated values: the rows of one kind that a file's records spell, the set that the files of a folder mean
+//! together under their manifest, or the first fault; and the text of a file that is written.
 #![tactic(auto)]
 
+mod cell_text;
 mod cells;
 pub mod fault;
 pub mod file;
 mod header;
+mod keys;
+pub mod manifest;
+pub mod property;
 mod records;
 mod row;
+pub mod set;
+mod write;
 
-pub use fault::{ColumnFault, RowError, RowFault, SetError, SetFault, SetFile};
+pub use fault::{
+    ColumnFault, ManifestError, ManifestFault, RowError, RowFault, SetError, SetFault, SetFile,
+};
 pub use file::read_file;
+pub use manifest::{ListedFile, Manifest, read_manifest};
+pub use property::Property;
+pub use set::read_set;
+pub use write::write_file;
 
+#[cfg(test)]
+mod lake_tests;
 #[cfg(test)]
 mod tests;

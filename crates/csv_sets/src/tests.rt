@@ -40,7 +40,8 @@ fn rows_line(alloc: Global, rows: &[SetRow]) -> Result<String, NoMemory> {
     Ok(line)
 }
 
-fn fault_line(alloc: Global, fault: SetFault) -> Result<String, NoMemory> {
+// What is wrong, in one line.
+pub fn fault_line(alloc: Global, fault: SetFault) -> Result<String, NoMemory> {
     Ok(match fault {
         SetFault::MissingFile { file } => {
             let name = file.name();
@@ -77,6 +78,12 @@ fn fault_line(alloc: Global, fault: SetFault) -> Result<String, NoMemory> {
             let name = file.name();
             format!(in alloc; "{name} is no UTF-8")?
         }
+        SetFault::UnexpectedFile { file } => {
+            let name = file.name();
+            format!(in alloc; "{name} is unexpected")?
+        }
+        SetFault::Manifest(fault) => format!(in alloc; "manifest.csv: {fault:?}")?,
+        SetFault::Folder => String::from_str(alloc, "the folder failed")?,
     })
 }
 

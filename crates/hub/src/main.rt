@@ -2,8 +2,9 @@
 #![tactic(auto)]
 
 use hub_cli::lines::NO_MEMORY;
-use hub_cli::{print, run_hub};
-use outside_ports::{Clock, DirFolder, Folder, IoSink, Sink, SystemClock};
+use hub_cli::{print, run_hub, split_words};
+use outside_ports::{DirFolder, IoSink, Sink, SystemClock};
+use roster_base::{NoMemory, Refusal};
 use std::alloc::Global;
 use std::env;
 use std::io::{self, ErrorKind};
@@ -11,13 +12,15 @@ use std::process::ExitCode;
 use std::rt::Env;
 
 const HELP: &str = "\
-hub COMMAND
+hub [--folder DIR] COMMAND
 
-show KIND    prints the rows of KIND.csv in the working folder, in order of id, as JSON
-             KIND is one of orgs, academicSessions, courses, classes, users, enrollments,
-             demographics, categories, lineItems, results
---help       prints this
---version    prints the version
+show KIND     prints the rows of KIND.csv, in order of id, as JSON
+              KIND is one of orgs, academicSessions, courses, classes, users, enrollments,
+              demographics, categories, lineItems, results
+
+--folder DIR  the folder where the command finds its files, in place of the working folder
+--help        prints this
+--version     prints the version
 
 The status is 0 where the command is done, 1 where the output could not be written, 2 where the
 words are no command, 3 where the folder failed, 4 where the input is refused and 17 where memory
@@ -39,28 +42,41 @@ fn answer_unread(error: &io::Error, out: &mut impl Sink) -> u8 {
     }
 }
 
+// The root folder: the one that the words name, and else the working folder.
+fn root(alloc: Global, words: &[String]) -> Result<String, NoMemory> {
+    match split_words(alloc, words) {
+        Ok(parsed) => match parsed.folder {
+            Some(folder) => Ok(folder.into_string()),
+            None => Ok(String::new(alloc)),
+        },
+        Err(Refusal::Fault(_)) => Ok(String::new(alloc)),
+        Err(Refusal::NoMemory) => Err(NoMemory),
+    }
+}
+
+// Runs a command over the real folder and clock.
+fn run_command(rt: HostRuntime, words: &[String], out: &mut impl Sink) -> u8 {
+    let alloc = rt.alloc();
+    let Ok(root) = root(alloc, words) else {
+        return print(out, 17, NO_MEMORY);
+    };
+    let mut folder = DirFolder::new(rt, root);
+    run_hub(alloc, words, &mut folder, &SystemClock::new(rt), out)
+}
+
 // Runs the words, of which two are the program's own.
-fn run<F: Folder, K: Clock>(
-    alloc: Global,
-    words: &[String],
-    folder: &mut F,
-    clock: &K,
-    out: &mut impl Sink,
-) -> u8 {
+fn run(rt: HostRuntime, words: &[String], out: &mut impl Sink) -> u8 {
     match words {
         [word] if word.as_str() == "--help" => print(out, 0, HELP),
         [word] if word.as_str() == "--version" => print(out, 0, VERSION),
-        _ => run_hub(alloc, words, folder, clock, out),
+        _ => run_command(rt, words, out),
     }
 }
 
 fn main(rt: HostRuntime) -> ExitCode {
-    let alloc = rt.alloc();
     let mut out = IoSink::new(io::writer(&rt));
-    let mut folder = DirFolder::new(rt, String::new(alloc));
-    let clock = SystemClock::new(rt);
     let status = match words_of(&rt) {
-        Ok(words) => run(alloc, words.as_slice(), &mut folder, &clock, &mut out),
+        Ok(words) => run(rt, words.as_slice(), &mut out),
         Err(error) => answer_unread(&error, &mut out),
     };
     ExitCode::from(status)

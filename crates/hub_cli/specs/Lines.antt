@@ -3,8 +3,11 @@ use Rattle.std.specs.Prelude.{ℕ, ◌++◌, List, codes, decimal}
 use Rattle.csv_sets.specs.declared.fault.ColumnFault.{ColumnFault}
 use Rattle.csv_sets.specs.declared.fault.ColumnFault.TheVariants.{BadKey, Missing, Repeated}
 use Rattle.csv_sets.specs.declared.fault.SetFault.{SetFault}
-use Rattle.csv_sets.specs.declared.fault.SetFault.TheVariants.{Column, MissingFile, NotUtf8, RepeatedId, Row, TooLarge}
+use Rattle.csv_sets.specs.declared.fault.SetFault.TheVariants.{Column, Folder, Manifest, MissingFile, NotUtf8, RepeatedId, Row, TooLarge, UnexpectedFile}
+use Rattle.csv_sets.specs.declared.fault.ManifestFault.{ManifestFault}
+use Rattle.csv_sets.specs.declared.fault.ManifestFault.TheVariants as manifest
 use Rattle.csv_sets.specs.Names.{name_of}
+use Rattle.csv_sets.specs.Properties.{property_name}
 use Rattle.roster_texts.specs.declared.fault.ValueFault.{ValueFault}
 use Rattle.roster_texts.specs.declared.fault.ValueFault.TheVariants.{BadDay, BadId, BadList, BadMoment, BadNumber, Empty, Fractional, NotInList, TooLong, Width}
 
@@ -31,21 +34,36 @@ row_text file number field Width = codes "refused: " ++ file ++ codes " record "
 row_text file number field fault =
     codes "refused: " ++ file ++ codes " record " ++ decimal number ++ codes " field " ++ field ++ codes ": " ++ value_word fault ++ codes "\n"
 
--- the line of the first fault of a set
+abbrev pub folder_failed : List ℕ
+folder_failed = codes "folder failed\n"
+
+-- what is wrong with a property of a manifest
+abbrev pub property_text : List ℕ → List ℕ → List ℕ
+property_text why name = codes "refused: manifest.csv: " ++ why ++ name ++ codes "\n"
+
+unfoldable pub manifest_text : ManifestFault → List ℕ
+manifest_text manifest.Header = codes "refused: manifest.csv: header\n"
+manifest_text (manifest.Width number) = codes "refused: manifest.csv record " ++ decimal number ++ codes ": width\n"
+manifest_text (manifest.Repeated property) = property_text (codes "repeated ") (property_name property)
+manifest_text (manifest.Version property) = property_text (codes "version of ") (property_name property)
+manifest_text (manifest.UnknownMode property) = property_text (codes "unknown mode of ") (property_name property)
+manifest_text (manifest.Missing property) = property_text (codes "missing ") (property_name property)
+
+-- the line of the first fault of a set; a folder that failed refuses nothing
 unfoldable pub fault_text : SetFault → List ℕ
+fault_text (Manifest fault) = manifest_text fault
 fault_text (MissingFile file) = codes "refused: " ++ name_of file ++ codes ": missing file\n"
+fault_text (UnexpectedFile file) = codes "refused: " ++ name_of file ++ codes ": unexpected file\n"
 fault_text (Column file column fault) = codes "refused: " ++ name_of file ++ codes ": column " ++ column ++ codes " " ++ column_word fault ++ codes "\n"
 fault_text (Row file number field fault) = row_text (name_of file) number field fault
 fault_text (RepeatedId file number) = codes "refused: " ++ name_of file ++ codes " record " ++ decimal number ++ codes ": repeated id\n"
 fault_text (TooLarge file) = codes "refused: " ++ name_of file ++ codes ": too large\n"
 fault_text (NotUtf8 file) = codes "refused: " ++ name_of file ++ codes ": not UTF-8\n"
+fault_text Folder = folder_failed
 
 -- the place, from 0, of the first word that no command continues
 unfoldable pub bad_word_text : ℕ → List ℕ
 bad_word_text place = codes "bad word " ++ decimal place ++ codes "\n"
-
-abbrev pub folder_failed : List ℕ
-folder_failed = codes "folder failed\n"
 
 abbrev pub no_memory : List ℕ
 no_memory = codes "no memory\n"

@@ -25,7 +25,7 @@ id_of r = r.id
 
 -- the collection of the rows in order of id, and a line feed
 unfoldable pub shown_text : Kind → ℤ → List SetRow → List ℕ
-shown_text kind at rows = collection_text kind (in_order id_of (map (dated_row at) rows)) ++ codes "\n"
+shown_text kind at rows = collection_text None kind (in_order id_of (map (dated_row at) rows)) ++ codes "\n"
 
 abbrev pub answer_of_rows : Kind → ℤ → Result (List SetRow) SetFault → Answer
 answer_of_rows kind at (Ok rows) = Done (shown_text kind at rows)

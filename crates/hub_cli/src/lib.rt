@@ -3,6 +3,8 @@
 #![tactic(auto)]
 
 pub mod answer;
+#[cfg(test)]
+mod lake;
 pub mod lines;
 pub mod run;
 mod show;

@@ -2,9 +2,10 @@
 
 ghost use Rattle.std.specs.Prelude.{◌≡◌, ◌++◌, IfOk, codes, decimal, string_bytes};
 ghost use Rattle.csv_sets.specs.Names.{name_of};
+ghost use Rattle.csv_sets.specs.Properties.{property_name};
 ghost use Rattle.hub_cli.specs.Lines as lines;
 
-use csv_sets::{ColumnFault, SetFault, SetFile};
+use csv_sets::{ColumnFault, ManifestFault, Property, SetFault, SetFile};
 use roster_base::NoMemory;
 use roster_texts::ValueFault;
 use std::alloc::Global;
@@ -131,13 +132,49 @@ fn repeated_line(alloc: Global, file: SetFile, number: u64) -> Result<String, No
     Ok(line)
 }
 
+fn property_line(alloc: Global, why: &str, property: Property) -> Result<String, NoMemory>
+    ensures { IfOk result (λ s. string_bytes s ≡ lines.property_text why.now (property_name property)) }
+{
+    let mut line = String::from_str(alloc, "refused: manifest.csv: ")?;
+    line.push_str(why)?;
+    line.push_str(property.name())?;
+    line.push_str("\n")?;
+    Ok(line)
+}
+
+fn manifest_width_line(alloc: Global, number: u64) -> Result<String, NoMemory>
+    ensures { IfOk result (λ s. string_bytes s ≡ codes "refused: manifest.csv record " ++ decimal number ++ codes ": width\n") }
+{
+    let mut line = record_line(alloc, SetFile::Manifest, number)?;
+    line.push_str(": width\n")?;
+    Ok(line)
+}
+
+#[tactic(auto, unfolding(crate::specs::Lines::manifest_text))]
+fn manifest_line(alloc: Global, fault: ManifestFault) -> Result<String, NoMemory>
+    ensures { IfOk result (λ s. string_bytes s ≡ lines.manifest_text fault) }
+{
+    match fault {
+        ManifestFault::Header => file_line(alloc, SetFile::Manifest, ": header\n"),
+        ManifestFault::Width { record_no } => manifest_width_line(alloc, record_no),
+        ManifestFault::Repeated { property } => property_line(alloc, "repeated ", property),
+        ManifestFault::Version { property } => property_line(alloc, "version of ", property),
+        ManifestFault::UnknownMode { property } => {
+            property_line(alloc, "unknown mode of ", property)
+        }
+        ManifestFault::Missing { property } => property_line(alloc, "missing ", property),
+    }
+}
+
 /// The line of the first fault of a set. Status 4.
 #[tactic(auto, unfolding(crate::specs::Lines::fault_text))]
 pub fn fault_line(alloc: Global, fault: &SetFault) -> Result<String, NoMemory>
     ensures { IfOk result (λ s. string_bytes s ≡ lines.fault_text fault.now) }
 {
     match fault {
+        SetFault::Manifest(fault) => manifest_line(alloc, *fault),
         SetFault::MissingFile { file } => file_line(alloc, *file, ": missing file\n"),
+        SetFault::UnexpectedFile { file } => file_line(alloc, *file, ": unexpected file\n"),
         SetFault::Column {
             file,
             column,
@@ -152,6 +189,7 @@ pub fn fault_line(alloc: Global, fault: &SetFault) -> Result<String, NoMemory>
         SetFault::RepeatedId { file, record_no } => repeated_line(alloc, *file, *record_no),
         SetFault::TooLarge { file } => file_line(alloc, *file, ": too large\n"),
         SetFault::NotUtf8 { file } => file_line(alloc, *file, ": not UTF-8\n"),
+        SetFault::Folder => Ok(String::from_str(alloc, FOLDER_FAILED)?),
     }
 }
 

@@ -45,7 +45,7 @@ fn output(alloc: Global, kind: Kind, at: Moment, rows: Vec<SetRow>) -> Result<St
     ensures { IfOk result (λ t. string_bytes t ≡ shown_text kind at rows.items) }
 {
     let rows = sorted(alloc, dated_rows(alloc, at, rows)?)?;
-    let mut text = collection_text(alloc, kind, rows.as_slice())?;
+    let mut text = collection_text(alloc, kind, rows.as_slice(), None)?;
     text.push_str("\n")?;
     Ok(text)
 }

@@ -1,3 +1,4 @@
+use crate::lake::LAKE;
 use crate::run_hub;
 use outside_ports::{FixedClock, MemFolder, MemSink};
 use std::alloc::Global;
@@ -123,25 +124,15 @@ fn orgs_are_shown_in_order_or_refused(rt: HostRuntime) -> Result<(), Fail> {
 }
 
 #[test]
-fn other_kinds_are_shown(rt: HostRuntime) -> Result<(), Fail> {
-    for (line, name, text, want) in [
-        (
-            "show users",
-            "users.csv",
-            "sourcedId,enabledUser,orgSourcedIds,role,username,userIds,givenName,familyName,agentSourcedIds,grades,password,metadata.locker\n\
-u1,TRUE,\"s1, s2\",student,aoak,\"{LDAP:aoak},{SIS:77}\",Ann,Oak,u4,09,secret,12\n",
-            "{\"users\":[{\"agents\":[{\"href\":\"/ims/oneroster/v1p1/users/u4\",\"sourcedId\":\"u4\",\"type\":\"user\"}],\"dateLastModified\":\"2024-08-01T12:00:00.000Z\",\"enabledUser\":\"true\",\"familyName\":\"Oak\",\"givenName\":\"Ann\",\"grades\":[\"09\"],\"metadata\":{\"locker\":\"12\"},\"orgs\":[{\"href\":\"/ims/oneroster/v1p1/orgs/s1\",\"sourcedId\":\"s1\",\"type\":\"org\"},{\"href\":\"/ims/oneroster/v1p1/orgs/s2\",\"sourcedId\":\"s2\",\"type\":\"org\"}],\"role\":\"student\",\"sourcedId\":\"u1\",\"status\":\"active\",\"userIds\":[{\"identifier\":\"aoak\",\"type\":\"LDAP\"},{\"identifier\":\"77\",\"type\":\"SIS\"}],\"username\":\"aoak\"}]}\n",
-        ),
-        (
-            "show results",
-            "results.csv",
-            "sourcedId,lineItemSourcedId,studentSourcedId,scoreStatus,score,scoreDate,comment\nr1,li1,u1,fully graded,78.0,2024-08-23,\n",
-            "{\"results\":[{\"dateLastModified\":\"2024-08-01T12:00:00.000Z\",\"lineItem\":{\"href\":\"/ims/oneroster/v1p1/lineItems/li1\",\"sourcedId\":\"li1\",\"type\":\"lineItem\"},\"score\":78,\"scoreDate\":\"2024-08-23\",\"scoreStatus\":\"fully graded\",\"sourcedId\":\"r1\",\"status\":\"active\",\"student\":{\"href\":\"/ims/oneroster/v1p1/users/u1\",\"sourcedId\":\"u1\",\"type\":\"user\"}}]}\n",
-        ),
-    ] {
-        let (status, sink) = run_over(rt.alloc(), line, name, text)?;
-        assert_eq!(rt; status, 0, "{line}");
-        assert_eq!(rt; sink.written(), want.as_bytes(), "{line}");
+fn each_kind_is_shown(rt: HostRuntime) -> Result<(), Fail> {
+    let alloc = rt.alloc();
+    for (kind, text, want) in LAKE {
+        let line = format!(in alloc; "show {}", kind)?;
+        let name = format!(in alloc; "{}.csv", kind)?;
+        let (status, sink) = run_over(alloc, line.as_str(), name.as_str(), text)?;
+        assert_eq!(rt; status, 0, "{kind}");
+        let want = format!(in alloc; "{}\n", want)?;
+        assert_eq!(rt; sink.written(), want.as_bytes(), "{kind}");
     }
     Ok(())
 }
@@ -155,6 +146,12 @@ fn words_that_are_no_command(rt: HostRuntime) -> Result<(), Fail> {
         ("show", "bad word 1\n"),
         ("show org", "bad word 1\n"),
         ("show orgs orgs", "bad word 2\n"),
+        ("show orgs --folder lake", "bad word 2\n"),
+        ("--folder", "bad word 1\n"),
+        ("--folder lake", "bad word 2\n"),
+        ("--folder lake --folder lake show orgs", "bad word 2\n"),
+        ("--folder lake show", "bad word 3\n"),
+        ("--folder lake show orgs orgs", "bad word 4\n"),
     ] {
         let (status, sink) = run_over(rt.alloc(), line, "orgs.csv", DISTRICT)?;
         assert_eq!(rt; status, 2, "{line}");

@@ -1,5 +1,7 @@
 -- Counts of faults of the outside.
-use Rattle.std.specs.Prelude.{◌≡◌, ◌+◌, ◌-◌, ◌^◌, ◌≤◌, ℕ, min, Result, OnOk, OnErr}
+use Rattle.std.specs.Prelude.{◌≡◌, ◌+◌, ◌-◌, ◌^◌, ◌≤◌, ℕ, min, Result, Ok, Err, OnOk, OnErr}
+use Rattle.roster_base.specs.declared.keeper.KeeperError.{KeeperError}
+use Rattle.roster_base.specs.declared.keeper.KeeperError.TheVariants as keeper
 
 -- a count rose, or stands at the end of its type
 abbrev pub Rose : ℕ → ℕ → Type 0
@@ -10,3 +12,12 @@ pub record HasCause {T E : Type 0} (before now : ℕ) (result : Result T E) : Ty
   pub later : before ≤ now
   pub failed : OnErr result (Rose before now)
   pub quiet : OnOk result (now ≡ before)
+
+-- a store counts a failure once, and nothing else; a count at the end of its type stays there
+abbrev pub CountsError : ℕ → ℕ → KeeperError → Type 0
+CountsError before now keeper.Failed = now ≡ min (before + 1) (2 ^ 64 - 1)
+CountsError before now keeper.NoMemory = now ≡ before
+
+abbrev pub CountsFailure : {T : Type 0} → ℕ → ℕ → Result T KeeperError → Type 0
+CountsFailure before now (Ok x) = now ≡ before
+CountsFailure before now (Err e) = CountsError before now e

@@ -5,7 +5,7 @@ ghost use Rattle.std.specs.List.{list_all};
 ghost use Rattle.std.specs.String.{string_bytes};
 ghost use Rattle.roster_texts.specs.Texts.{is_id, is_id_byte};
 
-use roster_base::{NoMemory, TryCopy};
+use roster_base::{NoMemory, Same, TryCopy};
 use std::alloc::Global;
 use std::marker::Model;
 
@@ -70,5 +70,11 @@ impl TryCopy for Id {
         Ok(Id {
             text: String::from_str(alloc, self.text.as_str())?,
         })
+    }
+}
+
+impl Same for Id {
+    fn is_same(&self, other: &Id) -> bool {
+        self.as_str() == other.as_str()
     }
 }

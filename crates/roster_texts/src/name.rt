@@ -5,7 +5,7 @@ ghost use Rattle.std.specs.List.{list_all};
 ghost use Rattle.std.specs.String.{string_bytes};
 ghost use Rattle.roster_texts.specs.Texts.{is_name, is_name_byte};
 
-use roster_base::{NoMemory, TryCopy};
+use roster_base::{NoMemory, Same, TryCopy};
 use std::alloc::Global;
 use std::marker::Model;
 
@@ -69,5 +69,11 @@ impl TryCopy for Name {
         Ok(Name {
             text: String::from_str(alloc, self.text.as_str())?,
         })
+    }
+}
+
+impl Same for Name {
+    fn is_same(&self, other: &Name) -> bool {
+        self.as_str() == other.as_str()
     }
 }

@@ -16,9 +16,10 @@ use Rattle.roster_values.specs.CellText.{cell_text}
 use Rattle.roster_values.specs.declared.value.Value.TheVariants.{Moment}
 use Rattle.roster_values.specs.Table.{Info}
 use Rattle.roster_types.specs.Lengths.{escaped_length, field_length, fields_length, object_length, row_length, text_length, value_length}
+use Rattle.roster_types.specs.declared.status.Status.{Status}
 use Rattle.roster_types.specs.Records.{Record}
 use Rattle.roster_types.specs.Rows.{IsRow}
-use Rattle.roster_types.proofs.Fitting.{in_moments, own_moment, redated, table-common}
+use Rattle.roster_types.proofs.Fitting.{in_moments, own_moment, rechanged, table-common}
 
 -- digits, capital letters and `-.:`, none of which is escaped
 abbrev is_plain : ℕ → Bool
@@ -93,11 +94,15 @@ unfolding field_length value_length cell_text
 date_length i z h = let n = text_length-moment z h in omega (arith, n)
 
 -- so another date leaves the length of a row
-pub row_length-dated : (r : Record) (z : ℤ) → is_moment r.modified ≡ true → is_moment z ≡ true → row_length (record r { modified = z }) ≡ row_length r
+row_length-dated : (r : Record) (z : ℤ) → is_moment r.modified ≡ true → is_moment z ≡ true → row_length (record r { modified = z }) ≡ row_length r
 unfolding object_length fields_length
 row_length-dated r z a b =
     rw (table-common r.kind, date_length _ z b, date_length _ r.modified a) refl
 
-pub IsRow-dated : (r : Record) (z : ℤ) → IsMoment z → IsRow r → IsRow (record r { modified = z })
-IsRow-dated r z m h =
-    record { fitting = redated r z m h.fitting; short = rw (row_length-dated r z (own_moment r h.fitting) (in_moments z m)) h.short }
+-- and its length counts with one status whatever it has
+pub row_length-changed : (r : Record) (status : Status) (z : ℤ) → IsMoment z → IsRow r → row_length (record r { status = status; modified = z }) ≡ row_length r
+row_length-changed r status z m h = row_length-dated r z (own_moment r h.fitting) (in_moments z m)
+
+pub IsRow-changed : (r : Record) (status : Status) (z : ℤ) → IsMoment z → IsRow r → IsRow (record r { status = status; modified = z })
+IsRow-changed r status z m h =
+    record { fitting = rechanged r status z m h.fitting; short = rw (row_length-changed r status z m h) h.short }

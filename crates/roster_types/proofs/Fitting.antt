@@ -131,8 +131,8 @@ restatus r status h =
     let s = split r.kind (all_values r) h.values in
     rejoin r status r.modified (rw (sym (ap (λ (vs : List (Option Value)). get_or vs 2 None) s.is)) at s.date) h
 
-pub redated : (r : Record) (modified : ℤ) → IsMoment modified → IsFitting r → IsFitting (record r { modified = modified })
-redated r modified m h = rejoin r r.status modified (in_moments modified m) h
+pub rechanged : (r : Record) (status : Status) (modified : ℤ) → IsMoment modified → IsFitting r → IsFitting (record r { status = status; modified = modified })
+rechanged r status modified m h = rejoin r status modified (in_moments modified m) h
 
 -- a fitting row's own values fit its own fields
 pub own_values_fit : (r : Record) → IsFitting r → fits_all (own_fields r.kind) r.values ≡ true

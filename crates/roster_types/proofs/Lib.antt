@@ -4,4 +4,5 @@ pub mod Fitting
 pub mod HrefLaws
 pub mod MetadataLaws
 pub mod Places
+pub mod SameRows
 pub mod Sums

@@ -1,7 +1,9 @@
 pub mod Hrefs
+pub mod Keys
 pub mod Lengths
 pub mod Parts
 pub mod Records
 pub mod Rows
+pub mod Sets
 pub mod Shapes
 pub mod Structs

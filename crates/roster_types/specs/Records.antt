@@ -79,3 +79,7 @@ record_from kind values metadata = record {
 -- a date is among the values of all fields
 abbrev pub is_dated : List (Option Value) → Bool
 is_dated values = is_some (slice_index_or values 2 None)
+
+-- the rows are equal in all but the date
+abbrev pub SameButDate : Record → Record → Type 0
+SameButDate r s = record r { modified = s.modified } ≡ s

@@ -14,10 +14,15 @@ pub mod lengths;
 pub mod line_items;
 pub mod metadata;
 pub mod orgs;
+pub mod owner;
 mod parts;
 pub mod results;
 pub mod row;
+pub mod rows;
+pub mod set;
 pub mod set_row;
 pub mod status;
 pub mod structs;
+#[cfg(test)]
+mod tests;
 pub mod users;

@@ -1,6 +1,6 @@
 //! Metadata: what a district says of a row beside the standard's fields.
 
-use roster_base::{Items, NoMemory, Text, TryCopy};
+use roster_base::{Items, NoMemory, Same, Text, TryCopy, are_same};
 use roster_texts::Id;
 use std::alloc::Global;
 use std::marker::Model;
@@ -18,6 +18,12 @@ impl TryCopy for Entry {
             key: self.key.copy(alloc)?,
             text: self.text.copy(alloc)?,
         })
+    }
+}
+
+impl Same for Entry {
+    fn is_same(&self, other: &Entry) -> bool {
+        self.key.is_same(&other.key) && self.text.is_same(&other.text)
     }
 }
 
@@ -41,6 +47,7 @@ impl Model for Metadata {
 
 impl Metadata {
     ghost use Rattle.std.specs.Prelude.{◌≡◌, ◌++◌, ◌∷◌, [], true, IfOk, OnOk, OnErr};
+    ghost use Rattle.std.specs.Bool.{Decides};
     ghost use Rattle.roster_base.specs.Order.{RiseBy};
     ghost use Rattle.roster_types.specs.Records.{IsMetadata, key_of};
     ghost use Rattle.roster_values.specs.Fit.{is_plain_text};
@@ -70,6 +77,13 @@ impl Metadata {
         ensures order { IsMetadata self.now }
     {
         self.entries.as_slice()
+    }
+
+    /// Whether the metadata is equal.
+    pub fn is_same(&self, other: &Metadata) -> bool
+        ensures { Decides result (self.now ≡ other.now) }
+    {
+        are_same(self.entries(), other.entries())
     }
 
     /// An equal copy.

@@ -1,8 +1,9 @@
 //! The parts of a row, before its length is tested.
 
 ghost use Rattle.std.specs.Prelude.{◌≡◌, ◌+◌, ◌<◌, true, pos, None, Some, IfOk, drop, length, min, option_map, slice_get, slice_index_or, slice_set, sum_by};
+ghost use Rattle.std.specs.Bool.{Decides};
 ghost use Rattle.roster_types.specs.Lengths.{field_length, fields_length, metadata_length, row_length};
-ghost use Rattle.roster_types.specs.Records.{IsFitting, all_values, id_in, moment_in, record_from, status_in};
+ghost use Rattle.roster_types.specs.Records.{IsFitting, SameButDate, all_values, id_in, moment_in, record_from, status_in};
 ghost use Rattle.roster_types.specs.Shapes.{fits_all, own_fields, shapes_fit};
 ghost use Rattle.roster_types.specs.Structs.{kind_of, values_of};
 ghost use Rattle.roster_values.specs.Fit.{fits_parts};
@@ -13,7 +14,7 @@ use crate::lengths::{CAP, add, enclosed_length, member_length, parts_length, val
 use crate::metadata::Metadata;
 use crate::status::Status;
 use crate::structs::Fields;
-use roster_base::{NoMemory, TryCopy};
+use roster_base::{NoMemory, Same, TryCopy};
 use roster_texts::{Id, Moment};
 use roster_values::fields::{COMMON_FIELDS, fields};
 use roster_values::{FieldInfo, Kind, Value, ValueRef, copy_value};
@@ -207,14 +208,14 @@ impl RowParts {
         }
     }
 
-    /// The same row with another date.
-    pub fn dated(self, at: Moment) -> RowParts
-        ensures { result ≡ record self { modified = at } }
+    /// The same row with this status and date.
+    pub fn changed(self, status: Status, at: Moment) -> RowParts
+        ensures { result ≡ record self { status = status; modified = at } }
     {
         let _ = at.milliseconds();
         let RowParts {
             id,
-            status,
+            status: _,
             modified: _,
             fields,
             metadata,
@@ -278,6 +279,30 @@ impl RowParts {
     {
         let members = self.members_length(alloc)?;
         Ok(enclosed_length(add(members, self.metadata_length())))
+    }
+
+    /// Whether the rows are equal in all but the date.
+    pub fn is_same_but_date(&self, other: &RowParts) -> bool
+        ensures { Decides result (SameButDate self.now other.now) }
+    {
+        if self.kind() != other.kind() || !self.id.is_same(&other.id) {
+            return false;
+        }
+        if self.status != other.status || !self.metadata.is_same(&other.metadata) {
+            return false;
+        }
+        self.has_same_values(other)
+    }
+
+    // Whether the values of the fields that the kind has of its own are equal.
+    fn has_same_values(&self, other: &RowParts) -> bool
+        requires { self.now.kind ≡ other.now.kind }
+        ensures { Decides result (self.now.values ≡ other.now.values) }
+    {
+        // Read for their clause `fitting`, by which rows of one kind have as many values.
+        let _ = (self.kind(), other.kind());
+        self.fields()
+            .has_same_values(other.fields(), self.own_len())
     }
 
     /// An equal copy.

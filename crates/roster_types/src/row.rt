@@ -1,7 +1,9 @@
 //! Rows of all kinds.
 
 ghost use Rattle.std.specs.Prelude.{◌≡◌, ◌<◌, true, None, IfOk, bytes_eq, length, option_map, position, slice_index_or};
-ghost use Rattle.roster_types.specs.Records.{all_values, field_of, place_in};
+ghost use Rattle.std.specs.Bool.{Decides};
+ghost use Rattle.roster_types.specs.Lengths.{row_length};
+ghost use Rattle.roster_types.specs.Records.{SameButDate, all_values, field_of, place_in};
 ghost use Rattle.roster_types.specs.Rows.{IsRow, row_from};
 ghost use Rattle.roster_types.specs.Shapes.{fits_all};
 ghost use Rattle.roster_types.specs.Structs.{kind_of, values_of};
@@ -12,7 +14,7 @@ use crate::metadata::Metadata;
 use crate::parts::RowParts;
 use crate::status::Status;
 use crate::structs::Fields;
-use roster_base::{Keyed, NoMemory, TryCopy};
+use roster_base::{Keyed, NoMemory, Same, TryCopy};
 use roster_texts::{Id, Moment};
 use roster_values::fields::fields;
 use roster_values::{FieldInfo, Kind, Value, ValueRef, copy_value};
@@ -131,12 +133,36 @@ impl Row {
 
     /// The same row with another date. All dates have one length, so no row becomes too long.
     pub fn dated(self, at: Moment) -> Row
-        ensures { result ≡ record self { modified = at } }
+        ensures row { result ≡ record self { modified = at } }
+        ensures length { row_length result ≡ row_length self }
+    {
+        let status = self.status();
+        self.changed(status, at)
+    }
+
+    /// The same row, to be deleted since that date. A row's length counts with that status, so no row becomes too long.
+    pub fn marked(self, at: Moment) -> Row
+        ensures row { result ≡ record self { status = Status.ToBeDeleted; modified = at } }
+        ensures length { row_length result ≡ row_length self }
+    {
+        self.changed(Status::ToBeDeleted, at)
+    }
+
+    fn changed(self, status: Status, at: Moment) -> Row
+        ensures row { result ≡ record self { status = status; modified = at } }
+        ensures length { row_length result ≡ row_length self }
     {
         let _ = at.milliseconds();
         Row {
-            parts: self.parts.dated(at),
+            parts: self.parts.changed(status, at),
         }
+    }
+
+    /// Whether the rows are equal in all but the date.
+    pub fn is_same_but_date(&self, other: &Row) -> bool
+        ensures { Decides result (SameButDate self.now other.now) }
+    {
+        self.parts.is_same_but_date(&other.parts)
     }
 }
 
@@ -145,6 +171,12 @@ impl TryCopy for Row {
         Ok(Row {
             parts: self.parts.copy(alloc)?,
         })
+    }
+}
+
+impl Same for Row {
+    fn is_same(&self, other: &Row) -> bool {
+        self.is_same_but_date(other) && self.modified() == other.modified()
     }
 }
 

@@ -1,6 +1,7 @@
 //! The structs of the ten kinds as one, read and written by place.
 
 ghost use Rattle.std.specs.Prelude.{◌≡◌, ◌<◌, true, None, Some, IfOk, length, option_map, slice_index_or, slice_set};
+ghost use Rattle.std.specs.Bool.{Decides};
 ghost use Rattle.roster_types.specs.Shapes.{blank_values, own_fields, shape_at};
 ghost use Rattle.roster_types.specs.Structs.{kind_of, values_of};
 ghost use Rattle.roster_values.specs.Shape.{has_shape};
@@ -17,7 +18,7 @@ use crate::orgs::Org;
 use crate::results::Score;
 use crate::users::User;
 use roster_base::NoMemory;
-use roster_values::{Kind, Value, ValueRef};
+use roster_values::{Kind, Value, ValueRef, are_same_fields};
 use std::alloc::Global;
 
 /// The struct of a row's kind.
@@ -71,6 +72,20 @@ impl Fields {
             Fields::LineItems(fields) => fields.value(place),
             Fields::Results(fields) => fields.value(place),
         }
+    }
+
+    /// Whether the values of two structs with as many are equal.
+    pub fn has_same_values(&self, other: &Fields, count: usize) -> bool
+        requires left { count ≡ length (values_of self.now) }
+        requires right { count ≡ length (values_of other.now) }
+        ensures { Decides result (values_of self.now ≡ values_of other.now) }
+    {
+        for place in 0..count {
+            if !are_same_fields(self.value(place), other.value(place)) {
+                return false;
+            }
+        }
+        true
     }
 
     /// Puts a value of the field's form at a place.

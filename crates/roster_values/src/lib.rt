@@ -7,6 +7,7 @@ pub mod kind;
 pub mod lists;
 pub mod mode;
 pub mod read;
+pub mod same;
 #[cfg(test)]
 mod tests;
 pub mod user_id;
@@ -18,5 +19,6 @@ pub use kind::Kind;
 pub use lists::{Ids, Texts};
 pub use mode::Mode;
 pub use read::read_value;
+pub use same::{are_same_fields, is_same_value};
 pub use user_id::{UserId, UserIds};
 pub use value::{Value, ValueRef, copy_value};

@@ -1,5 +1,6 @@
 -- The JSON of rows has no float, so that its text is known.
-use Rattle.std.proofs.Common.{◌≡◌, ℕ, ℤ, pos, negsuc, List, [], ◌∷◌, map, Bool, true, false, Option, Some, None, Ordering, Less, Equal, Greater, nat_cmp, codes, refl, ap, ◌∙◌}
+use Rattle.std.proofs.Common.{◌≡◌, ℕ, ℤ, pos, negsuc, List, [], ◌∷◌, map, Bool, true, false, Option, Some, None, Ordering, Less, Equal, Greater, nat_cmp, codes, if◌then◌else◌, refl, ap, ◌∙◌}
+use Rattle.std.proofs.lemmas.Bool.{or_from, or_parts}
 use Rattle.std.specs.Cmp.Lexicographic.{slice_cmp}
 use Rattle.std.specs.Ordering.{match_ordering}
 use Rattle.serde_json.specs.Data.{Data, Members, member, no_members, object, put, string}
@@ -13,7 +14,7 @@ use Rattle.roster_values.specs.Table.{Form, Info, RefForm, RefsForm, table}
 use Rattle.roster_values.specs.UserIds.{UserIdParts}
 use Rattle.roster_types.specs.declared.metadata.Entry.{Entry}
 use Rattle.roster_types.specs.Records.{Record, all_values}
-use Rattle.row_json.specs.Json.{reference_data, row_data, row_text, user_id_data, value_data, with_entries, with_field, with_fields, with_metadata}
+use Rattle.row_json.specs.Json.{chosen, is_named, named, reference_data, row_data, row_members, row_text, user_id_data, value_data, with_entries, with_field, with_fields, with_metadata}
 
 float_put : (k : List ℕ) (d : Data) (ms : Members) → has_float d ≡ false → members_have_float ms ≡ false → members_have_float (put k d ms) ≡ false
 float_put k d no_members f h = rw f refl
@@ -69,11 +70,26 @@ unfolding with_metadata
 metadata_plain [] ms h = h
 metadata_plain (e ∷ es) ms h = float_put (codes "metadata") (object (with_entries (e ∷ es) no_members)) ms (entries_plain (e ∷ es) no_members refl) h
 
-row_plain : (r : Record) → has_float (row_data r) ≡ false
-unfolding row_data
-row_plain r = metadata_plain r.metadata _ (fields_plain (table r.kind) (all_values r) no_members refl)
+-- a choice adds no float
+named_at : (b : Bool) (k : List ℕ) (d : Data) (ms : Members) → has_float d ≡ false → members_have_float ms ≡ false → members_have_float (if b then member k d ms else ms) ≡ false
+named_at true k d ms f h = or_from (has_float d) (members_have_float ms) f h
+named_at false k d ms f h = h
+
+named_plain : (names : List (List ℕ)) (ms : Members) → members_have_float ms ≡ false → members_have_float (named names ms) ≡ false
+named_plain names no_members h = refl
+named_plain names (member k d ms) h =
+    let p = or_parts (has_float d) (members_have_float ms) h in
+    named_at (is_named names k) k d (named names ms) p.0 (named_plain names ms p.1)
+
+chosen_plain : (only : Option (List (List ℕ))) (ms : Members) → members_have_float ms ≡ false → members_have_float (chosen only ms) ≡ false
+chosen_plain None ms h = h
+chosen_plain (Some names) ms h = named_plain names ms h
+
+row_plain : (only : Option (List (List ℕ))) (r : Record) → has_float (row_data only r) ≡ false
+unfolding row_data row_members
+row_plain only r = chosen_plain only _ (metadata_plain r.metadata _ (fields_plain (table r.kind) (all_values r) no_members refl))
 
 -- what is written for a value that is a row's is the row's text
-pub text_of_row : (d : Data) (r : Record) (s : List ℕ) → d ≡ row_data r → (has_float d ≡ false → s ≡ compact_text d) → s ≡ row_text r
+pub text_of_row : (only : Option (List (List ℕ))) (d : Data) (r : Record) (s : List ℕ) → d ≡ row_data only r → (has_float d ≡ false → s ≡ compact_text d) → s ≡ row_text only r
 unfolding row_text
-text_of_row d r s is h = h (ap has_float is ∙ row_plain r) ∙ ap compact_text is
+text_of_row only d r s is h = h (ap has_float is ∙ row_plain only r) ∙ ap compact_text is

@@ -18,7 +18,7 @@ use Rattle.row_json.proofs.TextLengths.{quoted-length, size}
 abbrev pub is_same : List ℕ → List ℕ → Bool
 is_same = eq_by_cmp (slice_cmp nat_cmp)
 
-abbrev has_name : List ℕ → Members → Bool
+abbrev pub has_name : List ℕ → Members → Bool
 has_name q no_members = false
 has_name q (member k d ms) = is_same k q || has_name q ms
 

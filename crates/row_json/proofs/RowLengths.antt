@@ -25,7 +25,7 @@ use Rattle.roster_types.specs.Lengths.{field_length, fields_length, metadata_len
 use Rattle.roster_types.specs.Records.{IsMetadata, Record, all_values, key_of, status_word}
 use Rattle.roster_types.specs.Rows.{IsRow, longest}
 use Rattle.roster_types.proofs.Fitting.{table-common}
-use Rattle.row_json.specs.Json.{reference_data, row_data, row_text, user_id_data, value_data, with_entries, with_fields, with_metadata}
+use Rattle.row_json.specs.Json.{reference_data, row_data, row_members, row_text, user_id_data, value_data, with_entries, with_fields, with_metadata}
 use Rattle.row_json.proofs.Puts.{AreNew, Lack, is_same, lack-none, new-put, new-skip, size-put, size-with_entries}
 use Rattle.row_json.proofs.TextLengths.{array-length, object-length, quoted-length, size, size-none}
 
@@ -56,7 +56,7 @@ value-length (RefsForm kind) (Refs ts) = array-length (reference_data kind) (ref
 value-length form v = quoted-length (cell_text v)
 
 -- the names of fields, and that of the metadata
-abbrev names : List Info → List (List ℕ)
+abbrev pub names : List Info → List (List ℕ)
 names [] = codes "metadata" ∷ []
 names (i ∷ is) = i.name ∷ names is
 
@@ -97,12 +97,14 @@ many_names Categories = refl
 many_names LineItems = refl
 many_names Results = refl
 
-row_text-length : (r : Record) → IsMetadata r.metadata → length (row_text r) ≡ object_length r
-unfolding row_text row_data object_length
+-- which are all different
+pub new_names : (kind : Kind) → AreNew (names (table kind)) no_members
+new_names kind = record { apart = IsDistinct-from_count (eq_by_cmp_equiv nat_list_cmp_total) (names (table kind)) (many_names kind); lacking = lack-none (names (table kind)) }
+
+row_text-length : (r : Record) → IsMetadata r.metadata → length (row_text None r) ≡ object_length r
+unfolding row_text row_data row_members object_length
 row_text-length r m =
-    let new : AreNew (names (table r.kind)) no_members =
-    record { apart = IsDistinct-from_count (eq_by_cmp_equiv nat_list_cmp_total) (names (table r.kind)) (many_names r.kind); lacking = lack-none (names (table r.kind)) } in
-    let inner = size-with_fields r.metadata (table r.kind) (all_values r) no_members m new in
+    let inner = size-with_fields r.metadata (table r.kind) (all_values r) no_members m (new_names r.kind) in
     object-length (with_metadata r.metadata (with_fields (table r.kind) (all_values r) no_members)) ∙ omega (arith, inner, size-none)
 
 -- the word of the status is longest where the row is to be deleted
@@ -120,7 +122,7 @@ unfolding object_length fields_length
 object_length-le r = rw (table-common r.kind) (omega (arith, status_field (optional (codes "status") (codes "status") (WordForm statuses)) r.status))
 
 -- what is a row's text has the length that the row is said to have, within the bound
-pub length_of_text : (r : Record) (s : List ℕ) → IsRow r → s ≡ row_text r → (length s ≡ object_length r) × (length s ≤ longest)
+pub length_of_text : (r : Record) (s : List ℕ) → IsRow r → s ≡ row_text None r → (length s ≡ object_length r) × (length s ≤ longest)
 length_of_text r s h is =
     let n : length s ≡ object_length r = ap length is ∙ row_text-length r h.fitting.metadata in
     (n, omega (arith, n, object_length-le r, h.short))

@@ -1,6 +1,7 @@
 -- Rows as JSON.
-use Rattle.std.specs.Prelude.{ℕ, List, [], ◌∷◌, Option, None, Some, codes, map}
-use Rattle.serde_json.specs.Data.{Data, Members, array, no_members, number, object, put, string}
+use Rattle.std.specs.Prelude.{ℕ, Bool, List, [], ◌∷◌, Option, None, Some, bytes_eq, codes, map, if◌then◌else◌}
+use Rattle.std.specs.List.{list_any}
+use Rattle.serde_json.specs.Data.{Data, Members, array, member, no_members, number, object, put, string}
 use Rattle.serde_json.specs.Find.{of_integer}
 use Rattle.serde_json.specs.View.{items_of}
 use Rattle.serde_json.specs.Written.{compact_text}
@@ -55,14 +56,35 @@ unfoldable pub with_metadata : List Entry → Members → Members
 with_metadata [] ms = ms
 with_metadata (e ∷ es) ms = put (codes "metadata") (object (with_entries (e ∷ es) no_members)) ms
 
--- a row's object; members stand in ascending order of their names, as `put` keeps them
-unfoldable pub row_data : Record → Data
-row_data r = object (with_metadata r.metadata (with_fields (table r.kind) (all_values r) no_members))
+-- the members of a row's object; they stand in ascending order of their names, as `put` keeps them
+unfoldable pub row_members : Record → Members
+row_members r = with_metadata r.metadata (with_fields (table r.kind) (all_values r) no_members)
+
+abbrev pub is_named : List (List ℕ) → List ℕ → Bool
+is_named names name = list_any (λ n. bytes_eq n name) names
+
+-- the members whose names are among these
+abbrev pub named : List (List ℕ) → Members → Members
+named names no_members = no_members
+named names (member k d ms) = if is_named names k then member k d (named names ms) else named names ms
+
+-- the members that a choice of names leaves: all without one
+abbrev pub chosen : Option (List (List ℕ)) → Members → Members
+chosen None ms = ms
+chosen (Some names) ms = named names ms
+
+-- a row's object, of the chosen members
+unfoldable pub row_data : Option (List (List ℕ)) → Record → Data
+row_data only r = object (chosen only (row_members r))
 
 -- its text, with no space
-unfoldable pub row_text : Record → List ℕ
-row_text r = compact_text (row_data r)
+unfoldable pub row_text : Option (List (List ℕ)) → Record → List ℕ
+row_text only r = compact_text (row_data only r)
+
+-- a row under its kind's single word
+unfoldable pub single_text : Option (List (List ℕ)) → Record → List ℕ
+single_text only r = compact_text (object (put (single_of r.kind) (row_data only r) no_members))
 
 -- rows of a kind under the kind's plural word
-unfoldable pub collection_text : Kind → List Record → List ℕ
-collection_text kind rs = compact_text (object (put (plural_of kind) (array (items_of (map row_data rs))) no_members))
+unfoldable pub collection_text : Option (List (List ℕ)) → Kind → List Record → List ℕ
+collection_text only kind rs = compact_text (object (put (plural_of kind) (array (items_of (map (row_data only) rs))) no_members))

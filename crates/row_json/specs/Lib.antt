@@ -1,1 +1,3 @@
+pub mod CellTexts
 pub mod Json
+pub mod Reading

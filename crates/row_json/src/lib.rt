@@ -1,11 +1,16 @@
-//! Rows as JSON texts, as the REST binding has them.
+//! Rows as JSON texts, as the REST binding has them, both ways.
 #![tactic(auto)]
 
+mod cell_texts;
+mod fault;
 mod members;
+mod read;
 mod text;
 mod values;
 
-pub use text::{collection_text, row_text};
+pub use fault::{JsonError, JsonFault};
+pub use read::{read_collection, read_row};
+pub use text::{collection_text, row_text, single_text};
 
 #[cfg(test)]
 mod tests;

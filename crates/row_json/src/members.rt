@@ -1,11 +1,12 @@
 //! The members of a row's object.
 
-ghost use Rattle.std.specs.Prelude.{◌≡◌, ◌<◌, None, Some, IfOk, OnOk, length, option_map, slice_get, slice_index_or};
+ghost use Rattle.std.specs.Prelude.{◌≡◌, ◌<◌, None, Some, true, IfOk, OnOk, length, option_map, slice_get, slice_index_or};
 ghost use Rattle.serde_json.specs.Data.{no_members, put, string};
 ghost use Rattle.serde_json.specs.View.{members_view};
 ghost use Rattle.roster_types.specs.Records.{all_values};
 ghost use Rattle.roster_values.specs.Table.{info_of, table};
 ghost use Rattle.row_json.specs.Json.{with_entries, with_field, with_fields, with_metadata};
+ghost use Rattle.row_json.specs.Reading.{has_good_keys};
 
 use crate::values::{text_value, value_of};
 use roster_base::NoMemory;
@@ -64,7 +65,8 @@ pub fn field_members(alloc: Global, row: &Row) -> Result<Map<String, Value>, NoM
 }
 
 fn entry_members(alloc: Global, entries: &[Entry]) -> Result<Map<String, Value>, NoMemory>
-    ensures { IfOk result (λ m. members_view m.entries ≡ with_entries entries.now no_members) }
+    ensures members { IfOk result (λ m. members_view m.entries ≡ with_entries entries.now no_members) }
+    ensures keys { OnOk result (has_good_keys entries.now ≡ true) }
 {
     let mut members = Map::new(alloc);
     for entry in entries {
@@ -80,7 +82,8 @@ pub fn put_metadata(
     members: &mut Map<String, Value>,
     entries: &[Entry],
 ) -> Result<(), NoMemory>
-    ensures { OnOk result (members_view members.new.entries ≡ with_metadata entries.now (members_view members.old.entries)) }
+    ensures members { OnOk result (members_view members.new.entries ≡ with_metadata entries.now (members_view members.old.entries)) }
+    ensures keys { OnOk result (has_good_keys entries.now ≡ true) }
 {
     if entries.is_empty() {
         return Ok(());

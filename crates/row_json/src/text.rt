@@ -1,64 +1,124 @@
 //! The texts of rows.
 
-ghost use Rattle.std.specs.Prelude.{◌≡◌, ◌≤◌, ◌++◌, IfOk, OnOk, length, map, string_bytes};
-ghost use Rattle.serde_json.specs.View.{view};
+ghost use Rattle.std.specs.Prelude.{◌≡◌, ◌≤◌, ◌++◌, None, Ok, true, IfOk, OnOk, bytes_eq, length, map, option_map, string_bytes};
+ghost use Rattle.std.specs.List.{All};
+ghost use Rattle.serde_json.specs.View.{members_view, view};
 ghost use Rattle.serde_json.specs.Written.{comma_if};
 ghost use Rattle.roster_types.specs.Lengths.{object_length};
 ghost use Rattle.roster_types.specs.Rows.{longest};
-ghost use Rattle.row_json.specs.Json.{collection_text, row_data, row_text};
+ghost use Rattle.row_json.specs.Json.{collection_text, is_named, named, row_data, row_text, single_text};
+ghost use Rattle.row_json.specs.Reading.{IsHeld, has_good_keys, row_of, rows_of};
 
 use crate::members::{field_members, put_metadata};
-use roster_base::NoMemory;
+use roster_base::{NoMemory, Text};
 use roster_types::row::Row;
 use roster_values::Kind;
-use serde_json::Value;
+use serde_json::{Map, Value};
 use std::alloc::Global;
 
-#[tactic(auto, unfolding(crate::specs::Json::row_data))]
-fn row_value(alloc: Global, row: &Row) -> Result<Value, NoMemory>
-    ensures { IfOk result (λ v. view v ≡ row_data row.now) }
+fn is_named(names: &[Text], name: &str) -> bool
+    ensures { result ≡ is_named names.now name.now }
+{
+    names.iter().any(|other| other.as_str() == name)
+}
+
+// Leaves the members whose names are among these.
+fn keep_named(members: &mut Map<String, Value>, names: &[Text])
+    ensures { members_view members.new.entries ≡ named names.now (members_view members.old.entries) }
+{
+    members.retain(|name, _| is_named(names, name.as_str()));
+}
+
+#[tactic(auto, unfolding(crate::specs::Json::row_data, crate::specs::Json::row_members))]
+fn row_value(alloc: Global, row: &Row, only: Option<&[Text]>) -> Result<Value, NoMemory>
+    ensures value { IfOk result (λ v. view v ≡ row_data (option_map (λ s. s.now) only.entry) row.now) }
+    ensures keys { OnOk result (has_good_keys row.now.metadata ≡ true) }
 {
     let mut members = field_members(alloc, row)?;
     put_metadata(alloc, &mut members, row.metadata().entries())?;
+    match only {
+        Some(names) => keep_named(&mut members, names),
+        None => {}
+    }
     Ok(Value::Object(members))
 }
 
 /// The object of a row: compact, its members in ascending order of their names. Absent fields and empty metadata are
-/// left out. It is never longer than the longest row may be.
-pub fn row_text(alloc: Global, row: &Row) -> Result<String, NoMemory>
-    ensures text { IfOk result (λ t. string_bytes t ≡ row_text row.now) }
-    ensures length { IfOk result (λ t. length (string_bytes t) ≡ object_length row.now) }
-    ensures bound { IfOk result (λ t. length (string_bytes t) ≤ longest) }
+/// left out, and of the others those that the choice doesn't name. The whole object is never longer than the longest
+/// row may be.
+pub fn row_text(alloc: Global, row: &Row, only: Option<&[Text]>) -> Result<String, NoMemory>
+    ensures text { IfOk result (λ t. string_bytes t ≡ row_text (option_map (λ s. s.now) only.entry) row.now) }
+    ensures length { IfOk result (λ t. only.entry ≡ None → length (string_bytes t) ≡ object_length row.now) }
+    ensures bound { IfOk result (λ t. only.entry ≡ None → length (string_bytes t) ≤ longest) }
+    ensures held { OnOk result (IsHeld row.now) }
 {
     // Read for its clause `row`: a row is fitting and within the bound.
     let _ = row.kind();
-    let value = row_value(alloc, row)?;
+    let value = row_value(alloc, row, only)?;
     Ok(value.to_string(alloc)?)
 }
 
-// Adds a row, behind a comma where it is not the first.
-fn push_row(alloc: Global, text: &mut String, is_later: bool, row: &Row) -> Result<(), NoMemory>
-    ensures { OnOk result (string_bytes text.new ≡ string_bytes text.old ++ (comma_if is_later ++ row_text row.now)) }
+/// The object with a row under its kind's single key. The text of the whole row is read back as the row.
+pub fn single_text(alloc: Global, row: &Row, only: Option<&[Text]>) -> Result<String, NoMemory>
+    ensures text { IfOk result (λ t. string_bytes t ≡ single_text (option_map (λ s. s.now) only.entry) row.now) }
+    ensures back { IfOk result (λ t. only.entry ≡ None → row_of row.now.kind (string_bytes t) ≡ Ok row.now) }
+{
+    let mut text = String::from_str(alloc, "{\"")?;
+    text.push_str(row.kind().single())?;
+    text.push_str("\":")?;
+    let object = row_text(alloc, row, only)?;
+    text.push_str(object.as_str())?;
+    text.push('}')?;
+    // Read for its fact that the text is UTF-8.
+    let _ = text.as_str();
+    Ok(text)
+}
+
+/// Adds a text, behind a comma where it is not the first.
+pub fn push_part(text: &mut String, is_later: bool, part: &str) -> Result<(), NoMemory>
+    ensures { OnOk result (string_bytes text.new ≡ string_bytes text.old ++ (comma_if is_later ++ part.now)) }
 {
     if is_later {
         text.push(',')?;
     }
-    text.push_str(row_text(alloc, row)?.as_str())?;
+    text.push_str(part)?;
     Ok(())
 }
 
-/// The object with the rows of a kind under the kind's plural key.
-pub fn collection_text(alloc: Global, kind: Kind, rows: &[Row]) -> Result<String, NoMemory>
-    ensures { IfOk result (λ t. string_bytes t ≡ collection_text kind rows.now) }
+// Adds the object of a row.
+fn push_row(
+    alloc: Global,
+    text: &mut String,
+    is_later: bool,
+    row: &Row,
+    only: Option<&[Text]>,
+) -> Result<(), NoMemory>
+    ensures text { OnOk result (string_bytes text.new ≡ string_bytes text.old ++ (comma_if is_later ++ row_text (option_map (λ s. s.now) only.entry) row.now)) }
+    ensures held { OnOk result (IsHeld row.now) }
+{
+    push_part(text, is_later, row_text(alloc, row, only)?.as_str())
+}
+
+/// The object with the rows of a kind under the kind's plural key. The text of the whole rows is read back as the rows.
+pub fn collection_text(
+    alloc: Global,
+    kind: Kind,
+    rows: &[Row],
+    only: Option<&[Text]>,
+) -> Result<String, NoMemory>
+    ensures text { IfOk result (λ t. string_bytes t ≡ collection_text (option_map (λ s. s.now) only.entry) kind rows.now) }
+    ensures back { IfOk result (λ t. only.entry ≡ None → All (λ r. r.kind ≡ kind) rows.now → rows_of kind (string_bytes t) ≡ Ok rows.now) }
 {
     let mut text = String::from_str(alloc, "{\"")?;
     text.push_str(kind.plural())?;
     text.push_str("\":[")?;
     let mut is_later = false;
     for row in rows {
-        push_row(alloc, &mut text, is_later, row)?;
+        push_row(alloc, &mut text, is_later, row, only)?;
         is_later = true;
     }
     text.push_str("]}")?;
+    // Read for its fact that the text is UTF-8.
+    let _ = text.as_str();
     Ok(text)
 }

@@ -1,5 +1,5 @@
 use Rattle.csv.specs.Reading.{default_config, records, strip_bom}
-use Rattle.csv_sets.proofs.FileSteps.{given_differ, given_kinds, other_file, text_file}
+use Rattle.csv_sets.proofs.FileSteps.{given_dates, given_differ, given_kinds, other_file, text_file}
 use Rattle.csv_sets.proofs.file.read_file.Goals as goal
 
 pub returns-in-Ok-clause-file : goal.returns-in-Ok-clause-file
@@ -11,6 +11,9 @@ returns-in-Ok-clause-kinds c = given_kinds c.args.kind c.args.mode (records defa
 
 pub returns-in-Ok-clause-differ : goal.returns-in-Ok-clause-differ
 returns-in-Ok-clause-differ c = given_differ c.args.kind c.args.mode (records default_config (strip_bom c.in-Ok.text.now)) c.rows_of.result c.rows_of.ensures
+
+pub returns-in-Ok-clause-dates : goal.returns-in-Ok-clause-dates
+returns-in-Ok-clause-dates c = given_dates c.args.kind c.args.mode (records default_config (strip_bom c.in-Ok.text.now)) c.rows_of.result c.rows_of.ensures
 
 pub returns-in-Err-clause-file : goal.returns-in-Err-clause-file
 returns-in-Err-clause-file c = other_file c.args.kind c.args.mode c.args.bytes.now c.if-bytes-gt-LARGEST.false c.in-Err.ensures.cases.0

@@ -1,0 +1,6 @@
+use Rattle.roster_values.specs.Kinds.{all_kinds}
+use Rattle.csv_sets.proofs.ManifestSteps.{kinds_rise, said_rise}
+use Rattle.csv_sets.proofs.manifest.read_below.Goals as goal
+
+pub returns-clause-rise : goal.returns-clause-rise
+returns-clause-rise c = rw (c.from_vec.ensures, c.in_ok-files.ensures) (said_rise _ all_kinds kinds_rise)

@@ -1,0 +1,270 @@
+//! The files of the example set `lake`, and what is read of them after a change.
+
+ghost use Rattle.std.specs.Prelude.{◌≡◌, map, IfOk};
+
+use crate::fault::SetError;
+use crate::file::read_file;
+use crate::set::read_set;
+use crate::tests::fault_line;
+use crate::write::write_file;
+use outside_ports::MemFolder;
+use roster_base::{NoMemory, Refusal};
+use roster_texts::Name;
+use roster_types::row::Row;
+use roster_types::set::RosterSet;
+use roster_types::set_row::SetRow;
+use roster_values::{Kind, Mode};
+use std::alloc::Global;
+use std::process::Abort;
+use std::test::Fail;
+
+// Each file's name and its text. `resources.csv` is passed over.
+const LAKE: &[(&str, &str)] = &[
+    (
+        "manifest.csv",
+        "propertyName,value\n\
+         manifest.version,1.0\n\
+         oneroster.version,1.1\n\
+         file.orgs,bulk\n\
+         file.academicSessions,bulk\n\
+         file.courses,bulk\n\
+         file.classes,bulk\n\
+         file.users,bulk\n\
+         file.enrollments,delta\n\
+         file.demographics,bulk\n\
+         file.categories,bulk\n\
+         file.lineItems,bulk\n\
+         file.results,bulk\n\
+         file.resources,absent\n\
+         file.classResources,absent\n\
+         file.courseResources,absent\n\
+         source.systemName,Lake SIS\n\
+         source.systemCode,LSIS\n",
+    ),
+    (
+        "orgs.csv",
+        "sourcedId,status,dateLastModified,name,type,identifier,parentSourcedId\n\
+         d1,,,\"Lake District, Unified\",district,LDU,\n\
+         s1,,,East High,school,E-1,d1\n\
+         s2,,,West High,school,,d1\n",
+    ),
+    (
+        "academicSessions.csv",
+        "sourcedId,status,dateLastModified,title,type,startDate,endDate,parentSourcedId,schoolYear\n\
+         y25,,,2024-25,schoolYear,2024-08-01,2025-06-30,,2025\n\
+         t1,,,Fall,term,2024-08-01,2024-12-20,y25,2025\n\
+         g1,,,Quarter 1,gradingPeriod,2024-08-01,2024-10-11,t1,2025\n",
+    ),
+    (
+        "courses.csv",
+        "sourcedId,status,dateLastModified,schoolYearSourcedId,title,courseCode,grades,orgSourcedId,subjects,subjectCodes\n\
+         alg,,,y25,Algebra I,ALG1,\"09,10\",d1,Mathematics,\n",
+    ),
+    (
+        "classes.csv",
+        "sourcedId,status,dateLastModified,title,grades,courseSourcedId,classCode,classType,location,schoolSourcedId,termSourcedIds,subjects,subjectCodes,periods\n\
+         k1,,,Algebra I A,\"09,10\",alg,A,scheduled,Room 4,s1,t1,,,\"1,3\"\n\
+         k2,,,Algebra I B,09,alg,B,scheduled,,s2,t1,,,2\n",
+    ),
+    (
+        "users.csv",
+        "sourcedId,status,dateLastModified,enabledUser,orgSourcedIds,role,username,userIds,givenName,familyName,middleName,identifier,email,sms,phone,agentSourcedIds,grades,password,metadata.locker\n\
+         u1,,,true,s1,student,aoak,\"{LDAP:aoak},{SIS:77}\",Ann,Oak,,,,,,u4,09,secret,12\n\
+         u2,,,true,\"s1,s2\",student,boak,,Ben,Oak,,,,,,,10,,\n\
+         u3,,,true,s2,teacher,cdow,,Cy,Dow,,,,,,,,,\n\
+         u4,,,true,s1,guardian,doak,,Dee,Oak,,,,,,u1,,,\n",
+    ),
+    (
+        "enrollments.csv",
+        "sourcedId,status,dateLastModified,classSourcedId,schoolSourcedId,userSourcedId,role,primary,beginDate,endDate\n\
+         e1,active,2024-07-20T08:00:00.000Z,k1,s1,u1,student,,2024-08-12,\n\
+         e2,active,2024-07-20T08:00:00.000Z,k2,s2,u2,student,,,\n\
+         e3,active,2024-07-20T08:00:00.000Z,k2,s2,u3,teacher,true,,\n",
+    ),
+    (
+        "demographics.csv",
+        "sourcedId,status,dateLastModified,birthDate,sex\n\
+         u1,,,2009-03-04,female\n",
+    ),
+    (
+        "categories.csv",
+        "sourcedId,status,dateLastModified,title\n\
+         hw,,,Homework\n",
+    ),
+    (
+        "lineItems.csv",
+        "sourcedId,status,dateLastModified,title,description,assignDate,dueDate,classSourcedId,categorySourcedId,gradingPeriodSourcedId,resultValueMin,resultValueMax\n\
+         li1,,,Set 1,,2024-08-15,2024-08-22,k1,hw,g1,0,100\n",
+    ),
+    (
+        "results.csv",
+        "sourcedId,status,dateLastModified,lineItemSourcedId,studentSourcedId,scoreStatus,score,scoreDate,comment\n\
+         r1,,,li1,u1,fully graded,78.0,2024-08-23,\n",
+    ),
+    (
+        "resources.csv",
+        "no,file\n\
+         that is read\n",
+    ),
+];
+
+// The files of `lake`, one of which has another text in place of one of its texts; where that is empty, the file is taken away.
+fn lake(
+    alloc: Global,
+    changed: &str,
+    old: &str,
+    new: &str,
+    failing: Vec<u64>,
+) -> Result<MemFolder, NoMemory> {
+    let mut files = Vec::new(alloc);
+    for (name, text) in LAKE {
+        let is_changed = *name == changed;
+        if is_changed && old.is_empty() {
+            continue;
+        }
+        let text = if is_changed {
+            text.replace(alloc, old, new)?
+        } else {
+            String::from_str(alloc, text)?
+        };
+        let dir = String::from_str(alloc, "lake")?;
+        files.push((dir, String::from_str(alloc, name)?, text.into_bytes()))?;
+    }
+    Ok(MemFolder::new(files, failing))
+}
+
+// The parts of a set, each with how many rows it has.
+fn set_line(alloc: Global, set: &RosterSet) -> Result<String, NoMemory> {
+    let mut line = String::new(alloc);
+    for part in set.parts() {
+        let (plural, mode, rows) = (part.kind.plural(), part.mode, part.rows.as_slice().len());
+        line.push_str(format!(in alloc; "{plural} {mode:?} {rows};")?.as_str())?;
+    }
+    Ok(line)
+}
+
+// What was read, in one line: the set or the fault.
+fn line_of(alloc: Global, answer: Result<RosterSet, SetError>) -> Result<String, NoMemory> {
+    match answer {
+        Ok(set) => set_line(alloc, &set),
+        Err(Refusal::Fault(fault)) => fault_line(alloc, fault),
+        Err(Refusal::NoMemory) => Err(NoMemory),
+    }
+}
+
+fn read_line(alloc: Global, mut folder: MemFolder) -> Result<String, NoMemory> {
+    match Name::read(alloc, "sis")? {
+        Some(feed) => line_of(alloc, read_set(alloc, &mut folder, "lake", &feed)),
+        None => String::from_str(alloc, "no feed").map_err(|_| NoMemory),
+    }
+}
+
+const WHOLE: &str =
+    "orgs Bulk 3;academicSessions Bulk 3;courses Bulk 1;classes Bulk 2;users Bulk 4;\
+    enrollments Delta 3;demographics Bulk 1;categories Bulk 1;lineItems Bulk 1;results Bulk 1;";
+
+// The changed file, the text that is changed, what stands in its place, and what is read then.
+const CHANGES: &[(&str, &str, &str, &str)] = &[
+    ("", "", "", WHOLE),
+    (
+        "manifest.csv",
+        "users,bulk",
+        "users,full",
+        "manifest.csv: UnknownMode { property: FileOf(Users) }",
+    ),
+    (
+        "manifest.csv",
+        "courses,bulk",
+        "courses,absent",
+        "courses.csv is unexpected",
+    ),
+    (
+        "manifest.csv",
+        "manifest.version,1.0\n",
+        "",
+        "manifest.csv: Missing { property: ManifestVersion }",
+    ),
+    ("users.csv", "", "", "users.csv is missing"),
+    (
+        "users.csv",
+        "givenName",
+        "userIds",
+        "users.csv: userIds Repeated",
+    ),
+    (
+        "enrollments.csv",
+        "2024-08-12,",
+        "2024-08-12,2024-02-30",
+        "enrollments.csv 2: endDate BadDay",
+    ),
+    (
+        "enrollments.csv",
+        "e1,active",
+        "e1,",
+        "enrollments.csv 2: status Empty",
+    ),
+    (
+        "results.csv",
+        "78.0",
+        "78.5",
+        "results.csv 2: score Fractional",
+    ),
+    (
+        "results.csv",
+        "78.0",
+        "seven",
+        "results.csv 2: score BadNumber",
+    ),
+];
+
+#[test]
+fn reads_changed_sets(rt: HostRuntime) -> Result<(), Fail> {
+    for (file, old, new, expected) in CHANGES {
+        let folder = lake(rt.alloc(), file, old, new, Vec::new(rt.alloc()))?;
+        let line = read_line(rt.alloc(), folder)?;
+        assert_eq!(rt; line.as_str(), *expected);
+    }
+    Ok(())
+}
+
+// The folder is asked for the manifest, then for ten sizes, then for ten files.
+#[test]
+fn names_the_folder_where_it_fails(rt: HostRuntime) -> Result<(), Fail> {
+    for call in [1, 2, 21] {
+        let failing = vec![in rt.alloc(); call]?;
+        let line = read_line(rt.alloc(), lake(rt.alloc(), "", "", "", failing)?)?;
+        assert_eq!(rt; line.as_str(), "the folder failed");
+    }
+    Ok(())
+}
+
+fn rows_in(alloc: Global, rows: Vec<SetRow>) -> Result<Vec<Row>, NoMemory>
+    ensures { IfOk result (λ v. v.items ≡ map (λ r. r.row) rows.items) }
+{
+    Ok(rows.into_iter().map(|row| row.row).collect(alloc)?)
+}
+
+// What a file of changes is, written again.
+fn written(alloc: Global, kind: Kind, text: &str) -> Result<Vec<u8>, SetError> {
+    let read = read_file(alloc, kind, Mode::Delta, text.as_bytes())?;
+    let rows = rows_in(alloc, read)?;
+    Ok(write_file(alloc, kind, rows.as_slice())?)
+}
+
+const READ: &str = "metadata.m,type,sourcedId,status,dateLastModified,name,metadata.k\n\
+    ,school,a,active,2024-08-01,\" A \"\"B\"\", C\",2\n\
+    3,state,b,tobedeleted,2024-08-01T09:00:00+02:00,D,\n";
+
+const WRITTEN: &str =
+    "sourcedId,status,dateLastModified,name,type,identifier,parentSourcedId,metadata.k,metadata.m\n\
+    a,active,2024-08-01T00:00:00.000Z,\"A \"\"B\"\", C\",school,,,2,\n\
+    b,tobedeleted,2024-08-01T07:00:00.000Z,D,state,,,,3\n";
+
+#[test]
+fn writes_what_it_read(rt: HostRuntime) -> Result<(), Fail> {
+    match written(rt.alloc(), Kind::Orgs, READ) {
+        Ok(bytes) => assert_eq!(rt; bytes.as_slice(), WRITTEN.as_bytes()),
+        Err(_) => assert!(rt; false),
+    }
+    Ok(())
+}

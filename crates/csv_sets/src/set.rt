@@ -1,0 +1,198 @@
+//! Whole sets.
+
+ghost use Rattle.std.specs.Prelude.{◌≡◌, ◌==◌, bytes_eq, is_some, map, true, IfOk};
+ghost use Rattle.std.specs.List.{All};
+ghost use Rattle.csv.specs.Reading.{default_config, records, strip_bom};
+ghost use Rattle.csv_sets.specs.Manifests.{RisingFiles, manifest_of};
+ghost use Rattle.roster_base.specs.Reading.{Gives};
+ghost use Rattle.roster_types.specs.Sets.{AreParts, IsPart};
+ghost use Rattle.roster_values.specs.Kinds.{all_kinds, place_of_kind};
+ghost use Rattle.csv_sets.specs.Folders.{ReadsFolder};
+ghost use Rattle.csv_sets.specs.Sets.{AreListed, AreSpelled, IsSpelled, all_stand, bytes_at, bytes_of, in_manifest, is_listed, listed_as, listed_in, manifest_at, part_at, parts_at, set_of, stands, stands_at};
+
+use crate::fault::{SetError, SetFault, SetFile};
+use crate::file::{LARGEST, read_file};
+use crate::manifest::{ListedFile, Manifest, read_manifest};
+use outside_ports::{FileRead, Folder, IoError};
+use roster_base::{Bytes, Items, Refusal, TryCopy};
+use roster_texts::Name;
+use roster_types::set::{RosterSet, SetPart};
+use roster_values::Kind;
+use std::alloc::Global;
+
+// The bytes of a file that ought to be there and isn't too large.
+#[tactic(auto, unfolding(crate::specs::Sets::bytes_of))]
+fn read_bytes<F: Folder>(
+    alloc: Global,
+    folder: &mut F,
+    dir: &str,
+    file: SetFile,
+) -> Result<Bytes, SetError>
+    ensures bytes { ReadsFolder (λ b. b) (F.files folder.old) (F.faults folder.old) (F.faults folder.new) result (λ fs. bytes_of file (bytes_at fs dir.now file)) }
+    ensures files { F.files folder.new ≡ F.files folder.old }
+{
+    match folder.read(alloc, dir, file.name(), LARGEST as u64) {
+        Ok(FileRead::Bytes(bytes)) => Ok(bytes),
+        Ok(FileRead::Absent) => Err(Refusal::Fault(SetFault::MissingFile { file })),
+        Ok(FileRead::TooLong) => Err(Refusal::Fault(SetFault::TooLarge { file })),
+        Err(IoError::Failed) => Err(Refusal::Fault(SetFault::Folder)),
+        Err(IoError::NoMemory) => Err(Refusal::NoMemory),
+    }
+}
+
+// The files that a manifest's text lists.
+fn listed_by(alloc: Global, text: &str) -> Result<Manifest, SetError>
+    ensures listed { Gives (λ m. m.files) result (in_manifest (manifest_of (records default_config (strip_bom text.now)))) }
+    ensures rise { IfOk result (λ m. RisingFiles m.files) }
+{
+    match read_manifest(alloc, text) {
+        Ok(manifest) => Ok(manifest),
+        Err(Refusal::Fault(fault)) => Err(Refusal::Fault(SetFault::Manifest(fault))),
+        Err(Refusal::NoMemory) => Err(Refusal::NoMemory),
+    }
+}
+
+// The files that a manifest's bytes list.
+fn listed_in(alloc: Global, bytes: &[u8]) -> Result<Manifest, SetError>
+    ensures listed { Gives (λ m. m.files) result (listed_in bytes.now) }
+    ensures rise { IfOk result (λ m. RisingFiles m.files) }
+{
+    match str::from_utf8(bytes) {
+        Ok(text) => listed_by(alloc, text),
+        Err(_) => Err(Refusal::Fault(SetFault::NotUtf8 {
+            file: SetFile::Manifest,
+        })),
+    }
+}
+
+// What the manifest of a folder says.
+#[tactic(auto, unfolding(crate::specs::Sets::manifest_at))]
+fn manifest_at<F: Folder>(alloc: Global, folder: &mut F, dir: &str) -> Result<Manifest, SetError>
+    ensures listed { ReadsFolder (λ m. m.files) (F.files folder.old) (F.faults folder.old) (F.faults folder.new) result (manifest_at dir.now) }
+    ensures files { F.files folder.new ≡ F.files folder.old }
+    ensures rise { IfOk result (λ m. RisingFiles m.files) }
+    ensures some { IfOk result (λ m. AreListed m.files) }
+{
+    let bytes = read_bytes(alloc, folder, dir, SetFile::Manifest)?;
+    listed_in(alloc, bytes.as_slice())
+}
+
+fn is_listed(kind: Kind, listed: &[ListedFile]) -> bool
+    ensures { result ≡ is_listed kind listed.now }
+{
+    listed.iter().any(|f| f.kind.place() == kind.place())
+}
+
+// Whether a kind's file is there exactly where the manifest lists it.
+fn check_stands(kind: Kind, listed: bool, there: bool) -> Result<(), SetError>
+    ensures { Gives (λ _. true) result (stands kind listed there) }
+{
+    let file = SetFile::RowsOf(kind);
+    match (listed, there) {
+        (true, false) => Err(Refusal::Fault(SetFault::MissingFile { file })),
+        (false, true) => Err(Refusal::Fault(SetFault::UnexpectedFile { file })),
+        _ => Ok(()),
+    }
+}
+
+// Whether a kind's file is there as the manifest says.
+fn check_file<F: Folder>(
+    folder: &mut F,
+    dir: &str,
+    listed: &[ListedFile],
+    kind: Kind,
+) -> Result<(), SetError>
+    ensures stands { ReadsFolder (λ _. true) (F.files folder.old) (F.faults folder.old) (F.faults folder.new) result (stands_at dir.now listed.now kind) }
+    ensures files { F.files folder.new ≡ F.files folder.old }
+{
+    let Ok(size) = folder.size(dir, kind.file_name()) else {
+        return Err(Refusal::Fault(SetFault::Folder));
+    };
+    check_stands(kind, is_listed(kind, listed), size.is_some())
+}
+
+// Whether the file of each of these kinds is there as the manifest says.
+fn check_files<F: Folder>(
+    folder: &mut F,
+    dir: &str,
+    listed: &[ListedFile],
+    kinds: &[Kind],
+) -> Result<(), SetError>
+    ensures stand { ReadsFolder (λ _. true) (F.files folder.old) (F.faults folder.old) (F.faults folder.new) result (all_stand dir.now listed.now kinds.now) }
+    ensures files { F.files folder.new ≡ F.files folder.old }
+{
+    for kind in kinds {
+        check_file(folder, dir, listed, *kind)?;
+    }
+    Ok(())
+}
+
+// The part of a listed file.
+#[tactic(auto, unfolding(crate::specs::Sets::part_at))]
+fn read_part<F: Folder>(
+    alloc: Global,
+    folder: &mut F,
+    dir: &str,
+    listed: &ListedFile,
+) -> Result<SetPart, SetError>
+    ensures part { ReadsFolder (λ p. p) (F.files folder.old) (F.faults folder.old) (F.faults folder.new) result (part_at dir.now listed.now) }
+    ensures files { F.files folder.new ≡ F.files folder.old }
+    ensures listed { IfOk result (λ p. listed_as p ≡ listed.now) }
+    ensures good { IfOk result IsPart }
+    ensures some { IfOk result IsSpelled }
+{
+    let kind = listed.kind;
+    let mode = listed.mode;
+    let bytes = read_bytes(alloc, folder, dir, SetFile::RowsOf(kind))?;
+    let rows = read_file(alloc, kind, mode, bytes.as_slice())?;
+    Ok(SetPart {
+        kind,
+        mode,
+        rows: Items::from_vec(rows),
+    })
+}
+
+// The parts of the listed files, in turn.
+fn read_parts<F: Folder>(
+    alloc: Global,
+    folder: &mut F,
+    dir: &str,
+    listed: &[ListedFile],
+) -> Result<Vec<SetPart>, SetError>
+    ensures parts { ReadsFolder (λ v. v.items) (F.files folder.old) (F.faults folder.old) (F.faults folder.new) result (parts_at dir.now listed.now) }
+    ensures files { F.files folder.new ≡ F.files folder.old }
+    ensures listed { IfOk result (λ v. map listed_as v.items ≡ listed.now) }
+    ensures good { IfOk result (λ v. All IsPart v.items) }
+    ensures some { IfOk result (λ v. All IsSpelled v.items) }
+{
+    let mut parts = Vec::new(alloc);
+    for file in listed {
+        parts.push(read_part(alloc, folder, dir, file)?)?;
+    }
+    Ok(parts)
+}
+
+/// The set that the files of a folder mean together, or the first fault: of the manifest; then of the first kind whose file is
+/// missing, or there though the manifest says that it is absent; then of the files in the kinds' order. By OneRoster the files
+/// of resources are no part of it, and are passed over whatever the manifest says of them. Where the folder fails, the fault
+/// is `Folder`, at that call.
+#[tactic(auto, unfolding(crate::specs::Sets::set_of))]
+pub fn read_set<F: Folder>(
+    alloc: Global,
+    folder: &mut F,
+    dir: &str,
+    feed: &Name,
+) -> Result<RosterSet, SetError>
+    ensures set { ReadsFolder (λ s. s) (F.files folder.old) (F.faults folder.old) (F.faults folder.new) result (set_of dir.now feed.now) }
+    ensures files { F.files folder.new ≡ F.files folder.old }
+    // Whatever the folder tells.
+    ensures feed { IfOk result (λ s. s.feed ≡ feed.now) }
+    ensures some { IfOk result (λ s. AreSpelled s.parts) }
+{
+    let manifest = manifest_at(alloc, folder, dir)?;
+    let listed = manifest.files.as_slice();
+    check_files(folder, dir, listed, &Kind::ALL)?;
+    let parts = read_parts(alloc, folder, dir, listed)?;
+    let feed = feed.copy(alloc)?;
+    Ok(RosterSet::new(feed, Items::from_vec(parts)))
+}

@@ -1,0 +1,65 @@
+//! What a caller has of the item store over a database in memory and over files. The program doesn't call this crate.
+#![tactic(auto)]
+
+ghost use Rattle.std.specs.Prelude.{◌≡◌, map, take, IfOk, IfSome};
+ghost use Rattle.sqlite.specs.Files.{file_state};
+ghost use Rattle.sqlite.specs.Held.{state};
+ghost use Rattle.sqlite.specs.Steps.{over_memory};
+ghost use Rattle.item_sql.specs.Items.{Items, no_items, listed};
+ghost use Rattle.item_sql.specs.Stands.{StandsFor};
+ghost use Rattle.item_store.specs.Edits.{after, entry_of};
+
+use item_store::{Edit, Item, ItemStore};
+use roster_base::KeeperError;
+use sqlite::{Connection, FileStore, MemStore, Options};
+use sqlite_disk::Disk;
+use std::alloc::{AllocError, Global};
+
+/// A store over a new database in memory stands for no items.
+pub fn fresh(alloc: Global) -> Result<ItemStore<MemStore>, AllocError>
+    ensures { IfOk result (λ s. StandsFor (state over_memory s.connection) no_items) }
+{
+    let conn = Connection::open_in_memory(alloc)?;
+    Ok(ItemStore::adopt(conn))
+}
+
+/// What the edits leave is read back.
+pub fn read_back(
+    alloc: Global,
+    store: &mut ItemStore<MemStore>,
+    edits: &[Edit],
+    area: u32,
+    from: &[u8],
+    to: &[u8],
+) -> Result<Vec<Item>, KeeperError>
+    requires { StandsFor (state over_memory store.old.connection) no_items }
+    ensures { IfOk result (λ items. map entry_of items.items ≡ take 1000 (listed area from.now to.now (after edits.now no_items))) }
+{
+    store.commit(edits)?;
+    store.range(alloc, area, from, to, 1000)
+}
+
+/// Files that are closed and opened again hold the same items.
+pub fn reopen<D: Disk + Drop>(
+    alloc: Global,
+    conn: Connection<FileStore<D>>,
+    options: Options,
+) -> Option<Connection<FileStore<D>>>
+    ensures { (m : Items) → StandsFor (file_state conn) m → IfSome result (λ again. StandsFor (file_state again) m) }
+{
+    let _schema = conn.schema();
+    let files = match conn.close_files() {
+        Ok(files) => files,
+        Err((_, store)) => {
+            drop(store.close());
+            return None;
+        }
+    };
+    match Connection::open_files(alloc, files, options) {
+        Ok(again) => Some(again),
+        Err(_) => None,
+    }
+}
+
+#[cfg(test)]
+mod tests;

@@ -1,0 +1,10 @@
+pub mod Texts
+pub mod Tests
+pub mod Orders
+pub mod Range
+pub mod ClearLemmas
+pub mod PutLemmas
+pub mod Upsert
+pub mod Steps
+pub mod States
+pub mod Asking

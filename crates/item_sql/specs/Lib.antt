@@ -1,0 +1,4 @@
+pub mod Table
+pub mod Items
+pub mod Stands
+pub mod Asked

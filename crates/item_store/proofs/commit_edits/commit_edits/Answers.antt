@@ -1,0 +1,47 @@
+use Rattle.std.proofs.lemmas.Result.{err_from_is_err_and}
+use Rattle.sqlite.specs.Held.{state}
+use Rattle.item_sql.specs.Stands.{StandsFor, GoesBackTo}
+use Rattle.item_sql.proofs.Asking.{one, joined, late, at_once, in_turn, rolled}
+use Rattle.item_sql.proofs.States.{on_err}
+use Rattle.item_store.specs.Edits.{after}
+use Rattle.item_store.proofs.EditLemmas.{ok_then, err_then, stands_back}
+use Rattle.item_store.proofs.commit_edits.commit_edits.Goals as goal
+
+pub returns-in_err-begin-clause-err : goal.returns-in_err-begin-clause-err
+returns-in_err-begin-clause-err g c m h =
+    on_err {P = StandsFor (state g.S.Store c.begin.new.conn) m} c.from_residual-in_err-begin.result (c.in_err-begin.ensures.err m (c.in_ok-make.ensures.ok m h))
+
+pub returns-clause-ok : goal.returns-clause-ok
+returns-clause-ok g c m h =
+    let done = after c.args.edits.now m in
+    let mid = state g.S.Store c.finish-ended.new.conn in
+    let last = state g.S.Store c.roll_back.new.conn in
+    ok_then (StandsFor mid done) (StandsFor last done) c.finish-ended.result (λ stands. c.roll_back.ensures.back done (stands_back mid done stands))
+    (c.finish-ended.ensures.ok m m (c.in_ok-begin.ensures.ok m (c.in_ok-make.ensures.ok m h)))
+
+pub returns-clause-err : goal.returns-clause-err
+returns-clause-err g c m h =
+    let mid = state g.S.Store c.finish-ended.new.conn in
+    let last = state g.S.Store c.roll_back.new.conn in
+    err_then (GoesBackTo mid m) (StandsFor last m) c.finish-ended.result (c.roll_back.ensures.back m)
+    (c.finish-ended.ensures.err m m (c.in_ok-begin.ensures.ok m (c.in_ok-make.ensures.ok m h)))
+
+pub returns-in_err-make-clause-asks : goal.returns-in_err-make-clause-asks
+returns-in_err-make-clause-asks g c clean out =
+    let p = err_from_is_err_and c.from_residual.result c.from_residual.ensures.1 in
+    rw (p.1, p.2) (λ cause. at_once (state g.S.Store) c.in_err-make.field-0.0 (c.in_err-make.ensures.asks clean))
+
+pub returns-in_err-begin-clause-asks : goal.returns-in_err-begin-clause-asks
+returns-in_err-begin-clause-asks g c clean out =
+    let view = state g.S.Store in
+    let p = err_from_is_err_and c.from_residual-in_err-begin.result c.from_residual-in_err-begin.ensures.1 in
+    rw (p.1, p.2) (λ cause. late view {mid = c.make.new.conn} c.in_err-begin.field-0.0 (one view (c.in_ok-make.ensures.asks (c.begin.ensures.honest clean))) (at_once view c.in_err-begin.field-0.0 (c.in_err-begin.ensures.asks clean)))
+
+pub returns-clause-asks : goal.returns-clause-asks
+returns-clause-asks g c clean out =
+    let view = state g.S.Store in
+    let ended = c.roll_back.ensures.honest clean in
+    let begun = c.finish-ended.ensures.honest ended in
+    let inside = joined view {mid = c.make.new.conn} (one view (c.in_ok-make.ensures.asks (c.begin.ensures.honest begun))) (one view (c.in_ok-begin.ensures.asks begun)) in
+    rolled view c.args.conn.now c.finish-ended.new.conn c.roll_back.new.conn c.finish-ended.result c.roll_back.ensures.honest
+    (in_turn view c.args.conn.now c.begin.new.conn c.finish-ended.new.conn c.finish-ended.result inside (c.finish-ended.ensures.asks ended))

@@ -1,0 +1,38 @@
+-- What edits make of items, and why a call fails.
+use Rattle.std.specs.Prelude.{◌≡◌, ◌≢◌, ℕ, List, [], ◌∷◌, ⊤}
+use Rattle.sqlite.specs.declared.error.Error.{Error}
+use Rattle.sqlite.specs.declared.error.Error.TheVariants.{SqliteFailure}
+use Rattle.sqlite.specs.declared.error.ErrorCode.TheVariants.{OutOfMemory}
+use Rattle.sqlite.specs.State.{State}
+use Rattle.roster_base.specs.declared.keeper.KeeperError.{KeeperError}
+use Rattle.roster_base.specs.declared.keeper.KeeperError.TheVariants.{Failed, NoMemory}
+use Rattle.item_sql.specs.Asked.{IsRefused}
+use Rattle.item_sql.specs.Items.{Items, put, cleared}
+use Rattle.item_store.specs.declared.item.Item.{Item}
+use Rattle.item_store.specs.declared.item.Edit.{Edit}
+use Rattle.item_store.specs.declared.item.Edit.TheVariants as edit
+
+abbrev pub after_edit : Edit → Items → Items
+after_edit (edit.Put area label body) m = put area label body m
+after_edit (edit.Clear area from to) m = cleared area from to m
+
+-- the edits, the first of them first
+abbrev pub after : List Edit → Items → Items
+after [] m = m
+after (e ∷ es) m = after es (after_edit e m)
+
+abbrev pub entry_of : Item → List ℕ × List ℕ
+entry_of item = (item.label, item.body)
+
+abbrev pub no_memory : Error
+no_memory = SqliteFailure OutOfMemory
+
+-- want of memory is no failure, and every other error is
+abbrev pub IsFailed : KeeperError → Error → Type 0
+IsFailed Failed error = error ≢ no_memory
+IsFailed NoMemory error = error ≡ no_memory
+
+-- a call fails only where the database refused a statement over the table, for another reason than want of memory
+abbrev pub IsCaused : {H : Type 0} → (H → State) → H → H → KeeperError → Type 0
+IsCaused view old new Failed = (error : Error) × (error ≢ no_memory) × IsRefused view old new error
+IsCaused view old new NoMemory = ⊤

@@ -1,0 +1,73 @@
+//! Edits made in one transaction.
+
+ghost use Rattle.std.specs.Prelude.{◌≡◌, ◌≢◌, false, OnOk, OnErr, IfErr};
+ghost use Rattle.sqlite.specs.Held.{state};
+ghost use Rattle.sqlite.specs.State.{HasCleanDisk};
+ghost use Rattle.item_sql.specs.Asked.{AsksInTurn, IsRefused};
+ghost use Rattle.item_sql.specs.Items.{Items};
+ghost use Rattle.item_sql.specs.Stands.{StandsFor, IsWithin, GoesBackTo, Earlier};
+ghost use Rattle.item_store.specs.Edits.{after, after_edit, no_memory};
+
+use crate::item::Edit;
+use sqlite::{Alter, Connection, Error, ErrorCode};
+
+// Makes an edit inside a transaction.
+fn make_edit<S: Alter>(conn: &mut Connection<S>, edit: &Edit) -> Result<(), Error>
+    ensures ok { (base m : Items) → IsWithin (state S.Store conn.old) base m
+        → OnOk result (IsWithin (state S.Store conn.new) base (after_edit edit.now m)) }
+    ensures err { (base m : Items) → IsWithin (state S.Store conn.old) base m → OnErr result (GoesBackTo (state S.Store conn.new) base) }
+    ensures asks { HasCleanDisk (state S.Store conn.new) → AsksInTurn (state S.Store) conn.old conn.new result }
+    ensures honest { Earlier (state S.Store conn.old) (state S.Store conn.new) }
+{
+    match edit {
+        Edit::Put { area, label, body } => {
+            item_sql::put(conn, *area, label.as_slice(), body.as_slice())
+        }
+        Edit::Clear { area, from, to } => {
+            item_sql::clear(conn, *area, from.as_slice(), to.as_slice())
+        }
+    }
+}
+
+// Makes the edits in order inside a transaction.
+fn make_edits<S: Alter>(conn: &mut Connection<S>, edits: &[Edit]) -> Result<(), Error>
+    ensures ok { (base m : Items) → IsWithin (state S.Store conn.old) base m
+        → OnOk result (IsWithin (state S.Store conn.new) base (after edits.now m)) }
+    ensures err { (base m : Items) → IsWithin (state S.Store conn.old) base m → OnErr result (GoesBackTo (state S.Store conn.new) base) }
+    ensures asks { HasCleanDisk (state S.Store conn.new) → AsksInTurn (state S.Store) conn.old conn.new result }
+    ensures honest { Earlier (state S.Store conn.old) (state S.Store conn.new) }
+{
+    for edit in edits {
+        make_edit(conn, edit)?;
+    }
+    Ok(())
+}
+
+// Makes the edits inside a transaction and commits it.
+fn finish<S: Alter>(conn: &mut Connection<S>, edits: &[Edit]) -> Result<(), Error>
+    ensures ok { (base m : Items) → IsWithin (state S.Store conn.old) base m → OnOk result (StandsFor (state S.Store conn.new) (after edits.now m)) }
+    ensures err { (base m : Items) → IsWithin (state S.Store conn.old) base m → OnErr result (GoesBackTo (state S.Store conn.new) base) }
+    ensures asks { HasCleanDisk (state S.Store conn.new) → AsksInTurn (state S.Store) conn.old conn.new result }
+    ensures honest { Earlier (state S.Store conn.old) (state S.Store conn.new) }
+{
+    make_edits(conn, edits)?;
+    item_sql::commit(conn)
+}
+
+/// Makes the edits in order, all of them or none. Inside a transaction of the caller it is refused.
+pub fn commit_edits<S: Alter>(conn: &mut Connection<S>, edits: &[Edit]) -> Result<(), Error>
+    ensures ok { (m : Items) → StandsFor (state S.Store conn.old) m → OnOk result (StandsFor (state S.Store conn.new) (after edits.now m)) }
+    ensures err { (m : Items) → StandsFor (state S.Store conn.old) m → OnErr result (StandsFor (state S.Store conn.new) m) }
+    ensures asks { HasCleanDisk (state S.Store conn.new) → (state S.Store conn.old).in_transaction ≡ false
+        → IfErr result (λ e. e ≢ no_memory → IsRefused (state S.Store) conn.old conn.new e) }
+    ensures honest { Earlier (state S.Store conn.old) (state S.Store conn.new) }
+{
+    if !conn.is_autocommit() {
+        return Err(Error::SqliteFailure(ErrorCode::TransactionState));
+    }
+    item_sql::make(conn)?;
+    item_sql::begin(conn)?;
+    let ended = finish(conn, edits);
+    item_sql::roll_back(conn);
+    ended
+}

@@ -1,0 +1,111 @@
+//! The store.
+
+ghost use Rattle.std.specs.Prelude.{◌≡◌, ◌≤◌, IsTrue, map, take, OnOk, OnErr, IfOk, IfErr};
+ghost use Rattle.sqlite.specs.Held.{state};
+ghost use Rattle.sqlite.specs.State.{HasCleanDisk};
+ghost use Rattle.roster_base.specs.Faults.{CountsError, CountsFailure};
+ghost use Rattle.item_sql.specs.Items.{Items, listed};
+ghost use Rattle.item_sql.specs.Stands.{StandsFor, Earlier};
+ghost use Rattle.item_store.specs.Edits.{after, entry_of, IsFailed, IsCaused};
+
+use crate::commit_edits::commit_edits;
+use crate::item::{Edit, Item};
+use crate::read_items::read_items;
+use roster_base::KeeperError;
+use sqlite::{Alter, Connection, Error, ErrorCode};
+use std::alloc::Global;
+
+/// Items in the table `item` of a database, from area and label to body. The table is made by the first call that needs it.
+///
+/// What the clauses say of items holds while the connection is open and its disk gives back what was written to it. A
+/// connection that is handed in inside a transaction fails at each call.
+#[derive(Drop)]
+pub struct ItemStore<S: Alter> {
+    connection: Connection<S>,
+    faults: u64,
+}
+
+impl<S: Alter> ItemStore<S> {
+    /// The store in this database; no memory is taken.
+    pub fn adopt(connection: Connection<S>) -> ItemStore<S>
+        ensures connection { result.connection ≡ connection }
+        ensures faults { result.faults ≡ 0 }
+    {
+        ItemStore {
+            connection,
+            faults: 0,
+        }
+    }
+
+    /// The connection, as the last call left it; no memory is taken.
+    pub fn release(self) -> Connection<S>
+        ensures { result ≡ self.connection }
+    {
+        let ItemStore {
+            connection,
+            faults: _,
+        } = self;
+        connection
+    }
+
+    /// How many calls failed. The count stays at the end of its type.
+    pub fn faults(&self) -> u64
+        ensures { result ≡ self.now.faults }
+    {
+        self.faults
+    }
+
+    // The answer for a refusal, which is counted unless memory ran out.
+    fn refuse(&mut self, error: Error) -> KeeperError
+        ensures same { self.new.connection ≡ self.old.connection }
+        ensures counted { CountsError self.old.faults self.new.faults result }
+        ensures failed { IsFailed result error }
+    {
+        if error == Error::SqliteFailure(ErrorCode::OutOfMemory) {
+            return KeeperError::NoMemory;
+        }
+        self.faults = self.faults.saturating_add(1);
+        KeeperError::Failed
+    }
+
+    /// The first `limit` items of the area whose label is at least `from` and below `to`, in the order of label bytes. The items
+    /// stay as they are. The limit is at most 10^15.
+    pub fn range(
+        &mut self,
+        alloc: Global,
+        area: u32,
+        from: &[u8],
+        to: &[u8],
+        limit: u64,
+    ) -> Result<Vec<Item>, KeeperError>
+        requires { limit ≤ 1000000000000000 }
+        ensures items { (m : Items) → StandsFor (state S.Store self.old.connection) m → HasCleanDisk (state S.Store self.new.connection)
+            → IfOk result (λ items. map entry_of items.items ≡ take limit (listed area from.now to.now m)) }
+        ensures same { (m : Items) → StandsFor (state S.Store self.old.connection) m → StandsFor (state S.Store self.new.connection) m }
+        ensures cause { CountsFailure self.old.faults self.new.faults result }
+        ensures refused { (m : Items) → StandsFor (state S.Store self.old.connection) m → HasCleanDisk (state S.Store self.new.connection)
+            → IsTrue (state S.Store self.old.connection).is_open → IfErr result (IsCaused (state S.Store) self.old.connection self.new.connection) }
+        ensures honest { Earlier (state S.Store self.old.connection) (state S.Store self.new.connection) }
+    {
+        match read_items(alloc, &mut self.connection, area, from, to, limit) {
+            Ok(items) => Ok(items),
+            Err(error) => Err(self.refuse(error)),
+        }
+    }
+
+    /// Makes the edits in order, all of them or none. After an error the items are as they were.
+    pub fn commit(&mut self, edits: &[Edit]) -> Result<(), KeeperError>
+        ensures ok { (m : Items) → StandsFor (state S.Store self.old.connection) m
+            → OnOk result (StandsFor (state S.Store self.new.connection) (after edits.now m)) }
+        ensures err { (m : Items) → StandsFor (state S.Store self.old.connection) m → OnErr result (StandsFor (state S.Store self.new.connection) m) }
+        ensures cause { CountsFailure self.old.faults self.new.faults result }
+        ensures refused { (m : Items) → StandsFor (state S.Store self.old.connection) m → HasCleanDisk (state S.Store self.new.connection)
+            → IsTrue (state S.Store self.old.connection).is_open → IfErr result (IsCaused (state S.Store) self.old.connection self.new.connection) }
+        ensures honest { Earlier (state S.Store self.old.connection) (state S.Store self.new.connection) }
+    {
+        match commit_edits(&mut self.connection, edits) {
+            Ok(()) => Ok(()),
+            Err(error) => Err(self.refuse(error)),
+        }
+    }
+}
