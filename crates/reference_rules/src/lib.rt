@@ -1,0 +1,120 @@
+//! The broken references of rows: ids that name no row, or a row of another type than the field asks for, chains of parents
+//! that come back, and days in the wrong order.
+#![tactic(auto)]
+
+ghost use Rattle.std.specs.Prelude.{◌≡◌, ◌++◌, ◌↔◌, IfOk, IsTrue, List, None, OnOk, Some, option_copied, slice_get, slice_index_or, ℕ};
+ghost use Rattle.std.specs.List.{flat_map};
+ghost use Rattle.reference_rules.specs.Faults.{faults_of, field_faults, kind_faults, row_faults};
+ghost use Rattle.reference_rules.specs.Parents.{IsInCycle, is_in_cycle};
+ghost use Rattle.roster_types.specs.Keys.{Ascends, count_of, row_key};
+ghost use Rattle.roster_types.specs.Records.{Record, all_values};
+ghost use Rattle.roster_values.specs.Table.{Info, info_of, table};
+ghost use Rattle.roster_values.specs.declared.kind.Kind.{Kind as Kinds};
+
+mod chains;
+pub mod order;
+pub mod ref_fault;
+mod targets;
+#[cfg(test)]
+mod tests;
+mod typed;
+
+use crate::targets::add_value_faults;
+pub use ref_fault::{Fault, RefFault};
+use roster_base::NoMemory;
+use roster_types::row::Row;
+use roster_types::rows::Rows;
+use roster_values::fields::fields;
+use roster_values::{FieldInfo, Kind};
+use std::alloc::Global;
+
+// Adds what is wrong with the field at a place of the field table.
+fn add_field_faults<R: Rows>(
+    alloc: Global,
+    rows: &R,
+    row: &Row,
+    turns: u64,
+    place: usize,
+    info: &FieldInfo,
+    found: &mut Vec<RefFault>,
+) -> Result<(), NoMemory>
+    requires turns { turns ≡ count_of row.now.kind (R.rows rows.now) }
+    requires info { slice_get (table row.now.kind) place ≡ Some (info_of info.now) }
+    ensures { OnOk result (found.new.items ≡ found.old.items ++ field_faults (R.rows rows.now) row.now (info_of info.now) (slice_index_or (all_values row.now) place None)) }
+{
+    // Read for its clause `row`, by which the row has as many values as its kind has fields.
+    let _ = row.kind();
+    match row.value(place) {
+        Some(value) => add_value_faults(alloc, rows, row, turns, info, value, found),
+        None => Ok(()),
+    }
+}
+
+// Adds what is wrong with a row, field by field. Chains of parents have at most so many turns.
+fn add_row_faults<R: Rows>(
+    alloc: Global,
+    rows: &R,
+    row: &Row,
+    turns: u64,
+    found: &mut Vec<RefFault>,
+) -> Result<(), NoMemory>
+    requires { turns ≡ count_of row.now.kind (R.rows rows.now) }
+    ensures { OnOk result (found.new.items ≡ found.old.items ++ row_faults (R.rows rows.now) row.now) }
+{
+    let infos = fields(row.kind());
+    for place in 0..infos.len() {
+        add_field_faults(alloc, rows, row, turns, place, &infos[place], found)?;
+    }
+    Ok(())
+}
+
+fn add_kind_faults<R: Rows>(
+    alloc: Global,
+    rows: &R,
+    kind: Kind,
+    found: &mut Vec<RefFault>,
+) -> Result<(), NoMemory>
+    ensures found { OnOk result (found.new.items ≡ found.old.items ++ kind_faults (R.rows rows.now) kind) }
+    ensures order { Ascends row_key (R.rows rows.now) }
+{
+    let turns = rows.count(kind);
+    let mut after = None;
+    while let Some(row) = rows.next(kind, after) {
+        add_row_faults(alloc, rows, row, turns, found)?;
+        after = Some(row.id());
+    }
+    Ok(())
+}
+
+// Adds what is wrong with the rows of these kinds.
+fn faults_of_kinds<R: Rows>(
+    alloc: Global,
+    rows: &R,
+    kinds: &[Kind],
+) -> Result<Vec<RefFault>, NoMemory>
+    ensures { IfOk result (λ v. v.items ≡ flat_map (kind_faults (R.rows rows.now)) kinds.now) }
+{
+    let mut found = Vec::new(alloc);
+    for kind in kinds {
+        add_kind_faults(alloc, rows, *kind, &mut found)?;
+    }
+    Ok(found)
+}
+
+/// Every broken reference, in the order of kinds, ids, fields (as the field table has them) and places in a list. A row of
+/// whatever status may be named. At one field an id that is missing or of the wrong type goes before a cycle.
+/// Rows without broken references are sound.
+pub fn faults<R: Rows>(alloc: Global, rows: &R) -> Result<Vec<RefFault>, NoMemory>
+    ensures { IfOk result (λ v. v.items ≡ faults_of (R.rows rows.now)) }
+{
+    // Counted for its clause `order`.
+    let _ = rows.count(Kind::Orgs);
+    faults_of_kinds(alloc, rows, &Kind::ALL)
+}
+
+/// The test by which cycles are listed is true exactly where the id is its own n-th parent, for some n from 1 to the number
+/// of rows of its kind.
+pub fn cycles_are_found()
+    ensures sound { (rows : List Record) (kind : Kinds) (id : List ℕ) → IsTrue (is_in_cycle rows kind id) → IsInCycle rows kind id }
+    ensures complete { (rows : List Record) (kind : Kinds) (id : List ℕ) → IsInCycle rows kind id → IsTrue (is_in_cycle rows kind id) }
+{}

@@ -1,0 +1,210 @@
+//! The faults of one field.
+
+ghost use Rattle.std.specs.Prelude.{◌≡◌, ◌++◌, IfOk, OnOk, option_copied, option_map};
+ghost use Rattle.std.specs.List.{flat_map};
+ghost use Rattle.reference_rules.specs.Faults.{day_fault, fault_at, has_wrong_type, is_cyclic, listed, target_faults, target_kind, type_asked, value_faults};
+ghost use Rattle.roster_types.specs.Keys.{count_of, look_up, row_key};
+ghost use Rattle.roster_values.specs.Kinds.{place_of_kind};
+ghost use Rattle.roster_values.specs.Table.{form_of, info_of};
+ghost use Rattle.roster_values.specs.Value.{shown};
+
+use crate::chains::returns_within;
+use crate::ref_fault::{Fault, RefFault};
+use crate::typed::{first_day, has_type};
+use roster_base::{NoMemory, Text, TryCopy};
+use roster_texts::{Day, Id};
+use roster_types::row::Row;
+use roster_types::rows::Rows;
+use roster_values::{FieldForm, FieldInfo, Kind, ValueRef};
+use std::alloc::Global;
+
+// The kind of the rows that a field names, where it names any. Demographics have the id of their user.
+fn target_kind(kind: Kind, form: FieldForm) -> Option<Kind>
+    ensures { result ≡ target_kind kind (form_of form) }
+{
+    match form {
+        FieldForm::Ref(target) => Some(target),
+        FieldForm::Refs(target) => Some(target),
+        FieldForm::Id => match kind {
+            Kind::Demographics => Some(Kind::Users),
+            _ => None,
+        },
+        _ => None,
+    }
+}
+
+// The type that the row named by a field must have, where one is asked.
+fn type_asked(kind: Kind, field: &str) -> Option<&'static str>
+    ensures { option_map (λ s. s.now) result ≡ type_asked kind field.now }
+{
+    match kind {
+        Kind::Classes => {
+            if field == "school" {
+                return Some("school");
+            }
+        }
+        Kind::LineItems => {
+            if field == "gradingPeriod" {
+                return Some("gradingPeriod");
+            }
+        }
+        _ => {}
+    }
+    None
+}
+
+fn has_wrong_type(kind: Kind, field: &str, target: &Row) -> bool
+    ensures { result ≡ has_wrong_type kind field.now target.now }
+{
+    match type_asked(kind, field) {
+        Some(word) => !has_type(target, word),
+        None => false,
+    }
+}
+
+// Chains have at most as many turns as the kind has rows.
+fn is_cyclic<R: Rows>(rows: &R, row: &Row, field: &str, turns: u64) -> bool
+    requires { turns ≡ count_of row.now.kind (R.rows rows.now) }
+    ensures { result ≡ is_cyclic (R.rows rows.now) row.now field.now }
+{
+    if field == "parent" {
+        returns_within(rows, row.kind(), row.id(), turns)
+    } else {
+        false
+    }
+}
+
+// What is wrong with a row's field that names this row, if there is one.
+fn fault_at<R: Rows>(
+    rows: &R,
+    row: &Row,
+    field: &str,
+    target: Option<&Row>,
+    turns: u64,
+) -> Option<Fault>
+    requires { turns ≡ count_of row.now.kind (R.rows rows.now) }
+    ensures { result ≡ fault_at (R.rows rows.now) row.now field.now (option_copied target.entry) }
+{
+    let Some(target) = target else {
+        return Some(Fault::Missing);
+    };
+    if has_wrong_type(row.kind(), field, target) {
+        return Some(Fault::WrongType);
+    }
+    if is_cyclic(rows, row, field, turns) {
+        return Some(Fault::Cycle);
+    }
+    None
+}
+
+fn copy_target(alloc: Global, target: Option<&Id>) -> Result<Option<Id>, NoMemory>
+    ensures { IfOk result (λ t. t ≡ option_copied target.entry) }
+{
+    match target {
+        Some(id) => Ok(Some(id.copy(alloc)?)),
+        None => Ok(None),
+    }
+}
+
+// Adds the fault, if there is one.
+fn push_fault(
+    alloc: Global,
+    row: &Row,
+    field: &str,
+    target: Option<&Id>,
+    fault: Option<Fault>,
+    found: &mut Vec<RefFault>,
+) -> Result<(), NoMemory>
+    ensures { OnOk result (found.new.items ≡ found.old.items ++ listed row.now field.now (option_copied target.entry) fault) }
+{
+    if let Some(fault) = fault {
+        found.push(RefFault {
+            kind: row.kind(),
+            id: row.id().copy(alloc)?,
+            field: Text::new(alloc, field)?,
+            target: copy_target(alloc, target)?,
+            fault,
+        })?;
+    }
+    Ok(())
+}
+
+// Adds what is wrong with one id that a field names.
+fn add_target_faults<R: Rows>(
+    alloc: Global,
+    rows: &R,
+    row: &Row,
+    turns: u64,
+    info: &FieldInfo,
+    id: &Id,
+    found: &mut Vec<RefFault>,
+) -> Result<(), NoMemory>
+    requires { turns ≡ count_of row.now.kind (R.rows rows.now) }
+    ensures { OnOk result (found.new.items ≡ found.old.items ++ target_faults (R.rows rows.now) row.now (info_of info.now) id.now) }
+{
+    if let Some(kind) = target_kind(row.kind(), info.form) {
+        let fault = fault_at(rows, row, info.name, rows.row(kind, id), turns);
+        push_fault(alloc, row, info.name, Some(id), fault, found)?;
+    }
+    Ok(())
+}
+
+// The same of the ids of a list, one after another.
+fn add_all_faults<R: Rows>(
+    alloc: Global,
+    rows: &R,
+    row: &Row,
+    turns: u64,
+    info: &FieldInfo,
+    ids: &[Id],
+    found: &mut Vec<RefFault>,
+) -> Result<(), NoMemory>
+    requires { turns ≡ count_of row.now.kind (R.rows rows.now) }
+    ensures { OnOk result (found.new.items ≡ found.old.items ++ flat_map (target_faults (R.rows rows.now) row.now (info_of info.now)) ids.now) }
+{
+    for id in ids {
+        add_target_faults(alloc, rows, row, turns, info, id, found)?;
+    }
+    Ok(())
+}
+
+// What is wrong with a day that ends others.
+fn day_fault(row: &Row, field: &str, last: &Day) -> Option<Fault>
+    ensures { result ≡ day_fault row.now field.now last.now }
+{
+    if field == "endDate" {
+        if let Some(first) = first_day(row) {
+            if last.number() < first.number() {
+                return Some(Fault::DayOrder);
+            }
+        }
+    }
+    None
+}
+
+/// Adds what is wrong with the value of a row's field.
+pub fn add_value_faults<R: Rows>(
+    alloc: Global,
+    rows: &R,
+    row: &Row,
+    turns: u64,
+    info: &FieldInfo,
+    value: ValueRef<'_>,
+    found: &mut Vec<RefFault>,
+) -> Result<(), NoMemory>
+    requires { turns ≡ count_of row.now.kind (R.rows rows.now) }
+    ensures { OnOk result (found.new.items ≡ found.old.items ++ value_faults (R.rows rows.now) row.now (info_of info.now) (shown value.entry)) }
+{
+    match value {
+        ValueRef::Id(id) => add_target_faults(alloc, rows, row, turns, info, id, found),
+        ValueRef::Ref(id) => add_target_faults(alloc, rows, row, turns, info, id, found),
+        ValueRef::Refs(ids) => {
+            add_all_faults(alloc, rows, row, turns, info, ids.as_slice(), found)
+        }
+        ValueRef::Day(day) => {
+            let fault = day_fault(row, info.name, day);
+            push_fault(alloc, row, info.name, None, fault, found)
+        }
+        _ => Ok(()),
+    }
+}

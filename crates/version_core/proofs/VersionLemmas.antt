@@ -1,0 +1,90 @@
+-- The versions that changes lead to.
+use Rattle.std.specs.List.{remove}
+use Rattle.std.proofs.Common.{◌≡◌, ℕ, suc, ◌+◌, ◌-◌, ◌<◌, ◌≤◌, List, [], ◌∷◌, ◌++◌, length, get_or, drop, length-append, Option, None, Some, refl, sym, ap, subst, ◌∙◌, arith}
+use Rattle.std.specs.Option.{ForSome, IsSomeAnd}
+use Rattle.std.specs.List.{AllByRecursion}
+use Rattle.version_core.specs.declared.change.Change.{Change}
+use Rattle.version_core.specs.declared.change.BaseVersion.{BaseVersion}
+use Rattle.version_core.specs.Version.{Versions, IsVersion, after, versions_from, last_or, first_or, with_version}
+use Rattle.version_core.specs.Table.{LeadOn, oldest_len}
+
+-- the newest version is so many versions after the base
+pub newest_number : (d base : BaseVersion) (changes : List Change) → LeadOn base.number changes → (last_or d (versions_from base changes)).number ≡ base.number + length changes
+newest_number d base [] lead = omega arith
+newest_number d base (change ∷ changes) lead = omega (arith, lead.0, newest_number base (after base change) changes lead.1)
+
+-- and meets what is asked of each
+pub newest_is : (d base : BaseVersion) (changes : List Change) → AllByRecursion IsVersion (versions_from base changes) → IsVersion (last_or d (versions_from base changes))
+newest_is d base [] are = are.0
+newest_is d base (change ∷ changes) are = newest_is base (after base change) changes are.1
+
+pub oldest-versions_from : (d base : BaseVersion) (changes : List Change) → first_or d (versions_from base changes) ≡ base
+oldest-versions_from d base [] = refl
+oldest-versions_from d base (change ∷ changes) = refl
+
+pub length-versions_from : (base : BaseVersion) (changes : List Change) → length (versions_from base changes) ≡ length changes + 1
+length-versions_from base [] = refl
+length-versions_from base (change ∷ changes) = omega (arith, length-versions_from (after base change) changes)
+
+-- one change more leads from the newest version to one version more
+pub versions_from-push : (d base : BaseVersion) (changes : List Change) (change : Change) → versions_from base (changes ++ change ∷ []) ≡ versions_from base changes ++ after (last_or d (versions_from base changes)) change ∷ []
+versions_from-push d base [] change = refl
+versions_from-push d base (x ∷ changes) change = ap (λ ys. base ∷ ys) (versions_from-push base (after base x) changes change)
+
+pub AllByRecursion-push : {X : Type 0} (P : X → Type 0) (xs : List X) (y : X) → AllByRecursion P xs → P y → AllByRecursion P (xs ++ y ∷ [])
+AllByRecursion-push P [] y all last = (last, tt)
+AllByRecursion-push P (x ∷ xs) y all last = (all.0, AllByRecursion-push P xs y all.1 last)
+
+pub LeadOn-push : (number : ℕ) (changes : List Change) (change : Change) → LeadOn number changes → change.version ≡ (number + length changes) + 1 → LeadOn number (changes ++ change ∷ [])
+LeadOn-push number [] change lead next = (omega (arith, next), tt)
+LeadOn-push number (x ∷ changes) change lead next = (lead.0, LeadOn-push x.version changes change lead.1 (omega (arith, lead.0, next)))
+
+-- what is kept of a list of versions
+kept_of : ℕ → List BaseVersion → Versions
+kept_of keep versions = record { keep = keep; versions = drop (length versions - suc keep) versions; room = None }
+
+kept_all : (keep : ℕ) (versions : List BaseVersion) → length versions ≤ suc keep → kept_of keep versions ≡ record { keep = keep; versions = versions; room = None }
+unfolding kept_of
+kept_all keep versions few =
+    let none : length versions - suc keep ≡ 0 = omega arith in
+    ap (λ n. record { keep = keep; versions = drop n versions; room = None }) none
+
+kept_rest : (keep : ℕ) (oldest : BaseVersion) (versions : List BaseVersion) → length versions ≡ suc keep → kept_of keep (oldest ∷ versions) ≡ record { keep = keep; versions = versions; room = None }
+unfolding kept_of
+kept_rest keep oldest versions full =
+    let one : suc (length versions) - suc keep ≡ 1 = omega arith in
+    ap (λ n. record { keep = keep; versions = drop n (oldest ∷ versions); room = None }) one
+
+module _ (d base : BaseVersion) (changes : List Change) (change : Change) (keep : ℕ) (room : Option ℕ) where
+  pushed : Versions
+  pushed = with_version (record { keep = keep; versions = versions_from base changes; room = room }) (after (last_or d (versions_from base changes)) change)
+
+  pushed_is : pushed ≡ kept_of keep (versions_from base (changes ++ change ∷ []))
+  unfolding kept_of pushed
+  pushed_is = ap (λ (versions : List BaseVersion). record { keep = keep; versions = drop (length versions - suc keep) versions; room = None }) (sym (versions_from-push d base changes change))
+
+  -- where all versions are kept, one stands more
+  pub with_version-kept : length changes + 1 ≤ keep → with_version (record { keep = keep; versions = versions_from base changes; room = room }) (after (last_or d (versions_from base changes)) change) ≡ record { keep = keep; versions = versions_from base (changes ++ change ∷ []); room = None }
+  unfolding pushed
+  with_version-kept few =
+      pushed_is ∙ kept_all keep (versions_from base (changes ++ change ∷ [])) (omega (arith, length-versions_from base (changes ++ change ∷ []), length-append changes (change ∷ [])))
+
+  -- where one version is too many, the oldest goes
+  pub with_version-folded : (oldest : Change) (rest : List Change) → length changes ≡ keep → changes ++ change ∷ [] ≡ oldest ∷ rest → with_version (record { keep = keep; versions = versions_from base changes; room = room }) (after (last_or d (versions_from base changes)) change) ≡ record { keep = keep; versions = versions_from (after base oldest) rest; room = None }
+  unfolding pushed
+  with_version-folded oldest rest full split =
+      pushed_is ∙ ap (λ all. kept_of keep (versions_from base all)) split
+      ∙ kept_rest keep base (versions_from (after base oldest) rest) (omega (arith, length-versions_from (after base oldest) rest, length-append changes (change ∷ []), ap length split))
+
+pub split_first : (all rest : List Change) (oldest : Change) → 0 < length all → oldest ≡ get_or all 0 oldest → rest ≡ remove all 0 → all ≡ oldest ∷ rest
+split_first [] rest oldest some first others = absurd (omega arith)
+split_first (x ∷ xs) rest oldest some first others = λ i. sym first i ∷ sym others i
+
+pub room_of : (room : Option ℕ) (P Q : ℕ → Type 0) → ForSome room P → IsSomeAnd room Q → (rows : ℕ) × P rows × Q rows
+room_of None P Q has is = absurd is
+room_of (Some rows) P Q has is = (rows, has rows refl, is)
+
+-- the change that goes has as many rows as room was made for
+pub oldest_fits : (changes rest : List Change) (change oldest : Change) (rows : ℕ) → length change.rows ≤ rows → changes ++ change ∷ [] ≡ oldest ∷ rest → length oldest.rows ≤ oldest_len changes rows
+oldest_fits [] rest change oldest rows fits split = let same : change ≡ oldest = cc in subst (λ x. length x.rows ≤ rows) same fits
+oldest_fits (x ∷ changes) rest change oldest rows fits split = let same : x ≡ oldest = cc in omega (arith, ap (λ y. length y.rows) same)

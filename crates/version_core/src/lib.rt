@@ -1,0 +1,14 @@
+//! Versions of a roster: a base, and the changes that lead from it to the newest.
+#![tactic(auto)]
+
+pub mod change;
+mod copies;
+pub mod hub_tables;
+mod merge;
+pub mod row_change;
+pub mod sorted;
+pub mod sorted_rows;
+pub mod table;
+#[cfg(test)]
+mod tests;
+pub mod view;
