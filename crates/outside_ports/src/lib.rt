@@ -1,4 +1,4 @@
-//! What the program asks of the outside, as traits with contracts: folders, sinks and a clock, each in memory and real.
+//! What the program asks of the outside, as traits with contracts: folders, sources, sinks and a clock, each in memory and real.
 #![tactic(auto)]
 
 mod calls;
@@ -8,9 +8,12 @@ pub mod failed;
 pub mod fixed_clock;
 pub mod folder;
 pub mod io_sink;
+pub mod io_source;
 pub mod mem_folder;
 pub mod mem_sink;
+pub mod mem_source;
 pub mod sink;
+pub mod source;
 pub mod system_clock;
 
 pub use clock::Clock;
@@ -19,10 +22,15 @@ pub use failed::{Failed, IoError};
 pub use fixed_clock::FixedClock;
 pub use folder::{FileRead, Folder};
 pub use io_sink::IoSink;
+pub use io_source::IoSource;
 pub use mem_folder::MemFolder;
 pub use mem_sink::MemSink;
+pub use mem_source::MemSource;
 pub use sink::Sink;
+pub use source::Source;
 pub use system_clock::SystemClock;
 
+#[cfg(test)]
+mod source_tests;
 #[cfg(test)]
 mod tests;

@@ -1,0 +1,136 @@
+-- The text of one reply, and bytes that are none.
+use Rattle.std.proofs.Common.{◌≡◌, ◌≤◌, ℕ, ◌+◌, ◌-◌, min, List, [], ◌∷◌, ◌++◌, length, take, drop, map, Bool, true, false, Ok, Err, if◌then◌else◌, nat_lt, refl, sym, ap, ◌∙◌, subst, arith, append_assoc, length-append}
+use Rattle.std.specs.Prelude.{◌≢◌}
+use Rattle.std.proofs.lemmas.List.{take-append-drop, length-take, length-map}
+use Rattle.std.proofs.lemmas.List.Elements.{All-weaker}
+use Rattle.std.proofs.Math.Seq.{drop-append_seam, take-append-add}
+use Rattle.httparse.specs.Grammar.{ResponseHead, HasNoResponse, NeverHasResponse, print_response}
+use Rattle.httparse.specs.Spans.{IsHeaderWithin, IsResponseOf, IsResponseWithin, ResponseOverflows, header_bytes, name_and_value}
+use Rattle.httparse.specs.declared.Error.{Error}
+use Rattle.httparse.specs.declared.Error.TheVariants.{HeaderName, HeaderValue, NewLine, Status, Token, TooManyHeaders, Version}
+use Rattle.httparse.specs.declared.spans.HeaderSpan.{HeaderSpan}
+use Rattle.httparse.specs.declared.spans.ResponseSpans.{ResponseSpans}
+use Rattle.httparse.proofs.GrammarLemmas.{response_unique}
+use Rattle.http_wire.specs.declared.fault.WireFault.{WireFault}
+use Rattle.http_wire.specs.declared.fault.WireFault.TheVariants as fault
+use Rattle.http_wire.specs.declared.answer.WireReply.{WireReply}
+use Rattle.http_wire.specs.Heads.{length_of, max_fields}
+use Rattle.http_wire.specs.Reading.{end_fault, refusal_of}
+use Rattle.http_wire.specs.Answers.{FindsAnswer, HasAnswerHead, IsNoReply, IsReplyText, Refuses, Told, answered, max_reply_body, max_reply_head, missing_length, part_fault, told_at, told_by, told_length}
+use Rattle.http_wire.proofs.FrontLemmas.{IsLengthFault, front_whole, length_fault}
+
+-- ---- the head
+
+only_head : {bytes : List ℕ} (h k : ResponseHead) {body rest : List ℕ} → HasAnswerHead bytes h body → HasAnswerHead bytes k rest → (h ≡ k) × (body ≡ rest)
+only_head h k x y = response_unique _ h k _ _ x.reads y.reads
+
+pub answer_found : (m : ℕ) (bytes : List ℕ) (headers : List HeaderSpan) (spans : ResponseSpans)
+    → m ≤ max_reply_head → length headers ≡ max_fields
+    → IsResponseWithin (take m bytes) headers spans → IsResponseOf (take m bytes) headers spans
+    → FindsAnswer bytes (take m bytes) spans (take spans.headers headers)
+answer_found m bytes headers spans small room within (h, at) =
+    let whole : bytes ≡ print_response h ++ (drop spans.len (take m bytes) ++ drop m bytes) =
+    sym (take-append-drop m bytes) ∙ ap (λ (xs : List ℕ). xs ++ drop m bytes) at.reads.1 ∙ append_assoc (print_response h) (drop spans.len (take m bytes)) (drop m bytes) in
+    let rest : drop spans.len bytes ≡ drop spans.len (take m bytes) ++ drop m bytes =
+    ap (drop spans.len) whole ∙ ap (λ (k : ℕ). drop k (print_response h ++ (drop spans.len (take m bytes) ++ drop m bytes))) at.len ∙ drop-append_seam (print_response h) (drop spans.len (take m bytes) ++ drop m bytes) in
+    let fits : spans.len ≤ length (take m bytes) = within.section.len_fits in
+    let count : length h.fields ≤ max_fields =
+    omega (arith, ap length at.fields, length-map (take spans.headers headers) (header_bytes (take m bytes)), length-map h.fields name_and_value, length-take spans.headers headers) in
+    record {
+      len = omega (arith, length-take m bytes);
+      within = All-weaker (IsHeaderWithin spans.len) (IsHeaderWithin (length (take m bytes)))
+          (λ x w. ((w.0.0, omega (arith, w.0.1)), (w.1.0, omega (arith, w.1.1)))) _ within.section.headers_fit;
+      some = (
+        h,
+        record { reads = (at.reads.0, whole ∙ ap (λ (xs : List ℕ). print_response h ++ xs) (sym rest)); short = omega (arith, at.len, length-take m bytes); few = count },
+        cc (at.code, at.fields),
+      );
+    }
+
+-- ---- the body
+
+-- the head states another length
+pub other_length : {bytes front : List ℕ} {spans : ResponseSpans} {fields : List HeaderSpan} (n : ℕ) → FindsAnswer bytes front spans fields
+    → length_of max_reply_body (missing_length spans.code) (map (header_bytes front) fields) ≡ Ok n → length (drop spans.len bytes) ≢ n → IsNoReply bytes
+other_length {bytes} {front} {spans} {fields} n found is differs reply (k, answer) =
+    let (h, head, same) = found.some in
+    let (heads, rest) = only_head h k head answer.head in
+    let lengths : told_length (told_by h) ≡ Ok (length reply.body) = ap (λ (h : ResponseHead). told_length (told_by h)) heads ∙ answer.length_is in
+    let states : told_length (told_by h) ≡ Ok n = ap told_length same ∙ is in
+    let count : n ≡ length reply.body = cc in differs (ap length rest ∙ sym count)
+
+refuses_length : (e : WireFault) (bytes : List ℕ) → IsLengthFault e → IsNoReply bytes → Refuses e bytes
+refuses_length fault.End bytes is none = absurd is
+refuses_length fault.Cut bytes is none = none
+refuses_length fault.Head bytes is none = absurd is
+refuses_length fault.HeadTooLong bytes is none = none
+refuses_length fault.Length bytes is none = none
+refuses_length fault.BodyTooLong bytes is none = none
+refuses_length fault.Chunked bytes is none = none
+refuses_length fault.Source bytes is none = is
+refuses_length fault.NoMemory bytes is none = tt
+
+-- the head states a length with a fault
+pub faulty : {bytes front : List ℕ} {spans : ResponseSpans} {fields : List HeaderSpan} (e : WireFault) → FindsAnswer bytes front spans fields
+    → length_of max_reply_body (missing_length spans.code) (map (header_bytes front) fields) ≡ Err e → Refuses e bytes
+faulty {bytes} {front} {spans} {fields} e found is =
+    let none : IsNoReply bytes = λ reply (k, answer).
+    let (h, head, same) = found.some in
+    let (heads, rest) = only_head h k head answer.head in
+    let lengths : told_length (told_by h) ≡ Ok (length reply.body) = ap (λ (h : ResponseHead). told_length (told_by h)) heads ∙ answer.length_is in
+    let states : told_length (told_by h) ≡ Err e = ap told_length same ∙ is in cc in
+    refuses_length e bytes (length_fault max_reply_body (missing_length spans.code) _ e is) none
+
+body_of_answered : (told : Told) (body : List ℕ) → (answered told body).body ≡ body
+unfolding answered
+body_of_answered told body = refl
+
+pub whole_answer : {bytes front : List ℕ} {spans : ResponseSpans} {fields : List HeaderSpan} (n : ℕ) (reply : WireReply) → FindsAnswer bytes front spans fields
+    → length_of max_reply_body (missing_length spans.code) (map (header_bytes front) fields) ≡ Ok n → length (drop spans.len bytes) ≡ n
+    → reply ≡ answered (told_at front spans.code fields) (drop spans.len bytes) → IsReplyText bytes reply
+whole_answer {bytes} {front} {spans} {fields} n reply found is count says =
+    let (h, head, same) = found.some in
+    let body : reply.body ≡ drop spans.len bytes = ap (λ (r : WireReply). r.body) says ∙ body_of_answered _ _ in (
+      h,
+      record {
+        head = subst (λ (xs : List ℕ). HasAnswerHead bytes h xs) (sym body) head;
+        length_is = ap told_length same ∙ is ∙ ap (λ (k : ℕ). Ok k) (sym (ap length body ∙ count));
+        says = says ∙ ap (λ (t : Told). answered t (drop spans.len bytes)) (sym same) ∙ ap (answered (told_by h)) (sym body);
+      },
+    )
+
+-- ---- what the parser answers of the first bytes
+
+-- a head in its limits stands in the first bytes too
+pub none_in_front : (m : ℕ) (bytes : List ℕ) → m ≡ min (length bytes) max_reply_head → HasNoResponse (take m bytes) → IsNoReply bytes
+none_in_front m bytes is none reply (h, answer) =
+    let count : length bytes ≡ length (print_response h) + length reply.body = ap length answer.head.reads.1 ∙ length-append (print_response h) reply.body in
+    let split : m ≡ length (print_response h) + (m - length (print_response h)) = omega (arith, answer.head.short) in
+    none h (take (m - length (print_response h)) reply.body)
+    (answer.head.reads.0, ap (take m) answer.head.reads.1 ∙ ap (λ (k : ℕ). take k (print_response h ++ reply.body)) split ∙ take-append-add (print_response h) reply.body (m - length (print_response h)))
+
+never_in_front : (m : ℕ) (bytes : List ℕ) → NeverHasResponse (take m bytes) → NeverHasResponse bytes × IsNoReply bytes
+never_in_front m bytes never = (
+  (λ more h rest x. never (drop m bytes ++ more) h rest (x.0, sym (front_whole m bytes more) ∙ x.1)),
+  (λ reply (h, answer). never (drop m bytes) h reply.body (answer.head.reads.0, take-append-drop m bytes ∙ answer.head.reads.1)),
+)
+
+pub part_refused : (bytes : List ℕ) → IsNoReply bytes → Refuses (part_fault bytes) bytes
+part_refused bytes none = by (nat_lt (length bytes) max_reply_head) bytes none
+  where
+    by : (short : Bool) (bytes : List ℕ) → IsNoReply bytes → Refuses (if short then end_fault bytes else fault.HeadTooLong) bytes
+    by true [] none = (refl, none)
+    by true (b ∷ bytes) none = none
+    by false bytes none = none
+
+-- what the parser refused is no reply
+pub head_refused : (m : ℕ) (bytes : List ℕ) (e : Error) → (e ≢ TooManyHeaders → NeverHasResponse (take m bytes)) → ResponseOverflows max_fields (take m bytes)
+    → Refuses (refusal_of e) bytes
+head_refused m bytes TooManyHeaders never over = λ reply (h, answer).
+    let many = over (drop m bytes) h reply.body (answer.head.reads.0, take-append-drop m bytes ∙ answer.head.reads.1) in absurd (omega (arith, answer.head.few))
+head_refused m bytes HeaderName never over = never_in_front m bytes (never (λ (same : HeaderName ≡ TooManyHeaders). cc))
+head_refused m bytes HeaderValue never over = never_in_front m bytes (never (λ (same : HeaderValue ≡ TooManyHeaders). cc))
+head_refused m bytes NewLine never over = never_in_front m bytes (never (λ (same : NewLine ≡ TooManyHeaders). cc))
+head_refused m bytes Status never over = never_in_front m bytes (never (λ (same : Status ≡ TooManyHeaders). cc))
+head_refused m bytes Token never over = never_in_front m bytes (never (λ (same : Token ≡ TooManyHeaders). cc))
+head_refused m bytes Version never over = never_in_front m bytes (never (λ (same : Version ≡ TooManyHeaders). cc))

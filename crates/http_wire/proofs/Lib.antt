@@ -1,0 +1,10 @@
+pub mod TextLemmas
+pub mod TokenLemmas
+pub mod FrontLemmas
+pub mod ReaderLemmas
+pub mod StreamLemmas
+pub mod WriteLemmas
+pub mod RunLemmas
+pub mod NumberLemmas
+pub mod AnswerLemmas
+pub mod SendLemmas

@@ -1,0 +1,101 @@
+-- What the text of one reply says, and why bytes are none.
+use Rattle.std.specs.Prelude.{◌≡◌, ◌≤◌, ℕ, List, [], length, drop, map, All, Option, Some, None, Result, Ok, Err, if◌then◌else◌, ◌==◌, codes, nat_lt, ⊤}
+use Rattle.httparse.specs.Grammar.{NeverHasResponse, ReadsResponse, ResponseHead, print_response, status_code}
+use Rattle.httparse.specs.Spans.{IsHeaderWithin, header_bytes, name_and_value}
+use Rattle.httparse.specs.declared.spans.HeaderSpan.{HeaderSpan}
+use Rattle.httparse.specs.declared.spans.ResponseSpans.{ResponseSpans}
+use Rattle.roster_texts.specs.Digits.{◌>>=◌}
+use Rattle.http_wire.specs.Texts.{count_of, echo_at, last_number, number_of}
+use Rattle.http_wire.specs.Heads.{length_of, max_fields, value_of}
+use Rattle.http_wire.specs.declared.fault.WireFault.{WireFault}
+use Rattle.http_wire.specs.declared.fault.WireFault.TheVariants as fault
+use Rattle.http_wire.specs.Reading.{end_fault}
+use Rattle.http_wire.specs.declared.answer.WireReply.{WireReply}
+
+-- the most bytes of a reply's head, and of its body
+abbrev pub max_reply_head : ℕ
+max_reply_head = 262_144
+
+abbrev pub max_reply_body : ℕ
+max_reply_body = 83_886_080
+
+-- the parts of a head that count
+pub record Told : Type 0 where
+  pub status : ℕ
+  pub fields : List (List ℕ × List ℕ)
+
+-- what a head of the grammar tells
+abbrev pub told_by : ResponseHead → Told
+told_by h = record { status = status_code h; fields = map name_and_value h.fields }
+
+-- what spans of a buffer tell
+abbrev pub told_at : List ℕ → ℕ → List HeaderSpan → Told
+told_at bytes status fields = record { status = status; fields = map (header_bytes bytes) fields }
+
+-- the length where none is stated
+abbrev pub missing_length : ℕ → Option ℕ
+missing_length status = if status == 204 then Some 0 else None
+
+-- the length of the body, or its first fault
+abbrev pub told_length : Told → Result ℕ WireFault
+told_length told = length_of max_reply_body (missing_length told.status) told.fields
+
+-- the number of a value, where it is one
+abbrev pub count_at : Option (List ℕ) → Option ℕ
+count_at value = value >>= count_of last_number
+
+abbrev pub number_at : Option (List ℕ) → Option ℕ
+number_at value = value >>= number_of last_number
+
+-- the reply with this head and this body
+unfoldable pub answered : Told → List ℕ → WireReply
+answered told body = record {
+  status = told.status;
+  total = count_at (value_of (codes "x-total-count") told.fields);
+  version = count_at (value_of (codes "x-hub-version") told.fields);
+  oldest = count_at (value_of (codes "x-hub-oldest") told.fields);
+  mark = number_at (value_of (codes "x-hub-mark") told.fields);
+  echo = echo_at (value_of (codes "x-hub-exchange") told.fields);
+  body = body;
+}
+
+-- a head that fits its limits stands at the front of the bytes, and the body follows it
+pub record HasAnswerHead (bytes : List ℕ) (h : ResponseHead) (body : List ℕ) : Type 0 where
+  pub reads : ReadsResponse bytes h body
+  pub short : length (print_response h) ≤ max_reply_head
+  pub few : length h.fields ≤ max_fields
+
+-- the bytes are the text of this reply: its head, and as many bytes as that states
+pub record IsAnswer (bytes : List ℕ) (h : ResponseHead) (reply : WireReply) : Type 0 where
+  pub head : HasAnswerHead bytes h reply.body
+  pub length_is : told_length (told_by h) ≡ Ok (length reply.body)
+  pub says : reply ≡ answered (told_by h) reply.body
+
+abbrev pub IsReplyText : List ℕ → WireReply → Type 0
+IsReplyText bytes reply = (h : ResponseHead) × IsAnswer bytes h reply
+
+abbrev pub IsNoReply : List ℕ → Type 0
+IsNoReply bytes = (reply : WireReply) → ¬ (IsReplyText bytes reply)
+
+-- why the bytes are no text of a reply; of memory nothing is said
+abbrev pub Refuses : WireFault → List ℕ → Type 0
+Refuses fault.End bytes = (bytes ≡ []) × IsNoReply bytes
+Refuses fault.Head bytes = NeverHasResponse bytes × IsNoReply bytes
+Refuses fault.Source bytes = ⊥
+Refuses fault.NoMemory bytes = ⊤
+Refuses e bytes = IsNoReply bytes
+
+-- the reply of the text, or the fault
+abbrev pub ReadsReply : List ℕ → Result WireReply WireFault → Type 0
+ReadsReply bytes (Ok reply) = IsReplyText bytes reply
+ReadsReply bytes (Err e) = Refuses e bytes
+
+-- spans of the front of the bytes cover the head h
+pub record FindsAnswer (bytes front : List ℕ) (spans : ResponseSpans) (fields : List HeaderSpan) : Type 0 where
+  pub len : spans.len ≤ length bytes
+  pub within : All (IsHeaderWithin (length front)) fields
+  pub some : (h : ResponseHead) × (_ : HasAnswerHead bytes h (drop spans.len bytes)) × (told_by h ≡ told_at front spans.code fields)
+
+-- the fault of bytes in which a head has begun and doesn't end
+abbrev pub part_fault : List ℕ → WireFault
+part_fault bytes = if nat_lt (length bytes) max_reply_head then end_fault bytes else fault.HeadTooLong

@@ -1,0 +1,23 @@
+//! Requests and replies of HTTP as bytes: a stream read into requests, a request and a reply written.
+#![tactic(auto)]
+
+pub mod answer;
+pub mod fault;
+mod front;
+mod head;
+mod pieces;
+pub mod reader;
+pub mod reply;
+pub mod sending;
+pub mod stream;
+pub mod text;
+
+pub use answer::{WireReply, parse_reply};
+pub use fault::WireFault;
+pub use reader::WireReader;
+pub use reply::write_reply;
+pub use sending::write_request;
+pub use stream::read_requests;
+
+#[cfg(test)]
+mod tests;
