@@ -24,6 +24,12 @@ use Rattle.http_wire.proofs.FrontLemmas.{IsLengthFault, front_whole, length_faul
 only_head : {bytes : List ℕ} (h k : ResponseHead) {body rest : List ℕ} → HasAnswerHead bytes h body → HasAnswerHead bytes k rest → (h ≡ k) × (body ≡ rest)
 only_head h k x y = response_unique _ h k _ _ x.reads y.reads
 
+-- so they are the text of one reply
+pub one_answer : (bytes : List ℕ) (x y : WireReply) → IsReplyText bytes x → IsReplyText bytes y → x ≡ y
+one_answer bytes x y (h, a) (k, b) =
+    let (heads, bodies) = only_head h k a.head b.head in
+    a.says ∙ ap (λ (h : ResponseHead). answered (told_by h) x.body) heads ∙ ap (answered (told_by k)) bodies ∙ sym b.says
+
 pub answer_found : (m : ℕ) (bytes : List ℕ) (headers : List HeaderSpan) (spans : ResponseSpans)
     → m ≤ max_reply_head → length headers ≡ max_fields
     → IsResponseWithin (take m bytes) headers spans → IsResponseOf (take m bytes) headers spans

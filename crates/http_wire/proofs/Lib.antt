@@ -8,3 +8,4 @@ pub mod RunLemmas
 pub mod NumberLemmas
 pub mod AnswerLemmas
 pub mod SendLemmas
+pub mod WrittenLemmas

@@ -29,7 +29,7 @@ use Rattle.http_wire.specs.Replies.{echo_text, number_line}
 use Rattle.http_wire.specs.Sending.{CanSend, IsSentEcho, IsSentMark, is_sent_byte, IsSentVerb, mark_number, path_text, put_length, query_mark, query_text, request_text, token_text, verb_text, verb_word}
 
 -- a field as it is sent
-abbrev line : List ℕ → List ℕ → Field
+abbrev pub line : List ℕ → List ℕ → Field
 line name value = record { name = name; raw = 32 ∷ value; end = crlf }
 
 abbrev mark_lines : MarkField → List Field
@@ -60,7 +60,7 @@ sent v path query t m run count body = record {
 abbrev token_field : List ℕ → Field
 token_field t = line (codes "Authorization") (codes "Bearer " ++ t)
 
-abbrev echo_field : ℕ → ℕ → Field
+abbrev pub echo_field : ℕ → ℕ → Field
 echo_field run count = line (codes "X-Hub-Exchange") (decimal run ++ 46 ∷ decimal count)
 
 abbrev sent_fields : Verb → List ℕ → MarkField → ℕ → ℕ → List ℕ → List Field
@@ -98,7 +98,7 @@ length_text verb.Delete body = refl
 length_text verb.Head body = refl
 length_text verb.Other body = refl
 
-echo_is : (run count : ℕ) → print_field (echo_field run count) ≡ echo_text run count
+pub echo_is : (run count : ℕ) → print_field (echo_field run count) ≡ echo_text run count
 unfolding echo_text
 echo_is run count = ap (λ (xs : List ℕ). codes "X-Hub-Exchange: " ++ xs) (append_assoc (decimal run) (46 ∷ decimal count) (13 ∷ 10 ∷ []))
 
@@ -149,13 +149,13 @@ trimmed first front v one plain some =
     trim_ows_space (first ∷ front ++ v) (rw (no_ows first one) refl)
     (subst (λ (xs : List ℕ). skip_ows xs ≡ xs) (sym behind) (plain_skip (reverse v) (reverse (first ∷ front)) (plain_reverse v plain) long))
 
-value_byte : (b : ℕ) → IsPlain b → is_value_byte b ≡ true
+pub value_byte : (b : ℕ) → IsPlain b → is_value_byte b ≡ true
 value_byte b x = let (low, high) = x in grind (arith, nat_tests)
 
 uri_byte : (b : ℕ) → IsPlain b → is_uri_byte b ≡ true
 uri_byte b x = let (low, high) = x in grind (arith, nat_tests)
 
-plain_value : (v : List ℕ) → AllPlain v → AllPass is_value_byte v
+pub plain_value : (v : List ℕ) → AllPlain v → AllPass is_value_byte v
 plain_value [] x = All-nil (λ b. IsTrue (is_value_byte b))
 plain_value (b ∷ v) x = All-cons (λ b. IsTrue (is_value_byte b)) b v (value_byte b x.0) (plain_value v x.1)
 
@@ -169,16 +169,16 @@ digits_plain (c ∷ ds) x = let (low, high) = digit_from_value c x.0 in ((omega 
 
 -- ---- the head is one
 
-is_field : (name value : List ℕ) → IsToken name → AllPass is_value_byte value → IsField (line name value)
+pub is_field : (name value : List ℕ) → IsToken name → AllPass is_value_byte value → IsField (line name value)
 is_field name value token passes = record { name = token; raw = All-cons (λ b. IsTrue (is_value_byte b)) 32 value refl passes }
 
-name_is : (name : List ℕ) → 0 < length name → list_all is_token_byte name ≡ true → IsToken name
+pub name_is : (name : List ℕ) → 0 < length name → list_all is_token_byte name ≡ true → IsToken name
 name_is name some h = (some, AllPass-from_list_all is_token_byte name h)
 
-and_dot : (a b : List ℕ) → AllPlain a → AllPlain b → AllPlain (a ++ 46 ∷ b)
+pub and_dot : (a b : List ℕ) → AllPlain a → AllPlain b → AllPlain (a ++ 46 ∷ b)
 and_dot a b x y = plain_append a (46 ∷ b) x ((omega arith, omega arith), y)
 
-decimal_plain : (n : ℕ) → n < 2 ^ 64 → (0 < length (decimal n)) × AllPlain (decimal n)
+pub decimal_plain : (n : ℕ) → n < 2 ^ 64 → (0 < length (decimal n)) × AllPlain (decimal n)
 decimal_plain n bound = let (numeral, value) = decimal_is_IsNumeral n bound in (numeral.0, digits_plain (decimal n) numeral.1)
 
 host_ok : IsField (line (codes "Host") (codes "hub"))
@@ -260,7 +260,7 @@ plain_keeps (b ∷ v) x = rw (no_ows b x.0) refl
 plain_trim : (v : List ℕ) → AllPlain v → trim_ows (32 ∷ v) ≡ v
 plain_trim v x = trim_ows_space v (plain_keeps v x) (plain_keeps (reverse v) (plain_reverse v x))
 
-decimal_trim : (n : ℕ) → n < 2 ^ 64 → trim_ows (32 ∷ decimal n) ≡ decimal n
+pub decimal_trim : (n : ℕ) → n < 2 ^ 64 → trim_ows (32 ∷ decimal n) ≡ decimal n
 decimal_trim n bound = plain_trim (decimal n) (decimal_plain n bound).1
 
 token_told : (t : List ℕ) → is_token t ≡ true → token_at (Some (trim_ows (32 ∷ codes "Bearer " ++ t))) ≡ Some t
@@ -275,7 +275,7 @@ mark_told (mark.Number n) can =
     ∙ ap mark_or_bad (number_again last_number n (omega arith) can.0 can.1)
 mark_told mark.Bad can = absurd can
 
-echo_told : (run count : ℕ) → IsSentEcho (record { run = run; count = count })
+pub echo_told : (run count : ℕ) → IsSentEcho (record { run = run; count = count })
     → echo_at (Some (trim_ows (32 ∷ (decimal run ++ 46 ∷ decimal count)))) ≡ Some (record { run = run; count = count })
 echo_told run count (a, b, c, d) =
     ap echo_of (plain_trim (decimal run ++ 46 ∷ decimal count) (and_dot (decimal run) (decimal count) (decimal_plain run (omega arith)).1 (decimal_plain count (omega arith)).1))
@@ -330,7 +330,7 @@ mark_plain (q ∷ query) x = rw (mark_some q query) ((omega arith, omega arith),
 
 -- ---- the body
 
-same_number : (n : ℕ) → (n == n) ≡ true
+pub same_number : (n : ℕ) → (n == n) ≡ true
 same_number n = grind (arith, nat_tests)
 
 agree : (t : List ℕ) (m : MarkField) (run count : ℕ) (body : List ℕ)

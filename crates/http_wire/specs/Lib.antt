@@ -4,4 +4,5 @@ pub mod Heads
 pub mod Lasting
 pub mod Reading
 pub mod Replies
+pub mod Seen
 pub mod Sending

@@ -1,8 +1,14 @@
 //! One reply read from its bytes, for the consumer.
 
-ghost use Rattle.std.specs.Prelude.{◌≡◌, All, length, option_map};
+ghost use Rattle.std.specs.Prelude.{◌≡◌, ◌⊎◌, ℕ, List, Result, Ok, Err, All, length, option_map};
 ghost use Rattle.httparse.specs.Spans.{IsHeaderWithin};
-ghost use Rattle.http_wire.specs.Answers.{FindsAnswer, ReadsReply, answered, count_at, missing_length, number_at, part_fault, told_at};
+ghost use Rattle.status_info.specs.declared.reply.Reply.{Reply};
+ghost use Rattle.http_wire.specs.Replies.{reply_text};
+ghost use Rattle.http_wire.specs.Seen.{CanRead, seen_of};
+ghost use Rattle.http_wire.specs.declared.answer.WireReply.{WireReply};
+ghost use Rattle.http_wire.specs.declared.fault.WireFault.{WireFault};
+ghost use Rattle.http_wire.specs.declared.fault.WireFault.TheVariants as fault;
+ghost use Rattle.http_wire.specs.Answers.{FindsAnswer, IsReplyText, ReadsReply, answered, count_at, missing_length, number_at, part_fault, told_at};
 
 use crate::fault::WireFault;
 use crate::front::{MAX_FIELDS, head_fault};
@@ -123,3 +129,11 @@ pub fn parse_reply(alloc: Global, bytes: &[u8]) -> Result<WireReply, WireFault>
         Err(error) => Err(head_fault(error)),
     }
 }
+
+/// A reply in its limits is read back from its text, and a text is of one reply: `parse_reply` answers it, where memory is left.
+pub fn written_is_read()
+    ensures read { (r : Reply) → CanRead r → IsReplyText (reply_text r) (seen_of r) }
+    ensures one { (bytes : List ℕ) (x y : WireReply) → IsReplyText bytes x → IsReplyText bytes y → x ≡ y }
+    ensures answer { (r : Reply) (answer : Result WireReply WireFault) → CanRead r → ReadsReply (reply_text r) answer
+        → (answer ≡ Ok (seen_of r)) ⊎ (answer ≡ Err fault.NoMemory) }
+{}

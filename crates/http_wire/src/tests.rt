@@ -1,6 +1,8 @@
 //! The worked replies as bytes, one stream in many cuts, and streams that are refused.
 
-use crate::{WireFault, WireReader, parse_reply, read_requests, write_reply, write_request};
+use crate::{
+    WireFault, WireReader, WireReply, parse_reply, read_requests, write_reply, write_request,
+};
 use outside_ports::{MemSink, MemSource};
 use roster_base::{Bytes, Items, Text};
 use roster_texts::Token;
@@ -47,29 +49,35 @@ fn replies_have_their_bytes(rt: HostRuntime) -> Result<(), Fail> {
         alloc,
         &page,
         "HTTP/1.1 200 OK\r\nContent-Type: application/json\r\nX-Total-Count: 2\r\nX-Hub-Warning: invalid_sort_field\r\nX-Hub-Version: 2\r\nX-Hub-Exchange: 1.20\r\nConnection: close\r\nContent-Length: 0\r\n\r\n",
-    )?;
-    let mut absent = Reply::failing(alloc, Cause::NoSuchObject, None, false);
-    absent.version = Some(2);
+    )
+}
+
+#[test]
+fn refusals_have_their_bytes(rt: HostRuntime) -> Result<(), Fail> {
+    let alloc = rt.alloc();
+    let mut reply = Reply::failing(alloc, Cause::NoSuchObject, None, false);
+    reply.version = Some(2);
     assert_reply(
         &rt,
         alloc,
-        &absent,
+        &reply,
         "HTTP/1.1 404 Not Found\r\nContent-Type: application/json\r\nX-Hub-Version: 2\r\nContent-Length: 122\r\n\r\n{\"imsx_codeMajor\":\"failure\",\"imsx_codeMinor\":\"unknown_object\",\"imsx_description\":\"no such object\",\"imsx_severity\":\"error\"}",
     )?;
-    let unknown = Reply::failing(alloc, Cause::NoKnownToken, None, false);
+    reply.cause = Cause::NoKnownToken;
+    reply.version = None;
     assert_reply(
         &rt,
         alloc,
-        &unknown,
+        &reply,
         "HTTP/1.1 401 Unauthorized\r\nContent-Type: application/json\r\nWWW-Authenticate: Bearer\r\nContent-Length: 120\r\n\r\n{\"imsx_codeMajor\":\"failure\",\"imsx_codeMinor\":\"unauthorized\",\"imsx_description\":\"no known token\",\"imsx_severity\":\"error\"}",
     )?;
-    let mut deleted = Reply::failing(alloc, Cause::Deleted, None, false);
-    deleted.version = Some(3);
-    deleted.mark = Some(7);
+    reply.cause = Cause::Deleted;
+    reply.version = Some(3);
+    reply.mark = Some(7);
     assert_reply(
         &rt,
         alloc,
-        &deleted,
+        &reply,
         "HTTP/1.1 204 No Content\r\nX-Hub-Version: 3\r\nX-Hub-Mark: 7\r\n\r\n",
     )
 }
@@ -77,42 +85,72 @@ fn replies_have_their_bytes(rt: HostRuntime) -> Result<(), Fail> {
 const TWO: &str =
     "PUT /a/b?x=1?y HTTP/1.1\r\nHOST: hub\r\nauthorization: bEARER  tok-e\r\nX-Hub-Mark: 7\r\nX-Hub-Exchange: 1.20\r\nContent-Length: 5\r\n\r\nhelloGET /c HTTP/1.0\r\n\r\nGET";
 
+fn is_first(request: &Request) -> bool {
+    let Some(token) = &request.token else {
+        return false;
+    };
+    request.verb == Verb::Put
+        && request.path.as_str() == "/a/b"
+        && request.query.as_str() == "x=1?y"
+        && token.as_str() == "tok-e"
+        && request.mark == MarkField::Number(7)
+        && request.echo == Some(Echo { run: 1, count: 20 })
+        && request.body.as_slice() == b"hello".as_slice()
+}
+
+fn is_second(request: &Request) -> bool {
+    request.verb == Verb::Get && request.path.as_str() == "/c" && request.close
+}
+
+fn are_two(requests: &[Request]) -> bool {
+    match requests {
+        [first, second] => is_first(first) && is_second(second),
+        _ => false,
+    }
+}
+
+// The fault of an answer, where it has one.
+fn fault_of(answer: Result<Request, WireFault>) -> Option<WireFault> {
+    match answer {
+        Ok(_) => None,
+        Err(fault) => Some(fault),
+    }
+}
+
+// The stream of two requests, whose first read fails.
+fn cut_source(alloc: Global, cut: usize) -> Result<MemSource, Fail> {
+    let bytes = TWO.as_bytes().to_vec(alloc)?;
+    let cuts = vec![in alloc; cut; 150]?;
+    Ok(MemSource::new(bytes, cuts, vec![in alloc; 1]?))
+}
+
+fn reads_two(alloc: Global, cut: usize) -> Result<bool, Fail> {
+    let mut source = cut_source(alloc, cut)?;
+    let mut reader = WireReader::new(alloc)?;
+    if !matches!(reader.next(alloc, &mut source), Err(WireFault::Source)) {
+        return Ok(false);
+    }
+    let (requests, fault) = read_requests(alloc, &mut reader, &mut source);
+    let behind = fault_of(reader.next(alloc, &mut source));
+    let ends = fault.is_none() && behind == Some(WireFault::Cut) && reader.kept() == 3;
+    Ok(ends && are_two(requests.as_slice()))
+}
+
 #[test]
 fn cuts_change_nothing(rt: HostRuntime) -> Result<(), Fail> {
-    let alloc = rt.alloc();
     for cut in 1..41 {
-        let bytes = TWO.as_bytes().to_vec(alloc)?;
-        let mut source = MemSource::new(bytes, vec![in alloc; cut; 150]?, vec![in alloc; 1]?);
-        let mut reader = WireReader::new(alloc)?;
-        assert!(rt;
-            matches!(reader.next(alloc, &mut source), Err(WireFault::Source)),
-            "{cut}"
-        );
-        let (requests, fault) = read_requests(alloc, &mut reader, &mut source);
-        assert!(rt; fault.is_none(), "{cut}");
-        let [first, second] = requests.as_slice() else {
-            panic!(rt; "{cut}");
-        };
-        assert_eq!(rt; first.verb, Verb::Put, "{cut}");
-        assert_eq!(rt; first.path.as_str(), "/a/b", "{cut}");
-        assert_eq!(rt; first.query.as_str(), "x=1?y", "{cut}");
-        assert_eq!(rt;
-            first.token.as_ref().map(|t| t.as_str()),
-            Some("tok-e"),
-            "{cut}"
-        );
-        assert_eq!(rt; first.mark, MarkField::Number(7), "{cut}");
-        assert_eq!(rt; first.echo, Some(Echo { run: 1, count: 20 }), "{cut}");
-        assert_eq!(rt; first.body.as_slice(), b"hello".as_slice(), "{cut}");
-        assert_eq!(rt; second.path.as_str(), "/c", "{cut}");
-        assert!(rt; second.close, "{cut}");
-        assert!(rt;
-            matches!(reader.next(alloc, &mut source), Err(WireFault::Cut)),
-            "{cut}"
-        );
-        assert_eq!(rt; reader.kept(), 3, "{cut}");
+        assert!(rt; reads_two(rt.alloc(), cut)?, "{cut}");
     }
     Ok(())
+}
+
+// The faults of two calls at the beginning of a stream.
+fn faults_of(alloc: Global, bytes: Vec<u8>) -> Result<[Option<WireFault>; 2], Fail> {
+    let mut source = MemSource::new(bytes, Vec::new(alloc), Vec::new(alloc));
+    let mut reader = WireReader::new(alloc)?;
+    let first = fault_of(reader.next(alloc, &mut source));
+    let second = fault_of(reader.next(alloc, &mut source));
+    Ok([first, second])
 }
 
 #[test]
@@ -124,6 +162,11 @@ fn bad_streams_are_refused(rt: HostRuntime) -> Result<(), Fail> {
         ("GET / HTTP/1.1\r\n\r", WireFault::Cut),
         ("G(T / HTTP/1.1\r\n\r\n", WireFault::Head),
         ("GET / HTTP/2.0\r\n\r\n", WireFault::Head),
+        ("GET /\0 HTTP/1.1\r\n\r\n", WireFault::Head),
+        (
+            "PUT / HTTP/1.1\r\nContent-Length: 9\r\n\r\n12345678",
+            WireFault::Cut,
+        ),
         (
             "PUT / HTTP/1.1\r\nContent-Length: 1x\r\n\r\n",
             WireFault::Length,
@@ -141,15 +184,46 @@ fn bad_streams_are_refused(rt: HostRuntime) -> Result<(), Fail> {
             WireFault::Chunked,
         ),
     ] {
-        let bytes = stream.as_bytes().to_vec(alloc)?;
-        let mut source = MemSource::new(bytes, Vec::new(alloc), Vec::new(alloc));
-        let mut reader = WireReader::new(alloc)?;
-        for _call in 0..2 {
-            match reader.next(alloc, &mut source) {
-                Err(fault) => assert_eq!(rt; fault, want, "{stream}"),
-                Ok(_) => panic!(rt; "{stream}"),
-            }
-        }
+        let faults = faults_of(alloc, stream.as_bytes().to_vec(alloc)?)?;
+        assert_eq!(rt; faults, [Some(want), Some(want)], "{stream}");
+    }
+    Ok(())
+}
+
+// A text with a piece that it repeats.
+fn repeating(
+    alloc: Global,
+    front: &str,
+    piece: &str,
+    times: usize,
+    end: &str,
+) -> Result<String, Fail> {
+    let mut text = String::new(alloc);
+    text.push_str(front)?;
+    for _time in 0..times {
+        text.push_str(piece)?;
+    }
+    text.push_str(end)?;
+    Ok(text)
+}
+
+#[test]
+fn limits_hold(rt: HostRuntime) -> Result<(), Fail> {
+    let alloc = rt.alloc();
+    let value = "GET / HTTP/1.1\r\nA: ";
+    let fields = "GET / HTTP/1.1\r\n";
+    let body = "PUT / HTTP/1.1\r\nContent-Length: 131072\r\n\r\n";
+    for (front, piece, times, end, want) in [
+        (value, "x", 16_361, "\r\n\r\n", None),
+        (value, "x", 16_362, "\r\n\r\n", Some(WireFault::HeadTooLong)),
+        (value, "x", 16_400, "", Some(WireFault::HeadTooLong)),
+        (fields, "A: b\r\n", 64, "\r\n", None),
+        (fields, "A: b\r\n", 65, "\r\n", Some(WireFault::HeadTooLong)),
+        (body, "x", 131_072, "", None),
+    ] {
+        let text = repeating(alloc, front, piece, times, end)?;
+        let faults = faults_of(alloc, text.into_bytes())?;
+        assert_eq!(rt; faults[0], want, "{times} of {piece}");
     }
     Ok(())
 }
@@ -174,6 +248,23 @@ fn requests_have_their_bytes(rt: HostRuntime) -> Result<(), Fail> {
     Ok(())
 }
 
+fn is_page(reply: &WireReply) -> bool {
+    reply.status == 200
+        && reply.total == Some(0)
+        && reply.version == Some(7)
+        && reply.oldest.is_none()
+        && reply.mark == Some(3)
+        && reply.echo == Some(Echo { run: 1, count: 20 })
+        && reply.body.as_slice() == b"{}".as_slice()
+}
+
+fn reply_fault(alloc: Global, text: &str) -> Option<WireFault> {
+    match parse_reply(alloc, text.as_bytes()) {
+        Ok(_) => None,
+        Err(fault) => Some(fault),
+    }
+}
+
 #[test]
 fn replies_are_read(rt: HostRuntime) -> Result<(), Fail> {
     let alloc = rt.alloc();
@@ -182,40 +273,38 @@ fn replies_are_read(rt: HostRuntime) -> Result<(), Fail> {
     let Ok(reply) = parse_reply(alloc, text.as_bytes()) else {
         panic!(rt; "no reply");
     };
-    assert_eq!(rt; reply.status, 200);
-    assert_eq!(rt; reply.total, Some(0));
-    assert_eq!(rt; reply.version, Some(7));
-    assert_eq!(rt; reply.oldest, None);
-    assert_eq!(rt; reply.mark, Some(3));
-    assert_eq!(rt; reply.echo, Some(Echo { run: 1, count: 20 }));
-    assert_eq!(rt; reply.body.as_slice(), b"{}".as_slice());
-    assert!(rt; parse_reply(alloc, b"HTTP/1.1 204 No Content\r\n\r\n").is_ok());
+    assert!(rt; is_page(&reply));
+    Ok(())
+}
+
+#[test]
+fn bad_replies_are_refused(rt: HostRuntime) -> Result<(), Fail> {
+    let alloc = rt.alloc();
     for (text, want) in [
-        ("", WireFault::End),
-        ("HTTP/1.1 200 OK\r\n", WireFault::Cut),
+        ("HTTP/1.1 204 No Content\r\n\r\n", None),
+        ("", Some(WireFault::End)),
+        ("HTTP/1.1 200 OK\r\n", Some(WireFault::Cut)),
         (
             "HTTP/1.1 200 OK\r\nContent-Length: 2\r\n\r\n{",
-            WireFault::Cut,
+            Some(WireFault::Cut),
         ),
         (
             "HTTP/1.1 200 OK\r\nContent-Length: 2\r\n\r\n{} ",
-            WireFault::Length,
+            Some(WireFault::Length),
         ),
-        ("HTTP/1.1 200 OK\r\n\r\n", WireFault::Length),
-        ("HTTP/1.1 20 OK\r\n\r\n", WireFault::Head),
+        ("HTTP/1.1 200 OK\r\n\r\n", Some(WireFault::Length)),
+        ("HTTP/1.1 20 OK\r\n\r\n", Some(WireFault::Head)),
         (
             "HTTP/1.1 204 No Content\r\nTransfer-Encoding: chunked\r\n\r\n",
-            WireFault::Chunked,
+            Some(WireFault::Chunked),
         ),
         (
             "HTTP/1.1 200 OK\r\nContent-Length: 83886081\r\n\r\n",
-            WireFault::BodyTooLong,
+            Some(WireFault::BodyTooLong),
         ),
     ] {
-        match parse_reply(alloc, text.as_bytes()) {
-            Err(fault) => assert_eq!(rt; fault, want, "{text}"),
-            Ok(_) => panic!(rt; "{text}"),
-        }
+        let fault = reply_fault(alloc, text);
+        assert_eq!(rt; fault, want, "{text}");
     }
     Ok(())
 }

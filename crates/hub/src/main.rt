@@ -14,6 +14,9 @@ use std::rt::Env;
 const HELP: &str = "\
 hub [--folder DIR] COMMAND
 
+publish FEED=DIR ..
+              publishes the set in each folder DIR as the feed FEED, one after another, and
+              prints the version that each leads to
 show KIND     prints the rows of KIND.csv, in order of id, as JSON
               KIND is one of orgs, academicSessions, courses, classes, users, enrollments,
               demographics, categories, lineItems, results

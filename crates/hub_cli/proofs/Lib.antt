@@ -1,2 +1,5 @@
-pub mod Dating
-pub mod Showing
+mod Dating
+mod Ending
+mod FeedWords
+mod Publishing
+mod Showing

@@ -8,11 +8,11 @@ use Rattle.outside_ports.specs.declared.folder.FileRead.{FileRead}
 use Rattle.outside_ports.specs.declared.folder.FileRead.TheVariants.{Absent, Bytes, TooLong}
 use Rattle.outside_ports.specs.declared.failed.IoError.{IoError}
 use Rattle.outside_ports.specs.Files.{ReadsFile, Stored, file_at}
-use Rattle.roster_base.specs.Moments.{IsMoment}
 use Rattle.roster_values.specs.declared.kind.Kind.{Kind}
 use Rattle.roster_values.specs.Kinds.{file_of}
 use Rattle.hub_cli.specs.declared.answer.Answer.{Answer}
-use Rattle.hub_cli.specs.declared.answer.Answer.TheVariants.{Refused}
+use Rattle.hub_cli.specs.declared.answer.End.TheVariants.{Refused}
+use Rattle.hub_cli.specs.Outside.{IsMomentOf, outside_of}
 use Rattle.hub_cli.specs.Reads.{IsAnswerTo}
 use Rattle.hub_cli.specs.Shows.{IsShown, answer_of_file}
 
@@ -21,25 +21,25 @@ longer : (n : ℕ) → (bytes : List ℕ) × (n < length bytes)
 longer zero = (0 ∷ [], omega arith)
 longer (suc n) = let (bytes, more) = longer n in (0 ∷ bytes, omega (arith, more))
 
-too_large : (kind : Kind) (at : ℤ) (bytes : List ℕ) → files.largest < length bytes → answer_of_file kind at (Some bytes) ≡ Refused (fault.TooLarge (RowsOf kind))
+too_large : (kind : Kind) (at : ℤ) (bytes : List ℕ) → files.largest < length bytes → answer_of_file kind at (Some bytes) ≡ record { done = []; end = Refused (fault.TooLarge (RowsOf kind)) }
 unfolding files.file_of
 too_large kind at bytes long =
     let test : nat_lt files.largest (length bytes) ≡ true = lt-ltb files.largest (length bytes) long in
     rw test refl
 
-shown_over : (told : Option (List Stored)) (moment : Option ℤ) (kind : Kind) (at : ℤ) (answer : Answer) (file : Option (List ℕ)) → IfSome told (λ fs. file ≡ file_at fs [] (file_of kind)) → IfSome moment (λ m. at ≡ m)
-    → IsMoment at → answer ≡ answer_of_file kind at file → IsShown told moment kind answer
-shown_over told moment kind at answer file t m r e = record { file = file; at = at; is_file = t; is_moment = m; in_range = r; is = e }
+module _ (told : Option (List Stored)) (moment : Option ℤ) (before now : ℕ) (kind : Kind) (at : ℤ) (m : IsMomentOf moment at) where
+  shown_over : (answer : Answer) (file : Option (List ℕ)) → IfSome told (λ fs. file ≡ file_at fs [] (file_of kind)) → answer ≡ answer_of_file kind at file → IsShown (outside_of told moment before now) kind answer
+  shown_over answer file t e = record { file = file; at = at; is_file = t; is_moment = m; is = e }
 
-pub shown_by : (told : Option (List Stored)) (moment : Option ℤ) (kind : Kind) (at : ℤ) (read : FileRead) (answer : Answer) → ReadsFile {E = IoError} told [] (file_of kind) files.largest (Ok read) → IfSome moment (λ m. at ≡ m)
-    → IsMoment at → IsAnswerTo kind at read answer → IsShown told moment kind answer
-shown_by None moment kind at Absent answer t m r h = shown_over None moment kind at answer None tt m r h
-shown_by None moment kind at TooLong answer t m r h =
+pub shown_by : (told : Option (List Stored)) (moment : Option ℤ) (before now : ℕ) (kind : Kind) (at : ℤ) (read : FileRead) (answer : Answer) → ReadsFile {E = IoError} told [] (file_of kind) files.largest (Ok read) → IsMomentOf moment at
+    → IsAnswerTo kind at read answer → IsShown (outside_of told moment before now) kind answer
+shown_by None moment before now kind at Absent answer t m h = shown_over None moment before now kind at m answer None tt h
+shown_by None moment before now kind at TooLong answer t m h =
     let (bytes, long) = longer files.largest in
-    shown_over None moment kind at answer (Some bytes) tt m r (h ∙ sym (too_large kind at bytes long))
-shown_by None moment kind at (Bytes bytes) answer t m r h = shown_over None moment kind at answer (Some bytes) tt m r h
-shown_by (Some fs) moment kind at Absent answer t m r h = shown_over (Some fs) moment kind at answer None (sym t) m r h
-shown_by (Some fs) moment kind at TooLong answer t m r h =
+    shown_over None moment before now kind at m answer (Some bytes) tt (h ∙ sym (too_large kind at bytes long))
+shown_by None moment before now kind at (Bytes bytes) answer t m h = shown_over None moment before now kind at m answer (Some bytes) tt h
+shown_by (Some fs) moment before now kind at Absent answer t m h = shown_over (Some fs) moment before now kind at m answer None (sym t) h
+shown_by (Some fs) moment before now kind at TooLong answer t m h =
     let (bytes, is, long) = t in
-    shown_over (Some fs) moment kind at answer (Some bytes) (sym is) m r (h ∙ sym (too_large kind at bytes long))
-shown_by (Some fs) moment kind at (Bytes bytes) answer t m r h = shown_over (Some fs) moment kind at answer (Some bytes) (sym t.0) m r h
+    shown_over (Some fs) moment before now kind at m answer (Some bytes) (sym is) (h ∙ sym (too_large kind at bytes long))
+shown_by (Some fs) moment before now kind at (Bytes bytes) answer t m h = shown_over (Some fs) moment before now kind at m answer (Some bytes) (sym t.0) h

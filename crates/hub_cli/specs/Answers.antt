@@ -1,17 +1,31 @@
 -- What a command answers: its status and its text are functions of the answer alone.
-use Rattle.std.specs.Prelude.{ℕ, List}
+use Rattle.std.specs.Prelude.{◌≡◌, ◌≢◌, ◌⊎◌, ℕ, ◌++◌, List, []}
 use Rattle.hub_cli.specs.declared.answer.Answer.{Answer}
-use Rattle.hub_cli.specs.declared.answer.Answer.TheVariants.{BadWord, Done, FolderFailed, Refused}
-use Rattle.hub_cli.specs.Lines.{bad_word_text, fault_text, folder_failed}
+use Rattle.hub_cli.specs.declared.answer.End.{End}
+use Rattle.hub_cli.specs.declared.answer.End.TheVariants.{BadWord, Done, FolderFailed, NoMemory, NotPublished, Refused}
+use Rattle.hub_cli.specs.Lines.{bad_word_text, fault_text, folder_failed, no_memory, publish_fault_text}
 
-abbrev pub status_of : Answer → ℕ
-status_of (Done text) = 0
+abbrev pub status_of : End → ℕ
+status_of Done = 0
 status_of (BadWord place) = 2
 status_of FolderFailed = 3
 status_of (Refused fault) = 4
+status_of (NotPublished fault) = 4
+status_of NoMemory = 17
 
+-- the line that an end is told by
+abbrev pub end_text : End → List ℕ
+end_text Done = []
+end_text (BadWord place) = bad_word_text place
+end_text FolderFailed = folder_failed
+end_text (Refused fault) = fault_text fault
+end_text (NotPublished fault) = publish_fault_text fault
+end_text NoMemory = no_memory
+
+-- what was done, and how it ended
 abbrev pub text_of : Answer → List ℕ
-text_of (Done text) = text
-text_of (BadWord place) = bad_word_text place
-text_of FolderFailed = folder_failed
-text_of (Refused fault) = fault_text fault
+text_of answer = answer.done ++ end_text answer.end
+
+-- what is printed of an answer: itself, or what was done and that memory ran out for the lines of another end than Done
+abbrev pub IsPrinted : Answer → Answer → Type 0
+IsPrinted answer printed = (printed ≡ answer) ⊎ ((answer.end ≢ Done) × (printed ≡ record answer { end = NoMemory }))

@@ -1,6 +1,9 @@
 pub mod Answers
 pub mod Lines
+pub mod Outside
+pub mod Publishes
 pub mod Reads
 pub mod Runs
 pub mod Shows
+pub mod Steps
 pub mod Words

@@ -1,5 +1,6 @@
 -- The lines that the program prints beside what a command is asked for.
-use Rattle.std.specs.Prelude.{ℕ, ◌++◌, List, codes, decimal}
+use Rattle.std.specs.Prelude.{ℕ, ◌++◌, List, [], Option, None, Some, codes, decimal}
+use Rattle.std.specs.List.{flat_map}
 use Rattle.csv_sets.specs.declared.fault.ColumnFault.{ColumnFault}
 use Rattle.csv_sets.specs.declared.fault.ColumnFault.TheVariants.{BadKey, Missing, Repeated}
 use Rattle.csv_sets.specs.declared.fault.SetFault.{SetFault}
@@ -8,6 +9,14 @@ use Rattle.csv_sets.specs.declared.fault.ManifestFault.{ManifestFault}
 use Rattle.csv_sets.specs.declared.fault.ManifestFault.TheVariants as manifest
 use Rattle.csv_sets.specs.Names.{name_of}
 use Rattle.csv_sets.specs.Properties.{property_name}
+use Rattle.reference_rules.specs.declared.ref_fault.Fault.{Fault}
+use Rattle.reference_rules.specs.declared.ref_fault.Fault.TheVariants as reference
+use Rattle.reference_rules.specs.declared.ref_fault.RefFault.{RefFault}
+use Rattle.roster_types.specs.declared.owner.Owner.{Owner}
+use Rattle.roster_types.specs.declared.owner.Owner.TheVariants.{Caller, Feed}
+use Rattle.roster_values.specs.Kinds.{plural_of}
+use Rattle.set_changes.specs.declared.publish_fault.PublishFault.{PublishFault}
+use Rattle.set_changes.specs.declared.publish_fault.PublishFault.TheVariants.{LastVersion, OwnedByOther, TooManyRows, Unsound}
 use Rattle.roster_texts.specs.declared.fault.ValueFault.{ValueFault}
 use Rattle.roster_texts.specs.declared.fault.ValueFault.TheVariants.{BadDay, BadId, BadList, BadMoment, BadNumber, Empty, Fractional, NotInList, TooLong, Width}
 
@@ -60,6 +69,41 @@ fault_text (RepeatedId file number) = codes "refused: " ++ name_of file ++ codes
 fault_text (TooLarge file) = codes "refused: " ++ name_of file ++ codes ": too large\n"
 fault_text (NotUtf8 file) = codes "refused: " ++ name_of file ++ codes ": not UTF-8\n"
 fault_text Folder = folder_failed
+
+-- ---- what `publish` tells
+
+unfoldable pub published_text : List ℕ → ℕ → List ℕ
+published_text feed number = feed ++ codes " version " ++ decimal number ++ codes "\n"
+
+unfoldable pub unchanged_text : List ℕ → ℕ → List ℕ
+unchanged_text feed number = feed ++ codes " unchanged " ++ decimal number ++ codes "\n"
+
+abbrev pub owner_text : Owner → List ℕ
+owner_text (Feed name) = codes "feed " ++ name
+owner_text (Caller name) = codes "caller " ++ name
+
+abbrev pub reference_word : Fault → List ℕ
+reference_word reference.Missing = codes "missing"
+reference_word reference.WrongType = codes "wrong type"
+reference_word reference.Cycle = codes "cycle"
+reference_word reference.DayOrder = codes "day order"
+
+-- the id that a broken reference names, where it names one
+abbrev pub target_text : Option (List ℕ) → List ℕ
+target_text None = []
+target_text (Some id) = codes " " ++ id
+
+unfoldable pub reference_text : RefFault → List ℕ
+reference_text f =
+    codes "refused: " ++ plural_of f.kind ++ codes " " ++ f.id ++ codes " " ++ f.field ++ target_text f.target ++ codes ": " ++ reference_word f.fault ++ codes "\n"
+
+-- the lines of why a set isn't published: one for each broken reference
+unfoldable pub publish_fault_text : PublishFault → List ℕ
+publish_fault_text (OwnedByOther kind id owner) =
+    codes "refused: " ++ plural_of kind ++ codes " " ++ id ++ codes " is owned by " ++ owner_text owner ++ codes "\n"
+publish_fault_text (TooManyRows kind count) = codes "refused: " ++ plural_of kind ++ codes ": too many rows\n"
+publish_fault_text (Unsound faults) = flat_map reference_text faults
+publish_fault_text LastVersion = codes "refused: last version\n"
 
 -- the place, from 0, of the first word that no command continues
 unfoldable pub bad_word_text : ℕ → List ℕ

@@ -1,20 +1,32 @@
 -- What a run of the program answers, and why.
-use Rattle.std.specs.Prelude.{◌≡◌, ◌⊎◌, ℕ, ℤ, List, Option, Result, Ok, Err}
-use Rattle.outside_ports.specs.Files.{Stored}
+use Rattle.std.specs.Prelude.{◌≡◌, ◌⊎◌, ℕ, [], Result, Ok, Err}
 use Rattle.roster_base.specs.Faults.{Rose}
+use Rattle.version_core.specs.Version.{empty_version}
 use Rattle.hub_cli.specs.declared.answer.Answer.{Answer}
-use Rattle.hub_cli.specs.declared.answer.Answer.TheVariants.{BadWord, FolderFailed}
+use Rattle.hub_cli.specs.declared.answer.End.TheVariants.{BadWord, FolderFailed, NoMemory}
 use Rattle.hub_cli.specs.declared.words.Command.{Command}
-use Rattle.hub_cli.specs.declared.words.Command.TheVariants.{Show}
+use Rattle.hub_cli.specs.declared.words.Command.TheVariants.{Publish, Show}
 use Rattle.hub_cli.specs.declared.words.Parsed.{Parsed}
+use Rattle.hub_cli.specs.Outside.{Outside}
+use Rattle.hub_cli.specs.Publishes.{IsRunOf}
 use Rattle.hub_cli.specs.Shows.{IsShown}
 
--- the folder failed, and its count of faults rose; or the command did its work, and the count stood still
-abbrev pub IsCommandAnswer : Command → Option (List Stored) → Option ℤ → ℕ → ℕ → Answer → Type 0
-IsCommandAnswer (Show kind) files moment before now answer =
-    ((answer ≡ FolderFailed) × Rose before now) ⊎ (IsShown files moment kind answer × (now ≡ before))
+-- memory ran out before anything was done
+abbrev pub WantsMemory : Answer → Type 0
+WantsMemory answer = (answer.done ≡ []) × (answer.end ≡ NoMemory)
 
--- the answer to words, over the folder's files and count of faults and the clock's moment
-abbrev pub IsAnswer : Result Parsed ℕ → Option (List Stored) → Option ℤ → ℕ → ℕ → Answer → Type 0
-IsAnswer (Err place) files moment before now answer = (answer ≡ BadWord place) × (now ≡ before)
-IsAnswer (Ok parsed) files moment before now answer = IsCommandAnswer parsed.command files moment before now answer
+-- the folder failed, and its count of faults rose
+abbrev pub IsFolderFailure : Outside → Answer → Type 0
+IsFolderFailure outside answer = (answer.done ≡ []) × (answer.end ≡ FolderFailed) × Rose outside.before outside.now
+
+-- the answer of a command: a run of `publish` begins with the empty version 0
+abbrev pub IsCommandAnswer : Command → Outside → Answer → Type 0
+IsCommandAnswer (Show kind) outside answer =
+    IsFolderFailure outside answer ⊎ (IsShown outside kind answer × (outside.now ≡ outside.before)) ⊎ WantsMemory answer
+IsCommandAnswer (Publish feeds) outside answer = IsRunOf outside empty_version feeds answer.done answer.end
+
+-- the answer to words
+abbrev pub IsAnswer : Result Parsed ℕ → Outside → Answer → Type 0
+IsAnswer (Err place) outside answer =
+    ((answer ≡ record { done = []; end = BadWord place }) × (outside.now ≡ outside.before)) ⊎ WantsMemory answer
+IsAnswer (Ok parsed) outside answer = IsCommandAnswer parsed.command outside answer ⊎ WantsMemory answer

@@ -4,8 +4,7 @@ use Rattle.csv_sets.specs.declared.fault.SetFault.{SetFault}
 use Rattle.csv_sets.specs.declared.fault.SetFault.TheVariants.{MissingFile}
 use Rattle.csv_sets.specs.declared.fault.SetFile.TheVariants.{RowsOf}
 use Rattle.csv_sets.specs.Files as files
-use Rattle.outside_ports.specs.Files.{Stored, file_at}
-use Rattle.roster_base.specs.Moments.{IsMoment}
+use Rattle.outside_ports.specs.Files.{file_at}
 use Rattle.roster_base.specs.Order.{in_order}
 use Rattle.roster_types.specs.declared.set_row.SetRow.{SetRow}
 use Rattle.roster_types.specs.Records.{Record}
@@ -14,7 +13,8 @@ use Rattle.roster_values.specs.declared.mode.Mode.TheVariants.{Bulk}
 use Rattle.roster_values.specs.Kinds.{file_of}
 use Rattle.row_json.specs.Json.{collection_text}
 use Rattle.hub_cli.specs.declared.answer.Answer.{Answer}
-use Rattle.hub_cli.specs.declared.answer.Answer.TheVariants.{Done, Refused}
+use Rattle.hub_cli.specs.declared.answer.End.TheVariants.{Done, Refused}
+use Rattle.hub_cli.specs.Outside.{IsMomentOf, Outside}
 
 -- the row of a set, dated by the clock where it brings no date
 abbrev pub dated_row : ℤ → SetRow → Record
@@ -27,21 +27,21 @@ id_of r = r.id
 unfoldable pub shown_text : Kind → ℤ → List SetRow → List ℕ
 shown_text kind at rows = collection_text None kind (in_order id_of (map (dated_row at) rows)) ++ codes "\n"
 
+-- the output where a file spells rows, and else its first fault
 abbrev pub answer_of_rows : Kind → ℤ → Result (List SetRow) SetFault → Answer
-answer_of_rows kind at (Ok rows) = Done (shown_text kind at rows)
-answer_of_rows kind at (Err fault) = Refused fault
+answer_of_rows kind at (Ok rows) = record { done = shown_text kind at rows; end = Done }
+answer_of_rows kind at (Err fault) = record { done = []; end = Refused fault }
 
 -- the answer over a file that is there or not
 abbrev pub answer_of_file : Kind → ℤ → Option (List ℕ) → Answer
-answer_of_file kind at None = Refused (MissingFile (RowsOf kind))
+answer_of_file kind at None = record { done = []; end = Refused (MissingFile (RowsOf kind)) }
 answer_of_file kind at (Some bytes) = answer_of_rows kind at (files.file_of kind Bulk bytes)
 
 -- the answer is the one over a file and a moment: the file is the kind's in the root folder and the moment the clock's,
 -- where folder and clock tell
-pub record IsShown (files : Option (List Stored)) (moment : Option ℤ) (kind : Kind) (answer : Answer) : Type 0 where
+pub record IsShown (outside : Outside) (kind : Kind) (answer : Answer) : Type 0 where
   pub file : Option (List ℕ)
   pub at : ℤ
-  pub is_file : IfSome files (λ fs. file ≡ file_at fs [] (file_of kind))
-  pub is_moment : IfSome moment (λ m. at ≡ m)
-  pub in_range : IsMoment at
+  pub is_file : IfSome outside.files (λ fs. file ≡ file_at fs [] (file_of kind))
+  pub is_moment : IsMomentOf outside.moment at
   pub is : answer ≡ answer_of_file kind at file

@@ -1,49 +1,77 @@
 //! Answers of commands.
 
-ghost use Rattle.std.specs.Prelude.{◌≡◌, ◌≢◌, IfOk, string_bytes};
+ghost use Rattle.std.specs.Prelude.{◌≡◌, ◌≢◌, [], IfOk, IsOk, string_bytes};
 ghost use Rattle.hub_cli.specs.Answers as answers;
+ghost use Rattle.hub_cli.specs.declared.answer.End.TheVariants as ends;
 
-use crate::lines::{FOLDER_FAILED, bad_word_line, fault_line};
+use crate::lines::{FOLDER_FAILED, NO_MEMORY, bad_word_line, fault_line, publish_fault_lines};
 use csv_sets::SetFault;
 use roster_base::{NoMemory, Text};
+use set_changes::PublishFault;
 use std::alloc::Global;
 
-/// What a command came to. The status and the text follow from it alone.
+/// How a command ended. The status follows from it alone.
 #[derive(Drop)]
-pub enum Answer {
-    /// Done, with this output.
-    Done(Text),
+pub enum End {
+    Done,
     /// The words are no command from this place on.
     BadWord(usize),
     /// The folder failed, and its count of faults rose.
     FolderFailed,
-    /// The input is refused for this fault, its first.
+    /// A file or a set is refused for this fault, its first.
     Refused(SetFault),
+    /// A set isn't published, for this reason, the first.
+    NotPublished(PublishFault),
+    /// Memory ran out, which says nothing of the input.
+    NoMemory,
+}
+
+/// What a command came to: the text of what was done, and how it ended.
+#[derive(Drop)]
+pub struct Answer {
+    pub done: Text,
+    pub end: End,
 }
 
 impl Answer {
-    /// The status of the process: 0, 2, 3 or 4.
+    /// An answer of a command that ended before it had done anything.
+    pub fn nothing_done(alloc: Global, end: End) -> Answer
+        ensures { result ≡ record { done = []; end = end } }
+    {
+        Answer {
+            done: Text::from_string(String::new(alloc)),
+            end,
+        }
+    }
+}
+
+impl End {
+    /// The status of the process: 0, 2, 3, 4 or 17.
     pub fn status(&self) -> u8
         ensures value { result ≡ answers.status_of self.now }
-        ensures other { (result ≢ 1) × (result ≢ 17) }
+        ensures other { result ≢ 1 }
     {
         match self {
-            Answer::Done(_) => 0,
-            Answer::BadWord(_) => 2,
-            Answer::FolderFailed => 3,
-            Answer::Refused(_) => 4,
+            End::Done => 0,
+            End::BadWord(_) => 2,
+            End::FolderFailed => 3,
+            End::Refused(_) | End::NotPublished(_) => 4,
+            End::NoMemory => 17,
         }
     }
 
-    /// What is printed.
-    pub fn into_text(self, alloc: Global) -> Result<String, NoMemory>
-        ensures { IfOk result (λ t. string_bytes t ≡ answers.text_of self) }
+    /// The lines that tell the end.
+    pub fn lines(&self, alloc: Global) -> Result<String, NoMemory>
+        ensures text { IfOk result (λ t. string_bytes t ≡ answers.end_text self.now) }
+        ensures done { self.now ≡ ends.Done → IsOk result }
     {
         match self {
-            Answer::Done(text) => Ok(text.into_string()),
-            Answer::BadWord(place) => bad_word_line(alloc, place),
-            Answer::FolderFailed => Ok(String::from_str(alloc, FOLDER_FAILED)?),
-            Answer::Refused(fault) => fault_line(alloc, &fault),
+            End::Done => Ok(String::new(alloc)),
+            End::BadWord(place) => bad_word_line(alloc, *place),
+            End::FolderFailed => Ok(String::from_str(alloc, FOLDER_FAILED)?),
+            End::Refused(fault) => fault_line(alloc, fault),
+            End::NotPublished(fault) => publish_fault_lines(alloc, fault),
+            End::NoMemory => Ok(String::from_str(alloc, NO_MEMORY)?),
         }
     }
 }

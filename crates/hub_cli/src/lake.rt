@@ -1,5 +1,26 @@
 //! The rows of each kind of the example district `lake`, against texts that were made outside the program.
 
+// The manifest of `examples/lake`.
+pub const MANIFEST: &str = r#"propertyName,value
+manifest.version,1.0
+oneroster.version,1.1
+file.orgs,bulk
+file.academicSessions,bulk
+file.courses,bulk
+file.classes,bulk
+file.users,bulk
+file.enrollments,delta
+file.demographics,bulk
+file.categories,bulk
+file.lineItems,bulk
+file.results,bulk
+file.resources,absent
+file.classResources,absent
+file.courseResources,absent
+source.systemName,Lake SIS
+source.systemCode,LSIS
+"#;
+
 // The files of `examples/lake`: kind, text, and the collection that is shown at noon of 2024-08-01.
 pub const LAKE: [(&str, &str, &str); 10] = [
     (

@@ -1,13 +1,19 @@
 //! The texts of all lines. No other module of the crate is named here.
 
-ghost use Rattle.std.specs.Prelude.{◌≡◌, ◌++◌, IfOk, codes, decimal, string_bytes};
+ghost use Rattle.std.specs.Prelude.{◌≡◌, ◌++◌, IfOk, OnOk, codes, decimal, string_bytes};
+ghost use Rattle.std.specs.List.{flat_map};
 ghost use Rattle.csv_sets.specs.Names.{name_of};
 ghost use Rattle.csv_sets.specs.Properties.{property_name};
+ghost use Rattle.roster_values.specs.Kinds.{plural_of};
 ghost use Rattle.hub_cli.specs.Lines as lines;
 
 use csv_sets::{ColumnFault, ManifestFault, Property, SetFault, SetFile};
+use reference_rules::{Fault, RefFault};
 use roster_base::NoMemory;
-use roster_texts::ValueFault;
+use roster_texts::{Id, Name, ValueFault};
+use roster_types::owner::Owner;
+use roster_values::Kind;
+use set_changes::PublishFault;
 use std::alloc::Global;
 
 /// Status 3.
@@ -190,6 +196,132 @@ pub fn fault_line(alloc: Global, fault: &SetFault) -> Result<String, NoMemory>
         SetFault::TooLarge { file } => file_line(alloc, *file, ": too large\n"),
         SetFault::NotUtf8 { file } => file_line(alloc, *file, ": not UTF-8\n"),
         SetFault::Folder => Ok(String::from_str(alloc, FOLDER_FAILED)?),
+    }
+}
+
+/// The line of a set that is published as a version.
+#[tactic(auto, unfolding(crate::specs::Lines::published_text))]
+pub fn published_line(alloc: Global, feed: &Name, version: u64) -> Result<String, NoMemory>
+    ensures { IfOk result (λ s. string_bytes s ≡ lines.published_text feed.now version) }
+{
+    let mut line = String::from_str(alloc, feed.as_str())?;
+    line.push_str(format!(in alloc; " version {version}\n")?.as_str())?;
+    Ok(line)
+}
+
+/// The line of a set that changes nothing.
+#[tactic(auto, unfolding(crate::specs::Lines::unchanged_text))]
+pub fn unchanged_line(alloc: Global, feed: &Name, version: u64) -> Result<String, NoMemory>
+    ensures { IfOk result (λ s. string_bytes s ≡ lines.unchanged_text feed.now version) }
+{
+    let mut line = String::from_str(alloc, feed.as_str())?;
+    line.push_str(format!(in alloc; " unchanged {version}\n")?.as_str())?;
+    Ok(line)
+}
+
+// `refused: `, a kind, and what follows it.
+fn kind_line(alloc: Global, kind: Kind, rest: &str) -> Result<String, NoMemory>
+    ensures { IfOk result (λ s. string_bytes s ≡ codes "refused: " ++ plural_of kind ++ rest.now) }
+{
+    let mut line = String::from_str(alloc, "refused: ")?;
+    line.push_str(kind.plural())?;
+    line.push_str(rest)?;
+    Ok(line)
+}
+
+// The same, with an id behind the kind.
+fn id_line(alloc: Global, kind: Kind, id: &Id) -> Result<String, NoMemory>
+    ensures { IfOk result (λ s. string_bytes s ≡ codes "refused: " ++ plural_of kind ++ codes " " ++ id.now) }
+{
+    let mut line = kind_line(alloc, kind, " ")?;
+    line.push_str(id.as_str())?;
+    Ok(line)
+}
+
+// Adds who owns a row.
+fn push_owner(line: &mut String, owner: &Owner) -> Result<(), NoMemory>
+    ensures { OnOk result (string_bytes line.new ≡ string_bytes line.old ++ lines.owner_text owner.now) }
+{
+    match owner {
+        Owner::Feed(name) => {
+            line.push_str("feed ")?;
+            Ok(line.push_str(name.as_str())?)
+        }
+        Owner::Caller(name) => {
+            line.push_str("caller ")?;
+            Ok(line.push_str(name.as_str())?)
+        }
+    }
+}
+
+fn owner_line(alloc: Global, kind: Kind, id: &Id, owner: &Owner) -> Result<String, NoMemory>
+    ensures { IfOk result (λ s. string_bytes s ≡ codes "refused: " ++ plural_of kind ++ codes " " ++ id.now ++ codes " is owned by " ++ lines.owner_text owner.now ++ codes "\n") }
+{
+    let mut line = id_line(alloc, kind, id)?;
+    line.push_str(" is owned by ")?;
+    push_owner(&mut line, owner)?;
+    line.push_str("\n")?;
+    Ok(line)
+}
+
+fn reference_word(fault: Fault) -> &'static str
+    ensures { result.now ≡ lines.reference_word fault }
+{
+    match fault {
+        Fault::Missing => "missing",
+        Fault::WrongType => "wrong type",
+        Fault::Cycle => "cycle",
+        Fault::DayOrder => "day order",
+    }
+}
+
+// Adds the id that a broken reference names.
+fn push_target(line: &mut String, target: &Option<Id>) -> Result<(), NoMemory>
+    ensures { OnOk result (string_bytes line.new ≡ string_bytes line.old ++ lines.target_text target.now) }
+{
+    if let Some(id) = target {
+        line.push_str(" ")?;
+        line.push_str(id.as_str())?;
+    }
+    Ok(())
+}
+
+#[tactic(auto, unfolding(crate::specs::Lines::reference_text))]
+fn reference_line(alloc: Global, broken: &RefFault) -> Result<String, NoMemory>
+    ensures { IfOk result (λ s. string_bytes s ≡ lines.reference_text broken.now) }
+{
+    let mut line = id_line(alloc, broken.kind, &broken.id)?;
+    line.push_str(" ")?;
+    line.push_str(broken.field.as_str())?;
+    push_target(&mut line, &broken.target)?;
+    line.push_str(": ")?;
+    line.push_str(reference_word(broken.fault))?;
+    line.push_str("\n")?;
+    Ok(line)
+}
+
+fn reference_lines(alloc: Global, faults: &[RefFault]) -> Result<String, NoMemory>
+    ensures { IfOk result (λ s. string_bytes s ≡ flat_map lines.reference_text faults.now) }
+{
+    let mut all = String::new(alloc);
+    for broken in faults {
+        all.push_str(reference_line(alloc, broken)?.as_str())?;
+    }
+    Ok(all)
+}
+
+/// The lines of why a set isn't published: one for each broken reference. Status 4.
+#[tactic(auto, unfolding(crate::specs::Lines::publish_fault_text))]
+pub fn publish_fault_lines(alloc: Global, fault: &PublishFault) -> Result<String, NoMemory>
+    ensures { IfOk result (λ s. string_bytes s ≡ lines.publish_fault_text fault.now) }
+{
+    match fault {
+        PublishFault::OwnedByOther { kind, id, owner } => owner_line(alloc, *kind, id, owner),
+        PublishFault::TooManyRows { kind, count: _ } => {
+            kind_line(alloc, *kind, ": too many rows\n")
+        }
+        PublishFault::Unsound(faults) => reference_lines(alloc, faults.as_slice()),
+        PublishFault::LastVersion => Ok(String::from_str(alloc, "refused: last version\n")?),
     }
 }
 

@@ -1,17 +1,18 @@
 //! The program's top call.
 
-ghost use Rattle.std.specs.Prelude.{◌≡◌, ◌≢◌, ◌⊎◌, IfOk, IsErr, map, string_bytes};
+ghost use Rattle.std.specs.Prelude.{◌≡◌, ◌≢◌, ◌⊎◌, IfOk, IsErr, [], ◌++◌, ℕ, map, string_bytes};
 ghost use Rattle.std.specs.Io.KnownBytes.{Appends};
 ghost use Rattle.outside_ports.specs.Written.{AppendsPart};
 ghost use Rattle.roster_base.specs.Faults.{Rose};
-ghost use Rattle.hub_cli.specs.Answers.{status_of, text_of};
-ghost use Rattle.hub_cli.specs.Lines.{no_memory};
+ghost use Rattle.hub_cli.specs.Answers.{IsPrinted, status_of, text_of};
+ghost use Rattle.hub_cli.specs.Outside.{outside_of};
 ghost use Rattle.hub_cli.specs.Runs.{IsAnswer};
 ghost use Rattle.hub_cli.specs.Words.{split};
 ghost use Rattle.hub_cli.specs.declared.answer.Answer.{Answer as AnswerValue};
 
-use crate::answer::Answer;
+use crate::answer::{Answer, End};
 use crate::lines::NO_MEMORY;
+use crate::publish::publish;
 use crate::show::show;
 use crate::words::{Command, split_words};
 use outside_ports::{Clock, Folder, Sink};
@@ -25,39 +26,16 @@ fn answer_to<F: Folder, K: Clock>(
     folder: &mut F,
     clock: &K,
 ) -> Result<Answer, NoMemory>
-    ensures { IfOk result (λ a. IsAnswer (split (map string_bytes words.now)) (F.files folder.old) (K.moment clock.now) (F.faults folder.old) (F.faults folder.new) a) }
+    ensures { IfOk result (λ a. IsAnswer (split (map string_bytes words.now)) (outside_of (F.files folder.old) (K.moment clock.now) (F.faults folder.old) (F.faults folder.new)) a) }
 {
     match split_words(alloc, words) {
-        Ok(parsed) => match parsed.command {
-            Command::Show { kind } => show(alloc, kind, folder, clock),
+        Ok(parsed) => match &parsed.command {
+            Command::Show { kind } => show(alloc, *kind, folder, clock),
+            Command::Publish { feeds } => Ok(publish(alloc, feeds.as_slice(), folder, clock)),
         },
-        Err(Refusal::Fault(place)) => Ok(Answer::BadWord(place)),
+        Err(Refusal::Fault(place)) => Ok(Answer::nothing_done(alloc, End::BadWord(place))),
         Err(Refusal::NoMemory) => Err(NoMemory),
     }
-}
-
-// A status and what is printed with it.
-#[derive(Drop)]
-struct Reply {
-    status: u8,
-    text: String,
-}
-
-// The status and the text of the answer to any words.
-fn reply_to<F: Folder, K: Clock>(
-    alloc: Global,
-    words: &[String],
-    folder: &mut F,
-    clock: &K,
-) -> Result<Reply, NoMemory>
-    ensures { IfOk result (λ r. (a : AnswerValue) × IsAnswer (split (map string_bytes words.now)) (F.files folder.old) (K.moment clock.now) (F.faults folder.old) (F.faults folder.new) a
-        × (r.status ≡ status_of a) × (string_bytes r.text ≡ text_of a) × (r.status ≢ 1) × (r.status ≢ 17)) }
-{
-    let answer = answer_to(alloc, words, folder, clock)?;
-    Ok(Reply {
-        status: answer.status(),
-        text: answer.into_text(alloc)?,
-    })
 }
 
 /// Writes a text, and gives its status, or 1 where the sink failed and a front of the text was written.
@@ -69,6 +47,36 @@ pub fn print<O: Sink>(out: &mut O, status: u8, text: &str) -> u8
     match out.write_all(text.as_bytes()) {
         Ok(()) => status,
         Err(_) => 1,
+    }
+}
+
+// Writes two texts, one behind the other, and gives the status likewise.
+fn print_both<O: Sink>(out: &mut O, status: u8, first: &str, second: &str) -> u8
+    requires { status ≢ 1 }
+    ensures done { result ≢ 1 → (result ≡ status) × Appends (O.written out.old) (O.written out.new) (first.now ++ second.now) × (O.faults out.new ≡ O.faults out.old) }
+    ensures fault { result ≡ 1 → Rose (O.faults out.old) (O.faults out.new) × AppendsPart (O.written out.old) (O.written out.new) (first.now ++ second.now) }
+{
+    if first.is_empty() {
+        return print(out, status, second);
+    }
+    if second.is_empty() {
+        return print(out, status, first);
+    }
+    if print(out, 0, first) == 1 {
+        return 1;
+    }
+    print(out, status, second)
+}
+
+// Writes what a command answers, or what it did and the line for want of memory.
+fn print_answer<O: Sink>(alloc: Global, answer: &Answer, out: &mut O) -> u8
+    ensures done { result ≢ 1 → (a : AnswerValue) × IsPrinted answer.now a × (result ≡ status_of a.end) × Appends (O.written out.old) (O.written out.new) (text_of a) × (O.faults out.new ≡ O.faults out.old) }
+    ensures fault { result ≡ 1 → (a : AnswerValue) × IsPrinted answer.now a × Rose (O.faults out.old) (O.faults out.new) × AppendsPart (O.written out.old) (O.written out.new) (text_of a) }
+{
+    let done = answer.done.as_str();
+    match answer.end.lines(alloc) {
+        Ok(lines) => print_both(out, answer.end.status(), done, lines.as_str()),
+        Err(NoMemory) => print_both(out, 17, done, NO_MEMORY),
     }
 }
 
@@ -87,19 +95,18 @@ pub fn run_hub<F: Folder, K: Clock, O: Sink>(
     clock: &K,
     out: &mut O,
 ) -> u8
-    // Where nothing failed and memory was enough, the text of the words' answer is written and nothing else.
-    ensures done { result ≢ 1 → result ≢ 17 → (a : AnswerValue) × IsAnswer (split (map string_bytes words.now)) (F.files folder.old) (K.moment clock.now) (F.faults folder.old) (F.faults folder.new) a × (result ≡ status_of a) × Appends (O.written out.old) (O.written out.new) (text_of a) }
-    // Where the sink failed, a front of that text or of the line for want of memory is written.
-    ensures part { result ≡ 1 → ((a : AnswerValue) × IsAnswer (split (map string_bytes words.now)) (F.files folder.old) (K.moment clock.now) (F.faults folder.old) (F.faults folder.new) a × AppendsPart (O.written out.old) (O.written out.new) (text_of a)) ⊎ AppendsPart (O.written out.old) (O.written out.new) no_memory }
+    // What is written is the text of an answer to the words, and nothing else.
+    ensures done { result ≢ 1 → (a : AnswerValue) × IsAnswer (split (map string_bytes words.now)) (outside_of (F.files folder.old) (K.moment clock.now) (F.faults folder.old) (F.faults folder.new)) a × (result ≡ status_of a.end) × Appends (O.written out.old) (O.written out.new) (text_of a) }
+    // Where the sink failed, a front of such a text is written.
+    ensures part { result ≡ 1 → (a : AnswerValue) × IsAnswer (split (map string_bytes words.now)) (outside_of (F.files folder.old) (K.moment clock.now) (F.faults folder.old) (F.faults folder.new)) a × AppendsPart (O.written out.old) (O.written out.new) (text_of a) }
     ensures words_are_bad { result ≡ 2 → IsErr (split (map string_bytes words.now)) }
     ensures bad_words { IsErr (split (map string_bytes words.now)) → result ≢ 1 → result ≢ 17 → result ≡ 2 }
     ensures folder_failed { result ≡ 3 → Rose (F.faults folder.old) (F.faults folder.new) }
-    ensures memory { result ≡ 17 → Appends (O.written out.old) (O.written out.new) no_memory }
     ensures sink_failed { result ≡ 1 → Rose (O.faults out.old) (O.faults out.new) }
     ensures sink_stood { result ≢ 1 → O.faults out.new ≡ O.faults out.old }
 {
-    match reply_to(alloc, words, folder, clock) {
-        Ok(reply) => print(out, reply.status, reply.text.as_str()),
+    match answer_to(alloc, words, folder, clock) {
+        Ok(answer) => print_answer(alloc, &answer, out),
         Err(NoMemory) => print(out, 17, NO_MEMORY),
     }
 }

@@ -1,16 +1,16 @@
 //! The command `show`.
 
-ghost use Rattle.std.specs.Prelude.{◌≡◌, ◌⊎◌, ℤ, Ok, Some, IfOk, IfSome, map, string_bytes};
+ghost use Rattle.std.specs.Prelude.{◌≡◌, [], IfOk, map, string_bytes};
 ghost use Rattle.csv_sets.specs.Files as files;
-ghost use Rattle.outside_ports.specs.Files.{IsReadOf};
-ghost use Rattle.roster_base.specs.Faults.{Rose};
-ghost use Rattle.roster_base.specs.Moments.{IsMoment};
+ghost use Rattle.hub_cli.specs.Outside.{outside_of};
 ghost use Rattle.hub_cli.specs.Reads.{IsAnswerTo};
 ghost use Rattle.hub_cli.specs.Runs.{IsCommandAnswer};
 ghost use Rattle.hub_cli.specs.Shows.{answer_of_rows, dated_row, shown_text};
+ghost use Rattle.hub_cli.specs.declared.answer.End.TheVariants.{Done, Refused};
 ghost use Rattle.hub_cli.specs.declared.words.Command.{Command};
 
-use crate::answer::Answer;
+use crate::answer::{Answer, End};
+use crate::moment::moment_of;
 use csv_sets::file::LARGEST;
 use csv_sets::{SetFault, SetFile, read_file};
 use outside_ports::{Clock, FileRead, Folder, IoError};
@@ -50,13 +50,28 @@ fn output(alloc: Global, kind: Kind, at: Moment, rows: Vec<SetRow>) -> Result<St
     Ok(text)
 }
 
+fn done(text: String) -> Answer
+    ensures { result ≡ record { done = string_bytes text; end = Done } }
+{
+    Answer {
+        done: Text::from_string(text),
+        end: End::Done,
+    }
+}
+
+fn refused(alloc: Global, fault: SetFault) -> Answer
+    ensures { result ≡ record { done = []; end = Refused fault } }
+{
+    Answer::nothing_done(alloc, End::Refused(fault))
+}
+
 // The answer over a file's bytes.
 fn answer_over(alloc: Global, kind: Kind, at: Moment, bytes: &[u8]) -> Result<Answer, NoMemory>
     ensures { IfOk result (λ a. a ≡ answer_of_rows kind at (files.file_of kind Mode.Bulk bytes.now)) }
 {
     match read_file(alloc, kind, Mode::Bulk, bytes) {
-        Ok(rows) => Ok(Answer::Done(Text::from_string(output(alloc, kind, at, rows)?))),
-        Err(Refusal::Fault(fault)) => Ok(Answer::Refused(fault)),
+        Ok(rows) => Ok(done(output(alloc, kind, at, rows)?)),
+        Err(Refusal::Fault(fault)) => Ok(refused(alloc, fault)),
         Err(Refusal::NoMemory) => Err(NoMemory),
     }
 }
@@ -67,20 +82,9 @@ fn answer_to(alloc: Global, kind: Kind, at: Moment, read: FileRead) -> Result<An
 {
     let file = SetFile::RowsOf(kind);
     match read {
-        FileRead::Absent => Ok(Answer::Refused(SetFault::MissingFile { file })),
-        FileRead::TooLong => Ok(Answer::Refused(SetFault::TooLarge { file })),
+        FileRead::Absent => Ok(refused(alloc, SetFault::MissingFile { file })),
+        FileRead::TooLong => Ok(refused(alloc, SetFault::TooLarge { file })),
         FileRead::Bytes(bytes) => answer_over(alloc, kind, at, bytes.as_slice()),
-    }
-}
-
-// The moment that a clock gives.
-fn moment<K: Clock>(clock: &K) -> Moment
-    ensures told { IfSome (K.moment clock.now) (λ m. result ≡ m) }
-    ensures range { IsMoment result }
-{
-    match Moment::at(clock.now()) {
-        Some(moment) => moment,
-        None => unreachable!(),
     }
 }
 
@@ -91,12 +95,12 @@ pub fn show<F: Folder, K: Clock>(
     folder: &mut F,
     clock: &K,
 ) -> Result<Answer, NoMemory>
-    ensures { IfOk result (λ a. IsCommandAnswer (Command.Show kind) (F.files folder.old) (K.moment clock.now) (F.faults folder.old) (F.faults folder.new) a) }
+    ensures { IfOk result (λ a. IsCommandAnswer (Command.Show kind) (outside_of (F.files folder.old) (K.moment clock.now) (F.faults folder.old) (F.faults folder.new)) a) }
 {
-    let at = moment(clock);
+    let at = moment_of(clock);
     match folder.read(alloc, "", kind.file_name(), LARGEST as u64) {
         Ok(read) => answer_to(alloc, kind, at, read),
-        Err(IoError::Failed) => Ok(Answer::FolderFailed),
+        Err(IoError::Failed) => Ok(Answer::nothing_done(alloc, End::FolderFailed)),
         Err(IoError::NoMemory) => Err(NoMemory),
     }
 }

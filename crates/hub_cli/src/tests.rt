@@ -5,7 +5,7 @@ use std::alloc::Global;
 use std::test::Fail;
 
 // 2024-08-01T12:00:00.000Z
-const NOON: i64 = 1_722_513_600_000;
+pub const NOON: i64 = 1_722_513_600_000;
 
 const DISTRICT: &str =
     "\u{feff}name,sourcedId,type,parentSourcedId,status,dateLastModified,identifier\n\
@@ -19,7 +19,7 @@ const COLLECTION: &str =
 {\"dateLastModified\":\"2024-07-02T10:15:30.500Z\",\"name\":\"West High\",\"parent\":{\"href\":\"/ims/oneroster/v1p1/orgs/d1\",\"sourcedId\":\"d1\",\"type\":\"org\"},\"sourcedId\":\"s2\",\"status\":\"active\",\"type\":\"school\"}]}\n";
 
 // The words between spaces.
-fn words_of(alloc: Global, line: &str) -> Result<Vec<String>, Fail> {
+pub fn words_of(alloc: Global, line: &str) -> Result<Vec<String>, Fail> {
     let mut words = Vec::new(alloc);
     for word in line.split_whitespace() {
         words.push(String::from_str(alloc, word)?)?;

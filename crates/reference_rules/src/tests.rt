@@ -1,4 +1,4 @@
-//! Small tables of rows, and what is listed of each.
+//! Small tables of rows, and what is listed of each: by hand, by the code, and by a slow plain program.
 
 ghost use Rattle.std.specs.Prelude.{◌≡◌, true, IfOk, find, length, map, option_copied};
 ghost use Rattle.std.specs.Ordering.{is_eq, is_lt};
@@ -437,6 +437,132 @@ const CASES: [(&[Line], &str); 9] = [
     ),
 ];
 
+const SESSIONS: Kind = Kind::AcademicSessions;
+
+// A column that can be broken: its kind, its place in a line, its field, and the kind of the rows that it names.
+// Where it names none, a last day stands in its cell, and the first day in the cell before.
+type Column = (Kind, usize, &'static str, Option<Kind>);
+
+// By OneRoster 1.1, in the order of columns. Written out, so that the field table isn't asked.
+const COLUMNS: [Column; 20] = [
+    (Kind::Orgs, 6, "parent", Some(Kind::Orgs)),
+    (SESSIONS, 6, "endDate", None),
+    (SESSIONS, 7, "parent", Some(SESSIONS)),
+    (Kind::Courses, 3, "schoolYear", Some(SESSIONS)),
+    (Kind::Courses, 7, "org", Some(Kind::Orgs)),
+    (Kind::Classes, 5, "course", Some(Kind::Courses)),
+    (Kind::Classes, 9, "school", Some(Kind::Orgs)),
+    (Kind::Classes, 10, "terms", Some(SESSIONS)),
+    (Kind::Users, 4, "orgs", Some(Kind::Orgs)),
+    (Kind::Users, 15, "agents", Some(Kind::Users)),
+    (Kind::Enrollments, 3, "class", Some(Kind::Classes)),
+    (Kind::Enrollments, 4, "school", Some(Kind::Orgs)),
+    (Kind::Enrollments, 5, "user", Some(Kind::Users)),
+    (Kind::Enrollments, 9, "endDate", None),
+    (Kind::Demographics, 0, "sourcedId", Some(Kind::Users)),
+    (Kind::LineItems, 7, "class", Some(Kind::Classes)),
+    (Kind::LineItems, 8, "category", Some(Kind::Categories)),
+    (Kind::LineItems, 9, "gradingPeriod", Some(SESSIONS)),
+    (Kind::Results, 3, "lineItem", Some(Kind::LineItems)),
+    (Kind::Results, 4, "student", Some(Kind::Users)),
+];
+
+fn cell(line: Line, place: usize) -> &'static str {
+    line.1.get(place).copied().unwrap_or("")
+}
+
+fn line_of(lines: &[Line], kind: Kind, id: &str) -> Option<Line> {
+    for line in lines {
+        if line.0 == kind && cell(*line, 0) == id {
+            return Some(*line);
+        }
+    }
+    None
+}
+
+// The type of an org or a session is its fifth cell.
+fn has_other_type(kind: Kind, field: &str, target: Line) -> bool {
+    let word = cell(target, 4);
+    (kind == Kind::Classes && field == "school" && word != "school")
+        || (kind == Kind::LineItems && field == "gradingPeriod" && word != "gradingPeriod")
+}
+
+// Whether the parents, in the cells at a place, come back to the line, with a turn for each line of its kind.
+fn comes_back(lines: &[Line], start: Line, place: usize) -> bool {
+    let mut current = cell(start, 0);
+    for line in lines {
+        if line.0 == start.0 {
+            current = match line_of(lines, start.0, current) {
+                Some(child) => cell(child, place),
+                None => "",
+            };
+            if current == cell(start, 0) {
+                return true;
+            }
+        }
+    }
+    false
+}
+
+fn wrong_with(lines: &[Line], line: Line, column: Column, id: &str) -> Option<&'static str> {
+    let (kind, place, field, named) = column;
+    let Some(target) = line_of(lines, named?, id) else {
+        return Some("missing");
+    };
+    if has_other_type(kind, field, target) {
+        return Some("wrong type");
+    }
+    if field == "parent" && comes_back(lines, line, place) {
+        return Some("cycle");
+    }
+    None
+}
+
+fn tell_ids(told: &mut String, lines: &[Line], line: Line, column: Column) -> Result<(), Fail> {
+    let (kind, place, field, _) = column;
+    let (kind, id) = (kind.plural(), cell(line, 0));
+    for item in cell(line, place).split(',') {
+        let item = item.trim();
+        if !item.is_empty() {
+            if let Some(word) = wrong_with(lines, line, column, item) {
+                write!(told, "{kind} {id} {field} {item}: {word}; ")?;
+            }
+        }
+    }
+    Ok(())
+}
+
+// Days stand in the order of their texts, and the text of an absent first day, which is empty, before all others.
+fn tell_days(told: &mut String, line: Line, column: Column) -> Result<(), Fail> {
+    let (kind, place, field, _) = column;
+    let (kind, id, last) = (kind.plural(), cell(line, 0), cell(line, place));
+    if !last.is_empty() && cell(line, place.saturating_sub(1)) > last {
+        write!(told, "{kind} {id} {field}: day order; ")?;
+    }
+    Ok(())
+}
+
+fn tell_line(told: &mut String, lines: &[Line], line: Line) -> Result<(), Fail> {
+    for column in &COLUMNS {
+        if column.0 == line.0 {
+            match column.3 {
+                Some(_) => tell_ids(told, lines, line, *column)?,
+                None => tell_days(told, line, *column)?,
+            }
+        }
+    }
+    Ok(())
+}
+
+// What `told` should say of the rows of these lines, found slowly from their texts alone.
+fn told_slowly(alloc: Global, lines: &[Line]) -> Result<String, Fail> {
+    let mut told = String::new(alloc);
+    for line in lines {
+        tell_line(&mut told, lines, *line)?;
+    }
+    Ok(told)
+}
+
 #[test]
 fn broken_references(rt: HostRuntime) -> Result<(), Fail> {
     let alloc = rt.alloc();
@@ -444,6 +570,7 @@ fn broken_references(rt: HostRuntime) -> Result<(), Fail> {
         let rows = few_rows(&rt, alloc, lines)?;
         let found = faults(alloc, &rows)?;
         assert_eq!(rt; told(alloc, &found)?.as_str(), want);
+        assert_eq!(rt; told_slowly(alloc, lines)?.as_str(), want);
     }
     Ok(())
 }

@@ -1,3 +1,4 @@
+pub mod GrantLemmas
 pub mod MergeLemmas
 pub mod Next
 pub mod NextLemmas

@@ -1,6 +1,6 @@
 -- The versions that changes lead to.
 use Rattle.std.specs.List.{remove}
-use Rattle.std.proofs.Common.{◌≡◌, ℕ, suc, ◌+◌, ◌-◌, ◌<◌, ◌≤◌, List, [], ◌∷◌, ◌++◌, length, get_or, drop, length-append, Option, None, Some, refl, sym, ap, subst, ◌∙◌, arith}
+use Rattle.std.proofs.Common.{◌≡◌, ℕ, suc, ◌+◌, ◌-◌, ◌<◌, ◌≤◌, List, [], ◌∷◌, ◌++◌, length, get_or, slice_get, drop, length-append, Option, None, Some, refl, sym, ap, subst, ◌∙◌, arith}
 use Rattle.std.specs.Option.{ForSome, IsSomeAnd}
 use Rattle.std.specs.List.{AllByRecursion}
 use Rattle.version_core.specs.declared.change.Change.{Change}
@@ -25,6 +25,11 @@ oldest-versions_from d base (change ∷ changes) = refl
 pub length-versions_from : (base : BaseVersion) (changes : List Change) → length (versions_from base changes) ≡ length changes + 1
 length-versions_from base [] = refl
 length-versions_from base (change ∷ changes) = omega (arith, length-versions_from (after base change) changes)
+
+-- the newest version stands at the place after the changes
+pub last_at : (d base : BaseVersion) (changes : List Change) → slice_get (versions_from base changes) (length changes) ≡ Some (last_or d (versions_from base changes))
+last_at d base [] = refl
+last_at d base (change ∷ changes) = last_at base (after base change) changes
 
 -- one change more leads from the newest version to one version more
 pub versions_from-push : (d base : BaseVersion) (changes : List Change) (change : Change) → versions_from base (changes ++ change ∷ []) ≡ versions_from base changes ++ after (last_or d (versions_from base changes)) change ∷ []

@@ -1,7 +1,10 @@
 pub mod Changes
+pub mod Grants
+pub mod HubStates
+pub mod Marks
 pub mod Merge
 pub mod Order
 pub mod Table
+pub mod Tables
 pub mod Version
 pub mod View
-pub mod Tables

@@ -9,7 +9,7 @@ use Rattle.version_core.specs.declared.table.Table.TheInside.{Inside}
 use Rattle.version_core.specs.Version.{Versions, IsVersion, versions_from}
 
 abbrev pub base_of : Inside → BaseVersion
-base_of table = record { number = table.number; moment = table.moment; rows = table.rows.items }
+base_of table = record { number = table.number; moment = table.moment; rows = table.rows.items; grants = table.grants }
 
 abbrev pub versions_of : Inside → Versions
 versions_of table = record { keep = table.keep; versions = versions_from (base_of table) table.changes.items; room = table.room }

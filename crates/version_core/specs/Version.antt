@@ -1,8 +1,9 @@
 -- A version of the roster, and the versions that changes lead to.
 use Rattle.roster_values.specs.declared.kind.Kind.{Kind}
-use Rattle.std.specs.Prelude.{ℕ, pos, suc, ◌-◌, ◌≤◌, List, [], ◌∷◌, ◌++◌, length, drop, Option, None}
+use Rattle.std.specs.Prelude.{ℕ, pos, suc, ◌-◌, ◌≤◌, List, [], ◌∷◌, ◌++◌, length, drop, Option, None, unwrap_or}
 use Rattle.version_core.specs.Order.{overlaid}
 use Rattle.version_core.specs.Changes.{change_key, rows_of, AreChanges}
+use Rattle.version_core.specs.Grants.{AreGrants}
 use Rattle.roster_types.specs.Keys.{count_of}
 use Rattle.version_core.specs.declared.change.Change.{Change}
 use Rattle.version_core.specs.declared.change.BaseVersion.{BaseVersion}
@@ -20,10 +21,11 @@ pub record IsVersion (version : BaseVersion) : Type 0 where
   pub number : version.number ≤ last_version
   pub rows : AreChanges version.rows
   pub few : (kind : Kind) → count_of kind (rows_of version.rows) ≤ row_limit
+  pub grants : AreGrants version.number version.grants
 
--- the version that a change leads to
+-- the version that a change leads to; the grants stay where the change has none
 abbrev pub after : BaseVersion → Change → BaseVersion
-after version change = record { number = change.version; moment = change.moment; rows = overlaid change_key version.rows change.rows }
+after version change = record { number = change.version; moment = change.moment; rows = overlaid change_key version.rows change.rows; grants = unwrap_or change.grants version.grants }
 
 -- a version, and those that changes lead to, one after another
 abbrev pub versions_from : BaseVersion → List Change → List BaseVersion
@@ -37,7 +39,7 @@ pub record Versions : Type 0 where
   pub room : Option ℕ
 
 abbrev pub empty_version : BaseVersion
-empty_version = record { number = 0; moment = pos 0; rows = [] }
+empty_version = record { number = 0; moment = pos 0; rows = []; grants = [] }
 
 -- the last item, or else the given one
 abbrev pub last_or : {X : Type 0} → X → List X → X

@@ -1,5 +1,6 @@
 -- A version, read from the base and the changes up to it.
-use Rattle.std.specs.Prelude.{ℤ, List, [], ◌∷◌, Option, Some, None}
+use Rattle.std.specs.Prelude.{ℤ, List, [], ◌∷◌, Option, Some, None, unwrap_or}
+use Rattle.version_core.specs.declared.grant_row.GrantRow.{GrantRow}
 use Rattle.version_core.specs.declared.row_change.RowChange.{RowChange}
 use Rattle.roster_types.specs.Keys.{key_cmp}
 use Rattle.version_core.specs.Order.{by_order, overlaid}
@@ -14,13 +15,18 @@ abbrev pub rows_after : List RowChange → List Change → List RowChange
 rows_after rows [] = rows
 rows_after rows (change ∷ changes) = rows_after (overlaid change_key rows change.rows) changes
 
+-- the grants of the last change that has any, or else the given ones
+abbrev pub grants_after : List GrantRow → List Change → List GrantRow
+grants_after grants [] = grants
+grants_after grants (change ∷ changes) = grants_after (unwrap_or change.grants grants) changes
+
 -- the moment of the last change, or else the given one
 abbrev pub moment_after : ℤ → List Change → ℤ
 moment_after moment [] = moment
 moment_after moment (change ∷ changes) = moment_after change.moment changes
 
 abbrev pub version_of : Inside → BaseVersion
-version_of view = record { number = view.version; moment = view.moment; rows = rows_after view.base.now view.changes.now }
+version_of view = record { number = view.version; moment = view.moment; rows = rows_after view.base.now view.changes.now; grants = view.grants.now }
 
 pub record IsView (view : Inside) : Type 0 where
   pub base : AreChanges view.base.now

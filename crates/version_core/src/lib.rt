@@ -3,8 +3,10 @@
 
 pub mod change;
 mod copies;
+pub mod grant_row;
 pub mod hub_tables;
-mod merge;
+pub mod mark;
+pub mod merge;
 pub mod row_change;
 pub mod sorted;
 pub mod sorted_rows;

@@ -1,21 +1,23 @@
 //! The versions that are kept.
 
-ghost use Rattle.std.specs.Prelude.{◌≡◌, pos, ◌+◌, ◌-◌, ◌≤◌, ◌∷◌, [], Some, None, IfOk, OnOk, OnErr, length, slice_get, vec_capacity, vec_len};
+ghost use Rattle.std.specs.Prelude.{◌≡◌, pos, ◌+◌, ◌-◌, ◌≤◌, ◌∷◌, [], Some, None, IfOk, OnOk, OnErr, length, slice_get, unwrap_or, vec_capacity, vec_len};
 ghost use Rattle.std.specs.Option.{IsSomeAnd};
 ghost use Rattle.version_core.specs.Order.{overlaid};
 ghost use Rattle.version_core.specs.Changes.{change_key, AreChanges};
 ghost use Rattle.version_core.specs.Table.{oldest_len};
 ghost use Rattle.version_core.specs.Tables.{AreTables};
-ghost use Rattle.version_core.specs.View.{moment_after};
+ghost use Rattle.version_core.specs.View.{grants_after, moment_after};
 ghost use Rattle.version_core.specs.Version.{Versions, IsVersion, after, empty_version, newest_of, oldest_of, versions_from, with_version};
 
 use crate::change::Change;
 use crate::copies::copied;
+use crate::grant_row::GrantRow;
 use crate::hub_tables::HubTables;
 use crate::merge::merge;
 use crate::row_change::RowChange;
+use crate::sorted_rows::SortedRows;
 use crate::view::VersionView;
-use roster_base::NoMemory;
+use roster_base::{Items, NoMemory, TryCopy};
 use roster_texts::Moment;
 use std::alloc::Global;
 use std::marker::Model;
@@ -31,6 +33,7 @@ pub struct Table {
     number: u64,
     moment: Moment,
     rows: Vec<RowChange>,
+    grants: Items<GrantRow>,
     changes: Vec<Change>,
     // Where a change and the rows are merged: empty, and its room is what `reserve` made.
     spare: Vec<RowChange>,
@@ -51,7 +54,7 @@ impl Model for Table {
 }
 
 impl Table {
-    /// The table of version 0 alone, which has no rows and the moment 0.
+    /// The table of version 0 alone, which has no rows, no grants and the moment 0.
     pub fn new(alloc: Global, keep: u64) -> Table
         ensures { result ≡ record { keep = keep; versions = empty_version ∷ []; room = None } }
     {
@@ -60,6 +63,7 @@ impl Table {
             number: 0,
             moment: first_moment(),
             rows: Vec::new(alloc),
+            grants: Items::new(alloc),
             changes: Vec::new(alloc),
             spare: Vec::new(alloc),
             room: None,
@@ -73,11 +77,13 @@ impl Table {
     {
         let changes = copied(alloc, &tables.changes)?;
         let rows = copied(alloc, tables.base.rows.as_slice())?;
+        let grants = tables.base.grants.copy(alloc)?;
         Ok(Table {
             keep: tables.keep as u64,
             number: tables.base.number,
             moment: tables.base.moment,
             rows,
+            grants,
             changes,
             spare: Vec::new(alloc),
             room: None,
@@ -107,7 +113,18 @@ impl Table {
     {
         let changes = &self.changes[..(version - self.number) as usize];
         let moment = moment_after(self.moment, changes);
-        VersionView::new(version, moment, &self.rows, changes)
+        let grants = grants_after(self.grants.as_slice(), changes);
+        VersionView::new(version, moment, &self.rows, changes, grants)
+    }
+
+    /// The newest version. No memory is taken.
+    pub fn newest_rows(&self) -> VersionView<'_>
+        ensures newest { result ≡ newest_of self.now }
+        ensures version { IsVersion (newest_of self.now) }
+    {
+        // Read for the table's invariant.
+        let _ = &self.keep;
+        self.rows_at(self.newest())
     }
 
     /// Makes room for a change of as many rows, so that `add` takes no memory.
@@ -140,7 +157,8 @@ impl Table {
         let oldest = self.changes.remove(0);
         self.number = oldest.version;
         self.moment = oldest.moment;
-        fold(&mut self.rows, oldest, &mut self.spare);
+        replace_grants(&mut self.grants, oldest.grants);
+        fold(&mut self.rows, oldest.rows, &mut self.spare);
     }
 }
 
@@ -165,6 +183,27 @@ fn moment_after(moment: Moment, changes: &[Change]) -> Moment
     changes[changes.len() - 1].moment
 }
 
+// The grants of a change, where it has any, or else those before it.
+fn grants_with<'a>(grants: &'a [GrantRow], change: &'a Change) -> &'a [GrantRow]
+    ensures { result.now ≡ unwrap_or change.now.grants grants.now }
+{
+    match &change.grants {
+        Some(replaced) => replaced.as_slice(),
+        None => grants,
+    }
+}
+
+// The grants of the last change that has any, or else the given ones.
+fn grants_after<'a>(base: &'a [GrantRow], changes: &'a [Change]) -> &'a [GrantRow]
+    ensures { result.now ≡ grants_after base.now changes.now }
+{
+    let mut grants = base;
+    for change in changes {
+        grants = grants_with(grants, change);
+    }
+    grants
+}
+
 // How many rows the oldest change has, once one of `added` rows is added.
 fn oldest_len(changes: &[Change], added: usize) -> usize
     ensures { result ≡ oldest_len changes.now added }
@@ -175,15 +214,24 @@ fn oldest_len(changes: &[Change], added: usize) -> usize
     }
 }
 
+// Puts the grants of a change, where it has any, in the place of those of the base.
+fn replace_grants(grants: &mut Items<GrantRow>, change: Option<Items<GrantRow>>)
+    ensures { grants.new ≡ unwrap_or change grants.old }
+{
+    if let Some(replaced) = change {
+        *grants = replaced;
+    }
+}
+
 // Merges a change into the rows of the base, through `spare`.
-fn fold(rows: &mut Vec<RowChange>, change: Change, spare: &mut Vec<RowChange>)
+fn fold(rows: &mut Vec<RowChange>, change: SortedRows, spare: &mut Vec<RowChange>)
     requires rows { AreChanges rows.old.items }
     requires spare { spare.old.items ≡ [] }
-    requires room { vec_len rows.old + length change.rows ≤ vec_capacity spare.old }
-    ensures rows { rows.new.items ≡ overlaid change_key rows.old.items change.rows }
+    requires room { vec_len rows.old + length change ≤ vec_capacity spare.old }
+    ensures rows { rows.new.items ≡ overlaid change_key rows.old.items change }
     ensures spare { spare.new.items ≡ [] }
 {
-    let mut changes = change.rows.into_vec();
+    let mut changes = change.into_vec();
     merge(rows, &mut changes, spare);
     swap(rows, spare);
 }

@@ -8,6 +8,7 @@ ghost use Rattle.version_core.specs.View.{rows_after, moment_after, earlier};
 ghost use Rattle.version_core.specs.Version.{IsVersion, row_limit};
 
 use crate::change::Change;
+use crate::grant_row::GrantRow;
 use crate::row_change::RowChange;
 use crate::sorted::{compare, following, found};
 use roster_texts::{Id, Moment};
@@ -18,13 +19,14 @@ use roster_values::Kind;
 use std::cmp::Ordering;
 use std::marker::Model;
 
-/// One version of a table: a base, read through the changes up to the version. No call takes memory. A clause sees the version.
+/// One version of a table: a base, read through the changes up to the version, and its grants. No call takes memory. A clause sees the version.
 #[derive(Drop)]
 pub struct VersionView<'a> {
     version: u64,
     moment: Moment,
     base: &'a [RowChange],
     changes: &'a [Change],
+    grants: &'a [GrantRow],
 }
 
 impl<'a> Model for VersionView<'a> {
@@ -60,8 +62,11 @@ fn found_after<'a>(
     found(base, kind, id)
 }
 
-// The one that comes first, and the change where both have one kind and id.
-fn earlier<'a>(change: Option<&'a RowChange>, row: Option<&'a RowChange>) -> Option<&'a RowChange>
+/// The one that comes first, and the change where both have one kind and id.
+pub fn earlier<'a>(
+    change: Option<&'a RowChange>,
+    row: Option<&'a RowChange>,
+) -> Option<&'a RowChange>
     ensures { option_copied result ≡ earlier (option_copied change.entry) (option_copied row.entry) }
 {
     match (change, row) {
@@ -110,22 +115,24 @@ fn count_after(base: &[RowChange], changes: &[Change], kind: Kind) -> u64
 }
 
 impl<'a> VersionView<'a> {
-    /// The version that these changes lead to.
+    /// The version that these changes lead to, with these grants.
     pub(crate) fn new(
         version: u64,
         moment: Moment,
         base: &'a [RowChange],
         changes: &'a [Change],
+        grants: &'a [GrantRow],
     ) -> VersionView<'a>
         requires base { AreChanges base.now }
-        requires version { IsVersion (record { number = version; moment = moment; rows = rows_after base.now changes.now }) }
-        ensures { result ≡ record { number = version; moment = moment; rows = rows_after base.now changes.now } }
+        requires version { IsVersion (record { number = version; moment = moment; rows = rows_after base.now changes.now; grants = grants.now }) }
+        ensures { result ≡ record { number = version; moment = moment; rows = rows_after base.now changes.now; grants = grants.now } }
     {
         VersionView {
             version,
             moment,
             base,
             changes,
+            grants,
         }
     }
 

@@ -1,6 +1,5 @@
 use Rattle.std.proofs.Common.{◌≡◌, ◌+◌, ◌≤◌, List, [], ◌∷◌, ◌++◌, None, length, get_or, vec_len, sym, ap, subst, ◌∙◌, length-append, arith, rules}
 use Rattle.std.specs.List.{AllByRecursion, remove}
-use Rattle.version_core.specs.declared.row_change.RowChange.{RowChange}
 use Rattle.version_core.specs.Changes.{AreChanges}
 use Rattle.version_core.specs.declared.change.Change.{Change}
 use Rattle.version_core.specs.declared.table.Table.TheInside.{Inside}
@@ -69,7 +68,7 @@ invariant_of-self-2 c =
     let changes = subst (AllByRecursion (λ change. AreChanges change.rows)) parts (AllByRecursion-push (λ change. AreChanges change.rows) table.changes.items c.args.change c.self.invariant.changes c.requires.changes) in
     let lead = subst (LeadOn table.number) parts (pushed_lead table c.self.invariant c.args.change next) in
     record {
-      versions = subst (λ rows. AllByRecursion IsVersion (versions_from (record { number = oldest.version; moment = oldest.moment; rows = rows }) rest)) (sym c.fold.ensures.rows) versions.1;
+      versions = subst (λ base. AllByRecursion IsVersion (versions_from base rest)) (λ i. record { number = oldest.version; moment = oldest.moment; rows = sym c.fold.ensures.rows i; grants = sym c.replace_grants.ensures i }) versions.1;
       changes = changes.1;
       lead = lead.1;
       few = omega (arith, c.remove-oldest.ensures.len, c.push_reserved.ensures.len, c.self.invariant.few);
@@ -85,5 +84,5 @@ returns c =
     let rest = c.remove-oldest.new.self.items in
     let parts = split table c.args.change oldest c.push_reserved.new.self.items rest c.push_reserved.ensures.items c.remove-oldest.ensures.value c.remove-oldest.ensures.items in
     let len : vec_len table.changes ≡ length table.changes.items = search rules in
-    rw (← c.self.view_is) (ap (λ (rows : List RowChange). record { keep = table.keep; versions = versions_from (record { number = oldest.version; moment = oldest.moment; rows = rows }) rest; room = None }) c.fold.ensures.rows
+    rw (← c.self.view_is) ((λ i. record { keep = table.keep; versions = versions_from (record { number = oldest.version; moment = oldest.moment; rows = c.fold.ensures.rows i; grants = c.replace_grants.ensures i }) rest; room = None })
     ∙ sym (with_version-folded empty_version (base_of table) table.changes.items c.args.change table.keep table.room oldest rest (omega (arith, len, c.push_reserved.ensures.len, c.self.invariant.few, c.if-len-self.false, c.len.ensures)) parts))

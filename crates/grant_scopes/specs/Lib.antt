@@ -1,0 +1,2 @@
+pub mod Schools
+pub mod Scopes

@@ -1,0 +1,59 @@
+//! Sets of scope words.
+
+ghost use Rattle.std.specs.Prelude.{◌≡◌, ◌<◌, ℕ};
+ghost use Rattle.grant_scopes.specs.Scopes.{scopes_of};
+
+use roster_base::{NoMemory, Same, TryCopy};
+use std::alloc::Global;
+use std::marker::Model;
+
+/// A set of the seven scope words of OneRoster 1.1, one bit each. From bit 0 they are `roster.readonly`,
+/// `roster-core.readonly`, `roster-demographics.readonly`, `gradebook.readonly`, `gradebook.createput`, `gradebook.delete`
+/// and `resource.readonly`. A clause sees the bits as a number.
+#[derive(Clone, Copy)]
+pub struct Scopes {
+    bits: u8,
+}
+
+impl Model for Scopes {
+    ghost Value = { ℕ };
+
+    ghost view = { λ s. s.bits };
+
+    ghost invariant = { λ s. s.bits < 128 };
+
+    ghost inverse = { λ n. record { bits = n } };
+}
+
+impl Scopes {
+    /// The set of these bits, if there is no eighth.
+    pub fn from_bits(bits: u8) -> Option<Scopes>
+        ensures { result ≡ scopes_of bits }
+    {
+        if bits < 128 {
+            Some(Scopes { bits })
+        } else {
+            None
+        }
+    }
+
+    /// The bits of the set.
+    pub fn bits(self) -> u8
+        ensures bits { result ≡ self }
+        ensures seven { result < 128 }
+    {
+        self.bits
+    }
+}
+
+impl TryCopy for Scopes {
+    fn copy(&self, _: Global) -> Result<Scopes, NoMemory> {
+        Ok(*self)
+    }
+}
+
+impl Same for Scopes {
+    fn is_same(&self, other: &Scopes) -> bool {
+        self.bits() == other.bits()
+    }
+}

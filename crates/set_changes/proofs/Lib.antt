@@ -1,0 +1,9 @@
+mod Answering
+mod Collecting
+mod CountLemmas
+mod IndexLemmas
+mod ListedLemmas
+mod LookUps
+mod MarkLemmas
+mod Outcomes
+mod RefusalLemmas

@@ -1,0 +1,16 @@
+//! What a set that a feed publishes makes of the newest version.
+#![tactic(auto)]
+
+mod draft;
+mod index;
+pub mod laws;
+mod listed;
+mod marks;
+pub mod publish;
+pub mod publish_fault;
+mod refusals;
+#[cfg(test)]
+mod tests;
+
+pub use publish::set_change;
+pub use publish_fault::PublishFault;

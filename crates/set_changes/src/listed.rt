@@ -1,0 +1,102 @@
+//! What listed rows change.
+
+ghost use Rattle.std.specs.Prelude.{◌≡◌, IfOk, OnOk, option_copied};
+ghost use Rattle.std.specs.Bool.{Decides};
+ghost use Rattle.roster_types.specs.Keys.{Ascends, Key, look_up};
+ghost use Rattle.set_changes.specs.Applying.{is_own, set_key};
+ghost use Rattle.set_changes.specs.Steps.{IsListedChange, Leaves, ListedChangeAt, stored_as, with_change};
+ghost use Rattle.version_core.specs.Changes.{change_key};
+
+use crate::index::Listed;
+use roster_base::{NoMemory, Same, TryCopy};
+use roster_texts::{Moment, Name};
+use roster_types::owner::Owner;
+use roster_types::set_row::SetRow;
+use std::alloc::Global;
+use version_core::row_change::RowChange;
+use version_core::sorted_rows::SortedRows;
+use version_core::view::VersionView;
+
+/// Whether an owner is this feed.
+pub fn is_own(feed: &Name, owner: &Owner) -> bool
+    ensures { result ≡ is_own feed.now owner.now }
+{
+    match owner {
+        Owner::Feed(name) => name.as_str() == feed.as_str(),
+        Owner::Caller(_) => false,
+    }
+}
+
+// Whether a listed row leaves what stands under its kind and id.
+fn leaves(feed: &Name, listed: &SetRow, stored: &RowChange) -> bool
+    ensures { Decides result (Leaves feed.now listed.now.dated listed.now.row stored.now) }
+{
+    if listed.dated {
+        return is_own(feed, &stored.owner) && listed.row.is_same(&stored.row);
+    }
+    listed.row.is_same_but_date(&stored.row)
+}
+
+// A listed row as it is stored where it doesn't leave what stands.
+fn stored_as(alloc: Global, feed: &Name, listed: &SetRow, at: Moment) -> Result<RowChange, NoMemory>
+    ensures { IfOk result (λ change. change ≡ stored_as feed.now at listed.now) }
+{
+    // The owner first, so that no row is dropped where memory runs out.
+    let owner = Owner::Feed(feed.copy(alloc)?);
+    let row = listed.row.copy(alloc)?;
+    if listed.dated {
+        return Ok(RowChange { row, owner });
+    }
+    let row = row.dated(at);
+    Ok(RowChange { row, owner })
+}
+
+// The change that a listed row is, or nothing where it leaves what stands.
+fn listed_change(
+    alloc: Global,
+    feed: &Name,
+    listed: &SetRow,
+    stored: Option<&RowChange>,
+    at: Moment,
+) -> Result<Option<RowChange>, NoMemory>
+    ensures { IfOk result (IsListedChange feed.now at listed.now (option_copied stored.entry)) }
+{
+    if let Some(stored) = stored {
+        if leaves(feed, listed, stored) {
+            return Ok(None);
+        }
+    }
+    let change = stored_as(alloc, feed, listed, at)?;
+    Ok(Some(change))
+}
+
+// Puts a change in its place, where there is one.
+fn add_change(changes: &mut SortedRows, change: Option<RowChange>) -> Result<(), NoMemory>
+    ensures { OnOk result (changes.new ≡ with_change change changes.old) }
+{
+    match change {
+        Some(change) => changes.put(change),
+        None => Ok(()),
+    }
+}
+
+/// What the rows of a set change, in the order of kinds and ids.
+pub fn listed_changes(
+    alloc: Global,
+    view: &VersionView,
+    feed: &Name,
+    index: &[Listed],
+    at: Moment,
+) -> Result<SortedRows, NoMemory>
+    requires { Ascends set_key index.now }
+    ensures { IfOk result (λ changes. (k : Key) → ListedChangeAt feed.now at (look_up set_key k index.now) (look_up change_key k view.now.rows) (look_up change_key k changes)) }
+{
+    let mut changes = SortedRows::new(alloc);
+    for listed in index {
+        let row = &listed.get().row;
+        let stored = view.change(row.kind(), row.id());
+        let change = listed_change(alloc, feed, listed.get(), stored, at)?;
+        add_change(&mut changes, change)?;
+    }
+    Ok(changes)
+}

@@ -1,0 +1,128 @@
+//! Rows that a set leaves out.
+
+ghost use Rattle.std.specs.Prelude.{◌≡◌, ◌++◌, IfOk, OnOk, Some, filter, option_to_list};
+ghost use Rattle.roster_types.specs.Keys.{Ascends, Key, is_of_kind, look_up};
+ghost use Rattle.set_changes.specs.Applying.{is_active, is_bulk, is_left_out, is_whole, set_key};
+ghost use Rattle.set_changes.specs.Steps.{mark_at, mark_of, marks_of};
+ghost use Rattle.version_core.specs.Changes.{AreChanges, change_key, rows_of};
+
+use crate::index::{Listed, is_listed};
+use crate::listed::is_own;
+use roster_base::{NoMemory, TryCopy};
+use roster_texts::Moment;
+use roster_types::set::{RosterSet, SetPart};
+use roster_types::status::Status;
+use roster_values::{Kind, Mode};
+use std::alloc::Global;
+use version_core::row_change::RowChange;
+use version_core::view::VersionView;
+
+fn is_bulk(mode: Mode) -> bool
+    ensures { result ≡ is_bulk mode }
+{
+    match mode {
+        Mode::Bulk => true,
+        Mode::Delta => false,
+    }
+}
+
+fn is_active(status: Status) -> bool
+    ensures { result ≡ is_active status }
+{
+    match status {
+        Status::Active => true,
+        Status::ToBeDeleted => false,
+    }
+}
+
+// Whether a part lists all rows that the feed has of the kind.
+fn is_whole(parts: &[SetPart], kind: Kind) -> bool
+    ensures { result ≡ is_whole parts.now kind }
+{
+    parts.iter().any(|part| part.kind.place() == kind.place() && is_bulk(part.mode))
+}
+
+fn is_left_out(set: &RosterSet, stored: &RowChange) -> bool
+    ensures { result ≡ is_left_out set.now stored.now }
+{
+    is_whole(set.parts(), stored.row.kind())
+        && is_own(set.feed(), &stored.owner)
+        && is_active(stored.row.status())
+}
+
+// The mark of a stored row, where it is left out.
+fn mark_of(
+    alloc: Global,
+    set: &RosterSet,
+    index: &[Listed],
+    stored: &RowChange,
+    at: Moment,
+) -> Result<Option<RowChange>, NoMemory>
+    requires { Ascends set_key index.now }
+    ensures { IfOk result (λ mark. mark ≡ mark_of set.now at (look_up set_key (change_key stored.now) index.now) stored.now) }
+{
+    if is_listed(index, stored.row.kind(), stored.row.id()) {
+        return Ok(None);
+    }
+    if !is_left_out(set, stored) {
+        return Ok(None);
+    }
+    // The owner first, so that no row is dropped where memory runs out.
+    let owner = stored.owner.copy(alloc)?;
+    let row = stored.row.copy(alloc)?;
+    let row = row.marked(at);
+    Ok(Some(RowChange { row, owner }))
+}
+
+// Adds a mark, where there is one.
+fn add_mark(marks: &mut Vec<RowChange>, mark: Option<RowChange>) -> Result<(), NoMemory>
+    ensures { OnOk result (marks.new.items ≡ marks.old.items ++ option_to_list mark) }
+{
+    match mark {
+        Some(mark) => Ok(marks.push(mark)?),
+        None => Ok(()),
+    }
+}
+
+// Adds the marks of the rows of one kind.
+fn add_marks(
+    alloc: Global,
+    view: &VersionView,
+    set: &RosterSet,
+    index: &[Listed],
+    at: Moment,
+    kind: Kind,
+    marks: &mut Vec<RowChange>,
+) -> Result<(), NoMemory>
+    requires { Ascends set_key index.now }
+    ensures { OnOk result (marks.new.items ≡ marks.old.items ++ marks_of set.now at index.now view.now.rows (filter (is_of_kind kind) (rows_of view.now.rows))) }
+{
+    let mut after = None;
+    while let Some(stored) = view.next_change(kind, after) {
+        let mark = mark_of(alloc, set, index, stored, at)?;
+        add_mark(marks, mark)?;
+        after = Some(stored.row.id());
+    }
+    Ok(())
+}
+
+/// The marks of the rows that a set leaves out, in the order of kinds and ids.
+pub fn marks_of(
+    alloc: Global,
+    view: &VersionView,
+    set: &RosterSet,
+    index: &[Listed],
+    at: Moment,
+) -> Result<Vec<RowChange>, NoMemory>
+    requires { Ascends set_key index.now }
+    ensures order { IfOk result (λ v. AreChanges v.items) }
+    ensures marks { IfOk result (λ v. (k : Key) → look_up change_key k v.items ≡ mark_at set.now at index.now view.now.rows k) }
+{
+    let mut marks = Vec::new(alloc);
+    for kind in Kind::ALL {
+        add_marks(alloc, view, set, index, at, kind, &mut marks)?;
+    }
+    // Asked for its clause `sorted`.
+    let _ = view.next_change(Kind::Orgs, None);
+    Ok(marks)
+}

@@ -1,0 +1,96 @@
+//! Sets applied to the newest version.
+
+ghost use Rattle.std.specs.Prelude.{IfOk, ◌≡◌, ◌≤◌, None};
+ghost use Rattle.std.specs.Option.{ForSome};
+ghost use Rattle.roster_types.specs.Keys.{Key, look_up};
+ghost use Rattle.set_changes.specs.Applying.{Answers, LeadsOn, rows_in, set_key};
+ghost use Rattle.set_changes.specs.Steps.{ChangesAt};
+ghost use Rattle.version_core.specs.Changes.{AreChanges, change_key};
+ghost use Rattle.version_core.specs.Order.{overlaid};
+ghost use Rattle.version_core.specs.Version.{newest_of};
+
+use crate::draft::Draft;
+use crate::index::index_of;
+use crate::listed::listed_changes;
+use crate::marks::marks_of;
+use crate::publish_fault::PublishFault;
+use crate::refusals::{owned_by_other, refusal_of};
+use roster_base::{NoMemory, Refusal};
+use roster_texts::Moment;
+use roster_types::set::RosterSet;
+use std::alloc::Global;
+use version_core::change::Change;
+use version_core::merge::merge;
+use version_core::row_change::RowChange;
+use version_core::sorted_rows::SortedRows;
+use version_core::table::Table;
+use version_core::view::VersionView;
+
+/// The greatest number of a version.
+const LAST_VERSION: u64 = 1_000_000_000_000_000;
+
+// Marks with the changes of listed rows over them.
+fn merged(alloc: Global, marks: Vec<RowChange>, listed: SortedRows) -> Result<SortedRows, NoMemory>
+    requires { AreChanges marks.items }
+    ensures { IfOk result (λ v. v ≡ overlaid change_key marks.items listed) }
+{
+    let mut marks = marks;
+    let mut listed = listed.into_vec();
+    let mut changes = Vec::new(alloc);
+    let room = marks.len().checked_add(listed.len()).ok_or(NoMemory)?;
+    changes.reserve(room)?;
+    merge(&mut marks, &mut listed, &mut changes);
+    Ok(SortedRows::from_vec(changes))
+}
+
+// The rows that a set changes, each as it becomes.
+fn changed_rows(
+    alloc: Global,
+    view: &VersionView,
+    set: &RosterSet,
+    at: Moment,
+) -> Result<SortedRows, NoMemory>
+    ensures { IfOk result (λ changes. (k : Key) → ChangesAt set.now at (look_up set_key k (rows_in set.now)) (look_up change_key k view.now.rows) (look_up change_key k changes)) }
+{
+    let index = index_of(alloc, set)?;
+    let marks = marks_of(alloc, view, set, &index, at)?;
+    let listed = listed_changes(alloc, view, set.feed(), &index, at)?;
+    merged(alloc, marks, listed)
+}
+
+/// What a set makes of the newest version of a table, where it is published at a moment: the change to the next version,
+/// or nothing where no row changes. Its faults are those of `PublishFault`, the first of them.
+pub fn set_change(
+    alloc: Global,
+    table: &Table,
+    set: &RosterSet,
+    at: Moment,
+) -> Result<Option<Change>, Refusal<PublishFault>>
+    ensures change { Answers (newest_of table.now) set.now at result }
+    ensures next { IfOk result (λ change. ForSome change (LeadsOn (newest_of table.now))) }
+{
+    let view = table.newest_rows();
+    let rows = changed_rows(alloc, &view, set, at)?;
+    let draft = Draft {
+        view: &view,
+        changes: &rows,
+    };
+    if let Some(fault) = owned_by_other(alloc, &view, set)? {
+        return Err(Refusal::Fault(fault));
+    }
+    if let Some(fault) = refusal_of(alloc, &draft)? {
+        return Err(Refusal::Fault(fault));
+    }
+    if rows.as_slice().is_empty() {
+        return Ok(None);
+    }
+    if table.newest() == LAST_VERSION {
+        return Err(Refusal::Fault(PublishFault::LastVersion));
+    }
+    Ok(Some(Change {
+        version: table.newest() + 1,
+        moment: at,
+        rows,
+        grants: None,
+    }))
+}
