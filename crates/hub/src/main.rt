@@ -2,7 +2,7 @@
 #![tactic(auto)]
 
 use hub_cli::lines::NO_MEMORY;
-use hub_cli::{print, run_hub, split_words};
+use hub_cli::{Parsed, print, run_hub, split_words};
 use outside_ports::{DirFolder, IoSink, Sink, SystemClock};
 use roster_base::{NoMemory, Refusal};
 use std::alloc::Global;
@@ -48,10 +48,14 @@ fn answer_unread(error: &io::Error, out: &mut impl Sink) -> u8 {
 // The root folder: the one that the words name, and else the working folder.
 fn root(alloc: Global, words: &[String]) -> Result<String, NoMemory> {
     match split_words(alloc, words) {
-        Ok(parsed) => match parsed.folder {
-            Some(folder) => Ok(folder.into_string()),
-            None => Ok(String::new(alloc)),
-        },
+        Ok(parsed) => {
+            let Parsed { folder, command } = parsed;
+            drop(command);
+            match folder {
+                Some(folder) => Ok(folder.into_string()),
+                None => Ok(String::new(alloc)),
+            }
+        }
         Err(Refusal::Fault(_)) => Ok(String::new(alloc)),
         Err(Refusal::NoMemory) => Err(NoMemory),
     }
