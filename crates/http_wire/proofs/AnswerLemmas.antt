@@ -1,10 +1,11 @@
 -- The text of one reply, and bytes that are none.
-use Rattle.std.proofs.Common.{◌≡◌, ◌≤◌, ℕ, ◌+◌, ◌-◌, min, List, [], ◌∷◌, ◌++◌, length, take, drop, map, Bool, true, false, Ok, Err, if◌then◌else◌, nat_lt, refl, sym, ap, ◌∙◌, subst, arith, append_assoc, length-append}
+use Rattle.std.proofs.Common.{◌≡◌, ◌<◌, ◌≤◌, inl, inr, ℕ, ◌+◌, ◌-◌, min, List, [], ◌∷◌, ◌++◌, length, take, drop, map, Bool, true, false, Ok, Err, if◌then◌else◌, nat_lt, refl, sym, ap, ◌∙◌, subst, arith, append_assoc, length-append}
 use Rattle.std.specs.Prelude.{◌≢◌}
-use Rattle.std.proofs.lemmas.List.{take-append-drop, length-take, length-map}
+use Rattle.std.proofs.lemmas.Grind.{common_steps}
+use Rattle.std.proofs.lemmas.List.{take-append-drop, take_all, length-take, length-map}
 use Rattle.std.proofs.lemmas.List.Elements.{All-weaker}
 use Rattle.std.proofs.Math.Seq.{drop-append_seam, take-append-add}
-use Rattle.httparse.specs.Grammar.{ResponseHead, HasNoResponse, NeverHasResponse, print_response}
+use Rattle.httparse.specs.Grammar.{ResponseHead, HasNoResponse, MayBecomeResponse, NeverHasResponse, print_response}
 use Rattle.httparse.specs.Spans.{IsHeaderWithin, IsResponseOf, IsResponseWithin, ResponseOverflows, header_bytes, name_and_value}
 use Rattle.httparse.specs.declared.Error.{Error}
 use Rattle.httparse.specs.declared.Error.TheVariants.{HeaderName, HeaderValue, NewLine, Status, Token, TooManyHeaders, Version}
@@ -16,7 +17,7 @@ use Rattle.http_wire.specs.declared.fault.WireFault.TheVariants as fault
 use Rattle.http_wire.specs.declared.answer.WireReply.{WireReply}
 use Rattle.http_wire.specs.Heads.{length_of, max_fields}
 use Rattle.http_wire.specs.Reading.{end_fault, refusal_of}
-use Rattle.http_wire.specs.Answers.{FindsAnswer, HasAnswerHead, IsNoReply, IsReplyText, Refuses, Told, answered, max_reply_body, max_reply_head, missing_length, part_fault, told_at, told_by, told_length}
+use Rattle.http_wire.specs.Answers.{FindsAnswer, HasAnswerHead, IsNoReply, IsReplyText, Refuses, StatesFault, Told, answered, max_reply_body, max_reply_head, missing_length, part_fault, told_at, told_by, told_length}
 use Rattle.http_wire.proofs.FrontLemmas.{IsLengthFault, front_whole, length_fault}
 
 -- ---- the head
@@ -65,27 +66,45 @@ other_length {bytes} {front} {spans} {fields} n found is differs reply (k, answe
     let states : told_length (told_by h) ≡ Ok n = ap told_length same ∙ is in
     let count : n ≡ length reply.body = cc in differs (ap length rest ∙ sym count)
 
-refuses_length : (e : WireFault) (bytes : List ℕ) → IsLengthFault e → IsNoReply bytes → Refuses e bytes
-refuses_length fault.End bytes is none = absurd is
-refuses_length fault.Cut bytes is none = none
-refuses_length fault.Head bytes is none = absurd is
-refuses_length fault.HeadTooLong bytes is none = none
-refuses_length fault.Length bytes is none = none
-refuses_length fault.BodyTooLong bytes is none = none
-refuses_length fault.Chunked bytes is none = none
-refuses_length fault.Source bytes is none = is
-refuses_length fault.NoMemory bytes is none = tt
+-- fewer bytes than the head states
+pub fewer_bytes : {bytes front : List ℕ} {spans : ResponseSpans} {fields : List HeaderSpan} (n : ℕ) → FindsAnswer bytes front spans fields
+    → length_of max_reply_body (missing_length spans.code) (map (header_bytes front) fields) ≡ Ok n → length (drop spans.len bytes) < n → Refuses fault.Cut bytes
+fewer_bytes {bytes} {front} {spans} {fields} n found is less =
+    let (h, head, same) = found.some in (
+      other_length n found is (λ (same : length (drop spans.len bytes) ≡ n). absurd (omega arith)),
+      inr (h, drop spans.len bytes, n, head, ap told_length same ∙ is, less),
+    )
+
+-- more bytes than the head states
+pub more_bytes : {bytes front : List ℕ} {spans : ResponseSpans} {fields : List HeaderSpan} (n : ℕ) → FindsAnswer bytes front spans fields
+    → length_of max_reply_body (missing_length spans.code) (map (header_bytes front) fields) ≡ Ok n → n < length (drop spans.len bytes) → Refuses fault.Length bytes
+more_bytes {bytes} {front} {spans} {fields} n found is more =
+    let (h, head, same) = found.some in (
+      other_length n found is (λ (same : length (drop spans.len bytes) ≡ n). absurd (omega arith)),
+      inr (h, drop spans.len bytes, n, head, ap told_length same ∙ is, more),
+    )
+
+refuses_length : (e : WireFault) (bytes : List ℕ) → IsLengthFault e → IsNoReply bytes → StatesFault e bytes → Refuses e bytes
+refuses_length fault.End bytes is none states = absurd is
+refuses_length fault.Cut bytes is none states = absurd is
+refuses_length fault.Head bytes is none states = absurd is
+refuses_length fault.HeadTooLong bytes is none states = absurd is
+refuses_length fault.Length bytes is none states = (none, inl states)
+refuses_length fault.BodyTooLong bytes is none states = (none, states)
+refuses_length fault.Chunked bytes is none states = (none, states)
+refuses_length fault.Source bytes is none states = absurd is
+refuses_length fault.NoMemory bytes is none states = tt
 
 -- the head states a length with a fault
 pub faulty : {bytes front : List ℕ} {spans : ResponseSpans} {fields : List HeaderSpan} (e : WireFault) → FindsAnswer bytes front spans fields
     → length_of max_reply_body (missing_length spans.code) (map (header_bytes front) fields) ≡ Err e → Refuses e bytes
 faulty {bytes} {front} {spans} {fields} e found is =
-    let none : IsNoReply bytes = λ reply (k, answer).
     let (h, head, same) = found.some in
+    let states : told_length (told_by h) ≡ Err e = ap told_length same ∙ is in
+    let none : IsNoReply bytes = λ reply (k, answer).
     let (heads, rest) = only_head h k head answer.head in
-    let lengths : told_length (told_by h) ≡ Ok (length reply.body) = ap (λ (h : ResponseHead). told_length (told_by h)) heads ∙ answer.length_is in
-    let states : told_length (told_by h) ≡ Err e = ap told_length same ∙ is in cc in
-    refuses_length e bytes (length_fault max_reply_body (missing_length spans.code) _ e is) none
+    let lengths : told_length (told_by h) ≡ Ok (length reply.body) = ap (λ (h : ResponseHead). told_length (told_by h)) heads ∙ answer.length_is in cc in
+    refuses_length e bytes (length_fault max_reply_body (missing_length spans.code) _ e is) none (h, drop spans.len bytes, head, states)
 
 body_of_answered : (told : Told) (body : List ℕ) → (answered told body).body ≡ body
 unfolding answered
@@ -115,25 +134,41 @@ none_in_front m bytes is none reply (h, answer) =
     none h (take (m - length (print_response h)) reply.body)
     (answer.head.reads.0, ap (take m) answer.head.reads.1 ∙ ap (λ (k : ℕ). take k (print_response h ++ reply.body)) split ∙ take-append-add (print_response h) reply.body (m - length (print_response h)))
 
-never_in_front : (m : ℕ) (bytes : List ℕ) → NeverHasResponse (take m bytes) → NeverHasResponse bytes × IsNoReply bytes
+never_in_front : (m : ℕ) (bytes : List ℕ) → NeverHasResponse (take m bytes) → IsNoReply bytes × NeverHasResponse bytes
 never_in_front m bytes never = (
-  (λ more h rest x. never (drop m bytes ++ more) h rest (x.0, sym (front_whole m bytes more) ∙ x.1)),
   (λ reply (h, answer). never (drop m bytes) h reply.body (answer.head.reads.0, take-append-drop m bytes ∙ answer.head.reads.1)),
+  (λ more h rest x. never (drop m bytes ++ more) h rest (x.0, sym (front_whole m bytes more) ∙ x.1)),
 )
 
-pub part_refused : (bytes : List ℕ) → IsNoReply bytes → Refuses (part_fault bytes) bytes
-part_refused bytes none = by (nat_lt (length bytes) max_reply_head) bytes none
+-- the first bytes are all, or as many as a head may have
+pub part_refused : (m : ℕ) (bytes : List ℕ) → m ≡ min (length bytes) max_reply_head → HasNoResponse (take m bytes) → MayBecomeResponse (take m bytes)
+    → Refuses (part_fault bytes) bytes
+part_refused m bytes is none may = by (nat_lt (length bytes) max_reply_head) bytes refl is none may (none_in_front m bytes is none)
   where
-    by : (short : Bool) (bytes : List ℕ) → IsNoReply bytes → Refuses (if short then end_fault bytes else fault.HeadTooLong) bytes
-    by true [] none = (refl, none)
-    by true (b ∷ bytes) none = none
-    by false bytes none = none
+    by : (short : Bool) (bytes : List ℕ) → nat_lt (length bytes) max_reply_head ≡ short → m ≡ min (length bytes) max_reply_head
+        → HasNoResponse (take m bytes) → MayBecomeResponse (take m bytes) → IsNoReply bytes
+        → Refuses (if short then end_fault bytes else fault.HeadTooLong) bytes
+    by true [] test is none may no_reply = (no_reply, refl)
+    by true (b ∷ bytes) test is none may no_reply =
+        let less : length (b ∷ bytes) < max_reply_head = grind (arith, common_steps) in
+        let all : take m (b ∷ bytes) ≡ b ∷ bytes = take_all m (b ∷ bytes) (omega arith) in
+        (no_reply, inl (record { some = omega arith; short = less; none = subst HasNoResponse all none; begun = subst MayBecomeResponse all may }))
+    by false bytes test is none may no_reply =
+        let long : max_reply_head ≤ length bytes = grind (arith, common_steps) in
+        let same : m ≡ max_reply_head = omega arith in
+        (no_reply, inl (long, subst (λ (k : ℕ). HasNoResponse (take k bytes)) same none))
+
+overflows_from_front : (m : ℕ) (bytes : List ℕ) → ResponseOverflows max_fields (take m bytes) → ResponseOverflows max_fields bytes
+overflows_from_front m bytes over more h rest x = over (drop m bytes ++ more) h rest (x.0, sym (front_whole m bytes more) ∙ x.1)
 
 -- what the parser refused is no reply
 pub head_refused : (m : ℕ) (bytes : List ℕ) (e : Error) → (e ≢ TooManyHeaders → NeverHasResponse (take m bytes)) → ResponseOverflows max_fields (take m bytes)
     → Refuses (refusal_of e) bytes
-head_refused m bytes TooManyHeaders never over = λ reply (h, answer).
-    let many = over (drop m bytes) h reply.body (answer.head.reads.0, take-append-drop m bytes ∙ answer.head.reads.1) in absurd (omega (arith, answer.head.few))
+head_refused m bytes TooManyHeaders never over = (
+  (λ reply (h, answer).
+      let many = over (drop m bytes) h reply.body (answer.head.reads.0, take-append-drop m bytes ∙ answer.head.reads.1) in absurd (omega (arith, answer.head.few))),
+  inr (overflows_from_front m bytes over),
+)
 head_refused m bytes HeaderName never over = never_in_front m bytes (never (λ (same : HeaderName ≡ TooManyHeaders). cc))
 head_refused m bytes HeaderValue never over = never_in_front m bytes (never (λ (same : HeaderValue ≡ TooManyHeaders). cc))
 head_refused m bytes NewLine never over = never_in_front m bytes (never (λ (same : NewLine ≡ TooManyHeaders). cc))

@@ -1,25 +1,36 @@
 -- Requests, one behind the other.
-use Rattle.std.proofs.Common.{◌≡◌, ℕ, List, [], ◌∷◌, ◌++◌, Bool, true, false, Option, Some, None, Ok, Err, refl, sym, ap, ◌∙◌, subst}
-use Rattle.std.specs.Prelude.{MatchBool, ⊤}
+use Rattle.std.proofs.Common.{◌≡◌, ℕ, List, [], ◌∷◌, ◌++◌, Bool, true, false, Option, Some, None, Ok, Err, refl, sym, ◌∙◌, subst}
+use Rattle.std.specs.Prelude.{MatchBool, MatchOption, ⊤}
 use Rattle.std.proofs.lemmas.List.{append-nil}
 use Rattle.status_info.specs.declared.request.Request.{Request}
 use Rattle.http_wire.specs.declared.fault.WireFault.{WireFault}
 use Rattle.http_wire.specs.Lasting.{lasting}
-use Rattle.http_wire.specs.Reading.{AreRequests, HasRead, OnStream}
+use Rattle.http_wire.specs.Reading.{AreFirst, AreRequests, BeginsWith, Fails, FailsAgain, HasRead, Held, OnStream}
 
--- done are the first requests of the stream, and the others stand in what is left
+-- done are the first requests of a known stream
 abbrev pub Continues : Option (List ℕ) → Option (List ℕ) → List Request → Type 0
 Continues None now done = ⊤
 Continues (Some stream) None done = ⊥
-Continues (Some stream) (Some left) done = (more : List Request) (rest : List ℕ) → AreRequests left more rest → AreRequests stream (done ++ more) rest
+Continues (Some stream) (Some left) done = AreFirst stream done left
 
 pub continues_none : (stream : Option (List ℕ)) → Continues stream stream []
 continues_none None = tt
-continues_none (Some stream) = λ more rest are. are
+continues_none (Some stream) = refl
 
-one_behind : (xs : List Request) (r : Request) (more : List Request) → xs ++ (r ∷ more) ≡ (xs ++ r ∷ []) ++ more
-one_behind [] r more = refl
-one_behind (x ∷ xs) r more = ap (λ (ys : List Request). x ∷ ys) (one_behind xs r more)
+-- one more, which doesn't close the stream
+first_push : (stream left new : List ℕ) (xs : List Request) (r : Request) → AreFirst stream xs left → BeginsWith left r new → r.close ≡ false → AreFirst stream (xs ++ r ∷ []) new
+first_push stream left new [] r first begins stays = (new, subst (λ (bytes : List ℕ). BeginsWith bytes r new) first begins, stays, refl)
+first_push stream left new (x ∷ xs) r (after, starts, open_still, first) begins stays = (after, starts, open_still, first_push after left new xs r first begins stays)
+
+-- the others stand in what is left
+first_then : (stream left : List ℕ) (xs more : List Request) (rest : List ℕ) → AreFirst stream xs left → AreRequests left more rest → AreRequests stream (xs ++ more) rest
+first_then stream left [] more rest first are = subst (λ (bytes : List ℕ). AreRequests bytes more rest) first are
+first_then stream left (x ∷ xs) more rest (after, starts, stays, first) are = (
+  after,
+  starts,
+  subst (λ (b : Bool). MatchBool b ((xs ++ more ≡ []) × (rest ≡ after)) (AreRequests after (xs ++ more) rest)) (sym stays)
+      (first_then after left xs more rest first are),
+)
 
 -- a request that doesn't close the stream
 pub continues_more : (known : Option WireFault) (stream left new : Option (List ℕ)) (xs : List Request) (r : Request) → Continues stream left xs
@@ -27,10 +38,7 @@ pub continues_more : (known : Option WireFault) (stream left new : Option (List 
 continues_more known None left new xs r done on stays = tt
 continues_more known (Some stream) None new xs r done on stays = absurd done
 continues_more known (Some stream) (Some left) None xs r done on stays = absurd on
-continues_more known (Some stream) (Some left) (Some new) xs r done on stays = λ more rest are.
-    let behind : MatchBool r.close ((more ≡ []) × (rest ≡ new)) (AreRequests new more rest) =
-    subst (λ (b : Bool). MatchBool b ((more ≡ []) × (rest ≡ new)) (AreRequests new more rest)) (sym stays) are in
-    subst (λ (ys : List Request). AreRequests stream ys rest) (one_behind xs r more) (done (r ∷ more) rest (new, on, behind))
+continues_more known (Some stream) (Some left) (Some new) xs r done on stays = first_push stream left new xs r done on stays
 
 -- one that closes it
 pub closes_behind : (known : Option WireFault) (stream left new : Option (List ℕ)) (xs : List Request) (r : Request) → Continues stream left xs
@@ -41,7 +49,7 @@ closes_behind known (Some stream) (Some left) None xs r done on closed = absurd 
 closes_behind known (Some stream) (Some left) (Some new) xs r done on closed =
     let behind : MatchBool r.close ((◌≡◌ {A = List Request} [] []) × (new ≡ new)) (AreRequests new [] new) =
     subst (λ (b : Bool). MatchBool b ((◌≡◌ {A = List Request} [] []) × (new ≡ new)) (AreRequests new [] new)) (sym closed) (refl, refl) in
-    subst (λ (ys : List Request). AreRequests stream ys new) (one_behind xs r [] ∙ append-nil ((xs ++ r ∷ []))) (done (r ∷ []) new (new, on, behind))
+    first_then stream left xs (r ∷ []) new done (new, on, behind)
 
 -- a fault
 pub fails_behind : (known : Option WireFault) → known ≡ None → (stream left new : Option (List ℕ)) (done : List Request) (e : WireFault) → Continues stream left done
@@ -49,11 +57,19 @@ pub fails_behind : (known : Option WireFault) → known ≡ None → (stream lef
 fails_behind known fresh None left new done e first on = tt
 fails_behind known fresh (Some stream) None new done e first on = absurd first
 fails_behind known fresh (Some stream) (Some left) None done e first on = absurd on
-fails_behind known fresh (Some stream) (Some left) (Some new) done e first (same, none) = λ lasts.
-    subst (λ (ys : List Request). AreRequests stream ys new) (append-nil done) (first [] new (none fresh lasts, same))
+fails_behind known fresh (Some stream) (Some left) (Some new) done e first (same, none) = (
+  subst (λ (bytes : List ℕ). AreFirst stream done bytes) (sym same) first,
+  (λ lasts. subst (λ (ys : List Request). AreRequests stream ys new) (append-nil done) (first_then stream left done [] new first (none fresh lasts, same))),
+)
 
 -- no memory for one more
 pub stops_behind : (stream left : Option (List ℕ)) (done : List Request) (e : WireFault) → lasting e ≡ None → Continues stream left done → HasRead stream left done (Some e)
 stops_behind None left done e none first = tt
 stops_behind (Some stream) None done e none first = absurd first
-stops_behind (Some stream) (Some left) done e none first = λ lasts. let x : Some e ≡ None = sym lasts ∙ none in cc
+stops_behind (Some stream) (Some left) done e none first = (first, (λ lasts. let x : Some e ≡ None = sym lasts ∙ none in cc))
+
+-- the fault of a call stands as far as it lasts
+pub fault_stands : (known : Option WireFault) (e : WireFault) (bytes taken : List ℕ) (old new : Held) (left : Option (List ℕ)) → known ≡ None
+    → MatchOption known (Fails e bytes new left) (λ k. FailsAgain k e taken old new) → new.fault ≡ lasting e
+fault_stands None e bytes taken old new left fresh fails = fails.fault
+fault_stands (Some k) e bytes taken old new left fresh fails = cc

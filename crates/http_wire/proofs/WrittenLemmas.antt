@@ -423,7 +423,4 @@ written_is_read r can = (head_of r, record { head = has_head r can; length_is = 
 pub answer_is : (r : Reply) (answer : Result WireReply WireFault) → CanRead r → ReadsReply (reply_text r) answer → (answer ≡ Ok (seen_of r)) ⊎ (answer ≡ Err fault.NoMemory)
 answer_is r (Ok reply) can reads = inl (ap (λ (x : WireReply). Ok x) (one_answer (reply_text r) reply (seen_of r) reads (written_is_read r can)))
 answer_is r (Err fault.NoMemory) can reads = inr refl
-answer_is r (Err fault.Source) can reads = absurd reads
-answer_is r (Err fault.End) can reads = absurd (reads.1 (seen_of r) (written_is_read r can))
-answer_is r (Err fault.Head) can reads = absurd (reads.1 (seen_of r) (written_is_read r can))
-answer_is r (Err e) can reads = absurd (reads (seen_of r) (written_is_read r can))
+answer_is r (Err e) can reads = absurd (reads.0 (seen_of r) (written_is_read r can))

@@ -1,7 +1,7 @@
 -- What the text of one reply says, and why bytes are none.
-use Rattle.std.specs.Prelude.{◌≡◌, ◌≤◌, ℕ, List, [], length, drop, map, All, Option, Some, None, Result, Ok, Err, if◌then◌else◌, ◌==◌, codes, nat_lt, ⊤}
-use Rattle.httparse.specs.Grammar.{NeverHasResponse, ReadsResponse, ResponseHead, print_response, status_code}
-use Rattle.httparse.specs.Spans.{IsHeaderWithin, header_bytes, name_and_value}
+use Rattle.std.specs.Prelude.{◌≡◌, ◌<◌, ◌≤◌, ◌⊎◌, ℕ, List, [], length, drop, take, map, All, Option, Some, None, Result, Ok, Err, if◌then◌else◌, ◌==◌, codes, nat_lt, ⊤}
+use Rattle.httparse.specs.Grammar.{HasNoResponse, MayBecomeResponse, NeverHasResponse, ReadsResponse, ResponseHead, print_response, status_code}
+use Rattle.httparse.specs.Spans.{IsHeaderWithin, ResponseOverflows, header_bytes, name_and_value}
 use Rattle.httparse.specs.declared.spans.HeaderSpan.{HeaderSpan}
 use Rattle.httparse.specs.declared.spans.ResponseSpans.{ResponseSpans}
 use Rattle.roster_texts.specs.Digits.{◌>>=◌}
@@ -77,13 +77,46 @@ IsReplyText bytes reply = (h : ResponseHead) × IsAnswer bytes h reply
 abbrev pub IsNoReply : List ℕ → Type 0
 IsNoReply bytes = (reply : WireReply) → ¬ (IsReplyText bytes reply)
 
+-- a head has begun and isn't finished, and bytes can follow that finish it
+pub record IsUnfinished (bytes : List ℕ) : Type 0 where
+  pub some : 0 < length bytes
+  pub short : length bytes < max_reply_head
+  pub none : HasNoResponse bytes
+  pub begun : MayBecomeResponse bytes
+
+-- a head stands at the front, and the length that it states has this fault
+abbrev pub StatesFault : WireFault → List ℕ → Type 0
+StatesFault e bytes = (h : ResponseHead) × (body : List ℕ) × HasAnswerHead bytes h body × (told_length (told_by h) ≡ Err e)
+
+-- a head stands at the front and states a length, and fewer bytes stand behind it, or more
+abbrev pub LacksBytes : List ℕ → Type 0
+LacksBytes bytes =
+    (h : ResponseHead) × (body : List ℕ) × (n : ℕ) × HasAnswerHead bytes h body × (told_length (told_by h) ≡ Ok n) × (length body < n)
+
+abbrev pub HasBytesBehind : List ℕ → Type 0
+HasBytesBehind bytes =
+    (h : ResponseHead) × (body : List ℕ) × (n : ℕ) × HasAnswerHead bytes h body × (told_length (told_by h) ≡ Ok n) × (n < length body)
+
+-- no continuation of the bytes makes a head in its limits
+abbrev pub IsAnswerHeadTooLong : List ℕ → Type 0
+IsAnswerHeadTooLong bytes = ((max_reply_head ≤ length bytes) × HasNoResponse (take max_reply_head bytes)) ⊎ ResponseOverflows max_fields bytes
+
 -- why the bytes are no text of a reply; of memory nothing is said
+abbrev pub Blames : WireFault → List ℕ → Type 0
+Blames fault.End bytes = bytes ≡ []
+Blames fault.Cut bytes = IsUnfinished bytes ⊎ LacksBytes bytes
+Blames fault.Head bytes = NeverHasResponse bytes
+Blames fault.HeadTooLong bytes = IsAnswerHeadTooLong bytes
+Blames fault.Length bytes = StatesFault fault.Length bytes ⊎ HasBytesBehind bytes
+Blames fault.BodyTooLong bytes = StatesFault fault.BodyTooLong bytes
+Blames fault.Chunked bytes = StatesFault fault.Chunked bytes
+Blames fault.Source bytes = ⊥
+Blames fault.NoMemory bytes = ⊤
+
+-- the bytes are no text of a reply, and why
 abbrev pub Refuses : WireFault → List ℕ → Type 0
-Refuses fault.End bytes = (bytes ≡ []) × IsNoReply bytes
-Refuses fault.Head bytes = NeverHasResponse bytes × IsNoReply bytes
-Refuses fault.Source bytes = ⊥
 Refuses fault.NoMemory bytes = ⊤
-Refuses e bytes = IsNoReply bytes
+Refuses e bytes = IsNoReply bytes × Blames e bytes
 
 -- the reply of the text, or the fault
 abbrev pub ReadsReply : List ℕ → Result WireReply WireFault → Type 0

@@ -1,5 +1,5 @@
 -- The requests that stand in a stream, and why one can't be read.
-use Rattle.std.specs.Prelude.{◌≡◌, ◌<◌, ◌≤◌, ◌⊎◌, ℕ, ◌+◌, ◌*◌, List, [], ◌∷◌, ◌++◌, length, take, drop, All, MatchBool, Option, Some, None, Result, Ok, Err, MatchOption, ⊤}
+use Rattle.std.specs.Prelude.{◌≡◌, ◌<◌, ◌≤◌, ◌⊎◌, ℕ, ◌+◌, ◌*◌, List, [], ◌∷◌, ◌++◌, length, take, drop, All, MatchBool, false, Option, Some, None, Result, Ok, Err, MatchOption, ⊤}
 use Rattle.std.specs.Io.KnownBytes.{Consumes, IsAtEnd, Keeps}
 use Rattle.httparse.specs.Grammar.{RequestHead, ReadsRequest, HasNoRequest, NeverHasRequest, print_request}
 use Rattle.httparse.specs.Spans.{IsHeaderWithin, IsWithin, RequestOverflows}
@@ -158,10 +158,15 @@ Leaves bytes kept left (Err e) = (kept ≡ bytes) × Causes e bytes left
 abbrev pub bytes_due : ℕ → ℕ → ℕ
 bytes_due budget kept = budget * 4_096 + kept
 
--- what was read of a known stream: its requests up to the one that closes it or to the first place where none stands.
--- After a fault that doesn't last, of the source or of memory, nothing is said
+-- these are the first requests of the bytes, none of which closes the stream, and the rest follows them
+abbrev pub AreFirst : List ℕ → List Request → List ℕ → Type 0
+AreFirst bytes [] rest = rest ≡ bytes
+AreFirst bytes (request ∷ requests) rest =
+    (after : List ℕ) × BeginsWith bytes request after × (request.close ≡ false) × AreFirst after requests rest
+
+-- what was read of a known stream: its requests up to the one that closes it; or up to a fault, which are all where it lasts
 abbrev pub HasRead : Option (List ℕ) → Option (List ℕ) → List Request → Option WireFault → Type 0
 HasRead None after requests e = ⊤
 HasRead (Some stream) None requests e = ⊥
 HasRead (Some stream) (Some rest) requests None = AreRequests stream requests rest
-HasRead (Some stream) (Some rest) requests (Some e) = lasting e ≡ Some e → AreRequests stream requests rest
+HasRead (Some stream) (Some rest) requests (Some e) = AreFirst stream requests rest × (lasting e ≡ Some e → AreRequests stream requests rest)

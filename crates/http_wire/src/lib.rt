@@ -18,6 +18,3 @@ pub use reader::WireReader;
 pub use reply::write_reply;
 pub use sending::write_request;
 pub use stream::read_requests;
-
-#[cfg(test)]
-mod tests;

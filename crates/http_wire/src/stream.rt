@@ -1,7 +1,8 @@
 //! All requests of a stream.
 
-ghost use Rattle.std.specs.Prelude.{◌≡◌, ◌<◌, ◌++◌, ◌∷◌, [], None, vec_len, vec_capacity};
+ghost use Rattle.std.specs.Prelude.{◌≡◌, ◌<◌, ◌++◌, ◌∷◌, [], None, option_and_then, vec_len, vec_capacity};
 ghost use Rattle.std.specs.Io.KnownBytes.{prepend_known};
+ghost use Rattle.http_wire.specs.Lasting.{lasting};
 ghost use Rattle.http_wire.specs.Reading.{HasRead};
 
 use crate::fault::WireFault;
@@ -20,15 +21,18 @@ fn push_in_room(requests: &mut Vec<Request>, request: Request)
     }
 }
 
-/// Reads requests up to one that closes the stream, or up to the fault that stands beside them.
+/// Reads requests up to one that closes the stream, or up to the fault that stands beside them. Of what was read before a fault
+/// nothing is lost: after `Source` or `NoMemory` the reader stands behind the last request, and may be asked again.
 pub fn read_requests<S: Source>(
     alloc: Global,
     reader: &mut WireReader,
     source: &mut S,
 ) -> (Vec<Request>, Option<WireFault>)
     requires { reader.old.fault ≡ None }
-    ensures { HasRead (prepend_known reader.old.kept (S.left source.old)) (prepend_known reader.new.kept (S.left source.new))
+    ensures read { HasRead (prepend_known reader.old.kept (S.left source.old)) (prepend_known reader.new.kept (S.left source.new))
         result.0.items result.1 }
+    // A fault stands, but for the source's and want of memory.
+    ensures stands { reader.new.fault ≡ option_and_then lasting result.1 }
 {
     let mut requests = Vec::new(alloc);
     'reading: loop {

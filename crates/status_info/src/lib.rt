@@ -8,6 +8,3 @@ pub mod request;
 pub use cause::Cause;
 pub use reply::{LinkItem, Rel, Reply, Warnings};
 pub use request::{Echo, MarkField, Request, Verb};
-
-#[cfg(test)]
-mod tests;

@@ -2,7 +2,7 @@ use Rattle.std.proofs.Common.{◌≡◌, ℕ, List, arith, sym, ap, ◌∙◌, l
 use Rattle.std.proofs.lemmas.Result.{err_from_is_err_and}
 use Rattle.http_wire.specs.Answers.{answered, told_at}
 use Rattle.http_wire.proofs.FrontLemmas.{rest_of}
-use Rattle.http_wire.proofs.AnswerLemmas.{faulty, other_length, whole_answer}
+use Rattle.http_wire.proofs.AnswerLemmas.{faulty, fewer_bytes, more_bytes, whole_answer}
 use Rattle.http_wire.proofs.answer.behind_head.Goals as goal
 
 pub returns-in_err-length : goal.returns-in_err-length
@@ -13,16 +13,14 @@ returns-in_err-length c =
 pub returns-then-after-length : goal.returns-then-after-length
 returns-then-after-length c =
     let is = rw c.length_if_missing-missing.ensures at (sym c.length_of_body.ensures ∙ c.in_ok-length.was) in
-    other_length c.in_ok-length.length c.requires is
-    (λ (same : length (drop c.args.spans.len c.args.bytes.now) ≡ c.in_ok-length.length).
-    absurd (omega (arith, ap length (rest_of c.args.spans.len c.args.bytes.now), c.if-after-length.true)))
+    fewer_bytes c.in_ok-length.length c.requires is
+    (omega (arith, ap length (rest_of c.args.spans.len c.args.bytes.now), c.if-after-length.true))
 
 pub returns-then-after-length-2 : goal.returns-then-after-length-2
 returns-then-after-length-2 c =
     let is = rw c.length_if_missing-missing.ensures at (sym c.length_of_body.ensures ∙ c.in_ok-length.was) in
-    other_length c.in_ok-length.length c.requires is
-    (λ (same : length (drop c.args.spans.len c.args.bytes.now) ≡ c.in_ok-length.length).
-    absurd (omega (arith, ap length (rest_of c.args.spans.len c.args.bytes.now), c.if-after-length-2.true)))
+    more_bytes c.in_ok-length.length c.requires is
+    (omega (arith, ap length (rest_of c.args.spans.len c.args.bytes.now), c.if-after-length-2.true))
 
 pub returns : goal.returns
 returns c =

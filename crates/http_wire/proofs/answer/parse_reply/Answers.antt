@@ -1,6 +1,6 @@
 use Rattle.std.proofs.Common.{◌≡◌, ◌≤◌, length, min, arith}
 use Rattle.http_wire.specs.Answers.{max_reply_head}
-use Rattle.http_wire.proofs.AnswerLemmas.{answer_found, head_refused, none_in_front, part_refused}
+use Rattle.http_wire.proofs.AnswerLemmas.{answer_found, head_refused, part_refused}
 use Rattle.http_wire.proofs.answer.parse_reply.Goals as goal
 
 pub behind_head-requires : goal.behind_head-requires
@@ -12,7 +12,8 @@ behind_head-requires c =
 pub returns-in-Ok-Partial : goal.returns-in-Ok-Partial
 returns-in-Ok-Partial c =
     let is : c.min.result ≡ min (length c.args.bytes.now) max_reply_head = omega arith in
-    rw c.fault_of_part.ensures (part_refused c.args.bytes.now (none_in_front c.min.result c.args.bytes.now is (rw c.in-Ok-Partial.field-0-is at c.in-Ok-Partial.ensures.partial)))
+    rw c.fault_of_part.ensures (part_refused c.min.result c.args.bytes.now is
+    (rw c.in-Ok-Partial.field-0-is at c.in-Ok-Partial.ensures.partial) (rw c.in-Ok-Partial.field-0-is at c.in-Ok-Partial.ensures.unfinished))
 
 pub returns-in-Err : goal.returns-in-Err
 returns-in-Err c = rw c.head_fault.ensures (head_refused c.min.result c.args.bytes.now c.in-Err.error c.in-Err.ensures.invalid c.in-Err.ensures.no_room)

@@ -1,7 +1,7 @@
 use Rattle.std.proofs.Common.{codes}
 use Rattle.std.proofs.lemmas.Result.{err_from_is_err_and}
 use Rattle.http_wire.specs.Replies.{front_text, number_line, start_text}
-use Rattle.http_wire.proofs.WriteLemmas.{part_front, writes_then}
+use Rattle.outside_ports.proofs.Appending.{part_front, writes_then}
 use Rattle.http_wire.proofs.reply.write_front.Goals as goal
 
 pub returns-in_err-write_start-clause-bytes : goal.returns-in_err-write_start-clause-bytes

@@ -1,7 +1,7 @@
 use Rattle.std.proofs.Common.{◌++◌}
 use Rattle.std.proofs.lemmas.Result.{err_from_is_err_and}
 use Rattle.http_wire.specs.Replies.{front_text, links_line, warning_line, versions_text, end_text, body_text}
-use Rattle.http_wire.proofs.WriteLemmas.{part_behind, part_front, writes_then}
+use Rattle.outside_ports.proofs.Appending.{part_behind, part_front, writes_then}
 use Rattle.http_wire.proofs.reply.write_reply.Goals as goal
 
 pub returns-in_err-write_front-clause-bytes : goal.returns-in_err-write_front-clause-bytes

@@ -1,7 +1,7 @@
 use Rattle.std.proofs.Common.{◌++◌, codes}
 use Rattle.std.proofs.lemmas.Result.{err_from_is_err_and}
 use Rattle.http_wire.specs.Replies.{some_links, link_text, more_links, line_end}
-use Rattle.http_wire.proofs.WriteLemmas.{part_behind, part_front, writes_then}
+use Rattle.outside_ports.proofs.Appending.{part_behind, part_front, writes_then}
 use Rattle.http_wire.proofs.reply.write_some_links.Goals as goal
 
 pub returns-in_err-write_all-clause-bytes : goal.returns-in_err-write_all-clause-bytes
