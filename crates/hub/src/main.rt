@@ -2,10 +2,8 @@
 #![tactic(auto)]
 
 use hub_cli::lines::NO_MEMORY;
-use hub_cli::{Parsed, print, run_hub, split_words};
+use hub_cli::{print, root_of, run_hub};
 use outside_ports::{DirFolder, IoSink, Sink, SystemClock};
-use roster_base::{NoMemory, Refusal};
-use std::alloc::Global;
 use std::env;
 use std::io::{self, ErrorKind};
 use std::process::ExitCode;
@@ -45,26 +43,10 @@ fn answer_unread(error: &io::Error, out: &mut impl Sink) -> u8 {
     }
 }
 
-// The root folder: the one that the words name, and else the working folder.
-fn root(alloc: Global, words: &[String]) -> Result<String, NoMemory> {
-    match split_words(alloc, words) {
-        Ok(parsed) => {
-            let Parsed { folder, command } = parsed;
-            drop(command);
-            match folder {
-                Some(folder) => Ok(folder.into_string()),
-                None => Ok(String::new(alloc)),
-            }
-        }
-        Err(Refusal::Fault(_)) => Ok(String::new(alloc)),
-        Err(Refusal::NoMemory) => Err(NoMemory),
-    }
-}
-
 // Runs a command over the real folder and clock.
 fn run_command(rt: HostRuntime, words: &[String], out: &mut impl Sink) -> u8 {
     let alloc = rt.alloc();
-    let Ok(root) = root(alloc, words) else {
+    let Ok(root) = root_of(alloc, words) else {
         return print(out, 17, NO_MEMORY);
     };
     let mut folder = DirFolder::new(rt, root);
@@ -80,11 +62,20 @@ fn run(rt: HostRuntime, words: &[String], out: &mut impl Sink) -> u8 {
     }
 }
 
+// Says where the words are explained, where they are bad. Standard output has the line that names the place.
+fn hint(rt: &impl Print, status: u8) {
+    if status == 2 {
+        // A hint that can't be written changes nothing.
+        let _ = eprintln!(rt; "hub --help lists the commands");
+    }
+}
+
 fn main(rt: HostRuntime) -> ExitCode {
     let mut out = IoSink::new(io::writer(&rt));
     let status = match words_of(&rt) {
         Ok(words) => run(rt, words.as_slice(), &mut out),
         Err(error) => answer_unread(&error, &mut out),
     };
+    hint(&rt, status);
     ExitCode::from(status)
 }

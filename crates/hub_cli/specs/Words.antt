@@ -1,5 +1,5 @@
 -- The command that words spell, or the place of the first word that no command continues.
-use Rattle.std.specs.Prelude.{ℕ, ◌+◌, ◌==◌, ◌&&◌, Bool, false, not, List, [], ◌∷◌, Option, None, Some, Result, Ok, Err, bytes_eq, codes, if◌then◌else◌}
+use Rattle.std.specs.Prelude.{ℕ, ◌+◌, ◌==◌, ◌&&◌, Bool, false, not, List, [], ◌∷◌, Option, None, Some, Result, Ok, Err, bytes_eq, codes, if◌then◌else◌, unwrap_or}
 use Rattle.std.specs.List.{after_first, before_first}
 use Rattle.roster_base.specs.Reading.{◌>>=◌}
 use Rattle.roster_texts.specs.Signs.{dot}
@@ -86,3 +86,8 @@ unfoldable pub split : List (List ℕ) → Result Parsed ℕ
 split [] = Err 0
 split (word ∷ words) =
     if bytes_eq word (codes "--folder") then folder_words words else with_folder None (command_words 0 (word ∷ words))
+
+-- the root folder: the one that the words name, and else the working folder
+abbrev pub root_in : Result Parsed ℕ → List ℕ
+root_in (Ok parsed) = unwrap_or parsed.folder []
+root_in (Err place) = []

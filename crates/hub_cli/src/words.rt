@@ -1,8 +1,8 @@
 //! The words of the command line.
 
-ghost use Rattle.std.specs.Prelude.{◌≡◌, ◌≤◌, IfOk, map, string_bytes};
+ghost use Rattle.std.specs.Prelude.{◌≡◌, ◌≤◌, IfOk, Ok, map, string_bytes};
 ghost use Rattle.roster_base.specs.Reading.{Gives};
-ghost use Rattle.hub_cli.specs.Words.{command_words, ended, feed_in, feed_of, feed_words, folder_words, is_file_word, publish_words, show_words, split};
+ghost use Rattle.hub_cli.specs.Words.{command_words, ended, feed_in, feed_of, feed_words, folder_words, is_file_word, publish_words, root_in, show_words, split};
 
 use roster_base::{Items, NoMemory, Refusal, Text};
 use roster_texts::Name;
@@ -161,5 +161,29 @@ pub fn split_words(alloc: Global, words: &[String]) -> Result<Parsed, WordError>
                 command,
             })
         }
+    }
+}
+
+// The folder of parsed words, and nothing where they name none.
+fn folder_in(alloc: Global, parsed: Parsed) -> String
+    ensures { string_bytes result ≡ root_in (Ok parsed) }
+{
+    let Parsed { folder, command } = parsed;
+    drop(command);
+    match folder {
+        Some(folder) => folder.into_string(),
+        None => String::new(alloc),
+    }
+}
+
+/// The root folder, in which a command finds its files: the one that the words name, and else the working folder, whose name
+/// is empty.
+pub fn root_of(alloc: Global, words: &[String]) -> Result<String, NoMemory>
+    ensures { IfOk result (λ r. string_bytes r ≡ root_in (split (map string_bytes words.now))) }
+{
+    match split_words(alloc, words) {
+        Ok(parsed) => Ok(folder_in(alloc, parsed)),
+        Err(Refusal::Fault(_)) => Ok(String::new(alloc)),
+        Err(Refusal::NoMemory) => Err(NoMemory),
     }
 }

@@ -1,7 +1,7 @@
 //! The rows of each kind of the example district `lake`, against texts that were made outside the program.
 
 // The manifest of `examples/lake`.
-pub const MANIFEST: &str = r#"propertyName,value
+pub static MANIFEST: &str = r#"propertyName,value
 manifest.version,1.0
 oneroster.version,1.1
 file.orgs,bulk
@@ -22,7 +22,7 @@ source.systemCode,LSIS
 "#;
 
 // The files of `examples/lake`: kind, text, and the collection that is shown at noon of 2024-08-01.
-pub const LAKE: [(&str, &str, &str); 10] = [
+pub static LAKE: [(&str, &str, &str); 10] = [
     (
         "orgs",
         r#"sourcedId,status,dateLastModified,name,type,identifier,parentSourcedId

@@ -1,4 +1,4 @@
-use Rattle.http_wire.proofs.WriteLemmas.{part_behind, part_front}
+use Rattle.outside_ports.proofs.Appending.{part_behind, part_front}
 use Rattle.hub_cli.proofs.run.print_both.Goals as goal
 
 pub returns-then-print-eq1-clause-fault : goal.returns-then-print-eq1-clause-fault

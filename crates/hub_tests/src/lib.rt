@@ -1,0 +1,13 @@
+//! Tests of the program's top call: words and files in, statuses and exact texts out.
+#![tactic(auto)]
+
+#[cfg(test)]
+mod lake;
+#[cfg(test)]
+mod outside;
+#[cfg(test)]
+mod publishing;
+#[cfg(test)]
+mod showing;
+#[cfg(test)]
+mod words;

@@ -1,0 +1,67 @@
+//! What a run of a test is given, and what it left.
+
+use hub_cli::run_hub;
+use outside_ports::{FixedClock, MemFolder, MemSink};
+use std::alloc::Global;
+use std::process::Abort;
+use std::test::Fail;
+
+// 2024-08-01T12:00:00.000Z
+const NOON: i64 = 1_722_513_600_000;
+
+// The words between spaces.
+fn words_of(alloc: Global, line: &str) -> Result<Vec<String>, Fail> {
+    let mut words = Vec::new(alloc);
+    for word in line.split_whitespace() {
+        words.push(String::from_str(alloc, word)?)?;
+    }
+    Ok(words)
+}
+
+/// The files of a folder: its name, theirs, and their bytes.
+pub type Files = Vec<(String, String, Vec<u8>)>;
+
+/// Adds a file to those of a folder.
+pub fn push_file(
+    alloc: Global,
+    files: &mut Files,
+    dir: &str,
+    name: &str,
+    text: &str,
+) -> Result<(), Fail> {
+    let dir = String::from_str(alloc, dir)?;
+    let name = String::from_str(alloc, name)?;
+    files.push((dir, name, text.as_bytes().to_vec(alloc)?))?;
+    Ok(())
+}
+
+/// Runs the words between spaces over a folder and a sink, at noon.
+pub fn run_line(
+    alloc: Global,
+    line: &str,
+    folder: &mut MemFolder,
+    sink: &mut MemSink,
+) -> Result<u8, Fail> {
+    let words = words_of(alloc, line)?;
+    let clock = FixedClock::at(NOON);
+    Ok(run_hub(alloc, words.as_slice(), folder, &clock, sink))
+}
+
+/// Runs the words over the files, and tells the status and the text that are wanted from others.
+pub fn assert_run(
+    rt: &impl Abort,
+    alloc: Global,
+    line: &str,
+    files: Files,
+    want: (u8, &str),
+) -> Result<(), Fail> {
+    let mut folder = MemFolder::new(files, Vec::new(alloc));
+    let mut sink = MemSink::new(alloc, 8192, Vec::new(alloc))?;
+    let status = run_line(alloc, line, &mut folder, &mut sink)?;
+    assert_eq!(rt;
+        (status, str::from_utf8(sink.written())),
+        (want.0, Ok(want.1)),
+        "{line}"
+    );
+    Ok(())
+}
