@@ -1,0 +1,13 @@
+pub mod Cutting
+pub mod Following
+pub mod Growing
+pub mod Holding
+pub mod Isolating
+pub mod Judging
+pub mod Keeping
+pub mod Once
+pub mod Publishing
+pub mod PutRows
+pub mod Rising
+pub mod Saying
+pub mod Versions

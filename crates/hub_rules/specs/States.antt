@@ -1,0 +1,58 @@
+-- The states that a hub can have.
+use Rattle.std.specs.Prelude.{◌≡◌, ◌+◌, ◌-◌, ◌≤◌, ◌⊎◌, ⊤, ℕ, List, bytes_eq, map, slice_index_or}
+use Rattle.std.specs.List.{AllByRecursion, IsDistinct}
+use Rattle.std.specs.Option.{ForSome}
+use Rattle.hub_paths.specs.Paths.{IsPath}
+use Rattle.hub_rules.specs.Checks.{version_at}
+use Rattle.hub_rules.specs.Verdicts.{newest_in}
+use Rattle.hub_rules.specs.Runs.{Command, Publish, Reopen, SetGrants, Step, Take}
+use Rattle.hub_views.specs.declared.entry.GrantEntry.{GrantEntry}
+use Rattle.roster_base.specs.Moments.{IsMoment}
+use Rattle.roster_types.specs.Sets.{SetRecord}
+use Rattle.row_json.specs.Reading.{IsHeld}
+use Rattle.set_changes.specs.Applying.{rows_in}
+use Rattle.version_core.specs.Grants.{HasGrant}
+use Rattle.version_core.specs.HubStates.{HubState, IsHubState, KeepGrants, newest_number, oldest_number}
+use Rattle.version_core.specs.Version.{IsVersion, empty_version, last_or}
+use Rattle.version_core.specs.declared.change.BaseVersion.{BaseVersion}
+
+-- the rows of a version fit their fields, aren't too long, and have good keys: so they are read back from their texts
+abbrev pub HoldsRows : BaseVersion → Type 0
+HoldsRows version = AllByRecursion (λ change. IsHeld change.row) version.rows
+
+-- a state in which each caller has kept its grant since the version that the grant names, and the rows of all versions may be held
+pub record IsHub (hub : HubState) : Type 0 where
+  pub state : IsHubState hub
+  pub grants : KeepGrants hub.published
+  pub rows : AllByRecursion HoldsRows hub.published
+
+-- a version that may stand behind another: each of its grants is new with it, or was there already
+pub record IsNext (newest next : BaseVersion) : Type 0 where
+  pub number : next.number ≡ newest.number + 1
+  pub version : IsVersion next
+  pub grants : AllByRecursion (λ row. (row.grant.since ≡ next.number) ⊎ HasGrant newest.grants row) next.grants
+
+-- grants that may be asked for: no two are of one caller, and no two have one token
+pub record AreEntries (entries : List GrantEntry) : Type 0 where
+  pub callers : IsDistinct bytes_eq (map (λ entry. entry.caller) entries)
+  pub tokens : IsDistinct bytes_eq (map (λ entry. entry.token) entries)
+
+-- the rows that a set lists may be held
+abbrev pub ListsRows : SetRecord → Type 0
+ListsRows set = AllByRecursion (λ listed. IsHeld listed.row) (rows_in set)
+
+-- what a hub may be told at a moment: sets of rows that may be held, grants that may be asked for, and requests whose path, where
+-- it is one, has a good id for each object
+abbrev pub IsCommand : Command → Type 0
+IsCommand (Publish set at) = IsMoment at × ListsRows set
+IsCommand (SetGrants entries at) = IsMoment at × AreEntries entries
+IsCommand (Take wanted at) = IsMoment at × ForSome wanted.path IsPath
+IsCommand Reopen = ⊤
+
+abbrev pub AreCommands : List Step → Type 0
+AreCommands steps = AllByRecursion (λ step. IsCommand step.command) steps
+
+-- what is read of a state is read of these versions, the first of which is the oldest
+pub record ReadsAs (state : HubState) (versions : List BaseVersion) : Type 0 where
+  pub newest : newest_in state ≡ last_or empty_version versions
+  pub at : (number : ℕ) → oldest_number state ≤ number → number ≤ newest_number state → version_at state number ≡ slice_index_or versions (number - oldest_number state) empty_version
