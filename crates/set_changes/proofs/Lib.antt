@@ -1,6 +1,6 @@
 mod Answering
 mod Collecting
-mod CountLemmas
+pub mod CountLemmas
 mod IndexLemmas
 mod ListedLemmas
 mod LookUps
