@@ -1,10 +1,21 @@
+pub mod AddLemmas
 pub mod GrantLemmas
+pub mod HistoryLemmas
+pub mod HistoryNext
+pub mod MarkLemmas
 pub mod MergeLemmas
 pub mod Next
 pub mod NextLemmas
 pub mod OrderLemmas
+pub mod PartsLemmas
 pub mod Places
+pub mod PutLemmas
+pub mod RoomLemmas
 pub mod RowsOf
+pub mod SinceLemmas
+pub mod TableLemmas
+pub mod TrimLemmas
 pub mod VersionLemmas
 pub mod ViewLemmas
 mod States
+mod StateTables

@@ -1,12 +1,11 @@
 -- The versions that changes lead to.
 use Rattle.std.specs.List.{remove}
-use Rattle.std.proofs.Common.{◌≡◌, ℕ, suc, ◌+◌, ◌-◌, ◌<◌, ◌≤◌, List, [], ◌∷◌, ◌++◌, length, get_or, slice_get, drop, length-append, Option, None, Some, refl, sym, ap, subst, ◌∙◌, arith}
-use Rattle.std.specs.Option.{ForSome, IsSomeAnd}
+use Rattle.std.proofs.Common.{◌≡◌, ℕ, suc, ◌+◌, ◌-◌, ◌<◌, ◌≤◌, List, [], ◌∷◌, ◌++◌, length, get_or, slice_get, drop, length-append, None, Some, refl, sym, ap, ◌∙◌, arith}
 use Rattle.std.specs.List.{AllByRecursion}
 use Rattle.version_core.specs.declared.change.Change.{Change}
 use Rattle.version_core.specs.declared.change.BaseVersion.{BaseVersion}
 use Rattle.version_core.specs.Version.{Versions, IsVersion, after, versions_from, last_or, first_or, with_version}
-use Rattle.version_core.specs.Table.{LeadOn, oldest_len}
+use Rattle.version_core.specs.Table.{LeadOn}
 
 -- the newest version is so many versions after the base
 pub newest_number : (d base : BaseVersion) (changes : List Change) → LeadOn base.number changes → (last_or d (versions_from base changes)).number ≡ base.number + length changes
@@ -60,36 +59,17 @@ kept_rest keep oldest versions full =
     let one : suc (length versions) - suc keep ≡ 1 = omega arith in
     ap (λ n. record { keep = keep; versions = drop n (oldest ∷ versions); room = None }) one
 
-module _ (d base : BaseVersion) (changes : List Change) (change : Change) (keep : ℕ) (room : Option ℕ) where
-  pushed : Versions
-  pushed = with_version (record { keep = keep; versions = versions_from base changes; room = room }) (after (last_or d (versions_from base changes)) change)
+-- where all versions are kept, one stands more
+pub with_version-kept : (table : Versions) (version : BaseVersion) → length table.versions ≤ table.keep → with_version table version ≡ record { keep = table.keep; versions = table.versions ++ version ∷ []; room = None }
+unfolding kept_of
+with_version-kept table version few = kept_all table.keep (table.versions ++ version ∷ []) (omega (arith, length-append table.versions (version ∷ [])))
 
-  pushed_is : pushed ≡ kept_of keep (versions_from base (changes ++ change ∷ []))
-  unfolding kept_of pushed
-  pushed_is = ap (λ (versions : List BaseVersion). record { keep = keep; versions = drop (length versions - suc keep) versions; room = None }) (sym (versions_from-push d base changes change))
+-- where one version is too many, the oldest goes
+pub with_version-rest : (table : Versions) (version oldest : BaseVersion) (rest : List BaseVersion) → table.versions ++ version ∷ [] ≡ oldest ∷ rest → length table.versions ≡ suc table.keep → with_version table version ≡ record { keep = table.keep; versions = rest; room = None }
+unfolding kept_of
+with_version-rest table version oldest rest split full =
+    ap (kept_of table.keep) split ∙ kept_rest table.keep oldest rest (omega (arith, ap length split, length-append table.versions (version ∷ [])))
 
-  -- where all versions are kept, one stands more
-  pub with_version-kept : length changes + 1 ≤ keep → with_version (record { keep = keep; versions = versions_from base changes; room = room }) (after (last_or d (versions_from base changes)) change) ≡ record { keep = keep; versions = versions_from base (changes ++ change ∷ []); room = None }
-  unfolding pushed
-  with_version-kept few =
-      pushed_is ∙ kept_all keep (versions_from base (changes ++ change ∷ [])) (omega (arith, length-versions_from base (changes ++ change ∷ []), length-append changes (change ∷ [])))
-
-  -- where one version is too many, the oldest goes
-  pub with_version-folded : (oldest : Change) (rest : List Change) → length changes ≡ keep → changes ++ change ∷ [] ≡ oldest ∷ rest → with_version (record { keep = keep; versions = versions_from base changes; room = room }) (after (last_or d (versions_from base changes)) change) ≡ record { keep = keep; versions = versions_from (after base oldest) rest; room = None }
-  unfolding pushed
-  with_version-folded oldest rest full split =
-      pushed_is ∙ ap (λ all. kept_of keep (versions_from base all)) split
-      ∙ kept_rest keep base (versions_from (after base oldest) rest) (omega (arith, length-versions_from (after base oldest) rest, length-append changes (change ∷ []), ap length split))
-
-pub split_first : (all rest : List Change) (oldest : Change) → 0 < length all → oldest ≡ get_or all 0 oldest → rest ≡ remove all 0 → all ≡ oldest ∷ rest
+pub split_first : {X : Type 0} (all rest : List X) (oldest : X) → 0 < length all → oldest ≡ get_or all 0 oldest → rest ≡ remove all 0 → all ≡ oldest ∷ rest
 split_first [] rest oldest some first others = absurd (omega arith)
 split_first (x ∷ xs) rest oldest some first others = λ i. sym first i ∷ sym others i
-
-pub room_of : (room : Option ℕ) (P Q : ℕ → Type 0) → ForSome room P → IsSomeAnd room Q → (rows : ℕ) × P rows × Q rows
-room_of None P Q has is = absurd is
-room_of (Some rows) P Q has is = (rows, has rows refl, is)
-
--- the change that goes has as many rows as room was made for
-pub oldest_fits : (changes rest : List Change) (change oldest : Change) (rows : ℕ) → length change.rows ≤ rows → changes ++ change ∷ [] ≡ oldest ∷ rest → length oldest.rows ≤ oldest_len changes rows
-oldest_fits [] rest change oldest rows fits split = let same : change ≡ oldest = cc in subst (λ x. length x.rows ≤ rows) same fits
-oldest_fits (x ∷ changes) rest change oldest rows fits split = let same : x ≡ oldest = cc in omega (arith, ap (λ y. length y.rows) same)

@@ -1,10 +1,16 @@
 pub mod Changes
 pub mod Grants
+pub mod HeldMarks
+pub mod History
 pub mod HubStates
 pub mod Marks
+pub mod MarksInside
 pub mod Merge
 pub mod Order
+pub mod Room
+pub mod Since
 pub mod Table
 pub mod Tables
 pub mod Version
+pub mod VersionLog
 pub mod View

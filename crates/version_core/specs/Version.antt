@@ -4,7 +4,7 @@ use Rattle.std.specs.Prelude.{ℕ, pos, suc, ◌-◌, ◌≤◌, List, [], ◌�
 use Rattle.version_core.specs.Order.{overlaid}
 use Rattle.version_core.specs.Changes.{change_key, rows_of, AreChanges}
 use Rattle.version_core.specs.Grants.{AreGrants}
-use Rattle.roster_types.specs.Keys.{count_of}
+use Rattle.roster_types.specs.Keys.{Key, count_of}
 use Rattle.version_core.specs.declared.change.Change.{Change}
 use Rattle.version_core.specs.declared.change.BaseVersion.{BaseVersion}
 
@@ -32,11 +32,16 @@ abbrev pub versions_from : BaseVersion → List Change → List BaseVersion
 versions_from base [] = base ∷ []
 versions_from base (change ∷ changes) = base ∷ versions_from (after base change) changes
 
--- the kept versions, from the oldest to the newest; how many are kept beside the newest; for how many rows room is reserved
+-- the kept versions, from the oldest to the newest; how many are kept beside the newest; for rows of which kinds and ids room is reserved
 pub record Versions : Type 0 where
   pub keep : ℕ
   pub versions : List BaseVersion
-  pub room : Option ℕ
+  pub room : Option (List Key)
+
+-- versions one after another, and for rows of which kinds and ids room is reserved
+pub record Log : Type 0 where
+  pub versions : List BaseVersion
+  pub room : Option (List Key)
 
 abbrev pub empty_version : BaseVersion
 empty_version = record { number = 0; moment = pos 0; rows = []; grants = [] }

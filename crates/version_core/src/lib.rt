@@ -4,13 +4,17 @@
 pub mod change;
 mod copies;
 pub mod grant_row;
+mod histories;
+mod history;
 pub mod hub_tables;
 pub mod mark;
+pub mod marks;
 pub mod merge;
+mod reserved;
 pub mod row_change;
+mod since;
 pub mod sorted;
 pub mod sorted_rows;
 pub mod table;
-#[cfg(test)]
-mod tests;
+mod version_log;
 pub mod view;

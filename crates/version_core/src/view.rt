@@ -4,13 +4,15 @@ ghost use Rattle.std.specs.Prelude.{◌≡◌, ◌+◌, ◌≤◌, Some, option_
 ghost use Rattle.roster_types.specs.Keys.{Ascends, count_of, look_up};
 ghost use Rattle.version_core.specs.Changes.{AreChanges, change_key, is_next, rows_of};
 ghost use Rattle.roster_values.specs.Kinds.{place_of_kind};
-ghost use Rattle.version_core.specs.View.{rows_after, moment_after, earlier};
+ghost use Rattle.version_core.specs.View.{earlier};
+ghost use Rattle.version_core.specs.History.{ArePasts, pasts_of, rows_at};
 ghost use Rattle.version_core.specs.Version.{IsVersion, row_limit};
 
-use crate::change::Change;
 use crate::grant_row::GrantRow;
+use crate::histories::{following, found};
+use crate::history::History;
 use crate::row_change::RowChange;
-use crate::sorted::{compare, following, found};
+use crate::sorted::compare;
 use roster_texts::{Id, Moment};
 use roster_types::owner::Owner;
 use roster_types::row::Row;
@@ -19,13 +21,12 @@ use roster_values::Kind;
 use std::cmp::Ordering;
 use std::marker::Model;
 
-/// One version of a table: a base, read through the changes up to the version, and its grants. No call takes memory. A clause sees the version.
+/// One version of a table: the rows of the histories that stand at it, and its grants. No call takes memory. A clause sees the version.
 #[derive(Drop)]
 pub struct VersionView<'a> {
     version: u64,
     moment: Moment,
-    base: &'a [RowChange],
-    changes: &'a [Change],
+    histories: &'a [History],
     grants: &'a [GrantRow],
 }
 
@@ -39,27 +40,6 @@ impl<'a> Model for VersionView<'a> {
     ghost view = { version_of };
 
     ghost invariant = { IsView };
-}
-
-// The row of this kind and id after the changes: that of the last change which has it.
-fn found_after<'a>(
-    base: &'a [RowChange],
-    changes: &'a [Change],
-    kind: Kind,
-    id: &Id,
-) -> Option<&'a RowChange>
-    requires { AreChanges base.now }
-    ensures { option_copied result ≡ look_up change_key (place_of_kind kind, id.now) (rows_after base.now changes.now) }
-{
-    let mut left = changes.len();
-    while left > 0 {
-        left -= 1;
-        let last = &changes[left];
-        if let Some(change) = found(last.rows.as_slice(), kind, id) {
-            return Some(change);
-        }
-    }
-    found(base, kind, id)
 }
 
 /// The one that comes first, and the change where both have one kind and id.
@@ -81,33 +61,15 @@ pub fn earlier<'a>(
     }
 }
 
-// The row of this kind with the least id above `after`, after the changes.
-fn following_after<'a>(
-    base: &'a [RowChange],
-    changes: &'a [Change],
-    kind: Kind,
-    after: Option<&Id>,
-) -> Option<&'a RowChange>
-    requires { AreChanges base.now }
-    ensures next { option_copied result ≡ find (λ change. is_next kind (option_copied after.entry) change.row) (rows_after base.now changes.now) }
-    ensures ascend { Ascends change_key (rows_after base.now changes.now) }
-{
-    let mut first = following(base, kind, after);
-    for change in changes {
-        first = earlier(following(change.rows.as_slice(), kind, after), first);
-    }
-    first
-}
-
-// How many rows are of this kind, after the changes.
-fn count_after(base: &[RowChange], changes: &[Change], kind: Kind) -> u64
-    requires base { AreChanges base.now }
-    requires few { count_of kind (rows_of (rows_after base.now changes.now)) ≤ row_limit }
-    ensures { result ≡ count_of kind (rows_of (rows_after base.now changes.now)) }
+// How many rows are of this kind at a version.
+fn count_at(histories: &[History], version: u64, kind: Kind) -> u64
+    requires pasts { ArePasts (pasts_of histories.now) }
+    requires few { count_of kind (rows_of (rows_at version (pasts_of histories.now))) ≤ row_limit }
+    ensures { result ≡ count_of kind (rows_of (rows_at version (pasts_of histories.now))) }
 {
     let mut count = 0;
     let mut after = None;
-    while let Some(change) = following_after(base, changes, kind, after) {
+    while let Some(change) = following(histories, version, kind, after) {
         count += 1;
         after = Some(change.row.id());
     }
@@ -115,23 +77,21 @@ fn count_after(base: &[RowChange], changes: &[Change], kind: Kind) -> u64
 }
 
 impl<'a> VersionView<'a> {
-    /// The version that these changes lead to, with these grants.
+    /// What stands at a version, with these grants.
     pub(crate) fn new(
         version: u64,
         moment: Moment,
-        base: &'a [RowChange],
-        changes: &'a [Change],
+        histories: &'a [History],
         grants: &'a [GrantRow],
     ) -> VersionView<'a>
-        requires base { AreChanges base.now }
-        requires version { IsVersion (record { number = version; moment = moment; rows = rows_after base.now changes.now; grants = grants.now }) }
-        ensures { result ≡ record { number = version; moment = moment; rows = rows_after base.now changes.now; grants = grants.now } }
+        requires pasts { ArePasts (pasts_of histories.now) }
+        requires version { IsVersion (record { number = version; moment = moment; rows = rows_at version (pasts_of histories.now); grants = grants.now }) }
+        ensures { result ≡ record { number = version; moment = moment; rows = rows_at version (pasts_of histories.now); grants = grants.now } }
     {
         VersionView {
             version,
             moment,
-            base,
-            changes,
+            histories,
             grants,
         }
     }
@@ -143,11 +103,19 @@ impl<'a> VersionView<'a> {
         self.moment
     }
 
+    /// The grants, in the order of their callers.
+    pub fn grants(&self) -> &[GrantRow]
+        ensures grants { result.now ≡ self.now.grants }
+        ensures version { IsVersion self.now }
+    {
+        self.grants
+    }
+
     /// The row of this kind and id, with its owner.
     pub fn change(&self, kind: Kind, id: &Id) -> Option<&RowChange>
         ensures { option_copied result ≡ look_up change_key (place_of_kind kind, id.now) self.now.rows }
     {
-        found_after(self.base, self.changes, kind, id)
+        found(self.histories, self.version, kind, id)
     }
 
     /// The row of this kind with the least id above `after`, or with the least of all, with its owner.
@@ -155,14 +123,14 @@ impl<'a> VersionView<'a> {
         ensures next { option_copied result ≡ find (λ change. is_next kind (option_copied after.entry) change.row) self.now.rows }
         ensures sorted { AreChanges self.now.rows }
     {
-        following_after(self.base, self.changes, kind, after)
+        following(self.histories, self.version, kind, after)
     }
 
     /// The owner of the row of this kind and id.
     pub fn owner(&self, kind: Kind, id: &Id) -> Option<&Owner>
         ensures { option_copied result ≡ option_map (λ change. change.owner) (look_up change_key (place_of_kind kind, id.now) self.now.rows) }
     {
-        match found_after(self.base, self.changes, kind, id) {
+        match found(self.histories, self.version, kind, id) {
             Some(change) => Some(&change.owner),
             None => None,
         }
@@ -174,7 +142,7 @@ impl<'a> Rows for VersionView<'a> {
 
     #[tactic(auto, using(crate::proofs::RowsOf::rows_of_look_ups))]
     fn row(&self, kind: Kind, id: &Id) -> Option<&Row> {
-        match found_after(self.base, self.changes, kind, id) {
+        match found(self.histories, self.version, kind, id) {
             Some(change) => Some(&change.row),
             None => None,
         }
@@ -182,13 +150,13 @@ impl<'a> Rows for VersionView<'a> {
 
     #[tactic(auto, using(crate::proofs::RowsOf::rows_of_look_ups))]
     fn next(&self, kind: Kind, after: Option<&Id>) -> Option<&Row> {
-        match following_after(self.base, self.changes, kind, after) {
+        match following(self.histories, self.version, kind, after) {
             Some(change) => Some(&change.row),
             None => None,
         }
     }
 
     fn count(&self, kind: Kind) -> u64 {
-        count_after(self.base, self.changes, kind)
+        count_at(self.histories, self.version, kind)
     }
 }

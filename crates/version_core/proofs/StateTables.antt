@@ -1,0 +1,100 @@
+-- The tables of a state.
+use Rattle.std.proofs.Common.{◌≡◌, ℕ, zero, suc, ◌+◌, ◌<◌, ◌≤◌, List, [], ◌∷◌, Some, drop, length, length-drop, slice_get, refl, sym, subst, ap, ◌∙◌, add-zero, zero-add, arith, inl, inr}
+use Rattle.std.proofs.lemmas.Bool.{cases_lt}
+use Rattle.std.specs.List.{AllByRecursion}
+use Rattle.version_core.specs.declared.change.BaseVersion.{BaseVersion}
+use Rattle.version_core.specs.declared.change.Change.{Change}
+use Rattle.version_core.specs.declared.grant_row.GrantRow.{GrantRow}
+use Rattle.version_core.specs.declared.hub_tables.HubTables.{HubTables}
+use Rattle.version_core.specs.Changes.{AreChanges}
+use Rattle.version_core.specs.Grants.{HasGrant}
+use Rattle.version_core.specs.HubStates.{AreVersionsFrom, HasFromSince, HubState, IsHubState, KeepGrants, StandsFor, newest_number as newest_of_state, oldest_number}
+use Rattle.version_core.specs.Marks.{AreMarks}
+use Rattle.version_core.specs.Table.{LeadOn}
+use Rattle.version_core.specs.Tables.{AreTables}
+use Rattle.version_core.specs.Version.{IsVersion, after, empty_version, last_or, versions_from}
+use Rattle.version_core.proofs.VersionLemmas.{length-versions_from, newest_number}
+
+all_drop : {X : Type 0} (P : X → Type 0) (n : ℕ) (xs : List X) → AllByRecursion P xs → AllByRecursion P (drop n xs)
+all_drop P zero xs all = all
+all_drop P (suc n) [] all = tt
+all_drop P (suc n) (x ∷ xs) all = all_drop P n xs all.1
+
+all_with : {X : Type 0} (P Q : X → Type 0) (xs : List X) → ((x : X) → P x → Q x) → AllByRecursion P xs → AllByRecursion Q xs
+all_with P Q [] each all = tt
+all_with P Q (x ∷ xs) each all = (each x all.0, all_with P Q xs each all.1)
+
+run_are : (n : ℕ) (versions : List BaseVersion) → AreVersionsFrom n versions → AllByRecursion IsVersion versions
+run_are n [] run = tt
+run_are n (version ∷ versions) run = (run.1, run_are (n + 1) versions run.2)
+
+run_drop : (n k : ℕ) (versions : List BaseVersion) → AreVersionsFrom n versions → AreVersionsFrom (n + k) (drop k versions)
+run_drop n zero versions run = subst (λ m. AreVersionsFrom m versions) (sym (add-zero n)) run
+run_drop n (suc k) [] run = tt
+run_drop n (suc k) (version ∷ versions) run =
+    let number : (n + 1) + k ≡ n + suc k = omega arith in
+    subst (λ m. AreVersionsFrom m (drop k versions)) number (run_drop (n + 1) k versions run.2)
+
+first_of_run : (n : ℕ) (base : BaseVersion) (changes : List Change) → AreVersionsFrom n (versions_from base changes) → base.number ≡ n
+first_of_run n base [] run = run.0
+first_of_run n base (change ∷ changes) run = run.0
+
+lead_from : (base : BaseVersion) (changes : List Change) → AreVersionsFrom base.number (versions_from base changes) → LeadOn base.number changes
+lead_from base [] run = tt
+lead_from base (change ∷ changes) run =
+    let next = first_of_run (base.number + 1) (after base change) changes run.2 in
+    (next, lead_from (after base change) changes (subst (λ n. AreVersionsFrom n (versions_from (after base change) changes)) (sym next) run.2))
+
+last_drop : {X : Type 0} (d : X) (n : ℕ) (xs : List X) → n < length xs → last_or d (drop n xs) ≡ last_or d xs
+last_drop d zero xs lt = refl
+last_drop d (suc n) [] lt = absurd (omega arith)
+last_drop d (suc n) (x ∷ []) lt = absurd (omega arith)
+last_drop d (suc n) (x ∷ y ∷ xs) lt = last_drop d n (y ∷ xs) (omega arith)
+
+-- no grant of a caller who has had it from its `since` on is as old as the empty version
+late : (versions : List BaseVersion) (rows : List GrantRow) → slice_get versions 0 ≡ Some empty_version → AllByRecursion (HasFromSince versions) rows → AllByRecursion (λ row. 1 ≤ row.grant.since) rows
+late versions rows first all = all_with (HasFromSince versions) (λ row. 1 ≤ row.grant.since) rows (λ row has. is_late versions row first has) all
+  where
+    is_late : (versions : List BaseVersion) (row : GrantRow) → slice_get versions 0 ≡ Some empty_version → HasFromSince versions row → 1 ≤ row.grant.since
+    is_late [] row first has = cc
+    is_late (version ∷ versions) row first has =
+        let empty : version ≡ empty_version = cc in
+        let had = subst (λ (v : BaseVersion). row.grant.since ≤ v.number → HasGrant v.grants row) empty has.0 in
+        elim (cases_lt row.grant.since 1) [
+          | inl early ↦ let none = had (omega (arith, early)) in cc
+          | inr from ↦ from
+        ]
+
+first_from : (base : BaseVersion) (changes : List Change) → slice_get (versions_from base changes) 0 ≡ Some base
+first_from base [] = refl
+first_from base (change ∷ changes) = refl
+
+pub tables_of : (tables : HubTables) (state : HubState) → IsHubState state → KeepGrants state.published → StandsFor tables state → AllByRecursion (λ change. AreChanges change.rows) tables.changes → AreTables tables
+tables_of tables state is keep stands rows =
+    let base = tables.base in
+    let changes = tables.changes in
+    let oldest = oldest_number state in
+    let run : AreVersionsFrom base.number (versions_from base changes) = subst (λ n. AreVersionsFrom n (versions_from base changes)) (sym stands.oldest) (subst (AreVersionsFrom oldest) stands.kept (subst (λ n. AreVersionsFrom n (drop oldest state.published)) (zero-add oldest) (run_drop 0 oldest state.published is.run))) in
+    let lead = lead_from base changes run in
+    let count = ap length stands.kept in
+    let dropped = length-drop oldest state.published in
+    let long = length-versions_from base changes in
+    let some : oldest < length state.published = omega (arith, count, dropped, long) in
+    let last : last_or empty_version (versions_from base changes) ≡ last_or empty_version state.published = ap (last_or empty_version) (sym stands.kept) ∙ last_drop empty_version oldest state.published some in
+    let newest = newest_number empty_version base changes lead in
+    let number : newest_of_state state ≡ (last_or empty_version (versions_from base changes)).number = omega (arith, newest, count, dropped, long, stands.oldest, some) in
+    let kept : AllByRecursion (HasFromSince state.published) (last_or empty_version (versions_from base changes)).grants = subst (λ (v : BaseVersion). AllByRecursion (HasFromSince state.published) v.grants) (sym last) keep in
+    record {
+      versions = run_are base.number (versions_from base changes) run;
+      changes = rows;
+      lead = lead;
+      oldest = omega (arith, newest, number, stands.oldest, stands.keep);
+      first = λ none.
+          let all : drop oldest state.published ≡ state.published = ap (λ n. drop n state.published) (sym stands.oldest ∙ none) in
+          let first : Some base ≡ Some empty_version = sym (first_from base changes) ∙ ap (λ vs. slice_get vs 0) (sym stands.kept ∙ all) ∙ is.first in
+          cc;
+      since = late state.published (last_or empty_version (versions_from base changes)).grants is.first kept;
+      grants = all_with (HasFromSince state.published) (HasFromSince (versions_from base changes)) (last_or empty_version (versions_from base changes)).grants
+          (λ row has. subst (λ vs. HasFromSince vs row) stands.kept (all_drop (λ (version : BaseVersion). row.grant.since ≤ version.number → HasGrant version.grants row) oldest state.published has)) kept;
+      marks = subst (λ ms. AreMarks (last_or empty_version (versions_from base changes)).number ms) (sym stands.marks) (subst (λ n. AreMarks n state.marks) number is.marks);
+    }

@@ -1,0 +1,49 @@
+use Rattle.std.proofs.Common.{◌≡◌, ◌+◌, ◌<◌, ◌≤◌, ◌∷◌, List, length, map, vec_capacity, vec_len, sym, ap, subst, ◌∙◌, arith}
+use Rattle.std.specs.List.{AllByRecursion}
+use Rattle.roster_types.specs.Keys.{Key}
+use Rattle.version_core.specs.Changes.{change_key}
+use Rattle.version_core.specs.History.{ArePasts, AreUpTo, history_key, pasts_of}
+use Rattle.version_core.specs.Room.{key_of}
+use Rattle.version_core.specs.VersionLog.{kept_of, last_number, versions_at}
+use Rattle.version_core.specs.Version.{IsVersion}
+use Rattle.version_core.specs.declared.grant_row.GrantRow.{GrantRow}
+use Rattle.version_core.specs.declared.history.History.{History}
+use Rattle.version_core.specs.declared.since.Since.{Since}
+use Rattle.version_core.proofs.AddLemmas.{length_map}
+use Rattle.version_core.proofs.HistoryLemmas.{all_map}
+use Rattle.version_core.proofs.version_log.VersionLog.reserve.Goals as goal
+
+-- the same versions, with room
+pub invariant_of-self-2 : goal.invariant_of-self-2
+invariant_of-self-2 c =
+    let table = c.self.inside in
+    let e = c.make_room.ensures in
+    let ok = c.in_ok-make_room.ensures in
+    let changes = c.as_slice-changes.result.now in
+    let histories = c.make_room.new.histories.items in
+    let same : versions_at table.number (table.moment ∷ c.make_room.new.moments.items) (pasts_of histories) c.make_room.new.grants.items ≡ kept_of table =
+    λ i. versions_at table.number (table.moment ∷ e.moments i) (e.histories i) (e.grants i) in
+    let number : last_number table ≡ table.number + vec_len c.make_room.new.moments = omega (arith, e.moments_len) in
+    record {
+      versions = subst (AllByRecursion IsVersion) (sym same) c.self.invariant.versions;
+      pasts = subst ArePasts (sym e.histories) c.self.invariant.pasts;
+      up_to = subst (λ k. AreUpTo k (pasts_of histories)) number (subst (AreUpTo (last_number table)) (sym e.histories) c.self.invariant.up_to);
+      grants = subst (λ k. AllByRecursion (λ (entry : Since (List GrantRow)). entry.version ≤ k) c.make_room.new.grants.items) number
+          (subst (AllByRecursion (λ (entry : Since (List GrantRow)). entry.version ≤ last_number table)) (sym e.grants) c.self.invariant.grants);
+      spare = e.spare ∙ c.self.invariant.spare;
+      fresh = e.fresh;
+      room = λ (keys : List Key) some.
+          let given : map key_of c.in_ok-keys.keys.items ≡ keys = cc in
+          let are : map change_key changes ≡ keys = sym c.in_ok-keys.ensures ∙ given in
+          let count = length_map change_key changes in
+          let len = ap length are in
+          record {
+            moments = ok.moments_room;
+            grants = ok.grants_room;
+            histories = omega (arith, ok.histories_room, len, count);
+            spare = omega (arith, ok.spare_room, len, count);
+            fresh = omega (arith, ok.fresh_len, len, count);
+            grown = subst (AllByRecursion (λ key. AllByRecursion (λ (history : History). history_key history ≡ key → vec_len history.entries < vec_capacity history.entries) histories)) are
+                (all_map (λ key. AllByRecursion (λ (history : History). history_key history ≡ key → vec_len history.entries < vec_capacity history.entries) histories) change_key changes ok.grown);
+          };
+    }
