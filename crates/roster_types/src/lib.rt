@@ -23,6 +23,4 @@ pub mod set;
 pub mod set_row;
 pub mod status;
 pub mod structs;
-#[cfg(test)]
-mod tests;
 pub mod users;

@@ -8,7 +8,7 @@ use Rattle.roster_values.specs.declared.value.Value.{Value}
 use Rattle.roster_values.specs.Fit.{fits}
 use Rattle.roster_values.specs.Table.{Info, info_of}
 use Rattle.roster_values.specs.Values.{value_of}
-use Rattle.roster_types.proofs.tests.values_of.Goals as goal
+use Rattle.roster_tests.proofs.samples.values_of.Goals as goal
 
 fits_all-push : (is : List Info) (vs : List (Option Value)) (i : Info) (v : Option Value) → fits_all is vs ≡ true → fits i v ≡ true → fits_all (is ++ i ∷ []) (vs ++ v ∷ []) ≡ true
 fits_all-push [] [] i v h f = and_from (fits i v) true f refl
