@@ -4,6 +4,7 @@
 
 pub mod academic_sessions;
 mod blanks;
+pub mod bounds;
 pub mod categories;
 pub mod cells;
 pub mod classes;

@@ -1,4 +1,4 @@
-use Rattle.std.proofs.Common.{◌≡◌, Some, ap, sym, ◌∙◌, slice_set}
+use Rattle.std.proofs.Common.{Some, ap, sym, ◌∙◌, slice_set}
 use Rattle.roster_types.specs.Structs.{class_values, demographic_values, user_values, values_of}
 use Rattle.roster_types.proofs.structs.Fields.put.Goals as goal
 
