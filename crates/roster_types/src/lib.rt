@@ -25,3 +25,9 @@ pub mod set_row;
 pub mod status;
 pub mod structs;
 pub mod users;
+
+pub use roster_base::{Items, NoMemory, Text};
+pub use roster_texts::{Day, Id, Moment, Name};
+pub use roster_values::{
+    FieldForm, FieldInfo, Kind, Mode, UserId, Value, ValueError, ValueRef, read_value,
+};
