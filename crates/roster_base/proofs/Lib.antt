@@ -1,1 +1,2 @@
+pub mod ListSteps
 pub mod Sorting

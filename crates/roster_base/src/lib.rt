@@ -20,6 +20,3 @@ pub use order::{Keyed, sorted};
 pub use refusal::Refusal;
 pub use same::{Same, are_same};
 pub use text::Text;
-
-#[cfg(test)]
-mod tests;

@@ -1,9 +1,11 @@
 -- Spaces taken off a text one by one.
-use Rattle.std.proofs.Common.{◌≡◌, ◌≢◌, ℕ, List, [], ◌∷◌, ◌++◌, false, refl, sym, ap, ◌∙◌, reverse}
+use Rattle.std.proofs.Common.{◌≡◌, ◌≢◌, ◌-◌, ◌<◌, ℕ, List, [], ◌∷◌, ◌++◌, true, false, get_or, length, refl, sym, ap, ◌∙◌, reverse, arith}
 use Rattle.std.proofs.lemmas.Bool.{ne_eqb}
+use Rattle.std.proofs.lemmas.Bool.Decides.{nat_tests}
 use lib.Dec.{eqb}
-use Rattle.std.proofs.lemmas.List.{reverse-append, reverse-reverse}
-use Rattle.roster_texts.specs.Trim.{without_end, without_front}
+use Rattle.std.proofs.lemmas.List.{get_or-reverse, reverse-append, reverse-reverse}
+use Rattle.roster_texts.specs.Texts.{has_plain_ends}
+use Rattle.roster_texts.specs.Trim.{trimmed, without_end, without_front}
 
 pub front_done : (t : List ℕ) → ((rest : List ℕ) → t ≢ 32 ∷ rest) → t ≡ without_front t
 front_done [] h = refl
@@ -20,3 +22,23 @@ end_done t h =
 
 pub end_step : (t shorter : List ℕ) → t ≡ shorter ++ 32 ∷ [] → without_end t ≡ without_end shorter
 end_step t shorter e = ap without_end e ∙ (rw reverse-append refl)
+
+pub first_of_plain : (t : List ℕ) → has_plain_ends t ≡ true → get_or t 0 0 ≢ 32
+first_of_plain t h = grind (arith, nat_tests)
+
+pub last_of_plain : (t : List ℕ) → has_plain_ends t ≡ true → get_or t (length t - 1) 0 ≢ 32
+last_of_plain t h = grind (arith, nat_tests)
+
+-- the last byte is the first of the text from its end
+pub last_is : (t : List ℕ) → 0 < length t → get_or (reverse t) 0 0 ≡ get_or t (length t - 1) 0
+last_is t h = get_or-reverse t 0 0 h ∙ ap (λ k. get_or t k 0) (omega arith)
+
+front_kept : (t : List ℕ) → get_or t 0 0 ≢ 32 → without_front t ≡ t
+front_kept t h = sym (front_done t (λ rest e. h (ap (λ x. get_or x 0 0) e)))
+
+-- a text without spaces at its ends stays as it is
+pub trimmed_plain_text : (t : List ℕ) → 0 < length t → has_plain_ends t ≡ true → trimmed t ≡ t
+unfolding trimmed
+trimmed_plain_text t long h =
+    let back : get_or (reverse t) 0 0 ≢ 32 = λ e. last_of_plain t h (sym (last_is t long) ∙ e) in
+    ap without_end (front_kept t (first_of_plain t h)) ∙ ap reverse (front_kept (reverse t) back) ∙ reverse-reverse t

@@ -9,8 +9,6 @@ pub mod id;
 pub mod moment;
 pub mod name;
 pub mod number;
-#[cfg(test)]
-mod tests;
 pub mod token;
 pub mod trim;
 mod zone;

@@ -1,3 +1,4 @@
+pub mod BoundLaws
 pub mod Building
 pub mod Dates
 pub mod Fitting

@@ -12,7 +12,7 @@ use Rattle.roster_types.specs.Records.{IsFitting, Record, all_values}
 use Rattle.roster_types.proofs.Fitting.{fits_all-at, fits_all-length, restatus}
 use Rattle.roster_types.specs.Lengths.{field_length, fields_length}
 
-fields_length-drop : (is : List Info) (vs : List (Option Value)) (k : ℕ) (d : Info) → k < length is → length is ≡ length vs
+pub fields_length-drop : (is : List Info) (vs : List (Option Value)) (k : ℕ) (d : Info) → k < length is → length is ≡ length vs
     → fields_length (drop k is) (drop k vs) ≡ field_length (get_or is k d) (get_or vs k None) + fields_length (drop (suc k) is) (drop (suc k) vs)
 unfolding fields_length
 fields_length-drop [] vs k d l e = absurd (omega arith)
@@ -20,7 +20,7 @@ fields_length-drop (i ∷ is) [] k d l e = absurd (omega arith)
 fields_length-drop (i ∷ is) (v ∷ vs) zero d l e = refl
 fields_length-drop (i ∷ is) (v ∷ vs) (suc k) d l e = fields_length-drop is vs k d (omega arith) (omega arith)
 
-fields_length-end : (is : List Info) (vs : List (Option Value)) (k : ℕ) → length is ≤ k → fields_length (drop k is) (drop k vs) ≡ 0
+pub fields_length-end : (is : List Info) (vs : List (Option Value)) (k : ℕ) → length is ≤ k → fields_length (drop k is) (drop k vs) ≡ 0
 unfolding fields_length
 fields_length-end is vs k h = rw (drop_all k is h) refl
 

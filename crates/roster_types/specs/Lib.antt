@@ -1,3 +1,4 @@
+pub mod Bounds
 pub mod Hrefs
 pub mod Keys
 pub mod Lengths

@@ -8,6 +8,7 @@ use Rattle.roster_types.specs.declared.status.Status.TheVariants.{Active, ToBeDe
 use Rattle.roster_values.specs.declared.kind.Kind.{Kind}
 use Rattle.roster_values.specs.declared.value.Value.{Value}
 use Rattle.roster_values.specs.declared.value.Value.TheVariants.{Id, Moment, Word}
+use Rattle.roster_texts.specs.Texts.{is_id}
 use Rattle.roster_values.specs.Fit.{is_plain_text}
 use Rattle.roster_values.specs.Table.{Info, table}
 use Rattle.roster_types.specs.Shapes.{fits_all}
@@ -42,10 +43,14 @@ key_of e = e.key
 abbrev pub has_plain_text : Entry → Bool
 has_plain_text e = is_plain_text e.text
 
--- metadata stands in ascending order of its keys, each once, and none is blank
+abbrev pub has_id_key : Entry → Bool
+has_id_key e = is_id e.key
+
+-- metadata stands in ascending order of its keys, each once; a key follows the rule of ids, and no text is blank
 pub record IsMetadata (es : List Entry) : Type 0 where
   pub rise : RiseBy key_of es
   pub plain : list_all has_plain_text es ≡ true
+  pub keys : list_all has_id_key es ≡ true
 
 -- each value may stand in its field, and the metadata is in order
 pub record IsFitting (r : Record) : Type 0 where

@@ -137,16 +137,16 @@ score_values r =
 
 -- the values of any of them, and which kind it is
 abbrev pub values_of : Fields → List (Option Value)
-values_of (fields.Orgs r) = org_values r
-values_of (fields.AcademicSessions r) = academic_session_values r
-values_of (fields.Courses r) = course_values r
-values_of (fields.Classes r) = class_values r
-values_of (fields.Users r) = user_values r
-values_of (fields.Enrollments r) = enrollment_values r
-values_of (fields.Demographics r) = demographic_values r
-values_of (fields.Categories r) = category_values r
-values_of (fields.LineItems r) = line_item_values r
-values_of (fields.Results r) = score_values r
+values_of (fields.Orgs r) = org_values r.value
+values_of (fields.AcademicSessions r) = academic_session_values r.value
+values_of (fields.Courses r) = course_values r.value
+values_of (fields.Classes r) = class_values r.value
+values_of (fields.Users r) = user_values r.value
+values_of (fields.Enrollments r) = enrollment_values r.value
+values_of (fields.Demographics r) = demographic_values r.value
+values_of (fields.Categories r) = category_values r.value
+values_of (fields.LineItems r) = line_item_values r.value
+values_of (fields.Results r) = score_values r.value
 
 abbrev pub kind_of : Fields → Kind
 kind_of (fields.Orgs r) = kind.Orgs

@@ -4,6 +4,7 @@
 
 pub mod academic_sessions;
 mod blanks;
+pub mod bounds;
 pub mod categories;
 pub mod cells;
 pub mod classes;
@@ -23,6 +24,10 @@ pub mod set;
 pub mod set_row;
 pub mod status;
 pub mod structs;
-#[cfg(test)]
-mod tests;
 pub mod users;
+
+pub use roster_base::{Items, NoMemory, Text};
+pub use roster_texts::{Day, Id, Moment, Name};
+pub use roster_values::{
+    FieldForm, FieldInfo, Kind, Mode, UserId, Value, ValueError, ValueRef, read_value,
+};

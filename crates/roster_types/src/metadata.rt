@@ -68,6 +68,8 @@ impl Metadata {
         ensures ok { OnOk result (self.new ≡ self.old ++ entry ∷ []) }
         ensures err { OnErr result (self.new ≡ self.old) }
     {
+        // Read for its clause `good`: the key follows the rule of ids.
+        let _ = entry.key.as_str();
         self.entries.push(entry)
     }
 

@@ -1,17 +1,21 @@
 //! The parts of a row, before its length is tested.
 
-ghost use Rattle.std.specs.Prelude.{◌≡◌, ◌+◌, ◌<◌, true, pos, None, Some, IfOk, drop, length, min, option_map, slice_get, slice_index_or, slice_set, sum_by};
+ghost use Rattle.std.specs.Prelude.{◌≡◌, ◌+◌, ◌<◌, ◌≤◌, true, pos, None, Some, IfOk, drop, length, min, option_map, slice_get, slice_index_or, slice_set, sum_by};
 ghost use Rattle.std.specs.Bool.{Decides};
+ghost use Rattle.roster_types.specs.Bounds.{IsBound};
 ghost use Rattle.roster_types.specs.Lengths.{field_length, fields_length, metadata_length, row_length};
 ghost use Rattle.roster_types.specs.Records.{IsFitting, SameButDate, all_values, id_in, moment_in, record_from, status_in};
+ghost use Rattle.roster_types.specs.Rows.{longest};
 ghost use Rattle.roster_types.specs.Shapes.{fits_all, own_fields, shapes_fit};
 ghost use Rattle.roster_types.specs.Structs.{kind_of, values_of};
 ghost use Rattle.roster_values.specs.Fit.{fits_parts};
 ghost use Rattle.roster_values.specs.Table.{IdForm, info_of, table};
 ghost use Rattle.roster_values.specs.Value.{shown};
 
+use crate::bounds::{list_bound, text_bound, value_bound};
 use crate::lengths::{CAP, add, enclosed_length, member_length, parts_length, value_length};
 use crate::metadata::Metadata;
+use crate::row::LONGEST;
 use crate::status::Status;
 use crate::structs::Fields;
 use roster_base::{NoMemory, Same, TryCopy};
@@ -272,13 +276,62 @@ impl RowParts {
         )
     }
 
-    /// The length of the row, counted up to the cap.
+    // The length of the row, counted up to the cap.
     #[tactic(auto, unfolding(crate::specs::Lengths::object_length))]
-    pub fn length(&self, alloc: Global) -> Result<u64, NoMemory>
+    fn length(&self, alloc: Global) -> Result<u64, NoMemory>
         ensures { IfOk result (λ n. n ≡ min (row_length self.now) CAP) }
     {
         let members = self.members_length(alloc)?;
         Ok(enclosed_length(add(members, self.metadata_length())))
+    }
+
+    // The bound of the member of a field, with one byte more, and nothing where the field is absent.
+    #[tactic(auto, unfolding(crate::specs::Lengths::field_length))]
+    fn field_bound(&self, place: usize, info: &FieldInfo) -> u64
+        requires { slice_get (table self.now.kind) place ≡ Some (info_of info.now) }
+        ensures { IsBound result (field_length (info_of info.now) (slice_index_or (all_values (record self.now { status = Status.ToBeDeleted })) place None)) }
+    {
+        let _ = &self.fields;
+        let value = self.value_with(Status::ToBeDeleted, place);
+        match value {
+            Some(value) => add(add(text_bound(info.name), 2), value_bound(info.form, value)),
+            None => 0,
+        }
+    }
+
+    fn members_bound(&self) -> u64
+        ensures { IsBound result (fields_length (table self.now.kind) (all_values (record self.now { status = Status.ToBeDeleted }))) }
+    {
+        let infos = fields(self.kind());
+        let mut bound = 0;
+        for place in 0..infos.len() {
+            bound = add(bound, self.field_bound(place, &infos[place]));
+        }
+        bound
+    }
+
+    #[tactic(auto, using(crate::proofs::BoundLaws::metadata_most))]
+    fn metadata_bound(&self) -> u64
+        ensures { IsBound result (metadata_length self.now.metadata) }
+    {
+        add(list_bound(self.metadata.entries()), 12)
+    }
+
+    #[tactic(auto, unfolding(crate::specs::Lengths::object_length))]
+    fn bound(&self) -> u64
+        ensures { IsBound result (row_length self.now) }
+    {
+        enclosed_length(add(self.members_bound(), self.metadata_bound()))
+    }
+
+    /// Whether the row is no longer than a row may be. Its length is counted only where the bound doesn't show it.
+    pub fn is_short(&self, alloc: Global) -> Result<bool, NoMemory>
+        ensures { IfOk result (λ short. Decides short (row_length self.now ≤ longest)) }
+    {
+        if self.bound() <= LONGEST {
+            return Ok(true);
+        }
+        Ok(self.length(alloc)? <= LONGEST)
     }
 
     /// Whether the rows are equal in all but the date.

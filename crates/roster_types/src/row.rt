@@ -54,8 +54,8 @@ impl Row {
         ensures { IfOk result (λ o. o ≡ row_from kind values.items metadata) }
     {
         let parts = RowParts::from_values(alloc, kind, values, metadata)?;
-        match parts.length(alloc) {
-            Ok(length) if length <= LONGEST => Ok(Some(Row { parts })),
+        match parts.is_short(alloc) {
+            Ok(true) => Ok(Some(Row { parts })),
             refused => {
                 // By name, since the check goes through all ten structs where a row is dropped unnamed.
                 drop(parts);

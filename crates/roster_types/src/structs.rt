@@ -1,6 +1,6 @@
 //! The structs of the ten kinds as one, read and written by place.
 
-ghost use Rattle.std.specs.Prelude.{◌≡◌, ◌<◌, true, None, Some, IfOk, length, option_map, slice_index_or, slice_set};
+ghost use Rattle.std.specs.Prelude.{◌≡◌, ◌<◌, true, None, Ok, Some, IfOk, length, option_map, slice_index_or, slice_set};
 ghost use Rattle.std.specs.Bool.{Decides};
 ghost use Rattle.roster_types.specs.Shapes.{blank_values, own_fields, shape_at};
 ghost use Rattle.roster_types.specs.Structs.{kind_of, values_of};
@@ -21,19 +21,25 @@ use roster_base::NoMemory;
 use roster_values::{Kind, Value, ValueRef, are_same_fields};
 use std::alloc::Global;
 
-/// The struct of a row's kind.
+/// The struct of a row's kind, on the heap, so that a row has one size in a list whatever its kind.
 #[derive(Drop)]
 pub enum Fields {
-    Orgs(Org),
-    AcademicSessions(AcademicSession),
-    Courses(Course),
-    Classes(Class),
-    Users(User),
-    Enrollments(Enrollment),
-    Demographics(Demographic),
-    Categories(Category),
-    LineItems(LineItem),
-    Results(Score),
+    Orgs(Box<Org>),
+    AcademicSessions(Box<AcademicSession>),
+    Courses(Box<Course>),
+    Classes(Box<Class>),
+    Users(Box<User>),
+    Enrollments(Box<Enrollment>),
+    Demographics(Box<Demographic>),
+    Categories(Box<Category>),
+    LineItems(Box<LineItem>),
+    Results(Box<Score>),
+}
+
+fn boxed<T: Drop>(alloc: Global, made: Result<T, NoMemory>) -> Result<Box<T>, NoMemory>
+    ensures { IfOk result (λ b. made ≡ Ok b.value) }
+{
+    Ok(Box::new(alloc, made?)?)
 }
 
 impl Fields {
@@ -115,16 +121,19 @@ impl Fields {
         ensures kind { IfOk result (λ f. kind_of f ≡ kind) }
     {
         Ok(match kind {
-            Kind::Orgs => Fields::Orgs(Org::blank(alloc)?),
-            Kind::AcademicSessions => Fields::AcademicSessions(AcademicSession::blank(alloc)?),
-            Kind::Courses => Fields::Courses(Course::blank(alloc)?),
-            Kind::Classes => Fields::Classes(Class::blank(alloc)?),
-            Kind::Users => Fields::Users(User::blank(alloc)?),
-            Kind::Enrollments => Fields::Enrollments(Enrollment::blank(alloc)?),
-            Kind::Demographics => Fields::Demographics(Demographic::blank(alloc)?),
-            Kind::Categories => Fields::Categories(Category::blank(alloc)?),
-            Kind::LineItems => Fields::LineItems(LineItem::blank(alloc)?),
-            Kind::Results => Fields::Results(Score::blank(alloc)?),
+            Kind::Orgs => Fields::Orgs(boxed(alloc, Org::blank(alloc))?),
+            Kind::AcademicSessions => Fields::AcademicSessions(boxed(
+                alloc,
+                AcademicSession::blank(alloc),
+            )?),
+            Kind::Courses => Fields::Courses(boxed(alloc, Course::blank(alloc))?),
+            Kind::Classes => Fields::Classes(boxed(alloc, Class::blank(alloc))?),
+            Kind::Users => Fields::Users(boxed(alloc, User::blank(alloc))?),
+            Kind::Enrollments => Fields::Enrollments(boxed(alloc, Enrollment::blank(alloc))?),
+            Kind::Demographics => Fields::Demographics(boxed(alloc, Demographic::blank(alloc))?),
+            Kind::Categories => Fields::Categories(boxed(alloc, Category::blank(alloc))?),
+            Kind::LineItems => Fields::LineItems(boxed(alloc, LineItem::blank(alloc))?),
+            Kind::Results => Fields::Results(boxed(alloc, Score::blank(alloc))?),
         })
     }
 }

@@ -1,5 +1,6 @@
 pub mod Braces
 pub mod CellLaws
+pub mod FieldLaws
 pub mod FitLaws
 pub mod ItemLaws
 pub mod KindLaws

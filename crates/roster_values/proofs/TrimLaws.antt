@@ -2,39 +2,23 @@
 use Rattle.std.proofs.Common.{◌≡◌, ◌≢◌, ℕ, ◌-◌, ◌<◌, ◌&&◌, cond, List, [], ◌∷◌, ◌++◌, length, length-append, get_or, reverse, Bool, true, false, refl, sym, ap, ◌∙◌, arith}
 use Rattle.std.proofs.lemmas.Bool.{and_from, and_parts, eqb-false}
 use Rattle.std.proofs.lemmas.Bool.Decides.{nat_tests}
-use Rattle.std.proofs.lemmas.List.{get_or-append-add, get_or-reverse, length-reverse, reverse-append, reverse-reverse}
+use Rattle.std.proofs.lemmas.List.{get_or-append-add, length-reverse, reverse-append, reverse-reverse}
 use Rattle.std.proofs.lemmas.List.Folds.{list_all-append}
 use Rattle.std.specs.List.{list_all}
 use Rattle.roster_values.specs.Lists.{is_filled}
 use Rattle.roster_texts.specs.Texts.{has_plain_ends}
 use Rattle.roster_texts.specs.Trim.{is_space, trimmed, without_end, without_front}
-use Rattle.roster_texts.proofs.Spaces.{front_done}
+use Rattle.roster_texts.proofs.Spaces.{last_is, trimmed_plain_text}
+pub use Rattle.roster_texts.proofs.Spaces.{first_of_plain, last_of_plain}
 
 pub filled_long : (t : List ℕ) → is_filled t ≡ true → 0 < length t
 filled_long t h = grind (arith, nat_tests)
 
-pub first_of_plain : (t : List ℕ) → has_plain_ends t ≡ true → get_or t 0 0 ≢ 32
-first_of_plain t h = grind (arith, nat_tests)
-
-pub last_of_plain : (t : List ℕ) → has_plain_ends t ≡ true → get_or t (length t - 1) 0 ≢ 32
-last_of_plain t h = grind (arith, nat_tests)
-
 pub plain_from : (t : List ℕ) → get_or t 0 0 ≢ 32 → get_or t (length t - 1) 0 ≢ 32 → has_plain_ends t ≡ true
 plain_from t h k = grind (arith, nat_tests)
 
--- the last byte is the first of the text from its end
-last_is : (t : List ℕ) → 0 < length t → get_or (reverse t) 0 0 ≡ get_or t (length t - 1) 0
-last_is t h = get_or-reverse t 0 0 h ∙ ap (λ k. get_or t k 0) (omega arith)
-
-front_kept : (t : List ℕ) → get_or t 0 0 ≢ 32 → without_front t ≡ t
-front_kept t h = sym (front_done t (λ rest e. h (ap (λ x. get_or x 0 0) e)))
-
 pub trimmed_same : (t : List ℕ) → is_filled t ≡ true → has_plain_ends t ≡ true → trimmed t ≡ t
-unfolding trimmed
-trimmed_same t filled h =
-    let long = filled_long t filled in
-    let back : get_or (reverse t) 0 0 ≢ 32 = λ e. last_of_plain t h (sym (last_is t long) ∙ e) in
-    ap without_end (front_kept t (first_of_plain t h)) ∙ ap reverse (front_kept (reverse t) back) ∙ reverse-reverse t
+trimmed_same t filled h = trimmed_plain_text t (filled_long t filled) h
 
 head_step : (b : ℕ) (t : List ℕ) (r : Bool) → is_space b ≡ r → (0 < length (without_front t) → get_or (without_front t) 0 0 ≢ 32)
     → 0 < length (cond r (without_front t) (b ∷ t)) → get_or (cond r (without_front t) (b ∷ t)) 0 0 ≢ 32

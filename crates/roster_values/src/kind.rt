@@ -29,6 +29,24 @@ pub enum Kind {
     Results,
 }
 
+// The word for many records of a kind, with this ending.
+macro_rules! plural_and {
+    ($kind:expr, $ending:literal) => {
+        match $kind {
+            Kind::Orgs => concat!("orgs", $ending),
+            Kind::AcademicSessions => concat!("academicSessions", $ending),
+            Kind::Courses => concat!("courses", $ending),
+            Kind::Classes => concat!("classes", $ending),
+            Kind::Users => concat!("users", $ending),
+            Kind::Enrollments => concat!("enrollments", $ending),
+            Kind::Demographics => concat!("demographics", $ending),
+            Kind::Categories => concat!("categories", $ending),
+            Kind::LineItems => concat!("lineItems", $ending),
+            Kind::Results => concat!("results", $ending),
+        }
+    };
+}
+
 impl Kind {
     /// Every kind, in the order of `place`.
     pub const ALL: [Kind; 10] = [
@@ -66,18 +84,7 @@ impl Kind {
     pub fn plural(self) -> &'static str
         ensures { result.now ≡ plural_of self }
     {
-        match self {
-            Kind::Orgs => "orgs",
-            Kind::AcademicSessions => "academicSessions",
-            Kind::Courses => "courses",
-            Kind::Classes => "classes",
-            Kind::Users => "users",
-            Kind::Enrollments => "enrollments",
-            Kind::Demographics => "demographics",
-            Kind::Categories => "categories",
-            Kind::LineItems => "lineItems",
-            Kind::Results => "results",
-        }
+        plural_and!(self, "")
     }
 
     /// The word for one record of the kind: its key in JSON, and the `type` of a reference to it.
@@ -102,18 +109,7 @@ impl Kind {
     pub fn file_name(self) -> &'static str
         ensures { result.now ≡ file_of self }
     {
-        match self {
-            Kind::Orgs => "orgs.csv",
-            Kind::AcademicSessions => "academicSessions.csv",
-            Kind::Courses => "courses.csv",
-            Kind::Classes => "classes.csv",
-            Kind::Users => "users.csv",
-            Kind::Enrollments => "enrollments.csv",
-            Kind::Demographics => "demographics.csv",
-            Kind::Categories => "categories.csv",
-            Kind::LineItems => "lineItems.csv",
-            Kind::Results => "results.csv",
-        }
+        plural_and!(self, ".csv")
     }
 
     /// The kind whose plural word the text is, letter by letter.

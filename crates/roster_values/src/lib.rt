@@ -8,8 +8,6 @@ pub mod lists;
 pub mod mode;
 pub mod read;
 pub mod same;
-#[cfg(test)]
-mod tests;
 pub mod user_id;
 pub mod value;
 

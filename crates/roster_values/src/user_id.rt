@@ -1,9 +1,8 @@
 //! User ids: what other systems call a user.
 
-ghost use Rattle.std.specs.Prelude.{◌≡◌, ◌<◌, true, IfOk, length};
+ghost use Rattle.std.specs.Prelude.{◌≡◌, true, IfOk};
 ghost use Rattle.std.specs.List.{list_all};
 ghost use Rattle.roster_base.specs.Reading.{Gives};
-ghost use Rattle.roster_texts.specs.Texts.{has_plain_ends};
 ghost use Rattle.roster_values.specs.Lists.{read_all, user_id_in, user_id_of, user_ids_of};
 ghost use Rattle.roster_values.specs.UserIds.{inner, is_braced, is_identifier, is_identifier_byte, is_type, is_type_byte, user_id_from};
 
@@ -11,7 +10,7 @@ use crate::fault::ValueError;
 use crate::lists::read_items;
 use roster_base::{Items, NoMemory, Refusal, Text, TryCopy};
 use roster_texts::ValueFault;
-use roster_texts::trim::trim_spaces;
+use roster_texts::trim::{has_plain_ends, trim_spaces};
 use std::alloc::Global;
 use std::marker::Model;
 
@@ -110,14 +109,6 @@ fn has_identifier_bytes(bytes: &[u8]) -> bool
     ensures { result ≡ list_all is_identifier_byte bytes.now }
 {
     bytes.iter().all(|&b| b != b',' && b != b'{' && b != b'}')
-}
-
-fn has_plain_ends(bytes: &[u8]) -> bool
-    requires { 0 < length bytes.now }
-    ensures { result ≡ has_plain_ends bytes.now }
-{
-    let last = bytes[bytes.len() - 1];
-    bytes[0] != b' ' && last != b' '
 }
 
 /// The user id that a text writes as `{type:identifier}`, cut at the first colon, without the spaces at the ends of either part.
