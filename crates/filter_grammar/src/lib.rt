@@ -9,7 +9,6 @@ mod numbers;
 pub mod parameter;
 pub mod query;
 mod read_filter;
-mod spaces;
 pub mod subject;
 mod words;
 

@@ -66,10 +66,6 @@ each_had (row ∷ grants) rise = (
       | false ↦ λ _. refl
     ] refl
 
-pub AreMarks-later : (newest later : ℕ) (marks : List MarkRow) → newest ≤ later → AreMarks newest marks → AreMarks later marks
-AreMarks-later newest later marks le are =
-    record { outcomes = are.outcomes; versions = all_each (λ mark. mark.kept.version ≤ newest) (λ mark. mark.kept.version ≤ later) marks (λ mark small. omega arith) are.versions; differ = are.differ }
-
 first_of : (versions : List BaseVersion) (next : BaseVersion) → slice_get versions 0 ≡ Some empty_version → slice_get (versions ++ next ∷ []) 0 ≡ Some empty_version
 first_of [] next first = cc
 first_of (v ∷ vs) next first = first

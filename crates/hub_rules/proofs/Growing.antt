@@ -4,7 +4,7 @@ use Rattle.std.proofs.Math.ListN.{get_or-append}
 use Rattle.hub_rules.specs.Answers.{Answered, Answers, Entered, Written, write_of, write_result}
 use Rattle.hub_rules.specs.Checks.{Entry, check, entry_of, grant_in, method_refused, refused}
 use Rattle.hub_rules.specs.Growth.{Goes, Grew, IsMarkOf, IsNewMark, IsRunMark}
-use Rattle.hub_rules.specs.Marked.{is_below, mark_at, same_write, with_mark}
+use Rattle.hub_rules.specs.Marked.{same_write}
 use Rattle.hub_rules.specs.Runs.{Acts, ActedOrNot, Answer, Command, Does, Fails, Publish, Reopen, Runs, SetGrants, Step, Steps, Take, Wants, WantsMemory, end_of, state_with}
 use Rattle.hub_rules.specs.Verdicts.{Judged, Judges, Leads, Refused, Repeat, Same, Verdict, held_mark, newest_in, repeated}
 use Rattle.hub_rules.specs.Wanted.{Wanted, allows, is_write, mark_number}
@@ -14,7 +14,7 @@ use Rattle.hub_rules.proofs.Cutting.{same_text}
 use Rattle.reference_rules.proofs.KeyOrder.{and_first, and_second}
 use Rattle.std.proofs.lemmas.Bool.Decides.{nat_tests}
 use Rattle.std.specs.List.{insert, prefix_len}
-use Rattle.version_core.specs.Marks.{mark_key, same_mark}
+use Rattle.version_core.specs.Marks.{is_below, mark_at, mark_key, same_mark, with_mark}
 use Rattle.roster_base.specs.Reading.{◌>>=◌}
 use Rattle.roster_texts.specs.Results.{found_or}
 use Rattle.set_changes.specs.Applying as applying

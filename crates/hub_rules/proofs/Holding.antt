@@ -1,4 +1,4 @@
--- The rows of a version that a step leads to may be held, as those of the version before may.
+-- What a version holds that a step leads to are rows, as in the version before.
 use Rattle.std.proofs.Common.{◌≡◌, ℕ, ℤ, zero, suc, ◌+◌, ◌<◌, ◌==◌, inl, inr, Bool, true, false, cond, List, [], ◌∷◌, Option, Some, None, Result, Ok, Err, get_or, length, refl, sym, ap, subst, ◌∙◌, arith}
 use Rattle.std.proofs.lemmas.Cmp.{tied_itself}
 use Rattle.std.specs.List.{AllByRecursion, list_all}
@@ -10,7 +10,7 @@ use Rattle.hub_paths.specs.Routes.{objects_in}
 use Rattle.hub_paths.specs.declared.route.Collection.TheVariants.{Of, Schools, Terms, GradingPeriods, Students, Teachers}
 use Rattle.hub_paths.specs.declared.route.Route.{Route}
 use Rattle.hub_paths.specs.declared.route.Route.TheVariants as route
-use Rattle.hub_rules.proofs.PutRows.{put_held}
+use Rattle.hub_rules.proofs.PutRows.{put_row}
 use Rattle.hub_rules.specs.Marked.{same_write}
 use Rattle.hub_rules.specs.Puts.{put_of}
 use Rattle.hub_rules.specs.Refusals.{delete_refusal, put_refusal, stored_at}
@@ -24,12 +24,12 @@ use Rattle.roster_texts.specs.Texts.{is_id}
 use Rattle.roster_types.proofs.Dates.{IsRow-changed}
 use Rattle.roster_types.specs.Keys.{Ascends, Key, key_cmp, look_up}
 use Rattle.roster_types.specs.Records.{Record}
+use Rattle.roster_types.specs.Rows.{IsRow}
 use Rattle.roster_types.specs.Sets.{SetRecord}
 use Rattle.roster_types.specs.declared.owner.Owner.TheVariants.{Caller}
 use Rattle.roster_types.specs.declared.set_row.SetRow.{SetRow}
 use Rattle.roster_types.specs.declared.status.Status.{Status}
 use Rattle.roster_types.specs.declared.status.Status.TheVariants.{ToBeDeleted}
-use Rattle.row_json.specs.Reading.{IsHeld}
 use Rattle.row_json.specs.declared.fault.JsonFault.{JsonFault}
 use Rattle.set_changes.specs.Applying as applying
 use Rattle.set_changes.specs.Applying.{Applies, Becomes, Listed, dated, is_active, is_left_out, marked, rows_in, set_key, unlisted}
@@ -70,42 +70,38 @@ all_put P key x (y ∷ ys) all here =
       | Greater ↦ (all.0, all_put P key x ys all.1 here)
     ]
 
--- ---- a row with another date or status
-
-held_changed : (row : Record) (status : Status) (at : ℤ) → IsMoment at → IsHeld row → IsHeld (record row { status = status; modified = at })
-held_changed row status at moment held = record { row = IsRow-changed row status at moment held.row; keys = held.keys }
-
-held_dated : (row : Record) (at : ℤ) → IsMoment at → IsHeld row → IsHeld (dated at row)
-held_dated row at moment held = held_changed row row.status at moment held
+-- ---- a row with another date
+row_dated : (row : Record) (at : ℤ) → IsMoment at → IsRow row → IsRow (dated at row)
+row_dated row at moment held = IsRow-changed row row.status at moment held
 
 -- ---- sets
 
-listed_held : (feed : List ℕ) (at : ℤ) (brings_date : Bool) (row : Record) (stored : Option RowChange) (new : RowChange) → IsMoment at → IsHeld row
-    → ((s : RowChange) → stored ≡ Some s → IsHeld s.row) → Listed feed at brings_date row stored new → IsHeld new.row
-listed_held feed at true row stored new moment held old listed = subst (λ (c : RowChange). IsHeld c.row) (sym listed) held
-listed_held feed at false row None new moment held old listed = subst (λ (c : RowChange). IsHeld c.row) (sym listed) (held_dated row at moment held)
-listed_held feed at false row (Some s) new moment held old (inl same) = subst (λ (c : RowChange). IsHeld c.row) (sym same.1) (old s refl)
-listed_held feed at false row (Some s) new moment held old (inr differs) = subst (λ (c : RowChange). IsHeld c.row) (sym differs.1) (held_dated row at moment held)
+listed_row : (feed : List ℕ) (at : ℤ) (brings_date : Bool) (row : Record) (stored : Option RowChange) (new : RowChange) → IsMoment at → IsRow row
+    → ((s : RowChange) → stored ≡ Some s → IsRow s.row) → Listed feed at brings_date row stored new → IsRow new.row
+listed_row feed at true row stored new moment held old listed = subst (λ (c : RowChange). IsRow c.row) (sym listed) held
+listed_row feed at false row None new moment held old listed = subst (λ (c : RowChange). IsRow c.row) (sym listed) (row_dated row at moment held)
+listed_row feed at false row (Some s) new moment held old (inl same) = subst (λ (c : RowChange). IsRow c.row) (sym same.1) (old s refl)
+listed_row feed at false row (Some s) new moment held old (inr differs) = subst (λ (c : RowChange). IsRow c.row) (sym differs.1) (row_dated row at moment held)
 
-unlisted_held : (set : SetRecord) (at : ℤ) (stored : RowChange) → IsMoment at → IsHeld stored.row → IsHeld (unlisted set at stored).row
-unlisted_held set at stored moment held =
-    elim (is_left_out set stored) as (λ b. IsHeld (cond b (marked at stored) stored).row) [ true ↦ held_changed stored.row ToBeDeleted at moment held | false ↦ held ]
+unlisted_row : (set : SetRecord) (at : ℤ) (stored : RowChange) → IsMoment at → IsRow stored.row → IsRow (unlisted set at stored).row
+unlisted_row set at stored moment held =
+    elim (is_left_out set stored) as (λ b. IsRow (cond b (marked at stored) stored).row) [ true ↦ IsRow-changed stored.row ToBeDeleted at moment held | false ↦ held ]
 
-becomes_held : (set : SetRecord) (at : ℤ) (listed : Option SetRow) (stored : Option RowChange) (new : RowChange) → IsMoment at
-    → ((l : SetRow) → listed ≡ Some l → IsHeld l.row) → ((s : RowChange) → stored ≡ Some s → IsHeld s.row) → Becomes set at listed stored (Some new) → IsHeld new.row
-becomes_held set at None None new moment lists old becomes = cc
-becomes_held set at None (Some s) new moment lists old becomes =
-    let same : unlisted set at s ≡ new = cc in subst (λ (c : RowChange). IsHeld c.row) same (unlisted_held set at s moment (old s refl))
-becomes_held set at (Some l) stored new moment lists old becomes = listed_held set.feed at l.dated l.row stored new moment (lists l refl) old becomes
+becomes_row : (set : SetRecord) (at : ℤ) (listed : Option SetRow) (stored : Option RowChange) (new : RowChange) → IsMoment at
+    → ((l : SetRow) → listed ≡ Some l → IsRow l.row) → ((s : RowChange) → stored ≡ Some s → IsRow s.row) → Becomes set at listed stored (Some new) → IsRow new.row
+becomes_row set at None None new moment lists old becomes = cc
+becomes_row set at None (Some s) new moment lists old becomes =
+    let same : unlisted set at s ≡ new = cc in subst (λ (c : RowChange). IsRow c.row) same (unlisted_row set at s moment (old s refl))
+becomes_row set at (Some l) stored new moment lists old becomes = listed_row set.feed at l.dated l.row stored new moment (lists l refl) old becomes
 
 pub set_holds : (version : BaseVersion) (set : SetRecord) (at : ℤ) (next : BaseVersion) → IsMoment at → ListsRows set → HoldsRows version → Applies version set at (applying.Leads next) → HoldsRows next
 set_holds version set at next moment lists old applies =
     let new = applies.0 in
-    let held : AllByRecursion (λ (c : RowChange). IsHeld c.row) new =
-    from_found (λ (c : RowChange). IsHeld c.row) change_key new applies.1.order (λ k c found.
-        becomes_held set at (look_up set_key k (rows_in set)) (look_up change_key k version.rows) c moment
-        (λ l e. found_is (λ (l : SetRow). IsHeld l.row) set_key k (rows_in set) l lists e)
-        (λ s e. found_is (λ (c : RowChange). IsHeld c.row) change_key k version.rows s old e)
+    let held : AllByRecursion (λ (c : RowChange). IsRow c.row) new =
+    from_found (λ (c : RowChange). IsRow c.row) change_key new applies.1.order (λ k c found.
+        becomes_row set at (look_up set_key k (rows_in set)) (look_up change_key k version.rows) c moment
+        (λ l e. found_is (λ (l : SetRow). IsRow l.row) set_key k (rows_in set) l lists e)
+        (λ s e. found_is (λ (c : RowChange). IsRow c.row) change_key k version.rows s old e)
         (subst (λ o. Becomes set at (look_up set_key k (rows_in set)) (look_up change_key k version.rows) o) found (applies.1.entries k))) in
     subst HoldsRows (sym applies.2.2) held
 
@@ -142,22 +138,22 @@ pub path_id : (path : PathParts) → IsPath path → takes_writes path ≡ true 
 path_id path is takes = write_id path.route path.ids takes is.objects is.ids
 
 module _ (newest : BaseVersion) (old : HoldsRows newest) (by : GrantRow) (write : Write) (at : ℤ) (moment : IsMoment at) (next : BaseVersion) where
-  leads_holds : (change : RowChange) → IsHeld change.row → leads_with newest at change ≡ Leads next → HoldsRows next
+  leads_holds : (change : RowChange) → IsRow change.row → leads_with newest at change ≡ Leads next → HoldsRows next
   leads_holds change held e =
       let made : BaseVersion = record newest { number = newest.number + 1; moment = at; rows = put change_key change newest.rows } in
       elim (newest.number == last_version) as (λ b. cond b (Refused 8) (Leads made) ≡ Leads next → HoldsRows next) [
         | true ↦ λ e. cc
-        | false ↦ λ e. let same : made ≡ next = cc in subst HoldsRows same (all_put (λ (c : RowChange). IsHeld c.row) change_key change newest.rows old held)
+        | false ↦ λ e. let same : made ≡ next = cc in subst HoldsRows same (all_put (λ (c : RowChange). IsRow c.row) change_key change newest.rows old held)
       ] e
 
-  stored_held : (s : RowChange) → stored_at newest write ≡ Some s → IsHeld s.row
-  stored_held s e = found_is (λ (c : RowChange). IsHeld c.row) change_key _ newest.rows s old e
+  stored_row : (s : RowChange) → stored_at newest write ≡ Some s → IsRow s.row
+  stored_row s e = found_is (λ (c : RowChange). IsRow c.row) change_key _ newest.rows s old e
 
   delete_holds : (stored : Option RowChange) → stored_at newest write ≡ stored → delete_makes newest at stored ≡ Leads next → HoldsRows next
   delete_holds None found e = cc
   delete_holds (Some s) found e =
       elim (is_active s.row.status) as (λ b. cond b (leads_with newest at (marked at s)) Same ≡ Leads next → HoldsRows next) [
-        | true ↦ λ e. leads_holds (marked at s) (held_changed s.row ToBeDeleted at moment (stored_held s found)) e
+        | true ↦ λ e. leads_holds (marked at s) (IsRow-changed s.row ToBeDeleted at moment (stored_row s found)) e
         | false ↦ λ e. cc
       ] e
 
@@ -165,19 +161,19 @@ module _ (newest : BaseVersion) (old : HoldsRows newest) (by : GrantRow) (write 
   delete_judged_holds (Some n) e = cc
   delete_judged_holds None e = delete_holds (stored_at newest write) refl e
 
-  put_holds : (change : RowChange) (stored : Option RowChange) → IsHeld change.row → PutMakes newest at change stored (Leads next) → HoldsRows next
+  put_holds : (change : RowChange) (stored : Option RowChange) → IsRow change.row → PutMakes newest at change stored (Leads next) → HoldsRows next
   put_holds change None held makes = leads_holds change held (sym makes)
   put_holds change (Some s) held (inl same) = absurd (let e = same.1 in cc)
   put_holds change (Some s) held (inr differs) = leads_holds change held (sym differs.1)
 
-  row_holds : (row : Record) (o : Option ℕ) → IsHeld row → PutJudged newest by write at row o (Leads next) → HoldsRows next
+  row_holds : (row : Record) (o : Option ℕ) → IsRow row → PutJudged newest by write at row o (Leads next) → HoldsRows next
   row_holds row (Some n) held judged = cc
   row_holds row None held judged = put_holds (record { row = row; owner = Caller by.caller }) (stored_at newest write) held judged
 
   module _ (good : write.delete ≡ false → is_id write.id ≡ true) where
     body_holds : (r : Result Record JsonFault) → write.delete ≡ false → put_of write.kind write.id at write.body ≡ r → BodyJudged newest by write at r (Leads next) → HoldsRows next
     body_holds (Err fault) puts read judged = cc
-    body_holds (Ok row) puts read judged = row_holds row (put_refusal newest by write row) (put_held write.kind write.id at (good puts) moment write.body row read) judged
+    body_holds (Ok row) puts read judged = row_holds row (put_refusal newest by write row) (put_row write.kind write.id at (good puts) moment write.body row read) judged
 
     new_holds : (b : Bool) → write.delete ≡ b → NewJudged b newest by write at (Leads next) → HoldsRows next
     new_holds true is judged = delete_judged_holds (delete_refusal newest by write) (sym judged)

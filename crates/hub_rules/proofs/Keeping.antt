@@ -5,7 +5,7 @@ use Rattle.std.proofs.lemmas.List.Sorted.{IsPermutation-insert, IsPermutation-ma
 use Rattle.std.proofs.lemmas.Map.Keys.{IsDistinct-IsPermutation}
 use Rattle.std.specs.List.{AllByRecursion, IsDistinct, insert, prefix_len}
 use Rattle.std.specs.Option.{ForSome}
-use Rattle.hub_rules.proofs.Following.{AreMarks-later, marked_is_hub, next_is_hub}
+use Rattle.hub_rules.proofs.Following.{marked_is_hub, next_is_hub}
 use Rattle.hub_rules.proofs.Growing.{Enters, enters, free_of_judged}
 use Rattle.hub_rules.proofs.Holding.{judged_holds, newest_holds, path_id, set_holds}
 use Rattle.hub_rules.proofs.Judging.{judged_led}
@@ -19,7 +19,7 @@ use Rattle.status_info.specs.declared.request.Verb.{Verb}
 use Rattle.status_info.specs.declared.request.Verb.TheVariants.{Delete, Get, Head, Other, Put}
 use Rattle.hub_rules.specs.Answers.{Answered, Answers, Entered, Written, write_of, write_result}
 use Rattle.hub_rules.specs.Checks.{Entry, entry_of}
-use Rattle.hub_rules.specs.Marked.{is_below, mark_at, same_write, with_mark}
+use Rattle.hub_rules.specs.Marked.{same_write}
 use Rattle.hub_rules.specs.Puts.{put_of}
 use Rattle.hub_rules.specs.Runs.{Acts, ActedOrNot, Answer, Command, Does, Fails, Publish, Reopen, Runs, SetGrants, Step, Steps, Take, Wants, WantsMemory, end_of, state_with}
 use Rattle.hub_rules.specs.States.{AreCommands, AreEntries, HoldsRows, IsCommand, IsHub, IsNext, ListsRows}
@@ -37,9 +37,10 @@ use Rattle.set_changes.specs.Applying as applying
 use Rattle.set_changes.specs.Applying.{is_active, marked}
 use Rattle.status_info.specs.declared.reply.Reply.{Reply}
 use Rattle.hub_views.specs.Seen.{sees}
+use Rattle.version_core.proofs.MarkLemmas.{AreMarks-later, AreMarks-with_mark}
 use Rattle.version_core.specs.Changes.{change_key, rows_of}
 use Rattle.version_core.specs.HubStates.{HubState, newest_number}
-use Rattle.version_core.specs.Marks.{AreMarks, is_outcome, mark_key, same_mark}
+use Rattle.version_core.specs.Marks.{AreMarks, is_below, is_outcome, mark_at, mark_key, same_mark, with_mark}
 use Rattle.version_core.specs.Order.{put}
 use Rattle.version_core.specs.Version.{last_version}
 use Rattle.version_core.specs.declared.change.BaseVersion.{BaseVersion}
@@ -142,38 +143,6 @@ nothing_of : (write : Write) (held : MarkRow) (outcome : ℕ) → outcome_of wri
 nothing_of write held outcome e =
     elim (same_write held.write write) as (λ b. outcome_of write (cond b (Repeat held.kept) (Refused 1)) ≡ Some outcome → ⊥) [ true ↦ λ e. cc | false ↦ λ e. cc ] e
 
-all_inserted : {X : Type 0} (P : X → Type 0) (xs : List X) (i : ℕ) (x : X) → AllByRecursion P xs → P x → AllByRecursion P (insert xs i x)
-all_inserted P xs zero x all here = (here, all)
-all_inserted P [] (suc i) x all here = (here, all)
-all_inserted P (y ∷ ys) (suc i) x all here = (all.0, all_inserted P ys i x all.1 here)
-
-number_flip : (x y : ℕ) → (x == y) ≡ (y == x)
-number_flip x y =
-    let back = Decides-eqb y x in
-    same_from_decides (x == y) (y == x) (Decides-eqb x y) ((λ t. sym (back.0 t)), (λ e. back.1 (sym e)))
-
-flips : (x y : List ℕ × ℕ) → same_mark x y ≡ same_mark y x
-flips x y = λ i. bytes_flip x.0 y.0 i && number_flip x.1 y.1 i
-
-free_differs : (key : List ℕ × ℕ) (marks : List MarkRow) → mark_at key marks ≡ None → AllByRecursion (λ k. same_mark key k ≡ false) (map mark_key marks)
-free_differs key [] free = tt
-free_differs key (mark ∷ marks) free =
-    elim (same_mark key (mark_key mark)) as (λ b. same_mark key (mark_key mark) ≡ b → cond b (Some mark) (mark_at key marks) ≡ None → (same_mark key (mark_key mark) ≡ false) × AllByRecursion (λ k. same_mark key k ≡ false) (map mark_key marks)) [
-      | true ↦ λ _ none. cc
-      | false ↦ λ apart none. (apart, free_differs key marks none)
-    ] refl free
-
--- marks with one more are marks
-marks_with : (newest : ℕ) (marks : List MarkRow) (mark : MarkRow) → AreMarks newest marks → is_outcome mark.write.delete mark.kept.outcome ≡ true → mark.kept.version ≤ newest → mark_at (mark_key mark) marks ≡ None → AreMarks newest (with_mark mark marks)
-unfolding IsDistinct
-marks_with newest marks mark are outcome version free =
-    let place = prefix_len (is_below mark) marks in
-    record {
-      outcomes = all_inserted (λ m. is_outcome m.write.delete m.kept.outcome ≡ true) marks place mark are.outcomes outcome;
-      versions = all_inserted (λ m. m.kept.version ≤ newest) marks place mark are.versions version;
-      differ = IsDistinct-IsPermutation same_mark flips _ _ (IsPermutation-map mark_key _ _ (IsPermutation-insert marks place mark)) (free_differs (mark_key mark) marks free, are.differ);
-    }
-
 -- ---- each step
 
 module _ (state : HubState) (hub : IsHub state) (by : GrantRow) (number : Option ℕ) (write : Write) (at : ℤ) (moment : IsMoment at) (good : write.delete ≡ false → is_id write.id ≡ true) (verdict : Verdict) (judged : Judges state by number write at verdict) where
@@ -191,7 +160,12 @@ module _ (state : HubState) (hub : IsHub state) (by : GrantRow) (number : Option
       kept : (n o : Option ℕ) → number ≡ n → outcome_of write verdict ≡ o → AreMarks newest (with_kept (kept_mark by.caller n write newest o) state.marks)
       kept None o is e = old
       kept (Some n) None is e = old
-      kept (Some n) (Some o) is e = marks_with newest state.marks _ old (fair (held_mark state by.caller number) judged o e) (omega arith) (free_of_judged state by number write at verdict judged n o is e)
+      kept (Some n) (Some o) is e =
+          AreMarks-with_mark newest state.marks _ old (record {
+            outcome = fair (held_mark state by.caller number) judged o e;
+            version = omega arith;
+            free = free_of_judged state by number write at verdict judged n o is e;
+          })
 
   verdict_keeps : IsHub (state_after state by.caller number write verdict)
   unfolding state_after Judges

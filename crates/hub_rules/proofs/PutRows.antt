@@ -1,4 +1,4 @@
--- The row that a body puts may be held: its values fit, its metadata rises under good keys, and it isn't too long.
+-- What a body puts is a row: its values fit, its metadata rises under good keys, and it isn't too long.
 use Rattle.std.proofs.Common.{◌≡◌, ℕ, ℤ, ◌+◌, ◌&&◌, ◌≤◌, Bool, true, false, cond, List, [], ◌∷◌, Option, Some, None, Result, Ok, Err, IfOk, IfSome, Less, bytes_eq, codes, drop, get_or, map, nat_lt, refl, sym, ap, subst, ◌∙◌, arith}
 use Rattle.std.proofs.lemmas.Bool.{and_from}
 use Rattle.std.proofs.lemmas.Bool.Decides.{nat_tests}
@@ -21,7 +21,7 @@ use Rattle.roster_texts.specs.declared.fault.ValueFault.TheVariants.{BadList}
 use Rattle.roster_types.proofs.Fitting.{fitting_from, in_moments, table-common}
 use Rattle.roster_types.proofs.MetadataLaws.{IsMetadata-nil}
 use Rattle.roster_types.specs.Lengths.{row_length}
-use Rattle.roster_types.specs.Records.{IsMetadata, Record, has_plain_text, id_in, key_of, moment_in, record_from, status_in}
+use Rattle.roster_types.specs.Records.{IsMetadata, Record, has_id_key, has_plain_text, id_in, key_of, moment_in, record_from, status_in}
 use Rattle.roster_types.specs.Rows.{IsRow, longest, row_from}
 use Rattle.roster_types.specs.Shapes.{fits_all, own_fields}
 use Rattle.roster_types.specs.declared.metadata.Entry.{Entry}
@@ -36,7 +36,7 @@ use Rattle.roster_values.specs.declared.value.Value.{Value}
 use Rattle.roster_values.specs.declared.value.Value.TheVariants.{Id, Moment}
 use Rattle.row_json.proofs.MetadataSteps.{entry_read}
 use Rattle.row_json.specs.CellTexts.{text_of}
-use Rattle.row_json.specs.Reading.{IsHeld, data_of, entries_in, entry_from, entry_in, field_in, has_good_keys, in_member, is_object, metadata_in, object_under, unless_long, values_in, with_entry}
+use Rattle.row_json.specs.Reading.{data_of, entries_in, entry_from, entry_in, field_in, in_member, is_object, metadata_in, object_under, unless_long, values_in, with_entry}
 use Rattle.row_json.specs.declared.fault.JsonFault.{JsonFault}
 use Rattle.row_json.specs.declared.fault.JsonFault.TheVariants.{NotJson, OtherId, Shape}
 use Rattle.serde_json.specs.Data.{Data, Members, no_members, member}
@@ -63,7 +63,7 @@ good_key key (Some text) e h = elim (is_id key) as (λ b. cond b (Ok (entry_from
 record AreEntriesOf (ms : Members) (es : List Entry) : Type 0 where
   rise : RiseBy key_of es
   plain : list_all has_plain_text es ≡ true
-  keys : has_good_keys es ≡ true
+  keys : list_all has_id_key es ≡ true
   above : (k : List ℕ) → IsBelow k ms → AllByRecursion (λ key. slice_cmp nat_cmp k key ≡ Less) (map key_of es)
 
 one_more : (k : List ℕ) (d : Data) (ms : Members) (entry : Option Entry) (es : List Entry) → IsBelow k ms → entry_in k (as_str d) ≡ Ok entry → AreEntriesOf ms es → AreEntriesOf (member k d ms) (with_entry entry es)
@@ -89,16 +89,13 @@ are_entries (member k d ms) es rise e =
     let same : with_entry one.0 more.0 ≡ es = let made = more.2 in cc in
     subst (AreEntriesOf (member k d ms)) same (one_more k d ms one.0 more.0 rise.0 one.1 (are_entries ms more.0 rise.2 more.1))
 
-abbrev IsGood : List Entry → Type 0
-IsGood es = IsMetadata es × (has_good_keys es ≡ true)
-
-good_of_object : (o : Option Members) (es : List Entry) → IfSome o Rise → (found_or BadList o >>= entries_in) ≡ Ok es → IsGood es
+good_of_object : (o : Option Members) (es : List Entry) → IfSome o Rise → (found_or BadList o >>= entries_in) ≡ Ok es → IsMetadata es
 good_of_object None es rise e = cc
-good_of_object (Some ms) es rise e = let are = are_entries ms es rise e in (record { rise = are.rise; plain = are.plain }, are.keys)
+good_of_object (Some ms) es rise e = let are = are_entries ms es rise e in record { rise = are.rise; plain = are.plain; keys = are.keys }
 
-good_metadata : (o : Option Data) (es : List Entry) → IfSome o InOrder → metadata_in o ≡ Ok es → IsGood es
+good_metadata : (o : Option Data) (es : List Entry) → IfSome o InOrder → metadata_in o ≡ Ok es → IsMetadata es
 unfolding metadata_in
-good_metadata None es is e = let none : [] ≡ es = cc in subst IsGood none (IsMetadata-nil, refl)
+good_metadata None es is e = let none : [] ≡ es = cc in subst IsMetadata none IsMetadata-nil
 good_metadata (Some d) es is e = good_of_object (as_object d) es (members_of_object d is) e
 
 -- ---- values
@@ -131,15 +128,14 @@ put_fits kind id status at vs good moment s h = rw (table-common kind) (joined (
 
 -- ---- the row
 
-row_made : (kind : Kind) (xs : List (Option Value)) (metadata : List Entry) (made : Record) → fits_all (table kind) xs ≡ true → IsMetadata metadata → unless_long (row_from kind xs metadata) ≡ Ok made → IsRow made × (made.metadata ≡ metadata)
+row_made : (kind : Kind) (xs : List (Option Value)) (metadata : List Entry) (made : Record) → fits_all (table kind) xs ≡ true → IsMetadata metadata → unless_long (row_from kind xs metadata) ≡ Ok made → IsRow made
 row_made kind xs metadata made fit order e =
     let whole = record_from kind xs metadata in
-    elim (nat_lt longest (row_length whole)) as (λ b. nat_lt longest (row_length whole) ≡ b → unless_long (cond b None (Some whole)) ≡ Ok made → IsRow made × (made.metadata ≡ metadata)) [
+    elim (nat_lt longest (row_length whole)) as (λ b. nat_lt longest (row_length whole) ≡ b → unless_long (cond b None (Some whole)) ≡ Ok made → IsRow made) [
       | true ↦ λ long e. cc
       | false ↦ λ short e.
           let same : whole ≡ made = cc in
-          let fits : IsRow whole = record { fitting = fitting_from kind kind xs (drop 3 xs) metadata (id_in (get_or xs 0 None)) (status_in (get_or xs 1 None)) (moment_in (get_or xs 2 None)) fit order refl refl refl refl; short = grind (arith, nat_tests) } in
-          (subst IsRow same fits, ap (λ (r : Record). r.metadata) (sym same))
+          subst IsRow same (record { fitting = fitting_from kind kind xs (drop 3 xs) metadata (id_in (get_or xs 0 None)) (status_in (get_or xs 1 None)) (moment_in (get_or xs 2 None)) fit order refl refl refl refl; short = grind (arith, nat_tests) })
     ] refl e
 
 same_row : (id : List ℕ) (named : Option Value) (made row : Record) → unless_other id named made ≡ Ok row → made ≡ row
@@ -166,9 +162,9 @@ module _ (kind : Kind) (id : List ℕ) (at : ℤ) (good : is_id id ≡ true) (mo
     abbrev with_status : Option Value → Option Value → Result Record JsonFault
     with_status named status = values_read >>= with_values named status
 
-    held_in : put_in kind id at d ≡ Ok row → IsHeld row
+    row_in : put_in kind id at d ≡ Ok row → IsRow row
     unfolding put_in
-    held_in e =
+    row_in e =
         let named = both_gave (member_value id_field d) (λ named. member_value status_field d >>= with_status named) row e in
         let status = both_gave (member_value status_field d) (with_status named.0) row named.2 in
         let values = both_gave values_read (with_values named.0 status.0) row status.2 in
@@ -176,8 +172,7 @@ module _ (kind : Kind) (id : List ℕ) (at : ℤ) (good : is_id id ≡ true) (mo
         let made = both_gave (unless_long (row_from kind (all_of status.0 values.0) metadata.0)) (unless_other id named.0) row metadata.2 in
         let told = good_metadata (get (codes "metadata") d) metadata.0 (get_in_order (codes "metadata") d order) (member_gave (codes "metadata") _ metadata.0 metadata.1) in
         let fit = put_fits kind id status.0 at values.0 good moment (field_fits status_field (get status_field.name d) status.0 (member_gave status_field.name _ status.0 status.1)) (values_fit common_fields (own_fields kind) d values.0 values.1) in
-        let is = row_made kind (all_of status.0 values.0) metadata.0 made.0 fit told.0 made.1 in
-        subst IsHeld (same_row id named.0 made.0 row made.2) (record { row = is.0; keys = subst (λ es. has_good_keys es ≡ true) (sym is.1) told.1 })
+        subst IsRow (same_row id named.0 made.0 row made.2) (row_made kind (all_of status.0 values.0) metadata.0 made.0 fit told made.1)
 
   read_order : (bytes : List ℕ) (d : Data) → data_of bytes ≡ Ok d → InOrder d
   unfolding data_of
@@ -195,9 +190,9 @@ module _ (kind : Kind) (id : List ℕ) (at : ℤ) (good : is_id id ≡ true) (mo
   under_order None d is e = cc
   under_order (Some x) d is e = elim (is_object x) as (λ b. cond b (Ok x) (Err Shape) ≡ Ok d → InOrder d) [ true ↦ λ e. let same : x ≡ d = cc in subst InOrder same is | false ↦ λ e. cc ] e
 
-  pub put_held : (bytes : List ℕ) (row : Record) → put_of kind id at bytes ≡ Ok row → IsHeld row
+  pub put_row : (bytes : List ℕ) (row : Record) → put_of kind id at bytes ≡ Ok row → IsRow row
   unfolding put_of
-  put_held bytes row e =
+  put_row bytes row e =
       let whole = both_gave (data_of bytes) (put_under kind id at) row e in
       let under = both_gave (object_under (get (single_of kind) whole.0)) (put_in kind id at) row whole.2 in
-      held_in under.0 (under_order (get (single_of kind) whole.0) under.0 (get_in_order (single_of kind) whole.0 (read_order bytes whole.0 whole.1)) under.1) row under.2
+      row_in under.0 (under_order (get (single_of kind) whole.0) under.0 (get_in_order (single_of kind) whole.0 (read_order bytes whole.0 whole.1)) under.1) row under.2

@@ -8,19 +8,19 @@ use Rattle.hub_rules.specs.Verdicts.{newest_in}
 use Rattle.hub_rules.specs.Runs.{Command, Publish, Reopen, SetGrants, Step, Take}
 use Rattle.hub_views.specs.declared.entry.GrantEntry.{GrantEntry}
 use Rattle.roster_base.specs.Moments.{IsMoment}
+use Rattle.roster_types.specs.Rows.{IsRow}
 use Rattle.roster_types.specs.Sets.{SetRecord}
-use Rattle.row_json.specs.Reading.{IsHeld}
 use Rattle.set_changes.specs.Applying.{rows_in}
 use Rattle.version_core.specs.Grants.{HasGrant}
 use Rattle.version_core.specs.HubStates.{HubState, IsHubState, KeepGrants, newest_number, oldest_number}
 use Rattle.version_core.specs.Version.{IsVersion, empty_version, last_or}
 use Rattle.version_core.specs.declared.change.BaseVersion.{BaseVersion}
 
--- the rows of a version fit their fields, aren't too long, and have good keys: so they are read back from their texts
+-- what a version holds are rows: they fit their fields and aren't too long, so they are read back from their texts
 abbrev pub HoldsRows : BaseVersion → Type 0
-HoldsRows version = AllByRecursion (λ change. IsHeld change.row) version.rows
+HoldsRows version = AllByRecursion (λ change. IsRow change.row) version.rows
 
--- a state in which each caller has kept its grant since the version that the grant names, and the rows of all versions may be held
+-- a state in which each caller has kept its grant since the version that the grant names, and all versions hold rows
 pub record IsHub (hub : HubState) : Type 0 where
   pub state : IsHubState hub
   pub grants : KeepGrants hub.published
@@ -37,12 +37,12 @@ pub record AreEntries (entries : List GrantEntry) : Type 0 where
   pub callers : IsDistinct bytes_eq (map (λ entry. entry.caller) entries)
   pub tokens : IsDistinct bytes_eq (map (λ entry. entry.token) entries)
 
--- the rows that a set lists may be held
+-- what a set lists are rows
 abbrev pub ListsRows : SetRecord → Type 0
-ListsRows set = AllByRecursion (λ listed. IsHeld listed.row) (rows_in set)
+ListsRows set = AllByRecursion (λ listed. IsRow listed.row) (rows_in set)
 
--- what a hub may be told at a moment: sets of rows that may be held, grants that may be asked for, and requests whose path, where
--- it is one, has a good id for each object
+-- what a hub may be told at a moment: sets of rows, grants that may be asked for, and requests whose path, where it is one, has a
+-- good id for each object
 abbrev pub IsCommand : Command → Type 0
 IsCommand (Publish set at) = IsMoment at × ListsRows set
 IsCommand (SetGrants entries at) = IsMoment at × AreEntries entries
