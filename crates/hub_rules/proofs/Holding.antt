@@ -99,10 +99,10 @@ set_holds version set at next moment lists old applies =
     let new = applies.0 in
     let held : AllByRecursion (λ (c : RowChange). IsRow c.row) new =
     from_found (λ (c : RowChange). IsRow c.row) change_key new applies.1.order (λ k c found.
-        becomes_row set at (look_up set_key k (rows_in set)) (look_up change_key k version.rows) c moment
-        (λ l e. found_is (λ (l : SetRow). IsRow l.row) set_key k (rows_in set) l lists e)
-        (λ s e. found_is (λ (c : RowChange). IsRow c.row) change_key k version.rows s old e)
-        (subst (λ o. Becomes set at (look_up set_key k (rows_in set)) (look_up change_key k version.rows) o) found (applies.1.entries k))) in
+    becomes_row set at (look_up set_key k (rows_in set)) (look_up change_key k version.rows) c moment
+    (λ l e. found_is (λ (l : SetRow). IsRow l.row) set_key k (rows_in set) l lists e)
+    (λ s e. found_is (λ (c : RowChange). IsRow c.row) change_key k version.rows s old e)
+    (subst (λ o. Becomes set at (look_up set_key k (rows_in set)) (look_up change_key k version.rows) o) found (applies.1.entries k))) in
     subst HoldsRows (sym applies.2.2) held
 
 -- ---- writes
