@@ -1,4 +1,4 @@
-pub mod FewRows
+pub mod CycleLemmas
 mod FieldSteps
 mod ListSteps
 pub mod KeyOrder

@@ -1,20 +1,20 @@
 -- The rows of a kind, one after another, and all rows kind by kind.
-use Rattle.std.proofs.Common.{◌≡◌, ℕ, suc, ◌≤◌, List, [], ◌∷◌, ◌++◌, filter, find, Bool, true, false, ◌&&◌, eqb, leb, cond, Option, Some, None, refl, sym, ap, subst, ◌∙◌, arith, inl, inr}
+use Rattle.std.proofs.Common.{◌≡◌, ℕ, suc, ◌≤◌, List, [], ◌∷◌, ◌++◌, filter, find, get_or, Bool, true, false, ◌&&◌, eqb, leb, cond, Option, Some, None, refl, sym, ap, subst, ◌∙◌, arith, inl, inr}
 use Rattle.std.specs.FinMap.Entries as entries
 use Rattle.std.specs.List.{flat_map}
-use Rattle.std.specs.Ordering.{is_lt, nat_cmp}
+use Rattle.std.specs.Ordering.{is_eq, is_lt, nat_cmp, ordering_reverse}
 use Rattle.std.specs.Cmp.Lexicographic.{slice_cmp}
-use Rattle.std.specs.declared.cmp.Ordering.TheVariants.{Less}
+use Rattle.std.specs.declared.cmp.Ordering.TheVariants.{Less, Greater}
 use Rattle.std.proofs.lemmas.Bool.{cases_eq, cases_lt}
 use Rattle.std.proofs.lemmas.Bool.Decides.{nat_tests}
 use Rattle.std.proofs.lemmas.Cmp.{nat_list_cmp_total, tied_itself}
 use Rattle.std.proofs.lemmas.List.Concat.{flat_map-append}
-use Rattle.roster_types.specs.Keys.{Ascends, Key, is_after, is_of_kind, key_cmp, keyed, next_of, row_key}
+use Rattle.roster_types.specs.Keys.{Ascends, Key, is_after, is_of_kind, key_cmp, keyed, look_up, next_of, row_key}
 use Rattle.roster_types.specs.Records.{Record}
 use Rattle.roster_values.specs.Kinds.{all_kinds, place_of_kind}
 use Rattle.roster_values.specs.declared.kind.Kind.{Kind}
 use Rattle.roster_values.specs.declared.kind.Kind.TheVariants.{Orgs, AcademicSessions, Courses, Classes, Users, Enrollments, Demographics, Categories, LineItems, Results}
-use Rattle.reference_rules.proofs.KeyOrder.{and_first, and_second, ids_less, kind_le, less_from_is_lt, not_back}
+use Rattle.reference_rules.proofs.KeyOrder.{and_first, and_second, ids_less, key_total, kind_le, less_from_is_lt, not_back}
 
 -- a row of the kind whose id is above `after`
 abbrev pub is_next : Kind → Option (List ℕ) → Record → Bool
@@ -26,6 +26,22 @@ rest_of kind after rows = filter (is_next kind after) rows
 
 place_from_test : (kind : Kind) (row : Record) → is_of_kind kind row ≡ true → place_of_kind row.kind ≡ place_of_kind kind
 place_from_test kind row e = let tested : eqb (place_of_kind row.kind) (place_of_kind kind) ≡ true = e in grind (arith, nat_tests)
+
+-- kinds at one place are one
+at_place : (kind : Kind) → get_or all_kinds (place_of_kind kind) Orgs ≡ kind
+at_place Orgs = refl
+at_place AcademicSessions = refl
+at_place Courses = refl
+at_place Classes = refl
+at_place Users = refl
+at_place Enrollments = refl
+at_place Demographics = refl
+at_place Categories = refl
+at_place LineItems = refl
+at_place Results = refl
+
+pub kind_from_place : (kind other : Kind) → place_of_kind kind ≡ place_of_kind other → kind ≡ other
+kind_from_place kind other same = sym (at_place kind) ∙ ap (λ n. get_or all_kinds n Orgs) same ∙ at_place other
 
 find_passes : (p : Record → Bool) (rows : List Record) (row : Record) → find p rows ≡ Some row → p row ≡ true
 find_passes p [] row e = cc
@@ -41,6 +57,20 @@ find_above k p (x ∷ rows) row above e =
     elim (p x) as (λ b. cond b (Some x) (find p rows) ≡ Some row → key_cmp k (row_key row) ≡ Less) [
       | true ↦ λ same. let is : x ≡ row = cc in subst (λ r. key_cmp k (row_key r) ≡ Less) is (less_from_is_lt _ (and_first _ _ above))
       | false ↦ λ later. find_above k p rows row (and_second _ _ above) later
+    ] e
+
+-- a row that is found by a test is found by its key
+pub look_up-found : (p : Record → Bool) (rows : List Record) (row : Record) → Ascends row_key rows → find p rows ≡ Some row → look_up row_key (row_key row) rows ≡ Some row
+look_up-found p [] row up e = cc
+look_up-found p (x ∷ rows) row up e =
+    elim (p x) as (λ b. cond b (Some x) (find p rows) ≡ Some row → look_up row_key (row_key row) (x ∷ rows) ≡ Some row) [
+      | true ↦ λ same.
+          let is : x ≡ row = cc in
+          subst (λ r. look_up row_key (row_key r) (x ∷ rows) ≡ Some r) is (ap (λ o. cond (is_eq o) (Some x) (look_up row_key (row_key x) rows)) (tied_itself key_total (row_key x)))
+      | false ↦ λ later.
+          let less = find_above (row_key x) p rows row (and_first _ _ up) later in
+          let greater : key_cmp (row_key row) (row_key x) ≡ Greater = key_total.antisymm (row_key row) (row_key x) ∙ ap ordering_reverse less in
+          ap (λ o. cond (is_eq o) (Some x) (look_up row_key (row_key row) rows)) greater ∙ look_up-found p rows row (and_second _ _ up) later
     ] e
 
 filter_above : (k : Key) (p q : Record → Bool) (rows : List Record) → entries.below_all key_cmp k (keyed row_key rows) ≡ true → ((row : Record) → key_cmp k (row_key row) ≡ Less → p row ≡ q row) → filter p rows ≡ filter q rows

@@ -9,8 +9,8 @@ use roster_texts::Id;
 use roster_types::rows::Rows;
 use roster_values::Kind;
 
-// The parent that the row of this kind and id names.
-fn parent<'a, R: Rows>(rows: &'a R, kind: Kind, id: &Id) -> Option<&'a Id>
+/// The parent that the row of this kind and id names.
+pub fn parent<'a, R: Rows>(rows: &'a R, kind: Kind, id: &Id) -> Option<&'a Id>
     ensures { option_copied result ≡ parent_of (R.rows rows.now) kind id.now }
 {
     match rows.row(kind, id) {

@@ -12,13 +12,13 @@ ghost use Rattle.roster_values.specs.Table.{Info, info_of, table};
 ghost use Rattle.roster_values.specs.declared.kind.Kind.{Kind as Kinds};
 
 mod chains;
+mod cycles;
 pub mod order;
 pub mod ref_fault;
 mod targets;
-#[cfg(test)]
-mod tests;
 mod typed;
 
+use crate::cycles::is_in_cycle;
 use crate::targets::add_value_faults;
 pub use ref_fault::{Fault, RefFault};
 use roster_base::NoMemory;
@@ -27,43 +27,44 @@ use roster_types::rows::Rows;
 use roster_values::fields::fields;
 use roster_values::{FieldInfo, Kind};
 use std::alloc::Global;
+use std::collections::BTreeMap;
 
 // Adds what is wrong with the field at a place of the field table.
 fn add_field_faults<R: Rows>(
     alloc: Global,
     rows: &R,
     row: &Row,
-    turns: u64,
+    in_cycle: bool,
     place: usize,
     info: &FieldInfo,
     found: &mut Vec<RefFault>,
 ) -> Result<(), NoMemory>
-    requires turns { turns ≡ count_of row.now.kind (R.rows rows.now) }
+    requires cycle { in_cycle ≡ is_in_cycle (R.rows rows.now) row.now.kind row.now.id }
     requires info { slice_get (table row.now.kind) place ≡ Some (info_of info.now) }
     ensures { OnOk result (found.new.items ≡ found.old.items ++ field_faults (R.rows rows.now) row.now (info_of info.now) (slice_index_or (all_values row.now) place None)) }
 {
     // Read for its clause `row`, by which the row has as many values as its kind has fields.
     let _ = row.kind();
     match row.value(place) {
-        Some(value) => add_value_faults(alloc, rows, row, turns, info, value, found),
+        Some(value) => add_value_faults(alloc, rows, row, in_cycle, info, value, found),
         None => Ok(()),
     }
 }
 
-// Adds what is wrong with a row, field by field. Chains of parents have at most so many turns.
+// Adds what is wrong with a row, field by field.
 fn add_row_faults<R: Rows>(
     alloc: Global,
     rows: &R,
     row: &Row,
-    turns: u64,
+    in_cycle: bool,
     found: &mut Vec<RefFault>,
 ) -> Result<(), NoMemory>
-    requires { turns ≡ count_of row.now.kind (R.rows rows.now) }
+    requires { in_cycle ≡ is_in_cycle (R.rows rows.now) row.now.kind row.now.id }
     ensures { OnOk result (found.new.items ≡ found.old.items ++ row_faults (R.rows rows.now) row.now) }
 {
     let infos = fields(row.kind());
     for place in 0..infos.len() {
-        add_field_faults(alloc, rows, row, turns, place, &infos[place], found)?;
+        add_field_faults(alloc, rows, row, in_cycle, place, &infos[place], found)?;
     }
     Ok(())
 }
@@ -78,9 +79,11 @@ fn add_kind_faults<R: Rows>(
     ensures order { Ascends row_key (R.rows rows.now) }
 {
     let turns = rows.count(kind);
+    let mut notes = BTreeMap::new(alloc);
     let mut after = None;
     while let Some(row) = rows.next(kind, after) {
-        add_row_faults(alloc, rows, row, turns, found)?;
+        let in_cycle = is_in_cycle(rows, row, turns, &mut notes)?;
+        add_row_faults(alloc, rows, row, in_cycle, found)?;
         after = Some(row.id());
     }
     Ok(())

@@ -1,14 +1,13 @@
 //! The faults of one field.
 
-ghost use Rattle.std.specs.Prelude.{◌≡◌, ◌++◌, IfOk, OnOk, option_copied, option_map};
+ghost use Rattle.std.specs.Prelude.{◌≡◌, ◌++◌, IfOk, List, OnOk, option_copied, option_map};
 ghost use Rattle.std.specs.List.{flat_map};
-ghost use Rattle.reference_rules.specs.Faults.{day_fault, fault_at, has_wrong_type, is_cyclic, listed, target_faults, target_kind, type_asked, value_faults};
-ghost use Rattle.roster_types.specs.Keys.{count_of, look_up, row_key};
-ghost use Rattle.roster_values.specs.Kinds.{place_of_kind};
+ghost use Rattle.reference_rules.specs.Faults.{day_fault, fault_at, has_wrong_type, listed, target_faults, target_kind, type_asked, value_faults};
+ghost use Rattle.reference_rules.specs.Parents.{is_in_cycle};
+ghost use Rattle.roster_types.specs.Records.{Record};
 ghost use Rattle.roster_values.specs.Table.{form_of, info_of};
 ghost use Rattle.roster_values.specs.Value.{shown};
 
-use crate::chains::returns_within;
 use crate::ref_fault::{Fault, RefFault};
 use crate::typed::{first_day, has_type};
 use roster_base::{NoMemory, Text, TryCopy};
@@ -62,28 +61,9 @@ fn has_wrong_type(kind: Kind, field: &str, target: &Row) -> bool
     }
 }
 
-// Chains have at most as many turns as the kind has rows.
-fn is_cyclic<R: Rows>(rows: &R, row: &Row, field: &str, turns: u64) -> bool
-    requires { turns ≡ count_of row.now.kind (R.rows rows.now) }
-    ensures { result ≡ is_cyclic (R.rows rows.now) row.now field.now }
-{
-    if field == "parent" {
-        returns_within(rows, row.kind(), row.id(), turns)
-    } else {
-        false
-    }
-}
-
 // What is wrong with a row's field that names this row, if there is one.
-fn fault_at<R: Rows>(
-    rows: &R,
-    row: &Row,
-    field: &str,
-    target: Option<&Row>,
-    turns: u64,
-) -> Option<Fault>
-    requires { turns ≡ count_of row.now.kind (R.rows rows.now) }
-    ensures { result ≡ fault_at (R.rows rows.now) row.now field.now (option_copied target.entry) }
+fn fault_at(row: &Row, field: &str, target: Option<&Row>, in_cycle: bool) -> Option<Fault>
+    ensures { (rows : List Record) → in_cycle ≡ is_in_cycle rows row.now.kind row.now.id → result ≡ fault_at rows row.now field.now (option_copied target.entry) }
 {
     let Some(target) = target else {
         return Some(Fault::Missing);
@@ -91,7 +71,7 @@ fn fault_at<R: Rows>(
     if has_wrong_type(row.kind(), field, target) {
         return Some(Fault::WrongType);
     }
-    if is_cyclic(rows, row, field, turns) {
+    if field == "parent" && in_cycle {
         return Some(Fault::Cycle);
     }
     None
@@ -134,16 +114,16 @@ fn add_target_faults<R: Rows>(
     alloc: Global,
     rows: &R,
     row: &Row,
-    turns: u64,
+    in_cycle: bool,
     info: &FieldInfo,
     id: &Id,
     found: &mut Vec<RefFault>,
 ) -> Result<(), NoMemory>
-    requires { turns ≡ count_of row.now.kind (R.rows rows.now) }
+    requires { in_cycle ≡ is_in_cycle (R.rows rows.now) row.now.kind row.now.id }
     ensures { OnOk result (found.new.items ≡ found.old.items ++ target_faults (R.rows rows.now) row.now (info_of info.now) id.now) }
 {
     if let Some(kind) = target_kind(row.kind(), info.form) {
-        let fault = fault_at(rows, row, info.name, rows.row(kind, id), turns);
+        let fault = fault_at(row, info.name, rows.row(kind, id), in_cycle);
         push_fault(alloc, row, info.name, Some(id), fault, found)?;
     }
     Ok(())
@@ -154,16 +134,16 @@ fn add_all_faults<R: Rows>(
     alloc: Global,
     rows: &R,
     row: &Row,
-    turns: u64,
+    in_cycle: bool,
     info: &FieldInfo,
     ids: &[Id],
     found: &mut Vec<RefFault>,
 ) -> Result<(), NoMemory>
-    requires { turns ≡ count_of row.now.kind (R.rows rows.now) }
+    requires { in_cycle ≡ is_in_cycle (R.rows rows.now) row.now.kind row.now.id }
     ensures { OnOk result (found.new.items ≡ found.old.items ++ flat_map (target_faults (R.rows rows.now) row.now (info_of info.now)) ids.now) }
 {
     for id in ids {
-        add_target_faults(alloc, rows, row, turns, info, id, found)?;
+        add_target_faults(alloc, rows, row, in_cycle, info, id, found)?;
     }
     Ok(())
 }
@@ -187,19 +167,19 @@ pub fn add_value_faults<R: Rows>(
     alloc: Global,
     rows: &R,
     row: &Row,
-    turns: u64,
+    in_cycle: bool,
     info: &FieldInfo,
     value: ValueRef<'_>,
     found: &mut Vec<RefFault>,
 ) -> Result<(), NoMemory>
-    requires { turns ≡ count_of row.now.kind (R.rows rows.now) }
+    requires { in_cycle ≡ is_in_cycle (R.rows rows.now) row.now.kind row.now.id }
     ensures { OnOk result (found.new.items ≡ found.old.items ++ value_faults (R.rows rows.now) row.now (info_of info.now) (shown value.entry)) }
 {
     match value {
-        ValueRef::Id(id) => add_target_faults(alloc, rows, row, turns, info, id, found),
-        ValueRef::Ref(id) => add_target_faults(alloc, rows, row, turns, info, id, found),
+        ValueRef::Id(id) => add_target_faults(alloc, rows, row, in_cycle, info, id, found),
+        ValueRef::Ref(id) => add_target_faults(alloc, rows, row, in_cycle, info, id, found),
         ValueRef::Refs(ids) => {
-            add_all_faults(alloc, rows, row, turns, info, ids.as_slice(), found)
+            add_all_faults(alloc, rows, row, in_cycle, info, ids.as_slice(), found)
         }
         ValueRef::Day(day) => {
             let fault = day_fault(row, info.name, day);

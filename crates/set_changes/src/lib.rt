@@ -9,8 +9,6 @@ mod marks;
 pub mod publish;
 pub mod publish_fault;
 mod refusals;
-#[cfg(test)]
-mod tests;
 
 pub use publish::set_change;
 pub use publish_fault::PublishFault;

@@ -1,0 +1,227 @@
+//! Cycles of parents. A chain is followed only to an id of which an earlier chain told, so that all rows of a kind take as many steps as
+//! there are rows.
+
+ghost use Rattle.std.specs.Prelude.{◌≡◌, IfOk, IsSome, None, OnOk, option_copied, true};
+ghost use Rattle.reference_rules.specs.Notes.{AreNotes, EndsWell, note_of};
+ghost use Rattle.reference_rules.specs.Parents.{is_in_cycle, nth_parent, returns_within};
+ghost use Rattle.roster_types.specs.Keys.{count_of, look_up, row_key};
+
+use crate::chains::{parent, returns_within};
+use crate::typed::parent_in;
+use roster_base::{NoMemory, Same};
+use roster_texts::Id;
+use roster_types::row::Row;
+use roster_types::rows::Rows;
+use roster_values::Kind;
+use std::collections::BTreeMap;
+
+/// What is known of ids of one kind: whether each is in a cycle of parents.
+pub type Notes<'a> = BTreeMap<&'a str, bool>;
+
+// Where a chain was followed to: so many turns on stands this id, or the chain has ended.
+#[derive(Clone, Copy)]
+struct ChainEnd<'a> {
+    turns: u64,
+    id: Option<&'a Id>,
+}
+
+// Follows a chain to an id that is known, to one that was met before, or to its end. Each power of two of turns is a place to which a
+// cycle may come back.
+fn chain_end<'a, R: Rows>(
+    rows: &'a R,
+    kind: Kind,
+    id: &'a Id,
+    turns: u64,
+    notes: &Notes<'a>,
+) -> ChainEnd<'a>
+    ensures { nth_parent (R.rows rows.now) kind id.now result.turns ≡ option_copied result.id }
+{
+    let mut current = id;
+    let mut met = id;
+    for turn in 0..turns {
+        if notes.contains_key(current.as_str()) {
+            return ChainEnd {
+                turns: turn,
+                id: Some(current),
+            };
+        }
+        match parent(rows, kind, current) {
+            None => {
+                return ChainEnd {
+                    turns: turn + 1,
+                    id: None,
+                };
+            }
+            Some(parent) => current = parent,
+        }
+        if current.is_same(met) {
+            return ChainEnd {
+                turns: turn + 1,
+                id: Some(current),
+            };
+        }
+        if (turn + 1).is_power_of_two() {
+            met = current;
+        }
+    }
+    ChainEnd {
+        turns,
+        id: Some(current),
+    }
+}
+
+// Notes the ids of a cycle, from one on.
+fn note_cycle<'a, R: Rows>(
+    rows: &'a R,
+    kind: Kind,
+    id: &'a Id,
+    turns: u64,
+    notes: &mut Notes<'a>,
+) -> Result<(), NoMemory>
+    requires turns { turns ≡ count_of kind (R.rows rows.now) }
+    requires notes { AreNotes (R.rows rows.now) kind notes.old }
+    requires cycle { returns_within (R.rows rows.now) kind id.now turns ≡ true }
+    ensures notes { OnOk result (AreNotes (R.rows rows.now) kind notes.new) }
+    ensures known { OnOk result (IsSome (note_of notes.new id.now)) }
+{
+    let mut current = id;
+    for _turn in 0..turns {
+        notes.insert(current.as_str(), true)?;
+        match parent(rows, kind, current) {
+            None => return Ok(()),
+            Some(parent) => {
+                if parent.is_same(id) {
+                    return Ok(());
+                }
+                current = parent;
+            }
+        }
+    }
+    Ok(())
+}
+
+// Notes an id, and where it is in a cycle all ids of the cycle.
+fn note_id<'a, R: Rows>(
+    rows: &'a R,
+    kind: Kind,
+    id: &'a Id,
+    turns: u64,
+    notes: &mut Notes<'a>,
+) -> Result<(), NoMemory>
+    requires turns { turns ≡ count_of kind (R.rows rows.now) }
+    requires notes { AreNotes (R.rows rows.now) kind notes.old }
+    ensures notes { OnOk result (AreNotes (R.rows rows.now) kind notes.new) }
+    ensures known { OnOk result (IsSome (note_of notes.new id.now)) }
+{
+    if notes.contains_key(id.as_str()) {
+        return Ok(());
+    }
+    if returns_within(rows, kind, id, turns) {
+        return note_cycle(rows, kind, id, turns, notes);
+    }
+    notes.insert(id.as_str(), false)?;
+    Ok(())
+}
+
+// Notes the id that a chain comes to, where it comes to one.
+fn note_end<'a, R: Rows>(
+    rows: &'a R,
+    kind: Kind,
+    id: Option<&'a Id>,
+    turns: u64,
+    notes: &mut Notes<'a>,
+) -> Result<(), NoMemory>
+    requires turns { turns ≡ count_of kind (R.rows rows.now) }
+    requires notes { AreNotes (R.rows rows.now) kind notes.old }
+    ensures notes { OnOk result (AreNotes (R.rows rows.now) kind notes.new) }
+    ensures end { OnOk result (EndsWell notes.new (option_copied id.entry)) }
+{
+    match id {
+        Some(id) => note_id(rows, kind, id, turns, notes),
+        None => Ok(()),
+    }
+}
+
+// Notes the ids of a chain of so many turns to an id that is known, or to its end. Those that aren't known yet are in no cycle.
+fn note_chain<'a, R: Rows>(
+    rows: &'a R,
+    kind: Kind,
+    id: &'a Id,
+    turns: u64,
+    notes: &mut Notes<'a>,
+) -> Result<(), NoMemory>
+    requires notes { AreNotes (R.rows rows.now) kind notes.old }
+    requires end { EndsWell notes.old (nth_parent (R.rows rows.now) kind id.now turns) }
+    ensures notes { OnOk result (AreNotes (R.rows rows.now) kind notes.new) }
+    ensures known { OnOk result (IsSome (note_of notes.new id.now)) }
+{
+    let mut current = id;
+    for _turn in 0..turns {
+        if notes.contains_key(current.as_str()) {
+            return Ok(());
+        }
+        notes.insert(current.as_str(), false)?;
+        match parent(rows, kind, current) {
+            None => return Ok(()),
+            Some(parent) => current = parent,
+        }
+    }
+    Ok(())
+}
+
+// Notes an id, and the ids of its chain up to one that is known.
+fn learn<'a, R: Rows>(
+    rows: &'a R,
+    kind: Kind,
+    id: &'a Id,
+    turns: u64,
+    notes: &mut Notes<'a>,
+) -> Result<(), NoMemory>
+    requires turns { turns ≡ count_of kind (R.rows rows.now) }
+    requires notes { AreNotes (R.rows rows.now) kind notes.old }
+    ensures notes { OnOk result (AreNotes (R.rows rows.now) kind notes.new) }
+    ensures known { OnOk result (IsSome (note_of notes.new id.now)) }
+{
+    let end = chain_end(rows, kind, id, turns, notes);
+    note_end(rows, kind, end.id, turns, notes)?;
+    note_chain(rows, kind, id, end.turns, notes)
+}
+
+// Whether an id is in a cycle of parents.
+fn known<'a, R: Rows>(
+    rows: &'a R,
+    kind: Kind,
+    id: &'a Id,
+    turns: u64,
+    notes: &mut Notes<'a>,
+) -> Result<bool, NoMemory>
+    requires turns { turns ≡ count_of kind (R.rows rows.now) }
+    requires notes { AreNotes (R.rows rows.now) kind notes.old }
+    ensures notes { OnOk result (AreNotes (R.rows rows.now) kind notes.new) }
+    ensures value { IfOk result (λ known. known ≡ is_in_cycle (R.rows rows.now) kind id.now) }
+{
+    learn(rows, kind, id, turns, notes)?;
+    match notes.get(id.as_str()) {
+        Some(known) => Ok(*known),
+        None => unreachable!(),
+    }
+}
+
+/// Whether a row is in a cycle of parents.
+pub fn is_in_cycle<'a, R: Rows>(
+    rows: &'a R,
+    row: &'a Row,
+    turns: u64,
+    notes: &mut Notes<'a>,
+) -> Result<bool, NoMemory>
+    requires row { look_up row_key (row_key row.now) (R.rows rows.now) ≡ Some row.now }
+    requires turns { turns ≡ count_of row.now.kind (R.rows rows.now) }
+    requires notes { AreNotes (R.rows rows.now) row.now.kind notes.old }
+    ensures notes { OnOk result (AreNotes (R.rows rows.now) row.now.kind notes.new) }
+    ensures value { IfOk result (λ known. known ≡ is_in_cycle (R.rows rows.now) row.now.kind row.now.id) }
+{
+    match parent_in(row) {
+        None => Ok(false),
+        Some(_) => known(rows, row.kind(), row.id(), turns, notes),
+    }
+}
