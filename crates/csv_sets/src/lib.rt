@@ -23,8 +23,3 @@ pub use manifest::{ListedFile, Manifest, read_manifest};
 pub use property::Property;
 pub use set::read_set;
 pub use write::write_file;
-
-#[cfg(test)]
-mod lake_tests;
-#[cfg(test)]
-mod tests;

@@ -1,15 +1,18 @@
 //! A source over a reader of the system.
 
-ghost use Rattle.std.specs.Prelude.{◌≡◌, ◌-◌, ◌^◌};
+ghost use Rattle.std.specs.Prelude.{◌≡◌};
 
 use crate::failed::Failed;
 use crate::source::Source;
 use std::io::Read;
 use std::marker::Model;
 
+/// How many reads a source allows.
+const MOST_READS: u64 = 1_000_000_000_000_000;
+
 /// A source over any reader, as standard input's. It tells nothing of the bytes left, and a clause sees its count of
-/// faults and its budget alone: no reader says how many reads still give bytes, so each takes one of `u64::MAX`, and
-/// behind the last the source fails.
+/// faults and its budget alone: no reader says how many reads still give bytes, so each takes one of 10^15, and behind
+/// the last the source fails.
 #[derive(Drop)]
 pub struct IoSource<R> {
     reader: R,
@@ -28,11 +31,11 @@ impl<R> Model for IoSource<R> {
 impl<R: Read> IoSource<R> {
     /// The source over this reader.
     pub fn new(reader: R) -> IoSource<R>
-        ensures { result ≡ record { budget = 2 ^ 64 - 1; faults = 0 } }
+        ensures { result ≡ record { budget = 1000000000000000; faults = 0 } }
     {
         IoSource {
             reader,
-            budget: u64::MAX,
+            budget: MOST_READS,
             faults: 0,
         }
     }

@@ -29,8 +29,3 @@ pub use mem_source::MemSource;
 pub use sink::Sink;
 pub use source::Source;
 pub use system_clock::SystemClock;
-
-#[cfg(test)]
-mod source_tests;
-#[cfg(test)]
-mod tests;

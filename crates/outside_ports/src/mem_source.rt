@@ -48,6 +48,13 @@ impl MemSource {
         }
     }
 
+    /// How many bytes are left.
+    pub fn left(&self) -> u64
+        ensures { result ≡ length self.now.left }
+    {
+        (self.bytes.len() - self.taken) as u64
+    }
+
     // How many bytes the next read gives to a buffer with this room.
     fn given(&self, room: usize) -> usize
         ensures { result ≡ given self.now.left self.now.cuts room }

@@ -35,7 +35,7 @@ fn moment_after_1970(time: Duration) -> i64
 impl<R: rt::Clock> clock::Clock for SystemClock<R> {
     ghost moment = { λ _. None };
 
-    /// The nearest moment of the range, and 0 where the system gives no time, as before 1970.
+    /// The nearest moment of the range. The system gives no time before 1970, and then it is 0.
     fn now(&self) -> i64 {
         match self.runtime.since_1970() {
             Ok(time) => moment_after_1970(time),

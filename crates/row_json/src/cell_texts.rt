@@ -5,16 +5,18 @@ ghost use Rattle.std.specs.List.{list_all};
 ghost use Rattle.serde_json.specs.Find.{as_array, get};
 ghost use Rattle.serde_json.specs.View.{items_view, number_view, view};
 ghost use Rattle.roster_base.specs.Reading.{Gives};
+ghost use Rattle.roster_texts.specs.declared.fault.ValueFault.TheVariants as fault;
 ghost use Rattle.roster_values.specs.CellText.{user_id_text};
 ghost use Rattle.roster_values.specs.Fit.{is_no_comma};
 ghost use Rattle.roster_values.specs.Table.{form_of};
-ghost use Rattle.row_json.specs.CellTexts.{item_text, list_text, part_or, reference_text, scalar_or, text_of, user_id_part, whole_text, without_comma};
+ghost use Rattle.row_json.specs.CellTexts.{in_user_id, item_text, list_text, listed_id, listed_reference, part_or, reference_text, scalar_or, text_of, user_id_part, whole_text, without_comma};
 
 use crate::text::push_part;
 use roster_base::{NoMemory, Refusal};
 use roster_texts::ValueFault;
 use roster_texts::trim::trim_spaces;
 use roster_types::cells::flag_text;
+use roster_values::lists::read_id;
 use roster_values::{FieldForm, UserId, ValueError};
 use serde_json::{Number, Value};
 use std::alloc::Global;
@@ -79,13 +81,24 @@ fn braced(alloc: Global, user_id: &UserId) -> Result<String, NoMemory>
     Ok(text)
 }
 
+// A part of a user id.
+fn user_id_word(alloc: Global, value: &Value, name: &str) -> Result<String, ValueError>
+    ensures { Gives string_bytes result (in_user_id (part_or fault.BadList (get name.now (view value.now)))) }
+{
+    match part_text(alloc, value, name, ValueFault::BadList) {
+        Ok(text) => Ok(text),
+        Err(Refusal::Fault(_)) => Err(Refusal::Fault(ValueFault::BadList)),
+        Err(Refusal::NoMemory) => Err(Refusal::NoMemory),
+    }
+}
+
 // The user id of an object with its parts.
 #[tactic(auto, unfolding(crate::specs::CellTexts::user_id_part, roster_values::specs::UserIds::user_id_from))]
 fn user_id_part(alloc: Global, value: &Value) -> Result<String, ValueError>
     ensures { Gives string_bytes result (user_id_part (view value.now)) }
 {
-    let form = part_text(alloc, value, "type", ValueFault::BadList)?;
-    let identifier = part_text(alloc, value, "identifier", ValueFault::BadList)?;
+    let form = user_id_word(alloc, value, "type")?;
+    let identifier = user_id_word(alloc, value, "identifier")?;
     let form = trim_spaces(form.as_str());
     let identifier = trim_spaces(identifier.as_str());
     match UserId::read(alloc, form, identifier)? {
@@ -111,6 +124,29 @@ fn has_no_comma(bytes: &[u8]) -> bool
     bytes.iter().all(|&b| b != b',')
 }
 
+// An id among others: blank, or what an id may be.
+#[tactic(auto, unfolding(crate::specs::CellTexts::listed_id))]
+fn listed_id(alloc: Global, text: &str) -> Result<String, ValueError>
+    ensures { Gives string_bytes result (listed_id text.now) }
+{
+    let text = trim_spaces(text);
+    if text.is_empty() {
+        return Ok(String::new(alloc));
+    }
+    let id = read_id(alloc, text)?;
+    Ok(String::from_str(alloc, id.as_str())?)
+}
+
+// The id of a reference among others.
+#[tactic(auto, unfolding(crate::specs::CellTexts::listed_reference))]
+fn listed_reference(alloc: Global, item: &Value) -> Result<String, ValueError>
+    ensures { Gives string_bytes result (listed_reference (view item.now)) }
+{
+    let text = part_text(alloc, item, "sourcedId", ValueFault::BadList)?;
+    let plain = without_comma(text, ValueFault::BadId)?;
+    listed_id(alloc, plain.as_str())
+}
+
 // The text of an item of a list.
 #[tactic(auto, unfolding(crate::specs::CellTexts::item_text))]
 fn item_text(alloc: Global, form: FieldForm, item: &Value) -> Result<String, ValueError>
@@ -122,10 +158,7 @@ fn item_text(alloc: Global, form: FieldForm, item: &Value) -> Result<String, Val
             without_comma(text, ValueFault::BadList)
         }
         FieldForm::UserIds => user_id_part(alloc, item),
-        _ => {
-            let text = reference_text(alloc, item)?;
-            without_comma(text, ValueFault::BadId)
-        }
+        _ => listed_reference(alloc, item),
     }
 }
 

@@ -11,6 +11,3 @@ mod values;
 pub use fault::{JsonError, JsonFault};
 pub use read::{read_collection, read_row};
 pub use text::{collection_text, row_text, single_text};
-
-#[cfg(test)]
-mod tests;

@@ -1,7 +1,7 @@
 //! Files of orgs and what is read of them.
 
-use crate::fault::{SetError, SetFault};
-use crate::file::read_file;
+use crate::set_lines::fault_line;
+use csv_sets::{SetError, read_file};
 use roster_base::{NoMemory, Refusal};
 use roster_types::metadata::Entry;
 use roster_types::set_row::SetRow;
@@ -40,58 +40,11 @@ fn rows_line(alloc: Global, rows: &[SetRow]) -> Result<String, NoMemory> {
     Ok(line)
 }
 
-// What is wrong, in one line.
-pub fn fault_line(alloc: Global, fault: SetFault) -> Result<String, NoMemory> {
-    Ok(match fault {
-        SetFault::MissingFile { file } => {
-            let name = file.name();
-            format!(in alloc; "{name} is missing")?
-        }
-        SetFault::Column {
-            file,
-            column,
-            fault,
-        } => {
-            let name = file.name();
-            let column = column.into_string();
-            format!(in alloc; "{name}: {column} {fault:?}")?
-        }
-        SetFault::Row {
-            file,
-            record_no,
-            field,
-            fault,
-        } => {
-            let name = file.name();
-            let field = field.into_string();
-            format!(in alloc; "{name} {record_no}: {field} {fault:?}")?
-        }
-        SetFault::RepeatedId { file, record_no } => {
-            let name = file.name();
-            format!(in alloc; "{name} {record_no}: repeated id")?
-        }
-        SetFault::TooLarge { file } => {
-            let name = file.name();
-            format!(in alloc; "{name} is too large")?
-        }
-        SetFault::NotUtf8 { file } => {
-            let name = file.name();
-            format!(in alloc; "{name} is no UTF-8")?
-        }
-        SetFault::UnexpectedFile { file } => {
-            let name = file.name();
-            format!(in alloc; "{name} is unexpected")?
-        }
-        SetFault::Manifest(fault) => format!(in alloc; "manifest.csv: {fault:?}")?,
-        SetFault::Folder => String::from_str(alloc, "the folder failed")?,
-    })
-}
-
 // What was read, in one line: the rows or the fault.
 fn line_of(alloc: Global, answer: Result<Vec<SetRow>, SetError>) -> Result<String, NoMemory> {
     match answer {
         Ok(rows) => rows_line(alloc, rows.as_slice()),
-        Err(Refusal::Fault(fault)) => fault_line(alloc, fault),
+        Err(Refusal::Fault(fault)) => fault_line(alloc, &fault),
         Err(Refusal::NoMemory) => Err(NoMemory),
     }
 }
@@ -108,6 +61,7 @@ fn check(
     Ok(())
 }
 
+// Files by their headers, and what is read.
 const HEADERS: &[(&str, &str)] = &[
     ("sourcedId,name,type\n", ""),
     ("", "orgs.csv: sourcedId Missing"),
@@ -131,14 +85,7 @@ const HEADERS: &[(&str, &str)] = &[
     ("x,sourcedId,x,name,type\n1,a,2,A,school\n", "a;"),
 ];
 
-#[test]
-fn reads_headers(rt: HostRuntime) -> Result<(), Fail> {
-    for (text, expected) in HEADERS {
-        check(&rt, rt.alloc(), Mode::Bulk, text.as_bytes(), expected)?;
-    }
-    Ok(())
-}
-
+// Files by their records, and what is read.
 const RECORDS: &[(&str, &str)] = &[
     ("sourcedId,name,type\na,A,school,x\n", "orgs.csv 2: * Width"),
     (
@@ -176,13 +123,14 @@ const RECORDS: &[(&str, &str)] = &[
 ];
 
 #[test]
-fn reads_records(rt: HostRuntime) -> Result<(), Fail> {
-    for (text, expected) in RECORDS {
+fn reads_bulk_files(rt: HostRuntime) -> Result<(), Fail> {
+    for (text, expected) in HEADERS.iter().chain(RECORDS) {
         check(&rt, rt.alloc(), Mode::Bulk, text.as_bytes(), expected)?;
     }
     Ok(())
 }
 
+// Files of changes, and what is read.
 const DELTAS: &[(&str, &str)] = &[
     ("sourcedId,name,type\n", "orgs.csv: status Missing"),
     (
@@ -203,18 +151,6 @@ fn asks_more_of_deltas(rt: HostRuntime) -> Result<(), Fail> {
     Ok(())
 }
 
-#[test]
-fn refuses_what_is_no_text(rt: HostRuntime) -> Result<(), Fail> {
-    check(
-        &rt,
-        rt.alloc(),
-        Mode::Bulk,
-        b"sourcedId,name,type\na,\xff,school\n",
-        "orgs.csv is no UTF-8",
-    )?;
-    Ok(())
-}
-
 // A file of one org with a name of that length.
 fn named(alloc: Global, length: u32) -> Result<String, NoMemory> {
     let mut text = String::from_str(alloc, "sourcedId,name,type\na,")?;
@@ -225,12 +161,16 @@ fn named(alloc: Global, length: u32) -> Result<String, NoMemory> {
     Ok(text)
 }
 
-// The JSON object of the org has 112 bytes beside its name.
+// Lengths of names, and what is read. The JSON object of the org has 112 bytes beside its name.
+static LENGTHS: [(u32, &str); 2] = [(65_424, "a;"), (65_425, "orgs.csv 2: * TooLong")];
+
 #[test]
-fn refuses_rows_that_are_too_long(rt: HostRuntime) -> Result<(), Fail> {
-    for (length, expected) in [(65_424, "a;"), (65_425, "orgs.csv 2: * TooLong")] {
-        let text = named(rt.alloc(), length)?;
+fn refuses_rows_that_are_too_long_and_what_is_no_text(rt: HostRuntime) -> Result<(), Fail> {
+    for (length, expected) in &LENGTHS {
+        let text = named(rt.alloc(), *length)?;
         check(&rt, rt.alloc(), Mode::Bulk, text.as_bytes(), expected)?;
     }
+    let latin = b"sourcedId,name,type\na,\xff,school\n";
+    check(&rt, rt.alloc(), Mode::Bulk, latin, "orgs.csv is no UTF-8")?;
     Ok(())
 }

@@ -3,7 +3,7 @@ use Rattle.std.proofs.lemmas.Simd.{map-map}
 use Rattle.std.proofs.lemmas.List.Elements.{All-map}
 use Rattle.roster_types.specs.Records.{Record}
 use Rattle.roster_types.specs.declared.set_row.SetRow.{SetRow}
-use Rattle.csv_sets.proofs.lake_tests.written.Goals as goal
+use Rattle.file_tests.proofs.lake.written.Goals as goal
 
 pub write_file-requires-clause-kinds : goal.write_file-requires-clause-kinds
 write_file-requires-clause-kinds c =

@@ -2,11 +2,8 @@
 
 ghost use Rattle.std.specs.Prelude.{◌≡◌, map, IfOk};
 
-use crate::fault::SetError;
-use crate::file::read_file;
-use crate::set::read_set;
-use crate::tests::fault_line;
-use crate::write::write_file;
+use crate::set_lines::fault_line;
+use csv_sets::{SetError, read_file, read_set, write_file};
 use outside_ports::MemFolder;
 use roster_base::{NoMemory, Refusal};
 use roster_texts::Name;
@@ -15,7 +12,6 @@ use roster_types::set::RosterSet;
 use roster_types::set_row::SetRow;
 use roster_values::{Kind, Mode};
 use std::alloc::Global;
-use std::process::Abort;
 use std::test::Fail;
 
 // Each file's name and its text. `resources.csv` is passed over.
@@ -108,6 +104,13 @@ const LAKE: &[(&str, &str)] = &[
     ),
 ];
 
+// A file of the folder `lake`.
+fn file(alloc: Global, name: &str, text: &str) -> Result<(String, String, Vec<u8>), NoMemory> {
+    let dir = String::from_str(alloc, "lake")?;
+    let name = String::from_str(alloc, name)?;
+    Ok((dir, name, text.as_bytes().to_vec(alloc)?))
+}
+
 // The files of `lake`, one of which has another text in place of one of its texts; where that is empty, the file is taken away.
 fn lake(
     alloc: Global,
@@ -127,8 +130,7 @@ fn lake(
         } else {
             String::from_str(alloc, text)?
         };
-        let dir = String::from_str(alloc, "lake")?;
-        files.push((dir, String::from_str(alloc, name)?, text.into_bytes()))?;
+        files.push(file(alloc, name, text.as_str())?)?;
     }
     Ok(MemFolder::new(files, failing))
 }
@@ -147,7 +149,7 @@ fn set_line(alloc: Global, set: &RosterSet) -> Result<String, NoMemory> {
 fn line_of(alloc: Global, answer: Result<RosterSet, SetError>) -> Result<String, NoMemory> {
     match answer {
         Ok(set) => set_line(alloc, &set),
-        Err(Refusal::Fault(fault)) => fault_line(alloc, fault),
+        Err(Refusal::Fault(fault)) => fault_line(alloc, &fault),
         Err(Refusal::NoMemory) => Err(NoMemory),
     }
 }
@@ -228,12 +230,51 @@ fn reads_changed_sets(rt: HostRuntime) -> Result<(), Fail> {
 }
 
 // The folder is asked for the manifest, then for ten sizes, then for ten files.
+static FAILING: [u64; 3] = [1, 2, 21];
+
 #[test]
 fn names_the_folder_where_it_fails(rt: HostRuntime) -> Result<(), Fail> {
-    for call in [1, 2, 21] {
-        let failing = vec![in rt.alloc(); call]?;
+    for call in &FAILING {
+        let failing = vec![in rt.alloc(); *call]?;
         let line = read_line(rt.alloc(), lake(rt.alloc(), "", "", "", failing)?)?;
         assert_eq!(rt; line.as_str(), "the folder failed");
+    }
+    Ok(())
+}
+
+// The texts of an orgs.csv beside a manifest that lists it alone, and what is read then; no text, no such file.
+static ORGS: [(Option<&str>, &str); 5] = [
+    (Some("sourcedId,name,type\n"), "orgs Bulk 0;"),
+    (Some(""), "orgs.csv: sourcedId Missing"),
+    (
+        Some("sourcedId,name,type\ns2,A,school\ns2,B,school\n"),
+        "orgs.csv 3: repeated id",
+    ),
+    (
+        Some("sourcedId,name,type\ns2,A,academy\n"),
+        "orgs.csv 2: type NotInList",
+    ),
+    (None, "orgs.csv is missing"),
+];
+
+fn orgs_alone(alloc: Global, text: Option<&str>) -> Result<MemFolder, NoMemory> {
+    let mut files = Vec::new(alloc);
+    files.push(file(
+        alloc,
+        "manifest.csv",
+        "propertyName,value\nmanifest.version,1.0\noneroster.version,1.1\nfile.orgs,bulk\n",
+    )?)?;
+    if let Some(text) = text {
+        files.push(file(alloc, "orgs.csv", text)?)?;
+    }
+    Ok(MemFolder::new(files, Vec::new(alloc)))
+}
+
+#[test]
+fn reads_orgs_alone(rt: HostRuntime) -> Result<(), Fail> {
+    for (text, expected) in &ORGS {
+        let line = read_line(rt.alloc(), orgs_alone(rt.alloc(), *text)?)?;
+        assert_eq!(rt; line.as_str(), *expected);
     }
     Ok(())
 }
