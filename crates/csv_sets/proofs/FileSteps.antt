@@ -194,7 +194,7 @@ rows_none kind (Ok h) rows e = let i : [] ≡ rows = cc e in rw (← i) (no_rows
 rows_none kind (Err f) rows e = cc e
 
 -- the rows of a file are of its kind, and their ids differ
-rows_of_kind : (kind : Kind) (mode : Mode) (records : List (List (List ℕ))) (rows : List SetRow) → rows_of kind mode records ≡ Ok rows → AreRows kind rows
+pub rows_of_kind : (kind : Kind) (mode : Mode) (records : List (List (List ℕ))) (rows : List SetRow) → rows_of kind mode records ≡ Ok rows → AreRows kind rows
 unfolding rows_of
 rows_of_kind kind mode [] rows e = rows_none kind (header_of kind mode []) rows e
 rows_of_kind kind mode (cells ∷ rest) rows e = rows_below kind mode (header_of kind mode cells) rest rows e
@@ -211,7 +211,7 @@ pub given_dates : (kind : Kind) (mode : Mode) (records : List (List (List ℕ)))
 given_dates kind mode records (Ok v) g = (rows_of_kind kind mode records v.items g).dates
 given_dates kind mode records (Err e) g = tt
 
-small : (bytes : List ℕ) → length bytes ≤ largest → nat_lt largest (length bytes) ≡ false
+pub small : (bytes : List ℕ) → length bytes ≤ largest → nat_lt largest (length bytes) ≡ false
 small bytes h = grind (arith, nat_tests)
 
 -- a file of text that isn't too large has the rows of its records

@@ -15,3 +15,4 @@ mod SetSteps
 mod TextBack
 mod TextLaws
 mod ValueSteps
+pub mod PlainLaws

@@ -1,7 +1,7 @@
 -- The rows of a file: those that its records spell, in their order, or the file's first fault.
-use Rattle.std.specs.Prelude.{◌≡◌, ◌+◌, ℕ, Bool, List, [], ◌∷◌, ◌++◌, Result, Ok, Err, String, bytes_eq, length, nat_lt, not, if◌then◌else◌}
+use Rattle.std.specs.Prelude.{◌≡◌, ◌≤◌, ◌+◌, ℕ, Bool, true, List, [], ◌∷◌, ◌++◌, Result, Ok, Err, String, bytes_eq, drop, length, map, nat_lt, not, if◌then◌else◌}
 use Rattle.std.specs.BTreeSet.{BTreeSet, contains_text}
-use Rattle.std.specs.List.{list_any}
+use Rattle.std.specs.List.{AllZip, IsDistinct, list_any}
 use Rattle.std.specs.Str.{is_utf8}
 use Rattle.std.specs.declared.alloc.Global.{Global}
 use Rattle.csv.specs.Reading.{default_config, records, strip_bom}
@@ -55,3 +55,21 @@ file_of kind mode bytes =
 -- a set holds the ids of these rows and no others
 abbrev pub HoldsIds : BTreeSet (String Global) → List SetRow → Type 0
 HoldsIds ids rows = (q : List ℕ) → contains_text ids q ≡ has_id q rows
+
+-- the cells of the first record, none where there is no record
+abbrev pub first_of : List (List (List ℕ)) → List (List ℕ)
+first_of [] = []
+first_of (cells ∷ rest) = cells
+
+-- In plain words: the first record spells a header, each record below it spells its row, and no two rows have one id.
+pub record AreRowsOf (kind : Kind) (mode : Mode) (records : List (List (List ℕ))) (rows : List SetRow) : Type 0 where
+  pub header : Header
+  pub good : header_of kind mode (first_of records) ≡ Ok header
+  pub spelled : AllZip (λ cells row. row_at kind mode header cells ≡ Ok row) (drop 1 records) rows
+  pub differ : IsDistinct bytes_eq (map (λ r. r.row.id) rows)
+
+-- the same of a file: it isn't too large, it is text, and its records are so
+pub record AreRowsIn (kind : Kind) (mode : Mode) (bytes : List ℕ) (rows : List SetRow) : Type 0 where
+  pub size : length bytes ≤ largest
+  pub text : is_utf8 bytes ≡ true
+  pub spelled : AreRowsOf kind mode (records default_config (strip_bom bytes)) rows

@@ -1,13 +1,14 @@
 //! The rows of a file.
 
-ghost use Rattle.std.specs.Prelude.{◌≡◌, ◌≤◌, ◌<◌, ◌^◌, ◌++◌, ◌∷◌, [], bytes_eq, length, map, not, true, IfOk, OnOk};
+ghost use Rattle.std.specs.Prelude.{◌≡◌, ◌≤◌, ◌<◌, ◌^◌, ◌++◌, ◌∷◌, [], List, Ok, bytes_eq, length, map, not, true, IfOk, OnOk};
 ghost use Rattle.std.specs.List.{All, IsDistinct};
 ghost use Rattle.csv.specs.Reading.{default_config, records, strip_bom};
 ghost use Rattle.csv.specs.Records.{AllText, fields_of};
 ghost use Rattle.roster_base.specs.Reading.{Gives};
 ghost use Rattle.roster_types.specs.Sets.{IsDatedOrZero};
 ghost use Rattle.roster_values.specs.Table.{table};
-ghost use Rattle.csv_sets.specs.Files.{HoldsIds, file_of, has_id, in_record, largest, rows_after, rows_of};
+ghost use Rattle.roster_types.specs.declared.set_row.SetRow.{SetRow as SetRows};
+ghost use Rattle.csv_sets.specs.Files.{AreRowsIn, HoldsIds, file_of, has_id, in_record, largest, rows_after, rows_of};
 ghost use Rattle.csv_sets.specs.Left.{AllRowsText};
 ghost use Rattle.csv_sets.specs.Rows.{row_at};
 
@@ -128,6 +129,9 @@ pub fn read_file(
     ensures kinds { IfOk result (λ v. All (λ r. r.row.kind ≡ kind) v.items) }
     ensures differ { IfOk result (λ v. IsDistinct bytes_eq (map (λ r. r.row.id) v.items)) }
     ensures dates { IfOk result (λ v. All IsDatedOrZero v.items) }
+    // In plain words: rows are read exactly where the header is good, each record spells its row, and the ids differ.
+    ensures plain { IfOk result (λ v. AreRowsIn kind mode bytes.now v.items) }
+    ensures whole { (rows : List SetRows) → AreRowsIn kind mode bytes.now rows → Gives (λ v. v.items) result (Ok rows) }
 {
     if bytes.len() > LARGEST {
         return Err(Refusal::Fault(SetFault::TooLarge {

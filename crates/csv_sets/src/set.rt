@@ -175,7 +175,7 @@ fn read_parts<F: Folder>(
 /// The set that the files of a folder mean together, or the first fault: of the manifest; then of the first kind whose file is
 /// missing, or there though the manifest says that it is absent; then of the files in the kinds' order. By OneRoster the files
 /// of resources are no part of it, and are passed over whatever the manifest says of them. Where the folder fails, the fault
-/// is `Folder`, at that call.
+/// is `Folder`.
 #[tactic(auto, unfolding(crate::specs::Sets::set_of))]
 pub fn read_set<F: Folder>(
     alloc: Global,
