@@ -7,6 +7,3 @@ pub list_any-map : {A B : Type 0} (test : B → Bool) (f : A → B) (xs : List A
 list_any-map test f [] = refl
 list_any-map test f (x ∷ xs) = ap (λ b. test (f x) || b) (list_any-map test f xs)
 
--- the item at an index, and those behind it
-pub next_item : {A : Type 0} (xs : List A) (i : ℕ) (x d : A) → i < length xs → x ≡ get_or xs i d → drop i xs ≡ x ∷ drop (i + 1) xs
-next_item xs i x d h is = rw (add-one, drop-cons xs i d) (ap (λ y. y ∷ drop (suc i) xs) (sym is))

@@ -10,12 +10,7 @@ use Rattle.csv_sets.specs.declared.fault.ColumnFault.TheVariants.{Missing}
 use Rattle.csv_sets.specs.Columns.{places_of}
 use Rattle.csv_sets.specs.Headers.{has_column, in_file, place_of, required_checked}
 use Rattle.csv_sets.proofs.ColumnLaws.{has_column-place}
-use Rattle.csv_sets.proofs.ListLaws.{next_item}
-
--- the field at a place of the table, and those behind it
-pub next_field : (kind : Kind) (infos : List FieldInfo) (field : ℕ) (d info : FieldInfo) → map info_of infos ≡ table kind → field < length infos → info ≡ get_or infos field d
-    → drop field (table kind) ≡ info_of info ∷ drop (field + 1) (table kind)
-next_field kind infos field d info e h is = rw (← e, drop-map info_of field infos, drop-map info_of (field + 1) infos, next_item infos field info d h is) refl
+use Rattle.roster_base.proofs.ListSteps.{next_item}
 
 -- how far the look-up of the fields' columns has come
 pub record Places (kind : Kind) (mode : Mode) (columns : List (List ℕ)) (found : List (Option ℕ)) (field : ℕ) : Type 0 where

@@ -3,6 +3,7 @@ use Rattle.std.proofs.Common.{◌≡◌, ◌≤◌, ◌+◌, ℕ, List, [], ◌�
 use Rattle.std.proofs.lemmas.Bool.{and_from}
 use Rattle.std.proofs.lemmas.List.{append-nil, drop_all}
 use Rattle.std.proofs.lemmas.Result.{IfOk-at_ok}
+use Rattle.roster_values.proofs.FieldLaws.{fits_always}
 use Rattle.roster_base.specs.Reading.{Fails, ◌>>=◌}
 use Rattle.roster_base.specs.declared.refusal.Refusal.{Refusal}
 use Rattle.roster_base.specs.declared.refusal.Refusal.TheVariants as refusal
@@ -18,16 +19,6 @@ use Rattle.roster_values.specs.Values.{value_of}
 use Rattle.csv_sets.specs.declared.fault.RowFault.{RowFault}
 use Rattle.csv_sets.specs.Cells.{cell_at}
 use Rattle.csv_sets.specs.Rows.{in_field, values_at}
-
-needs_less : (required more : Bool) → not (required || more) ≡ true → not required ≡ true
-needs_less true more h = h
-needs_less false more h = refl
-
--- what may stand in a field of some file may stand in the field
-fits_always : (mode : Mode) (field : ℕ) (info : Info) (o : Option Value) → fits (info_in mode field info) o ≡ true → fits info o ≡ true
-fits_always Bulk field info o h = h
-fits_always Delta field info None h = needs_less info.required _ h
-fits_always Delta field info (Some v) h = h
 
 read_in : {A : Type 0} (column : List ℕ) (r : Result A ValueFault) (x : A) → in_field column r ≡ Ok x → r ≡ Ok x
 read_in column (Ok y) x e = cc e

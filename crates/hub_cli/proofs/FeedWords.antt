@@ -4,10 +4,6 @@ use Rattle.std.proofs.lemmas.List.{append-nil, drop_all}
 use Rattle.hub_cli.specs.Words.{feed_of, feed_words}
 use Rattle.hub_cli.specs.declared.words.Feed.{Feed}
 
--- the item at an index, and those behind it
-pub next_item : {A : Type 0} (xs : List A) (i : ℕ) (x d : A) → i < length xs → x ≡ get_or xs i d → drop i xs ≡ x ∷ drop (i + 1) xs
-next_item xs i x d h is = rw (add-one, drop-cons xs i d) (ap (λ y. y ∷ drop (suc i) xs) (sym is))
-
 words-on : (place : ℕ) (word : List ℕ) (rest : List (List ℕ)) (feed : Feed) (feeds : List Feed) → feed_of word ≡ Some feed → feed_words (place + 1) rest ≡ Ok feeds → feed_words place (word ∷ rest) ≡ Ok (feed ∷ feeds)
 words-on place word rest feed feeds one more = rw (one, more) refl
 

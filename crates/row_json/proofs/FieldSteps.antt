@@ -5,6 +5,7 @@ use Rattle.std.proofs.lemmas.List.{drop-map, drop_all}
 use Rattle.std.proofs.lemmas.Result.{IfOk-at_ok}
 use Rattle.serde_json.specs.Data.{Data}
 use Rattle.serde_json.specs.Find.{get}
+use Rattle.roster_values.proofs.FieldLaws.{fits_always}
 use Rattle.roster_base.specs.Reading.{Fails, ◌>>=◌}
 use Rattle.roster_base.specs.declared.refusal.Refusal.{Refusal}
 use Rattle.roster_base.specs.declared.refusal.Refusal.TheVariants as refusal
@@ -22,21 +23,8 @@ use Rattle.roster_values.specs.Values.{value_of}
 use Rattle.row_json.specs.declared.fault.JsonFault.{JsonFault}
 use Rattle.row_json.specs.CellTexts.{text_of}
 use Rattle.row_json.specs.Reading.{field_in, in_member, values_in}
-use Rattle.row_json.proofs.ItemSteps.{kept, next_item}
-
--- the field at a place of the table, and those behind it
-pub next_field : (kind : Kind) (infos : List FieldInfo) (place : ℕ) (d info : FieldInfo) → map info_of infos ≡ table kind → place < length infos → info ≡ get_or infos place d
-    → drop place (table kind) ≡ info_of info ∷ drop (place + 1) (table kind)
-next_field kind infos place d info e h is = rw (← e, drop-map info_of place infos, drop-map info_of (place + 1) infos, next_item infos place info d h is) refl
-
-needs_less : (required more : Bool) → not (required || more) ≡ true → not required ≡ true
-needs_less true more h = h
-needs_less false more h = refl
-
-fits_always : (mode : Mode) (place : ℕ) (info : Info) (o : Option Value) → fits (info_in mode place info) o ≡ true → fits info o ≡ true
-fits_always Bulk place info o h = h
-fits_always Delta place info None h = needs_less info.required _ h
-fits_always Delta place info (Some v) h = h
+use Rattle.roster_base.proofs.ListSteps.{next_item}
+use Rattle.row_json.proofs.ItemSteps.{kept}
 
 text_fits : (info : Info) (r : Result (List ℕ) ValueFault) → IfOk (r >>= value_of info) (λ o. fits info o ≡ true)
 text_fits info (Ok t) = value_fits info t

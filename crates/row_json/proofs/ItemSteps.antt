@@ -10,10 +10,6 @@ use Rattle.roster_base.specs.declared.refusal.Refusal.{Refusal}
 use Rattle.roster_base.specs.declared.refusal.Refusal.TheVariants as refusal
 use Rattle.row_json.specs.CellTexts.{each}
 
--- the item at an index, and those behind it
-pub next_item : {A : Type 0} (xs : List A) (i : ℕ) (x d : A) → i < length xs → x ≡ get_or xs i d → drop i xs ≡ x ∷ drop (i + 1) xs
-next_item xs i x d h is = rw (add-one, drop-cons xs i d) (ap (λ y. y ∷ drop (suc i) xs) (sym is))
-
 -- what reading the values is said to give, from the values that are left and what is made of these
 pub record Reads {A B F : Type 0} (read : Data → Result A F) (made : List A → B) (whole : Result B F) (left : List Value) : Type 0 where
   pub same : (each read (items_view left) >>= (λ xs. Ok (made xs))) ≡ whole

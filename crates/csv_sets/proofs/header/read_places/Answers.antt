@@ -1,7 +1,8 @@
 use Rattle.std.proofs.Common.{◌≡◌, ◌∙◌, ap, arith, get_or, length, refl, sym}
 use Rattle.std.proofs.lemmas.List.{length-map}
 use Rattle.roster_values.specs.Table.{Info, info_of, table}
-use Rattle.csv_sets.proofs.PlaceSteps.{next_field, none_told, places_end, places_missing, places_on, some_told}
+use Rattle.roster_values.proofs.FieldLaws.{next_field}
+use Rattle.csv_sets.proofs.PlaceSteps.{none_told, places_end, places_missing, places_on, some_told}
 use Rattle.csv_sets.proofs.header.read_places.Goals as goal
 use Rattle.csv_sets.proofs.header.read_places.Goals.{else-is_none-via-then-is_none+else-info_in, else-is_none-via-else-is_none}
 

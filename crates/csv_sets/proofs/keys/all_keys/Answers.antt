@@ -1,6 +1,6 @@
 use Rattle.std.proofs.Common.{◌<◌, arith, length}
 use Rattle.csv_sets.proofs.LineSteps.{all_keys-end, all_keys-on}
-use Rattle.csv_sets.proofs.ListLaws.{next_item}
+use Rattle.roster_base.proofs.ListSteps.{next_item}
 use Rattle.std.proofs.lemmas.List.{drop_all}
 use Rattle.csv_sets.proofs.keys.all_keys.Goals as goal
 

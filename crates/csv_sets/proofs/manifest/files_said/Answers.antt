@@ -1,5 +1,5 @@
 use Rattle.std.proofs.Common.{◌<◌, get_or, length, arith, refl, sym}
-use Rattle.csv_sets.proofs.ListLaws.{next_item}
+use Rattle.roster_base.proofs.ListSteps.{next_item}
 use Rattle.csv_sets.proofs.ManifestSteps.{lists_end, lists_on}
 use Rattle.csv_sets.proofs.manifest.files_said.Goals as goal
 

@@ -2,7 +2,7 @@ use Rattle.std.proofs.Common.{◌≡◌, ◌<◌, ◌∙◌, ap, arith, length, 
 use Rattle.csv.specs.Records.{fields_of}
 use Rattle.roster_texts.specs.Trim.{trimmed}
 use Rattle.csv_sets.specs.Cells.{cell_at}
-use Rattle.csv_sets.proofs.ListLaws.{next_item}
+use Rattle.roster_base.proofs.ListSteps.{next_item}
 use Rattle.csv_sets.proofs.MetadataSteps.{entry_rises, gathers_blank, gathers_end, gathers_one, plain_from}
 use Rattle.csv_sets.proofs.row.read_metadata.Goals as goal
 use Rattle.csv_sets.proofs.row.read_metadata.Goals.{then-not-is_empty+in_ok-copy+in_ok-new+in_ok-push, else-not-is_empty}

@@ -2,8 +2,8 @@ use Rattle.std.proofs.Common.{◌≡◌, ◌<◌, ◌∙◌, ap, arith, get_or, 
 use Rattle.std.proofs.lemmas.List.{length-map}
 use Rattle.std.proofs.lemmas.Result.{err_from_is_err_and}
 use Rattle.roster_values.specs.Table.{info_of, table}
-use Rattle.csv_sets.proofs.ListLaws.{next_item}
-use Rattle.csv_sets.proofs.PlaceSteps.{next_field}
+use Rattle.roster_base.proofs.ListSteps.{next_item}
+use Rattle.roster_values.proofs.FieldLaws.{next_field}
 use Rattle.csv_sets.proofs.ValueSteps.{walks_end, walks_fail, walks_on}
 use Rattle.csv_sets.proofs.row.read_values.Goals as goal
 

@@ -1,6 +1,6 @@
 use Rattle.std.proofs.Common.{◌<◌, arith, get_or, length, refl}
 use Rattle.std.proofs.lemmas.Result.{err_from_is_err_and}
-use Rattle.csv_sets.proofs.ListLaws.{next_item}
+use Rattle.roster_base.proofs.ListSteps.{next_item}
 use Rattle.csv_sets.proofs.SetSteps.{listed_end, parts_end, parts_fail, parts_on}
 use Rattle.csv_sets.proofs.set.read_parts.Goals as goal
 

@@ -1,7 +1,7 @@
 use Rattle.std.proofs.Common.{◌<◌, length, arith, take, ◌∙◌, ap, ◌≡◌, ◌++◌, ◌∷◌, [], map, string_bytes, sym}
 use Rattle.csv_sets.specs.Written.{written_cells}
 use Rattle.csv_sets.proofs.LineSteps.{lines_end, lines_on}
-use Rattle.csv_sets.proofs.ListLaws.{next_item}
+use Rattle.roster_base.proofs.ListSteps.{next_item}
 use Rattle.std.proofs.lemmas.List.{take_more}
 use Rattle.csv_sets.proofs.write.write_rows.Goals as goal
 

@@ -1,7 +1,7 @@
 use Rattle.std.proofs.Common.{◌<◌, arith, length, string_bytes}
 use Rattle.std.proofs.lemmas.List.{drop_all}
 use Rattle.version_core.specs.Version.{newest_of}
-use Rattle.hub_cli.proofs.FeedWords.{next_item}
+use Rattle.roster_base.proofs.ListSteps.{next_item}
 use Rattle.hub_cli.proofs.Publishing.{left-next, left-none, left-stops, left-wants}
 use Rattle.hub_cli.proofs.publish.publish_feeds.Goals as goal
 

@@ -3,7 +3,8 @@ use Rattle.std.proofs.lemmas.List.{drop_all}
 use Rattle.std.proofs.lemmas.Result.{err_from_is_err_and}
 use Rattle.serde_json.specs.Written.{comma_if}
 use Rattle.row_json.specs.CellTexts.{list_text}
-use Rattle.row_json.proofs.ItemSteps.{joins-end, joins-on, joins-start, next_item, reads-fail}
+use Rattle.roster_base.proofs.ListSteps.{next_item}
+use Rattle.row_json.proofs.ItemSteps.{joins-end, joins-on, joins-start, reads-fail}
 use Rattle.row_json.proofs.cell_texts.joined.Goals as goal
 
 pub loop-item-init : goal.loop-item-init

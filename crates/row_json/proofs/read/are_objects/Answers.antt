@@ -3,7 +3,7 @@ use Rattle.std.proofs.lemmas.List.{drop_all}
 use Rattle.serde_json.specs.View.{items_view, view}
 use Rattle.serde_json.specs.declared.value.Value.{Value}
 use Rattle.row_json.specs.Reading.{are_objects, is_object}
-use Rattle.row_json.proofs.ItemSteps.{next_item}
+use Rattle.roster_base.proofs.ListSteps.{next_item}
 use Rattle.row_json.proofs.read.are_objects.Goals as goal
 
 no_object : (left rest : List Value) (v : Value) → left ≡ v ∷ rest → is_object (view v) ≡ false → are_objects (items_view left) ≡ false

@@ -3,7 +3,8 @@ use Rattle.std.proofs.lemmas.List.{drop_all}
 use Rattle.std.proofs.lemmas.List.Elements.{All-nil, All-push}
 use Rattle.std.proofs.lemmas.Result.{err_from_is_err_and}
 use Rattle.roster_types.specs.Records.{Record}
-use Rattle.row_json.proofs.ItemSteps.{collects-end, collects-on, collects-start, next_item, reads-fail}
+use Rattle.roster_base.proofs.ListSteps.{next_item}
+use Rattle.row_json.proofs.ItemSteps.{collects-end, collects-on, collects-start, reads-fail}
 use Rattle.row_json.proofs.read.read_objects.Goals as goal
 
 pub loop-object-init : goal.loop-object-init

@@ -2,7 +2,8 @@ use Rattle.std.proofs.Common.{◌≡◌, ◌∙◌, ap, arith, get_or, length, r
 use Rattle.std.proofs.lemmas.List.{length-map}
 use Rattle.std.proofs.lemmas.Result.{err_from_is_err_and}
 use Rattle.roster_values.specs.Table.{info_of, table}
-use Rattle.row_json.proofs.FieldSteps.{fields-end, fields-fail, fields-on, next_field}
+use Rattle.roster_values.proofs.FieldLaws.{next_field}
+use Rattle.row_json.proofs.FieldSteps.{fields-end, fields-fail, fields-on}
 use Rattle.row_json.proofs.read.read_values.Goals as goal
 
 pub returns-in_err-read_member-clause-values : goal.returns-in_err-read_member-clause-values
