@@ -1,7 +1,7 @@
 -- The values of an object's fields, one after another.
-use Rattle.std.proofs.Common.{◌≡◌, ◌<◌, ◌≤◌, ◌+◌, ◌++◌, ◌||◌, ℕ, Bool, true, false, List, [], ◌∷◌, Option, Some, None, Result, Ok, Err, IfOk, drop, get_or, length, map, not, refl, sym, ap, ◌∙◌, append_assoc, append-nil}
+use Rattle.std.proofs.Common.{◌≡◌, ◌≤◌, ◌+◌, ◌++◌, ℕ, true, List, [], ◌∷◌, Option, Some, None, Result, Ok, Err, IfOk, drop, length, refl, sym, ap, ◌∙◌, append_assoc, append-nil}
 use Rattle.std.proofs.lemmas.Bool.{and_from}
-use Rattle.std.proofs.lemmas.List.{drop-map, drop_all}
+use Rattle.std.proofs.lemmas.List.{drop_all}
 use Rattle.std.proofs.lemmas.Result.{IfOk-at_ok}
 use Rattle.serde_json.specs.Data.{Data}
 use Rattle.serde_json.specs.Find.{get}
@@ -12,18 +12,14 @@ use Rattle.roster_base.specs.declared.refusal.Refusal.TheVariants as refusal
 use Rattle.roster_texts.specs.declared.fault.ValueFault.{ValueFault}
 use Rattle.roster_types.specs.Shapes.{fits_all}
 use Rattle.roster_values.proofs.FitLaws.{value_fits}
-use Rattle.roster_values.specs.declared.fields.FieldInfo.{FieldInfo}
-use Rattle.roster_values.specs.declared.kind.Kind.{Kind}
 use Rattle.roster_values.specs.declared.mode.Mode.{Mode}
-use Rattle.roster_values.specs.declared.mode.Mode.TheVariants.{Bulk, Delta}
 use Rattle.roster_values.specs.declared.value.Value.{Value}
 use Rattle.roster_values.specs.Fit.{fits}
-use Rattle.roster_values.specs.Table.{Info, info_in, info_of, table}
+use Rattle.roster_values.specs.Table.{Info, info_in}
 use Rattle.roster_values.specs.Values.{value_of}
 use Rattle.row_json.specs.declared.fault.JsonFault.{JsonFault}
 use Rattle.row_json.specs.CellTexts.{text_of}
 use Rattle.row_json.specs.Reading.{field_in, in_member, values_in}
-use Rattle.roster_base.proofs.ListSteps.{next_item}
 use Rattle.row_json.proofs.ItemSteps.{kept}
 
 text_fits : (info : Info) (r : Result (List ℕ) ValueFault) → IfOk (r >>= value_of info) (λ o. fits info o ≡ true)
