@@ -1,6 +1,7 @@
 -- The trees determine the schema: what a file was closed with, an open finds again.
-use Rattle.std.proofs.Common.{inl, inr, zero, suc, ◌≡◌, ◌+◌, ℕ, pos, List, [], ◌∷◌, slice_get, Some, Ok, Result, refl, sym, ap, ap₂, ◌∙◌, subst, arith}
+use Rattle.std.proofs.Common.{inl, inr, zero, suc, ◌≡◌, ◌+◌, ℕ, pos, List, [], ◌∷◌, slice_get, Some, Ok, Err, Result, IfOk, IfSome, refl, sym, ap, ap₂, ◌∙◌, subst, arith}
 use Rattle.std.specs.List.{AllZip}
+use Rattle.std.specs.Result.{result_ok}
 use Rattle.sqlite_disk.specs.declared.Disk.{Ghosts}
 use Rattle.sqlite_disk.specs.declared.Files.{Files}
 use Rattle.sqlite.specs.WalReads.{AreClean}
@@ -114,7 +115,7 @@ told_again old new m (inl none) p q same = inl (same_no_schema old new none.0 p 
 told_again old new m (inr table) p q same = inr (record { schema = same_items_schema old new table.schema p q same; rows = subst (λ (t : Trees). Holds (t 0) m) (sym same) table.rows })
 
 -- an open of the files that a close gave back stands for the same items
-pub stands_again : {D : Type 0} {g : Ghosts D} (old new : Held (FileStore D g)) (files : Files D) (m : Items) → IsLive (file_state old) → (AreClean g files.log files.db → IsCopied old files)
+stands_again : {D : Type 0} {g : Ghosts D} (old new : Held (FileStore D g)) (files : Files D) (m : Items) → IsLive (file_state old) → (AreClean g files.log files.db → IsCopied old files)
     → (HasCleanDisk (file_state new) → IsOpened new) → (HasCleanDisk (file_state new) → Finds files new) → StandsFor (file_state old) m → StandsFor (file_state new) m
 stands_again old new files m live closed opened found h clean open_now =
     let finds = found clean in
@@ -126,3 +127,9 @@ stands_again old new files m live closed opened found h clean open_now =
       same = is.0.clean;
       told = told_again (file_state old).committed (file_state new).committed m was.told (live copied.was_open).1 (is.1 open_now).1 (finds_again old new files closed finds);
     }
+
+-- the same of an open that may fail
+pub some_again : {D E : Type 0} {g : Ghosts D} (old : Held (FileStore D g)) (files : Files D) (m : Items) (r : Result (Held (FileStore D g)) E) → IsLive (file_state old) → (AreClean g files.log files.db → IsCopied old files)
+    → IfOk r (λ c. HasCleanDisk (file_state c) → IsOpened c) → IfOk r (λ c. HasCleanDisk (file_state c) → Finds files c) → StandsFor (file_state old) m → IfSome (result_ok r) (λ again. StandsFor (file_state again) m)
+some_again old files m (Ok again) live closed opened found h = stands_again old again files m live closed opened found h
+some_again old files m (Err left) live closed opened found h = tt

@@ -1,9 +1,10 @@
 //! What a caller has of the item store over a database in memory and over files. The program doesn't call this crate.
 #![tactic(auto)]
 
-ghost use Rattle.std.specs.Prelude.{◌≡◌, map, take, IfOk, IfSome};
-ghost use Rattle.sqlite.specs.Files.{file_state};
+ghost use Rattle.std.specs.Prelude.{◌≡◌, IsTrue, map, take, IfOk, IfSome};
+ghost use Rattle.sqlite.specs.Files.{file_state, Finds, IsOpened};
 ghost use Rattle.sqlite.specs.Held.{state};
+ghost use Rattle.sqlite.specs.State.{HasCleanDisk};
 ghost use Rattle.sqlite.specs.Steps.{over_memory};
 ghost use Rattle.item_sql.specs.Items.{Items, no_items, listed};
 ghost use Rattle.item_sql.specs.Stands.{StandsFor};
@@ -11,7 +12,7 @@ ghost use Rattle.item_store.specs.Edits.{after, entry_of};
 
 use item_store::{Edit, Item, ItemStore};
 use roster_base::KeeperError;
-use sqlite::{Connection, FileStore, MemStore, Options};
+use sqlite::{Alter, Connection, FileStore, Files, MemStore, Options};
 use sqlite_disk::Disk;
 use std::alloc::{AllocError, Global};
 
@@ -39,6 +40,24 @@ pub fn read_back(
     store.range(alloc, area, from, to, 1000)
 }
 
+/// Opens a database's files, or gives them back.
+pub fn opened<D: Disk + Drop>(
+    alloc: Global,
+    files: Files<D>,
+    options: Options,
+) -> Result<Connection<FileStore<D>>, Files<D>>
+    ensures opened { IfOk result (λ c. HasCleanDisk (file_state c) → IsOpened c) }
+    ensures found { IfOk result (λ c. HasCleanDisk (file_state c) → Finds files c) }
+{
+    if !files.may_be_used() {
+        return Err(files);
+    }
+    match Connection::open_files(alloc, files, options) {
+        Ok(conn) => Ok(conn),
+        Err((_, left)) => Err(left.into_files()),
+    }
+}
+
 /// Files that are closed and opened again hold the same items.
 pub fn reopen<D: Disk + Drop>(
     alloc: Global,
@@ -55,11 +74,13 @@ pub fn reopen<D: Disk + Drop>(
             return None;
         }
     };
-    match Connection::open_files(alloc, files, options) {
-        Ok(again) => Some(again),
-        Err(_) => None,
-    }
+    opened(alloc, files, options).ok()
 }
 
-#[cfg(test)]
-mod tests;
+/// A connection that is open over a clean disk stands for one map of items.
+pub fn one_map<S: Alter>(conn: &Connection<S>)
+    ensures { (m n : Items) → HasCleanDisk (state S.Store conn.now) → IsTrue (state S.Store conn.now).is_open
+        → StandsFor (state S.Store conn.now) m → StandsFor (state S.Store conn.now) n → m ≡ n }
+{
+    let _ = conn;
+}

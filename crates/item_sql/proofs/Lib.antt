@@ -1,10 +1,12 @@
 pub mod Texts
 pub mod Tests
 pub mod Orders
+pub mod OneMap
 pub mod Range
 pub mod ClearLemmas
 pub mod PutLemmas
 pub mod Upsert
 pub mod Steps
+pub mod Leaving
 pub mod States
 pub mod Asking

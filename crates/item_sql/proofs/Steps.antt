@@ -11,6 +11,7 @@ use Rattle.sqlite.specs.Edit.{next_rowid, edit_of, without_all, Applies}
 use Rattle.sqlite.specs.Does.{Tally, Does}
 use Rattle.sqlite.specs.Rows.{Written, Task, Tries, Judged, TriesEach, InsertsOr, Upserts, Deletes, nothing, count_of}
 use Rattle.sqlite.specs.Effect.{Database}
+use Rattle.sqlite.specs.declared.run.Mode.{Mode}
 use Rattle.sqlite.specs.State.{State, Executes, Writes, mode_of}
 use Rattle.sqlite.specs.Listing.{understood}
 use Rattle.sqlite.proofs.Callers.{runs_as, one_step, statement_of}
@@ -110,19 +111,25 @@ none_held = record {
     none_some : {X : Type 0} {x : X} → ◌≡◌ {A = Option X} None (Some x) → ⊥
     none_some e = cc
 
-pub makes_state : (old new : State) (count : ℕ) → old.now.schema ≡ no_schema → Executes make_text [] old new (Ok count)
-    → (new.now.schema ≡ item_schema) × (new.now.trees 0 ≡ []) × Writes old new None CreateTable make_text [] count
-makes_state old new count has ran =
-    let w = subst (λ t. Writes old new None CreateTable t [] count) make_first.1 (runs_as make_text [] old new no_schema has CreateTable make_first.0 make_first_plain count ran) in
-    let all = went w.changed in
+pub makes_db : (limit : Option ℕ) (mode : Mode) (params : Row) (old after : Database) (tally : Tally) → old.schema ≡ no_schema → Does limit mode params old make_text None CreateTable (Ok (tally, after))
+    → (after.schema ≡ item_schema) × (after.trees 0 ≡ [])
+makes_db limit mode params old after tally has does =
+    let all = went does in
     let first = went all.1 in
     let made = first.1 in
     let both : Ok made.table ≡ Ok item_table = sym made.defined ∙ make_first.2 in
     let same : made.table ≡ item_table = cc in
     let schema : first.0.schema ≡ item_schema = made.is ∙ ap (λ s. created s made.table) has ∙ ap (created no_schema) same in
     let plain : lacks_sequence first.0.schema ≡ false = ap lacks_sequence schema in
-    let now : new.now ≡ first.0 = ap (λ (p : Tally × Database). p.1) (same_value all.2) ∙ same_value (rw plain at first.2) in
-    (ap (λ (d : Database). d.schema) now ∙ schema, ap (λ (d : Database). d.trees 0) now ∙ subst (λ s. first.0.trees (next_tree s) ≡ []) has made.empty, w)
+    let now : after ≡ first.0 = ap (λ (p : Tally × Database). p.1) (same_value all.2) ∙ same_value (rw plain at first.2) in
+    (ap (λ (d : Database). d.schema) now ∙ schema, ap (λ (d : Database). d.trees 0) now ∙ subst (λ s. first.0.trees (next_tree s) ≡ []) has made.empty)
+
+pub makes_state : (old new : State) (count : ℕ) → old.now.schema ≡ no_schema → Executes make_text [] old new (Ok count)
+    → (new.now.schema ≡ item_schema) × (new.now.trees 0 ≡ []) × Writes old new None CreateTable make_text [] count
+makes_state old new count has ran =
+    let w = subst (λ t. Writes old new None CreateTable t [] count) make_first.1 (runs_as make_text [] old new no_schema has CreateTable make_first.0 make_first_plain count ran) in
+    let made = makes_db old.step_limit (mode_of old) [] old.now new.now w.tally has w.changed in
+    (made.0, made.1, w)
 
 pub made_again : (old new : State) (count : ℕ) → old.now.schema ≡ item_schema → Executes make_text [] old new (Ok count) → IsUnchanged old new
 made_again old new count has ran = (runs_as make_text [] old new item_schema has Nothing make_again make_again_plain count ran).0

@@ -1,4 +1,5 @@
 pub mod Table
 pub mod Items
 pub mod Stands
+pub mod Left
 pub mod Asked

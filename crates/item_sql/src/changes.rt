@@ -2,9 +2,10 @@
 
 ghost use Rattle.std.specs.Prelude.{[], OnOk, OnErr};
 ghost use Rattle.sqlite.specs.Held.{state};
-ghost use Rattle.sqlite.specs.State.{HasCleanDisk, Executes};
+ghost use Rattle.sqlite.specs.State.{HasCleanDisk, Executes, CommitsBy, Survives};
 ghost use Rattle.item_sql.specs.Asked.{Asks};
 ghost use Rattle.item_sql.specs.Items.{Items, cleared, put as put_in, params_of, put_params};
+ghost use Rattle.item_sql.specs.Left.{Leaves, WasOpen};
 ghost use Rattle.item_sql.specs.Stands.{IsWithin, GoesBackTo, Earlier};
 ghost use Rattle.item_sql.specs.Table.{delete_text, upsert_text};
 
@@ -18,6 +19,7 @@ fn run_clear<S: Alter>(
 ) -> Result<usize, Error>
     ensures runs { HasCleanDisk (state S.Store conn.new)
         → Executes delete_text (params_of area from.now to.now []) (state S.Store conn.old) (state S.Store conn.new) result }
+    ensures survives { Survives (state S.Store conn.old) (state S.Store conn.new) (CommitsBy delete_text (params_of area from.now to.now []) (state S.Store conn.old)) }
     ensures honest { Earlier (state S.Store conn.old) (state S.Store conn.new) }
 {
     conn.execute(
@@ -34,6 +36,7 @@ fn run_put<S: Alter>(
 ) -> Result<usize, Error>
     ensures runs { HasCleanDisk (state S.Store conn.new)
         → Executes upsert_text (put_params area label.now body.now) (state S.Store conn.old) (state S.Store conn.new) result }
+    ensures survives { Survives (state S.Store conn.old) (state S.Store conn.new) (CommitsBy upsert_text (put_params area label.now body.now) (state S.Store conn.old)) }
     ensures honest { Earlier (state S.Store conn.old) (state S.Store conn.new) }
 {
     conn.execute(
@@ -53,6 +56,8 @@ pub fn clear<S: Alter>(
         → OnOk result (IsWithin (state S.Store conn.new) base (cleared area from.now to.now m)) }
     ensures err { (base m : Items) → IsWithin (state S.Store conn.old) base m → OnErr result (GoesBackTo (state S.Store conn.new) base) }
     ensures asks { HasCleanDisk (state S.Store conn.new) → Asks (state S.Store conn.old) (state S.Store conn.new) result }
+    ensures left { (base m : Items) → IsWithin (state S.Store conn.old) base m → Leaves (state S.Store conn.old) (state S.Store conn.new) result (λ _. ⊥) }
+    ensures was_open { WasOpen (state S.Store conn.old) (state S.Store conn.new) }
     ensures honest { Earlier (state S.Store conn.old) (state S.Store conn.new) }
 {
     run_clear(conn, area, from, to)?;
@@ -70,6 +75,8 @@ pub fn put<S: Alter>(
         → OnOk result (IsWithin (state S.Store conn.new) base (put_in area label.now body.now m)) }
     ensures err { (base m : Items) → IsWithin (state S.Store conn.old) base m → OnErr result (GoesBackTo (state S.Store conn.new) base) }
     ensures asks { HasCleanDisk (state S.Store conn.new) → Asks (state S.Store conn.old) (state S.Store conn.new) result }
+    ensures left { (base m : Items) → IsWithin (state S.Store conn.old) base m → Leaves (state S.Store conn.old) (state S.Store conn.new) result (λ _. ⊥) }
+    ensures was_open { WasOpen (state S.Store conn.old) (state S.Store conn.new) }
     ensures honest { Earlier (state S.Store conn.old) (state S.Store conn.new) }
 {
     run_put(conn, area, label, body)?;

@@ -3,9 +3,10 @@
 ghost use Rattle.std.specs.Prelude.{◌≡◌, ◌≤◌, ◌∷◌, [], pos, map, take, IfOk, IfErr};
 ghost use Rattle.sqlite.specs.declared.types.Value.TheVariants.{Int};
 ghost use Rattle.sqlite.specs.Held.{state};
-ghost use Rattle.sqlite.specs.State.{HasCleanDisk, Shown, FailsToQuery};
+ghost use Rattle.sqlite.specs.State.{HasCleanDisk, Shown, FailsToQuery, CommitsShowing, Survives};
 ghost use Rattle.item_sql.specs.Asked.{Asks};
 ghost use Rattle.item_sql.specs.Items.{Items, listed, shown, params_of};
+ghost use Rattle.item_sql.specs.Left.{Leaves, WasOpen};
 ghost use Rattle.item_sql.specs.Stands.{StandsFor, IsReady, Earlier};
 ghost use Rattle.item_sql.specs.Table.{select_text};
 
@@ -23,6 +24,8 @@ fn run_select<S: Alter>(
         Shown select_text (params_of area from.now to.now (Int (pos limit) ∷ [])) (state S.Store conn.old) (state S.Store conn.new) rows.items) }
     ensures err { HasCleanDisk (state S.Store conn.new) → IfErr result
         (FailsToQuery select_text (params_of area from.now to.now (Int (pos limit) ∷ [])) (state S.Store conn.old) (state S.Store conn.new)) }
+    ensures survives { Survives (state S.Store conn.old) (state S.Store conn.new)
+        (CommitsShowing select_text (params_of area from.now to.now (Int (pos limit) ∷ [])) (state S.Store conn.old)) }
     ensures honest { Earlier (state S.Store conn.old) (state S.Store conn.new) }
 {
     conn.query_all(
@@ -45,6 +48,8 @@ pub fn select<S: Alter>(
         → IfOk result (λ rows. rows.items ≡ map shown (take limit (listed area from.now to.now m))) }
     ensures same { (m : Items) → IsReady (state S.Store conn.old) m → StandsFor (state S.Store conn.new) m }
     ensures asks { HasCleanDisk (state S.Store conn.new) → Asks (state S.Store conn.old) (state S.Store conn.new) result }
+    ensures left { (m : Items) → IsReady (state S.Store conn.old) m → Leaves (state S.Store conn.old) (state S.Store conn.new) result (λ _. ⊥) }
+    ensures was_open { WasOpen (state S.Store conn.old) (state S.Store conn.new) }
     ensures honest { Earlier (state S.Store conn.old) (state S.Store conn.new) }
 {
     run_select(conn, area, from, to, limit)

@@ -1,10 +1,12 @@
 //! Edits made in one transaction.
 
-ghost use Rattle.std.specs.Prelude.{◌≡◌, ◌≢◌, false, OnOk, OnErr, IfErr};
+ghost use Rattle.std.specs.Prelude.{◌≡◌, ◌≢◌, ◌⊎◌, false, IsTrue, OnOk, OnErr, IfErr};
 ghost use Rattle.sqlite.specs.Held.{state};
 ghost use Rattle.sqlite.specs.State.{HasCleanDisk};
+ghost use Rattle.sqlite.specs.Tree.{Trees};
 ghost use Rattle.item_sql.specs.Asked.{AsksInTurn, IsRefused};
 ghost use Rattle.item_sql.specs.Items.{Items};
+ghost use Rattle.item_sql.specs.Left.{IsLeft, Leaves, WasOpen};
 ghost use Rattle.item_sql.specs.Stands.{StandsFor, IsWithin, GoesBackTo, Earlier};
 ghost use Rattle.item_store.specs.Edits.{after, after_edit, no_memory};
 
@@ -17,6 +19,8 @@ fn make_edit<S: Alter>(conn: &mut Connection<S>, edit: &Edit) -> Result<(), Erro
         → OnOk result (IsWithin (state S.Store conn.new) base (after_edit edit.now m)) }
     ensures err { (base m : Items) → IsWithin (state S.Store conn.old) base m → OnErr result (GoesBackTo (state S.Store conn.new) base) }
     ensures asks { HasCleanDisk (state S.Store conn.new) → AsksInTurn (state S.Store) conn.old conn.new result }
+    ensures left { (base m : Items) → IsWithin (state S.Store conn.old) base m → Leaves (state S.Store conn.old) (state S.Store conn.new) result (λ _. ⊥) }
+    ensures was_open { WasOpen (state S.Store conn.old) (state S.Store conn.new) }
     ensures honest { Earlier (state S.Store conn.old) (state S.Store conn.new) }
 {
     match edit {
@@ -35,6 +39,8 @@ fn make_edits<S: Alter>(conn: &mut Connection<S>, edits: &[Edit]) -> Result<(), 
         → OnOk result (IsWithin (state S.Store conn.new) base (after edits.now m)) }
     ensures err { (base m : Items) → IsWithin (state S.Store conn.old) base m → OnErr result (GoesBackTo (state S.Store conn.new) base) }
     ensures asks { HasCleanDisk (state S.Store conn.new) → AsksInTurn (state S.Store) conn.old conn.new result }
+    ensures left { (base m : Items) → IsWithin (state S.Store conn.old) base m → Leaves (state S.Store conn.old) (state S.Store conn.new) result (λ _. ⊥) }
+    ensures was_open { WasOpen (state S.Store conn.old) (state S.Store conn.new) }
     ensures honest { Earlier (state S.Store conn.old) (state S.Store conn.new) }
 {
     for edit in edits {
@@ -48,6 +54,9 @@ fn finish<S: Alter>(conn: &mut Connection<S>, edits: &[Edit]) -> Result<(), Erro
     ensures ok { (base m : Items) → IsWithin (state S.Store conn.old) base m → OnOk result (StandsFor (state S.Store conn.new) (after edits.now m)) }
     ensures err { (base m : Items) → IsWithin (state S.Store conn.old) base m → OnErr result (GoesBackTo (state S.Store conn.new) base) }
     ensures asks { HasCleanDisk (state S.Store conn.new) → AsksInTurn (state S.Store) conn.old conn.new result }
+    ensures left { (base m : Items) → IsWithin (state S.Store conn.old) base m
+        → Leaves (state S.Store conn.old) (state S.Store conn.new) result (λ db. IsLeft db (after edits.now m)) }
+    ensures was_open { WasOpen (state S.Store conn.old) (state S.Store conn.new) }
     ensures honest { Earlier (state S.Store conn.old) (state S.Store conn.new) }
 {
     make_edits(conn, edits)?;
@@ -60,6 +69,10 @@ pub fn commit_edits<S: Alter>(conn: &mut Connection<S>, edits: &[Edit]) -> Resul
     ensures err { (m : Items) → StandsFor (state S.Store conn.old) m → OnErr result (StandsFor (state S.Store conn.new) m) }
     ensures asks { HasCleanDisk (state S.Store conn.new) → (state S.Store conn.old).in_transaction ≡ false
         → IfErr result (λ e. e ≢ no_memory → IsRefused (state S.Store) conn.old conn.new e) }
+    ensures left { (m : Items) → StandsFor (state S.Store conn.old) m → HasCleanDisk (state S.Store conn.new) → IsTrue (state S.Store conn.old).is_open
+        → (db : Trees) → (state S.Store conn.new).may_leave db
+        → (state S.Store conn.old).may_leave db ⊎ (IsLeft db m ⊎ IsLeft db (after edits.now m)) }
+    ensures was_open { WasOpen (state S.Store conn.old) (state S.Store conn.new) }
     ensures honest { Earlier (state S.Store conn.old) (state S.Store conn.new) }
 {
     if !conn.is_autocommit() {

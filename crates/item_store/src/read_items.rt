@@ -1,10 +1,12 @@
 //! Items read back.
 
-ghost use Rattle.std.specs.Prelude.{◌≡◌, ◌≢◌, ◌≤◌, IsTrue, map, take, IfOk, IfErr};
+ghost use Rattle.std.specs.Prelude.{◌≡◌, ◌≢◌, ◌≤◌, ◌⊎◌, IsTrue, map, take, IfOk, IfErr};
 ghost use Rattle.sqlite.specs.Held.{state};
 ghost use Rattle.sqlite.specs.State.{HasCleanDisk};
+ghost use Rattle.sqlite.specs.Tree.{Trees};
 ghost use Rattle.item_sql.specs.Asked.{IsRefused};
 ghost use Rattle.item_sql.specs.Items.{Items, listed, shown};
+ghost use Rattle.item_sql.specs.Left.{IsLeft, WasOpen};
 ghost use Rattle.item_sql.specs.Stands.{StandsFor, Earlier};
 ghost use Rattle.item_store.specs.Edits.{entry_of, no_memory};
 
@@ -54,6 +56,9 @@ pub fn read_items<S: Alter>(
     ensures same { (m : Items) → StandsFor (state S.Store conn.old) m → StandsFor (state S.Store conn.new) m }
     ensures asks { (m : Items) → StandsFor (state S.Store conn.old) m → HasCleanDisk (state S.Store conn.new) → IsTrue (state S.Store conn.old).is_open
         → IfErr result (λ e. e ≢ no_memory → IsRefused (state S.Store) conn.old conn.new e) }
+    ensures left { (m : Items) → StandsFor (state S.Store conn.old) m → HasCleanDisk (state S.Store conn.new) → IsTrue (state S.Store conn.old).is_open
+        → (db : Trees) → (state S.Store conn.new).may_leave db → (state S.Store conn.old).may_leave db ⊎ IsLeft db m }
+    ensures was_open { WasOpen (state S.Store conn.old) (state S.Store conn.new) }
     ensures honest { Earlier (state S.Store conn.old) (state S.Store conn.new) }
 {
     if !conn.is_autocommit() {

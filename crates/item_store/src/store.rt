@@ -1,10 +1,11 @@
 //! The store.
 
-ghost use Rattle.std.specs.Prelude.{◌≡◌, ◌≤◌, IsTrue, map, take, OnOk, OnErr, IfOk, IfErr};
+ghost use Rattle.std.specs.Prelude.{◌≡◌, ◌≤◌, ◌∷◌, [], IsTrue, map, take, OnOk, OnErr, IfOk, IfErr};
 ghost use Rattle.sqlite.specs.Held.{state};
 ghost use Rattle.sqlite.specs.State.{HasCleanDisk};
 ghost use Rattle.roster_base.specs.Faults.{CountsError, CountsFailure};
 ghost use Rattle.item_sql.specs.Items.{Items, listed};
+ghost use Rattle.item_sql.specs.Left.{MayHold, WasOpen};
 ghost use Rattle.item_sql.specs.Stands.{StandsFor, Earlier};
 ghost use Rattle.item_store.specs.Edits.{after, entry_of, IsFailed, IsCaused};
 
@@ -17,8 +18,9 @@ use std::alloc::Global;
 
 /// Items in the table `item` of a database, from area and label to body. The table is made by the first call that needs it.
 ///
-/// What the clauses say of items holds while the connection is open and its disk gives back what was written to it. A
-/// connection that is handed in inside a transaction fails at each call.
+/// What the clauses say of items holds while the connection is open and its disk gives back what was written to it. Of a
+/// call that shuts the connection they still say which items the files hold. A connection that is handed in inside a
+/// transaction fails at each call.
 #[derive(Drop)]
 pub struct ItemStore<S: Alter> {
     connection: Connection<S>,
@@ -85,8 +87,14 @@ impl<S: Alter> ItemStore<S> {
         ensures cause { CountsFailure self.old.faults self.new.faults result }
         ensures refused { (m : Items) → StandsFor (state S.Store self.old.connection) m → HasCleanDisk (state S.Store self.new.connection)
             → IsTrue (state S.Store self.old.connection).is_open → IfErr result (IsCaused (state S.Store) self.old.connection self.new.connection) }
+        // Also where a fault has shut the connection.
+        ensures left { (m : Items) → StandsFor (state S.Store self.old.connection) m → HasCleanDisk (state S.Store self.new.connection)
+            → IsTrue (state S.Store self.old.connection).is_open → MayHold (state S.Store self.new.connection) (m ∷ []) }
         ensures honest { Earlier (state S.Store self.old.connection) (state S.Store self.new.connection) }
+        ensures was_open { WasOpen (state S.Store self.old.connection) (state S.Store self.new.connection) }
     {
+        // Read for its clause `live`: what is committed is a database.
+        let _ = self.connection.schema();
         match read_items(alloc, &mut self.connection, area, from, to, limit) {
             Ok(items) => Ok(items),
             Err(error) => Err(self.refuse(error)),
@@ -101,8 +109,14 @@ impl<S: Alter> ItemStore<S> {
         ensures cause { CountsFailure self.old.faults self.new.faults result }
         ensures refused { (m : Items) → StandsFor (state S.Store self.old.connection) m → HasCleanDisk (state S.Store self.new.connection)
             → IsTrue (state S.Store self.old.connection).is_open → IfErr result (IsCaused (state S.Store) self.old.connection self.new.connection) }
+        // Also where a fault has shut the connection: a stop leaves the items before the call, or those after it.
+        ensures left { (m : Items) → StandsFor (state S.Store self.old.connection) m → HasCleanDisk (state S.Store self.new.connection)
+            → IsTrue (state S.Store self.old.connection).is_open → MayHold (state S.Store self.new.connection) (m ∷ after edits.now m ∷ []) }
         ensures honest { Earlier (state S.Store self.old.connection) (state S.Store self.new.connection) }
+        ensures was_open { WasOpen (state S.Store self.old.connection) (state S.Store self.new.connection) }
     {
+        // Read for its clause `live`: what is committed is a database.
+        let _ = self.connection.schema();
         match commit_edits(&mut self.connection, edits) {
             Ok(()) => Ok(()),
             Err(error) => Err(self.refuse(error)),

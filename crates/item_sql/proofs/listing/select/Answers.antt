@@ -1,6 +1,7 @@
 use Rattle.item_sql.proofs.Asking.{asks_select}
 use Rattle.sqlite.specs.Held.{state}
 use Rattle.item_sql.proofs.States.{select_rows, select_same}
+use Rattle.item_sql.proofs.Leaving.{select_leaves, select_open}
 use Rattle.item_sql.proofs.listing.select.Goals as goal
 
 pub returns-clause-rows : goal.returns-clause-rows
@@ -19,3 +20,12 @@ pub returns-clause-asks : goal.returns-clause-asks
 returns-clause-asks g c clean =
     asks_select c.args.area c.args.from.now c.args.to.now c.args.limit (state g.S.Store c.args.conn.now) (state g.S.Store c.run_select.new.conn) c.run_select.result
     (c.run_select.ensures.ok clean) (c.run_select.ensures.err clean)
+
+pub returns-clause-left : goal.returns-clause-left
+returns-clause-left g c m h =
+    select_leaves (state g.S.Store c.args.conn.now) (state g.S.Store c.run_select.new.conn) c.run_select.ensures.honest m c.args.area c.args.from.now c.args.to.now c.args.limit c.run_select.result
+    c.run_select.ensures.ok c.run_select.ensures.err c.run_select.ensures.survives h
+
+pub returns-clause-was_open : goal.returns-clause-was_open
+returns-clause-was_open g c =
+    select_open (state g.S.Store c.args.conn.now) (state g.S.Store c.run_select.new.conn) c.run_select.ensures.honest _ _ c.run_select.result c.run_select.ensures.ok c.run_select.ensures.err

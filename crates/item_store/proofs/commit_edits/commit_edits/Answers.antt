@@ -5,6 +5,8 @@ use Rattle.item_sql.proofs.Asking.{one, joined, late, at_once, in_turn, rolled}
 use Rattle.item_sql.proofs.States.{on_err}
 use Rattle.item_store.specs.Edits.{after}
 use Rattle.item_store.proofs.EditLemmas.{ok_then, err_then, stands_back}
+use Rattle.std.proofs.Common.{inl, inr}
+use Rattle.item_store.proofs.LeftLemmas.{ended_or_live, goes_back}
 use Rattle.item_store.proofs.commit_edits.commit_edits.Goals as goal
 
 pub returns-in_err-begin-clause-err : goal.returns-in_err-begin-clause-err
@@ -45,3 +47,44 @@ returns-clause-asks g c clean out =
     let inside = joined view {mid = c.make.new.conn} (one view (c.in_ok-make.ensures.asks (c.begin.ensures.honest begun))) (one view (c.in_ok-begin.ensures.asks begun)) in
     rolled view c.args.conn.now c.finish-ended.new.conn c.roll_back.new.conn c.finish-ended.result c.roll_back.ensures.honest
     (in_turn view c.args.conn.now c.begin.new.conn c.finish-ended.new.conn c.finish-ended.result inside (c.finish-ended.ensures.asks ended))
+
+pub returns-in_err-make-clause-left : goal.returns-in_err-make-clause-left
+returns-in_err-make-clause-left g c m h clean live db may = elim ((c.in_err-make.ensures.left m h clean live).left db may) [ inl was ↦ inl was | inr is ↦ inr (inl is) ]
+
+pub returns-in_err-begin-clause-left : goal.returns-in_err-begin-clause-left
+returns-in_err-begin-clause-left g c m h clean live db may =
+    let made = c.in_ok-make.ensures.left m h (c.begin.ensures.honest clean) live in
+    let begun = c.in_err-begin.ensures.left m (c.in_ok-make.ensures.ok m h) clean made.live in
+    elim (begun.left db may) [
+      | inl mid ↦ elim (made.left db mid) [ inl was ↦ inl was | inr is ↦ inr (inl is) ]
+      | inr none ↦ absurd none
+    ]
+
+pub returns-clause-left : goal.returns-clause-left
+returns-clause-left g c m h clean live db may =
+    let ended = c.roll_back.ensures.honest clean in
+    let opened = c.finish-ended.ensures.honest ended in
+    let ready = c.in_ok-make.ensures.ok m h in
+    let inside = c.in_ok-begin.ensures.ok m ready in
+    let made = c.in_ok-make.ensures.left m h (c.begin.ensures.honest opened) live in
+    let begun = c.in_ok-begin.ensures.left m ready opened made.live in
+    let done = c.finish-ended.ensures.left m m inside ended begun.live in
+    let s = state g.S.Store c.finish-ended.new.conn in
+    let r = c.finish-ended.result in
+    let back = goes_back s r (after c.args.edits.now m) m (c.finish-ended.ensures.ok m m inside) (c.finish-ended.ensures.err m m inside) in
+    elim (done.left db (c.roll_back.ensures.left back.0 back.1 clean (ended_or_live s r done.live done.ended) db may)) [
+      | inl before ↦ elim (begun.left db before) [
+        | inl mid ↦ elim (made.left db mid) [ inl was ↦ inl was | inr is ↦ inr (inl is) ]
+        | inr none ↦ absurd none
+      ]
+      | inr is ↦ inr (inr is)
+    ]
+
+pub returns-in_err-begin-clause-was_open : goal.returns-in_err-begin-clause-was_open
+returns-in_err-begin-clause-was_open g c clean live = c.make.ensures.was_open (c.begin.ensures.honest clean) (c.begin.ensures.was_open clean live)
+
+pub returns-clause-was_open : goal.returns-clause-was_open
+returns-clause-was_open g c clean live =
+    let ended = c.roll_back.ensures.honest clean in
+    let opened = c.finish-ended.ensures.honest ended in
+    c.make.ensures.was_open (c.begin.ensures.honest opened) (c.begin.ensures.was_open opened (c.finish-ended.ensures.was_open ended (c.roll_back.ensures.was_open clean live)))

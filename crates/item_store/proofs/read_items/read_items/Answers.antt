@@ -3,6 +3,7 @@ use Rattle.std.proofs.lemmas.Result.{IfErr-weaker, err_from_is_err_and}
 use Rattle.sqlite.specs.Held.{state}
 use Rattle.item_sql.proofs.Asking.{one, late, at_once}
 use Rattle.item_sql.specs.Items.{listed}
+use Rattle.std.proofs.Common.{inl, inr}
 use Rattle.item_store.proofs.read_items.read_items.Goals as goal
 
 pub returns-in_err-rows-clause-same : goal.returns-in_err-rows-clause-same
@@ -30,3 +31,22 @@ pub returns-clause-asks : goal.returns-clause-asks
 returns-clause-asks g c m h clean live =
     IfErr-weaker c.items_of.result _ _ (λ e never cause. absurd (never cause))
     (c.items_of.ensures.memory (take c.args.limit (listed c.args.area c.args.from.now c.args.to.now m)) (c.as_slice.ensures.value ∙ c.in_ok-rows.ensures.rows m (c.in_ok-make.ensures.ok m h) clean))
+
+pub returns-in_err-make-clause-left : goal.returns-in_err-make-clause-left
+returns-in_err-make-clause-left g c m h clean live db may = (c.in_err-make.ensures.left m h clean live).left db may
+
+pub returns-in_err-rows-clause-left : goal.returns-in_err-rows-clause-left
+returns-in_err-rows-clause-left g c m h clean live db may =
+    let made = c.in_ok-make.ensures.left m h (c.select.ensures.honest clean) live in
+    elim ((c.select.ensures.left m (c.in_ok-make.ensures.ok m h) clean made.live).left db may) [ inl mid ↦ made.left db mid | inr none ↦ absurd none ]
+
+pub returns-clause-left : goal.returns-clause-left
+returns-clause-left g c m h clean live db may =
+    let made = c.in_ok-make.ensures.left m h (c.select.ensures.honest clean) live in
+    elim ((c.select.ensures.left m (c.in_ok-make.ensures.ok m h) clean made.live).left db may) [ inl mid ↦ made.left db mid | inr none ↦ absurd none ]
+
+pub returns-in_err-rows-clause-was_open : goal.returns-in_err-rows-clause-was_open
+returns-in_err-rows-clause-was_open g c clean live = c.make.ensures.was_open (c.select.ensures.honest clean) (c.select.ensures.was_open clean live)
+
+pub returns-clause-was_open : goal.returns-clause-was_open
+returns-clause-was_open g c clean live = c.make.ensures.was_open (c.select.ensures.honest clean) (c.select.ensures.was_open clean live)

@@ -1,7 +1,30 @@
 use Rattle.std.proofs.Common.{sym, subst}
 use Rattle.sqlite.specs.Held.{Held, state}
 use Rattle.item_sql.specs.Stands.{StandsFor}
+use Rattle.std.proofs.Common.{[], ◌∷◌}
+use Rattle.item_sql.specs.Left.{MayHold, WasOpen}
+use Rattle.sqlite.specs.State.{HasCleanDisk}
+use Rattle.item_store.specs.Edits.{after}
+use Rattle.item_store.proofs.LeftLemmas.{held_either, held_open}
 use Rattle.item_store.proofs.store.ItemStore.commit.Goals as goal
 
 pub returns-in-Err-clause-err : goal.returns-in-Err-clause-err
 returns-in-Err-clause-err g c m h = subst (λ (x : Held g.row.S.Denot). StandsFor (state g.S.Store x) m) (sym c.refuse.ensures.same) (c.in-Err.ensures.err m h)
+
+pub returns-in-Ok-clause-left : goal.returns-in-Ok-clause-left
+returns-in-Ok-clause-left g c m h clean live =
+    let old = c.args.self.now.connection in
+    held_either (state g.S.Store old) (state g.S.Store c.commit_edits.new.conn) m (after c.args.edits.now m) (c.commit_edits.ensures.left m h clean live)
+    (held_open g.S.Store old m (λ db may. g.met.S.Store.settled old.store db live may) c.schema.ensures.live (c.commit_edits.ensures.honest clean) live h)
+
+pub returns-in-Err-clause-left : goal.returns-in-Err-clause-left
+returns-in-Err-clause-left g c m h clean live =
+    let view = state g.S.Store in
+    let old = c.args.self.now.connection in
+    let was = subst (λ (x : Held g.row.S.Denot). HasCleanDisk (view x)) c.refuse.ensures.same clean in
+    subst (λ (x : Held g.row.S.Denot). MayHold (view x) (m ∷ after c.args.edits.now m ∷ [])) (sym c.refuse.ensures.same)
+    (held_either (view old) (view c.commit_edits.new.conn) m (after c.args.edits.now m) (c.commit_edits.ensures.left m h was live)
+    (held_open g.S.Store old m (λ db may. g.met.S.Store.settled old.store db live may) c.schema.ensures.live (c.commit_edits.ensures.honest was) live h))
+
+pub returns-in-Err-clause-was_open : goal.returns-in-Err-clause-was_open
+returns-in-Err-clause-was_open g c = subst (λ (x : Held g.row.S.Denot). WasOpen (state g.S.Store c.args.self.now.connection) (state g.S.Store x)) (sym c.refuse.ensures.same) c.commit_edits.ensures.was_open

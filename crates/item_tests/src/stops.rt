@@ -1,0 +1,100 @@
+//! Commits over disks that stop.
+
+use crate::samples::{area_1, first_edits, second_edits};
+use item_laws::opened;
+use item_store::{Edit, ItemStore};
+use sqlite::{Files, Options};
+use sqlite_disk::{Crash, Disk, Fuse, Memory};
+use std::alloc::Global;
+use std::process::Abort;
+use std::test::Fail;
+
+// Opens the files and commits, and gives the files back.
+fn commit_to<D: Disk + Drop>(alloc: Global, files: Files<D>, edits: &[Edit]) -> (bool, Files<D>) {
+    match opened(alloc, files, Options::new(7)) {
+        Ok(conn) => {
+            let mut store = ItemStore::adopt(conn);
+            let committed = store.commit(edits).is_ok();
+            (committed, store.release().into_store().close())
+        }
+        Err(files) => (false, files),
+    }
+}
+
+// The items of area 1 in these files; nothing where they can't be opened or read.
+fn found_in<D: Disk + Drop>(alloc: Global, files: Files<D>) -> Option<Vec<u8>> {
+    match opened(alloc, files, Options::new(7)) {
+        Ok(conn) => area_1(alloc, &mut ItemStore::adopt(conn)).ok(),
+        Err(_) => None,
+    }
+}
+
+// Whether the second edits were committed to the files, and the items of area 1 after a crash.
+fn cut_off<D: Crash + Drop>(
+    alloc: Global,
+    files: Files<D>,
+) -> Result<(bool, Option<Vec<u8>>), Fail> {
+    let (committed, mut left) = commit_to(alloc, files, second_edits(alloc)?.as_slice());
+    left.log.crash();
+    left.db.crash();
+    Ok((committed, found_in(alloc, left)))
+}
+
+// The same over files that hold the first edits, with a stop at that call of the log or of the database file.
+fn stopped(alloc: Global, log: u64, db: u64) -> Result<(bool, Option<Vec<u8>>), Fail> {
+    let empty = Files {
+        log: Memory::new(alloc),
+        db: Memory::new(alloc),
+    };
+    let (_, files) = commit_to(alloc, empty, first_edits(alloc)?.as_slice());
+    let fused = Files {
+        log: Fuse::new(files.log, log),
+        db: Fuse::new(files.db, db),
+    };
+    cut_off(alloc, fused)
+}
+
+// Each stop leaves the items before or after the commit, and an answer of Ok those after it.
+fn assert_whole(rt: &impl Abort, alloc: Global, log: u64, db: u64) -> Result<bool, Fail> {
+    let (committed, found) = stopped(alloc, log, db)?;
+    let text = found.unwrap_or(Vec::new(alloc));
+    let after = text.as_slice() == "b=two ".as_bytes();
+    let before = text.as_slice() == "a=four ab=three b=two ".as_bytes();
+    assert!(rt; after || (before && !committed), "stopped at {log}, {db}");
+    Ok(committed)
+}
+
+// More than the calls of a commit.
+const CALLS: u64 = 200;
+
+// The stop at a call of the log, or of the database file.
+fn place(at: u64, in_log: bool) -> (u64, u64) {
+    if in_log {
+        (at, u64::MAX)
+    } else {
+        (u64::MAX, at)
+    }
+}
+
+// How many of the stops at the first calls of the log, or of the database file, cut the commit off.
+fn stops_met(rt: &impl Abort, alloc: Global, in_log: bool) -> Result<u64, Fail> {
+    let mut stops = 0u64;
+    for at in 0..CALLS {
+        let (log, db) = place(at, in_log);
+        if !assert_whole(rt, alloc, log, db)? {
+            stops = stops.saturating_add(1);
+        }
+    }
+    Ok(stops)
+}
+
+static IN_LOG: [bool; 2] = [true, false];
+
+#[test]
+fn stops_leave_items_before_or_after(rt: HostRuntime) -> Result<(), Fail> {
+    for in_log in &IN_LOG {
+        let stops = stops_met(&rt, rt.alloc(), *in_log)?;
+        assert!(rt; 0 < stops && stops < CALLS);
+    }
+    Ok(())
+}
