@@ -1,29 +1,26 @@
 -- The sample tables are tables of a hub.
-use Rattle.std.proofs.Common.{◌≡◌, ℕ, zero, suc, ◌+◌, ◌-◌, ◌≤◌, Bool, true, false, cond, List, [], ◌∷◌, Some, None, codes, length, map, refl, sym, ap, subst, ◌∙◌, arith}
+use Rattle.std.proofs.Common.{◌≡◌, ℕ, suc, ◌+◌, ◌≤◌, List, [], ◌∷◌, Some, None, codes, length, refl, sym, ap, subst, ◌∙◌, arith}
 use Rattle.std.specs.Prelude.{Option, unwrap_or}
 use Rattle.std.specs.List.{AllByRecursion, IsDistinct}
 use Rattle.std.specs.List.Sorted.{IsStrictlySortedBy}
-use Rattle.std.specs.declared.cmp.Ordering.{Ordering}
 use Rattle.std.specs.declared.cmp.Ordering.TheVariants.{Less, Equal, Greater}
 use Rattle.std.proofs.lemmas.List.Sums.{count_by-le-length}
 use Rattle.roster_types.specs.Keys.{count_of, is_of_kind, key_cmp}
-use Rattle.roster_types.specs.Records.{Record}
 use Rattle.roster_values.specs.declared.kind.Kind.{Kind}
-use Rattle.version_core.specs.Changes.{AreChanges, change_key, rows_of}
+use Rattle.version_core.specs.Changes.{change_key, rows_of}
 use Rattle.version_core.specs.Grants.{AreGrants, HasGrant}
 use Rattle.version_core.specs.HubStates.{HasFromSince, KeepGrants}
 use Rattle.version_core.specs.Marks.{AreMarks, is_outcome, key_order}
 use Rattle.version_core.specs.Order.{by_order, overlaid, put}
 use Rattle.version_core.specs.Tables.{AreTables}
-use Rattle.version_core.specs.Version.{IsVersion, after, empty_version}
+use Rattle.version_core.specs.Version.{IsVersion, after}
 use Rattle.version_core.specs.declared.change.BaseVersion.{BaseVersion}
 use Rattle.version_core.specs.declared.change.Change.{Change}
 use Rattle.version_core.specs.declared.grant_row.GrantRow.{GrantRow}
-use Rattle.version_core.specs.declared.hub_tables.HubTables.{HubTables}
 use Rattle.version_core.specs.declared.mark.MarkRow.{MarkRow}
 use Rattle.version_core.specs.declared.row_change.RowChange.{RowChange}
 use Rattle.version_core.proofs.OrderLemmas.{Ascends-overlaid}
-use Rattle.version_tests.specs.Samples.{AreFewRows, IsBase, IsChange, IsMark, first_grants, granted, later_grants}
+use Rattle.version_tests.specs.Samples.{IsBase, IsChange, IsMark, first_grants, granted, later_grants}
 
 length-put : (x : RowChange) (xs : List RowChange) → length (put change_key x xs) ≤ suc (length xs)
 length-put x [] = omega arith

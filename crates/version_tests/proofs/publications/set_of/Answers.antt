@@ -1,9 +1,9 @@
-use Rattle.std.proofs.Common.{◌≡◌, ◌≤◌, List, [], ◌∷◌, ◌++◌, length, map, sym, ap, subst, ◌∙◌, arith, ℕ, zero, suc}
+use Rattle.std.proofs.Common.{◌≡◌, ◌≤◌, List, [], ◌∷◌, ◌++◌, length, map, sym, subst, ◌∙◌, arith, ℕ, zero, suc}
 use Rattle.std.specs.Prelude.{bytes_eq}
 use Rattle.std.specs.List.{All, IsDistinct}
 use Rattle.std.specs.List.Sorted.{IsStrictlySortedBy}
 use Rattle.std.specs.Ordering.{nat_cmp}
-use Rattle.roster_types.specs.Sets.{AreParts, IsDatedOrZero, IsPart}
+use Rattle.roster_types.specs.Sets.{AreParts, IsPart}
 use Rattle.roster_types.specs.declared.set.SetPart.{SetPart}
 use Rattle.roster_types.specs.declared.set_row.SetRow.{SetRow}
 use Rattle.version_tests.proofs.publications.set_of.Goals as goal
