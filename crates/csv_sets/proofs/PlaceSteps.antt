@@ -1,16 +1,14 @@
 -- The places of a header's fields, one by one.
-use Rattle.std.proofs.Common.{◌≡◌, ◌≤◌, ◌<◌, ◌+◌, ℕ, List, [], ◌∷◌, ◌++◌, Bool, true, false, Option, Some, None, Ok, Err, drop, get_or, length, map, not, is_some, refl, sym, ap, ◌∙◌, append_assoc}
-use Rattle.std.proofs.lemmas.List.{append-nil, drop-map, drop_all}
+use Rattle.std.proofs.Common.{◌≡◌, ◌≤◌, ◌+◌, ℕ, List, [], ◌∷◌, ◌++◌, Bool, true, false, Option, Some, None, Ok, Err, drop, length, map, not, is_some, refl, sym, ap, ◌∙◌, append_assoc}
+use Rattle.std.proofs.lemmas.List.{append-nil, drop_all}
 use Rattle.std.specs.Prelude.{◌&&◌}
-use Rattle.roster_values.specs.declared.fields.FieldInfo.{FieldInfo}
 use Rattle.roster_values.specs.declared.kind.Kind.{Kind}
 use Rattle.roster_values.specs.declared.mode.Mode.{Mode}
-use Rattle.roster_values.specs.Table.{Info, info_in, info_of, table}
+use Rattle.roster_values.specs.Table.{Info, info_in, table}
 use Rattle.csv_sets.specs.declared.fault.ColumnFault.TheVariants.{Missing}
 use Rattle.csv_sets.specs.Columns.{places_of}
 use Rattle.csv_sets.specs.Headers.{has_column, in_file, place_of, required_checked}
 use Rattle.csv_sets.proofs.ColumnLaws.{has_column-place}
-use Rattle.roster_base.proofs.ListSteps.{next_item}
 
 -- how far the look-up of the fields' columns has come
 pub record Places (kind : Kind) (mode : Mode) (columns : List (List ℕ)) (found : List (Option ℕ)) (field : ℕ) : Type 0 where
