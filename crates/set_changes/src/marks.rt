@@ -97,6 +97,10 @@ fn add_marks(
     requires { Ascends set_key index.now }
     ensures { OnOk result (marks.new.items ≡ marks.old.items ++ marks_of set.now at index.now view.now.rows (filter (is_of_kind kind) (rows_of view.now.rows))) }
 {
+    // The rows of a kind are gone through only where the set may leave some out.
+    if !is_whole(set.parts(), kind) {
+        return Ok(());
+    }
     let mut after = None;
     while let Some(stored) = view.next_change(kind, after) {
         let mark = mark_of(alloc, set, index, stored, at)?;

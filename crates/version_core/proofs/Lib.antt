@@ -2,6 +2,7 @@ pub mod AddLemmas
 pub mod GrantLemmas
 pub mod HistoryLemmas
 pub mod HistoryNext
+pub mod KindCounts
 pub mod MarkLemmas
 pub mod MergeLemmas
 pub mod Next

@@ -122,7 +122,8 @@ impl VersionLog {
     {
         let moment = moment_at(self.moment, &self.moments, (version - self.number) as usize);
         let grants = grants_at(&self.grants, version);
-        VersionView::new(version, moment, &self.histories, grants)
+        let newest = version == self.number + self.moments.len() as u64;
+        VersionView::new(version, moment, newest, &self.histories, grants)
     }
 
     /// The newest version.

@@ -1,11 +1,11 @@
 //! One version, read.
 
-ghost use Rattle.std.specs.Prelude.{◌≡◌, ◌+◌, ◌≤◌, Some, option_copied, option_map, length, take, find};
+ghost use Rattle.std.specs.Prelude.{◌≡◌, ◌+◌, ◌≤◌, ◌==◌, Some, count_by, true, option_copied, option_map, length, take, find};
 ghost use Rattle.roster_types.specs.Keys.{Ascends, count_of, look_up};
 ghost use Rattle.version_core.specs.Changes.{AreChanges, change_key, is_next, rows_of};
 ghost use Rattle.roster_values.specs.Kinds.{place_of_kind};
 ghost use Rattle.version_core.specs.View.{earlier};
-ghost use Rattle.version_core.specs.History.{ArePasts, pasts_of, rows_at};
+ghost use Rattle.version_core.specs.History.{ArePasts, AreUpTo, history_key, pasts_of, rows_at};
 ghost use Rattle.version_core.specs.Version.{IsVersion, row_limit};
 
 use crate::grant_row::GrantRow;
@@ -26,6 +26,8 @@ use std::marker::Model;
 pub struct VersionView<'a> {
     version: u64,
     moment: Moment,
+    // Whether no row is younger than the version, so that each history has one that stands.
+    newest: bool,
     histories: &'a [History],
     grants: &'a [GrantRow],
 }
@@ -61,7 +63,18 @@ pub fn earlier<'a>(
     }
 }
 
-// How many rows are of this kind at a version.
+// How many histories are of this kind.
+fn histories_of_kind(histories: &[History], kind: Kind) -> u64
+    requires { ArePasts (pasts_of histories.now) }
+    ensures { result ≡ count_by (λ history. (history_key history).0 == place_of_kind kind) histories.now }
+{
+    let place = kind.place() as u64;
+    let below = histories.partition_point(|history| history.place() < place);
+    let through = histories.partition_point(|history| history.place() <= place);
+    (through - below) as u64
+}
+
+// How many rows are of this kind at a version, one after another.
 fn count_at(histories: &[History], version: u64, kind: Kind) -> u64
     requires pasts { ArePasts (pasts_of histories.now) }
     requires few { count_of kind (rows_of (rows_at version (pasts_of histories.now))) ≤ row_limit }
@@ -81,16 +94,19 @@ impl<'a> VersionView<'a> {
     pub(crate) fn new(
         version: u64,
         moment: Moment,
+        newest: bool,
         histories: &'a [History],
         grants: &'a [GrantRow],
     ) -> VersionView<'a>
         requires pasts { ArePasts (pasts_of histories.now) }
+        requires newest { newest ≡ true → AreUpTo version (pasts_of histories.now) }
         requires version { IsVersion (record { number = version; moment = moment; rows = rows_at version (pasts_of histories.now); grants = grants.now }) }
         ensures { result ≡ record { number = version; moment = moment; rows = rows_at version (pasts_of histories.now); grants = grants.now } }
     {
         VersionView {
             version,
             moment,
+            newest,
             histories,
             grants,
         }
@@ -157,6 +173,9 @@ impl<'a> Rows for VersionView<'a> {
     }
 
     fn count(&self, kind: Kind) -> u64 {
+        if self.newest {
+            return histories_of_kind(self.histories, kind);
+        }
         count_at(self.histories, self.version, kind)
     }
 }

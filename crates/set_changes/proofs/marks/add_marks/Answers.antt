@@ -1,9 +1,10 @@
-use Rattle.std.proofs.Common.{◌++◌, append_assoc, append-nil, length, Some, sym, ap, ◌∙◌, arith, option_copied}
+use Rattle.std.proofs.Common.{◌≡◌, ◌++◌, List, append_assoc, append-nil, false, length, Some, sym, ap, subst, ◌∙◌, arith, option_copied}
 use Rattle.std.specs.Option.{option_to_list}
 use Rattle.reference_rules.proofs.Rest.{rest_of, rest_start}
 use Rattle.roster_types.specs.Keys.{look_up}
-use Rattle.set_changes.proofs.MarkLemmas.{marks_begin, marks_end, rest_begins}
-use Rattle.set_changes.specs.Applying.{set_key}
+use Rattle.roster_types.specs.declared.set.SetPart.{SetPart}
+use Rattle.set_changes.proofs.MarkLemmas.{marks_begin, marks_end, none_marked, rest_begins}
+use Rattle.set_changes.specs.Applying.{is_whole, set_key}
 use Rattle.set_changes.specs.Steps.{mark_of, marks_of}
 use Rattle.version_core.specs.Changes.{change_key, rows_of}
 use Rattle.set_changes.proofs.marks.add_marks.Goals as goal
@@ -32,3 +33,9 @@ pub returns : goal.returns
 returns c =
     let e = marks_end c.args.set.now c.args.at c.args.index.now c.args.view.now.rows c.in_default.ensures.sorted c.args.kind (option_copied c.loop-stored.after) c.in_default.ensures.next in
     sym (append-nil c.loop-stored.marks.items) ∙ ap (λ ys. c.loop-stored.marks.items ++ ys) (sym e) ∙ c.loop-stored.invariant
+
+-- no row of the kind is left out
+pub returns-then-not-is_whole : goal.returns-then-not-is_whole
+returns-then-not-is_whole c =
+    let part = subst (λ (parts : List SetPart). is_whole parts c.args.kind ≡ false) c.parts.ensures.parts (sym c.is_whole.ensures ∙ c.if-not-is_whole.true) in
+    sym (append-nil c.args.marks.now.items) ∙ ap (λ ys. c.args.marks.now.items ++ ys) (sym (none_marked c.args.set.now c.args.at c.args.index.now c.args.view.now.rows c.args.kind part (rows_of c.args.view.now.rows)))
