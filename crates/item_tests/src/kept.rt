@@ -3,9 +3,9 @@
 use crate::samples::{
     EMPTY_RANGES, FIRST_RANGES, Range, SECOND_RANGES, area_1, first_edits, listed, second_edits,
 };
-use item_store::ItemStore;
+use item_store::{Edit, ItemStore};
 use roster_base::KeeperError;
-use sqlite::{Alter, Connection};
+use sqlite::{Alter, Connection, MemStore};
 use std::alloc::Global;
 use std::path::PathBuf;
 use std::process::Abort;
@@ -56,20 +56,20 @@ fn commit_second<S: Alter + Drop>(
 fn commit_both<S: Alter + Drop>(
     rt: &impl Abort,
     alloc: Global,
-    conn: Connection<S>,
-) -> Result<Connection<S>, Fail> {
-    let mut store = ItemStore::adopt(conn);
-    commit_first(rt, alloc, &mut store)?;
-    commit_second(rt, alloc, &mut store)?;
+    store: &mut ItemStore<S>,
+) -> Result<(), Fail> {
+    commit_first(rt, alloc, store)?;
+    commit_second(rt, alloc, store)?;
     assert_eq!(rt; store.faults(), 0);
-    Ok(store.release())
+    Ok(())
 }
 
 #[test]
 fn database_in_memory_keeps_items(rt: HostRuntime) -> Result<(), Fail> {
-    let conn = Connection::open_in_memory(rt.alloc())?;
-    drop(commit_both(&rt, rt.alloc(), conn)?);
-    Ok(())
+    let mut store = ItemStore::adopt(Connection::open_in_memory(rt.alloc())?);
+    let kept = commit_both(&rt, rt.alloc(), &mut store);
+    drop(store);
+    kept
 }
 
 // A new folder of the system's for temporary files.
@@ -81,47 +81,57 @@ fn new_folder(rt: HostRuntime) -> Result<PathBuf, Fail> {
     Ok(folder)
 }
 
-fn fill(rt: &HostRuntime, end: &impl Abort, path: &str) -> Result<(), Fail> {
-    let conn = commit_both(end, rt.alloc(), Connection::open(rt, path)?)?;
-    conn.close()?;
-    Ok(())
-}
-
-fn look_again(rt: &HostRuntime, end: &impl Abort, path: &str) -> Result<(), Fail> {
+// Opens the file, commits the edits where it is new, and looks at what it holds.
+fn visit(rt: &HostRuntime, end: &impl Abort, path: &str, is_new: bool) -> Result<(), Fail> {
     let mut store = ItemStore::adopt(Connection::open(rt, path)?);
-    assert_ranges(end, rt.alloc(), &mut store, &SECOND_RANGES)
+    let found = if is_new {
+        commit_both(end, rt.alloc(), &mut store)
+    } else {
+        assert_ranges(end, rt.alloc(), &mut store, &SECOND_RANGES)
+    };
+    drop(store);
+    found
 }
 
 #[test]
 fn file_keeps_items(rt: HostRuntime) -> Result<(), Fail> {
     let folder = new_folder(rt)?;
     let path = folder.join(rt.alloc(), "items.db")?.into_string();
-    fill(&rt, &rt, path.as_str())?;
-    look_again(&rt, &rt, path.as_str())?;
+    visit(&rt, &rt, path.as_str(), true)?;
+    visit(&rt, &rt, path.as_str(), false)?;
     fs::remove_dir_all(&rt, &folder)?;
     Ok(())
 }
 
-// A store whose connection has run a statement.
-fn store_after(alloc: Global, sql: &str) -> Result<ItemStore<sqlite::MemStore>, Fail> {
-    let mut conn = Connection::open_in_memory(alloc)?;
-    conn.execute(sql, &[])?;
-    Ok(ItemStore::adopt(conn))
-}
-
 // Both calls fail, and each is counted once.
-fn assert_failures(rt: &impl Abort, alloc: Global, sql: &str) -> Result<(), Fail> {
-    let mut store = store_after(alloc, sql)?;
-    let edits = first_edits(alloc)?;
-    let committed = store.commit(edits.as_slice());
+fn assert_both_fail(
+    rt: &impl Abort,
+    alloc: Global,
+    store: &mut ItemStore<MemStore>,
+    edits: &[Edit],
+    sql: &str,
+) -> Result<(), Fail> {
+    let committed = store.commit(edits);
     let counted = store.faults();
-    let found = area_1(alloc, &mut store).err();
+    let found = area_1(alloc, store).err();
     assert_eq!(rt;
         (committed, counted, found, store.faults()),
         (Err(KeeperError::Failed), 1, Some(KeeperError::Failed), 2),
         "{sql}"
     );
     Ok(())
+}
+
+// A store whose connection has run a statement refuses both calls.
+fn assert_failures(rt: &impl Abort, alloc: Global, sql: &str) -> Result<(), Fail> {
+    let edits = first_edits(alloc)?;
+    let mut conn = Connection::open_in_memory(alloc)?;
+    let ran = conn.execute(sql, &[]).is_ok();
+    let mut store = ItemStore::adopt(conn);
+    let failed = assert_both_fail(rt, alloc, &mut store, edits.as_slice(), sql);
+    drop(store);
+    assert!(rt; ran);
+    failed
 }
 
 static REFUSING: [&str; 2] = ["BEGIN", "CREATE TABLE item (area INTEGER) STRICT"];

@@ -3,16 +3,18 @@
 use crate::samples::{area_1, first_edits, items_line};
 use item_laws::{fresh, opened, read_back, reopen};
 use item_store::ItemStore;
-use sqlite::{Files, Options};
+use sqlite::{Connection, FileStore, Files, Options};
 use sqlite_disk::Memory;
 use std::alloc::Global;
 use std::test::Fail;
 
 // The first edits, committed to a store in memory and read back.
 fn read_first(alloc: Global) -> Result<Vec<u8>, Fail> {
-    let mut store = fresh(alloc)?;
     let edits = first_edits(alloc)?;
-    let items = read_back(alloc, &mut store, edits.as_slice(), 1, b"a", b"b")?;
+    let mut store = fresh(alloc)?;
+    let read = read_back(alloc, &mut store, edits.as_slice(), 1, b"a", b"b");
+    drop(store);
+    let items = read?;
     Ok(items_line(alloc, items.as_slice())?)
 }
 
@@ -23,17 +25,27 @@ fn items_are_read_back(rt: HostRuntime) -> Result<(), Fail> {
     Ok(())
 }
 
+// The items of area 1 once a connection is closed and opened again.
+fn found_again(alloc: Global, conn: Connection<FileStore<Memory>>) -> Option<Vec<u8>> {
+    let mut store = ItemStore::adopt(reopen(alloc, conn, Options::new(7))?);
+    let found = area_1(alloc, &mut store).ok();
+    drop(store);
+    found
+}
+
 // The first edits in area 1, committed to empty files that are closed and opened again.
 fn reopened(alloc: Global) -> Result<Vec<u8>, Fail> {
+    let edits = first_edits(alloc)?;
     let files = Files {
         log: Memory::new(alloc),
         db: Memory::new(alloc),
     };
     let conn = opened(alloc, files, Options::new(7)).ok().ok_or("opened")?;
     let mut store = ItemStore::adopt(conn);
-    store.commit(first_edits(alloc)?.as_slice())?;
-    let again = reopen(alloc, store.release(), Options::new(7)).ok_or("opened again")?;
-    Ok(area_1(alloc, &mut ItemStore::adopt(again))?)
+    let committed = store.commit(edits.as_slice());
+    let found = found_again(alloc, store.release());
+    committed?;
+    Ok(found.ok_or("opened again")?)
 }
 
 #[test]

@@ -3,7 +3,7 @@
 use crate::samples::{area_1, first_edits, second_edits};
 use item_laws::opened;
 use item_store::{Edit, ItemStore};
-use sqlite::{Files, Options};
+use sqlite::{Alter, Files, Options};
 use sqlite_disk::{Crash, Disk, Fuse, Memory};
 use std::alloc::Global;
 use std::process::Abort;
@@ -21,37 +21,50 @@ fn commit_to<D: Disk + Drop>(alloc: Global, files: Files<D>, edits: &[Edit]) -> 
     }
 }
 
+fn read_area<S: Alter + Drop>(alloc: Global, store: ItemStore<S>) -> Option<Vec<u8>> {
+    let mut store = store;
+    let found = area_1(alloc, &mut store).ok();
+    drop(store);
+    found
+}
+
 // The items of area 1 in these files; nothing where they can't be opened or read.
 fn found_in<D: Disk + Drop>(alloc: Global, files: Files<D>) -> Option<Vec<u8>> {
     match opened(alloc, files, Options::new(7)) {
-        Ok(conn) => area_1(alloc, &mut ItemStore::adopt(conn)).ok(),
-        Err(_) => None,
+        Ok(conn) => read_area(alloc, ItemStore::adopt(conn)),
+        Err(files) => {
+            drop(files);
+            None
+        }
     }
 }
 
-// Whether the second edits were committed to the files, and the items of area 1 after a crash.
+// Whether the edits were committed to the files, and the items of area 1 after a crash.
 fn cut_off<D: Crash + Drop>(
     alloc: Global,
     files: Files<D>,
-) -> Result<(bool, Option<Vec<u8>>), Fail> {
-    let (committed, mut left) = commit_to(alloc, files, second_edits(alloc)?.as_slice());
+    edits: &[Edit],
+) -> (bool, Option<Vec<u8>>) {
+    let (committed, mut left) = commit_to(alloc, files, edits);
     left.log.crash();
     left.db.crash();
-    Ok((committed, found_in(alloc, left)))
+    (committed, found_in(alloc, left))
 }
 
-// The same over files that hold the first edits, with a stop at that call of the log or of the database file.
+// The second edits over files that hold the first, with a stop at that call of the log or of the database file.
 fn stopped(alloc: Global, log: u64, db: u64) -> Result<(bool, Option<Vec<u8>>), Fail> {
+    let first = first_edits(alloc)?;
+    let second = second_edits(alloc)?;
     let empty = Files {
         log: Memory::new(alloc),
         db: Memory::new(alloc),
     };
-    let (_, files) = commit_to(alloc, empty, first_edits(alloc)?.as_slice());
+    let (_, files) = commit_to(alloc, empty, first.as_slice());
     let fused = Files {
         log: Fuse::new(files.log, log),
         db: Fuse::new(files.db, db),
     };
-    cut_off(alloc, fused)
+    Ok(cut_off(alloc, fused, second.as_slice()))
 }
 
 // Each stop leaves the items before or after the commit, and an answer of Ok those after it.
