@@ -1,0 +1,2 @@
+pub mod HubLemmas
+pub mod StepLemmas

@@ -1,0 +1,8 @@
+use Rattle.keeper_memory.proofs.KeptLemmas.{tables_are_kept}
+use Rattle.hub_core.proofs.hub.Hub.open.Goals as goal
+
+pub invariant_of-result : goal.invariant_of-result
+invariant_of-result g c = record {
+  kept = rw (c.in_ok-from_tables.ensures, c.in_ok-from_tables-2.ensures) (tables_are_kept c.in_ok-tables.tables c.in_ok-tables.ensures.tables);
+  left_open = λ left. cc;
+}

@@ -1,0 +1,214 @@
+//! The hub.
+
+ghost use Rattle.std.specs.Prelude.{◌≡◌, IfOk, None, Ok, OnErr, Some, false};
+ghost use Rattle.std.specs.Option.{ForSome};
+ghost use Rattle.set_changes.specs.Applying.{Applies};
+ghost use Rattle.keeper_memory.specs.Commits.{CanCommit, CanLead};
+ghost use Rattle.keeper_memory.specs.Kept.{IsKept, KeptState};
+ghost use Rattle.hub_core.specs.Made.{Adopts};
+ghost use Rattle.hub_core.specs.Standing.{IsStanding, KeeperFits};
+ghost use Rattle.hub_core.specs.Steps.{CountsFault, Installs, IsLast, LeavesOpen, MakesNext, RefusesNothing};
+
+use crate::hub_error::HubError;
+use crate::published::Published;
+use crate::room::{make_room, take_in, take_in_made};
+use keeper_memory::{HubCommit, HubKeeper};
+use roster_base::{KeeperError, NoMemory, Refusal, TryCopy};
+use roster_texts::Moment;
+use roster_types::set::RosterSet;
+use set_changes::{PublishFault, set_change};
+use std::alloc::Global;
+use std::marker::Model;
+use version_core::change::Change;
+use version_core::marks::Marks;
+use version_core::table::Table;
+
+/// A hub's state in memory. The keeper goes in with each call. A clause sees the state, the last commit that was handed to a keeper since
+/// the hub was opened, and whether the keeper failed at that commit and hasn't been asked since what it made of it.
+#[derive(Drop)]
+pub struct Hub {
+    table: Table,
+    marks: Marks,
+    last: Option<HubCommit>,
+    is_open: bool,
+}
+
+impl Model for Hub {
+    ghost use Rattle.hub_core.specs.Standing.{HeldHub};
+
+    ghost Value = { HeldHub };
+
+    ghost use Rattle.hub_core.specs.Hub.{IsHub, held_of};
+
+    ghost view = { held_of };
+
+    ghost invariant = { IsHub };
+}
+
+impl Hub {
+    /// The hub of what a keeper keeps.
+    pub fn open<H: HubKeeper>(alloc: Global, keeper: &mut H) -> Result<Hub, HubError>
+        ensures fits { IfOk result (KeeperFits (H.stands_for keeper.new)) }
+        ensures settled { IfOk result (λ hub. (hub.is_open ≡ false) × (hub.last ≡ None)) }
+        ensures told { (kept : KeptState) → H.stands_for keeper.new kept → H.stands_for keeper.old kept }
+        ensures cause { CountsFault (H.fault_count keeper.old) (H.fault_count keeper.new) result }
+        ensures refused { RefusesNothing result }
+    {
+        let tables = keeper.load(alloc)?;
+        Ok(Hub {
+            table: Table::from_tables(alloc, &tables)?,
+            marks: Marks::from_tables(alloc, &tables)?,
+            last: None,
+            is_open: false,
+        })
+    }
+
+    /// The versions that are kept. No memory is taken.
+    pub fn table(&self) -> &Table
+        ensures keep { result.now.keep ≡ self.now.kept.keep }
+        ensures versions { result.now.versions ≡ self.now.kept.versions }
+        ensures kept { IsKept self.now.kept }
+    {
+        &self.table
+    }
+
+    /// The marks. No memory is taken.
+    pub fn marks(&self) -> &Marks
+        ensures { result.now.marks ≡ self.now.kept.marks }
+    {
+        &self.marks
+    }
+
+    /// Asks the keeper what it made of a commit at which it failed, where there is one, and takes the commit in where it was made. Nothing
+    /// else of what the keeper keeps is taken.
+    pub fn ready<H: HubKeeper>(&mut self, alloc: Global, keeper: &mut H) -> Result<(), HubError>
+        requires { KeeperFits (H.stands_for keeper.old) self.old }
+        ensures fits { KeeperFits (H.stands_for keeper.new) self.new }
+        ensures told { (after : KeptState) → IsStanding self.new after → IsStanding self.old after × (H.stands_for keeper.new after → H.stands_for keeper.old after) }
+        ensures settled { LeavesOpen result self.new.is_open }
+        ensures last { self.new.last ≡ self.old.last }
+        ensures err { OnErr result (self.new ≡ self.old) }
+        ensures idle { self.old.is_open ≡ false → (result ≡ Ok tt) × (self.new ≡ self.old) × (keeper.new ≡ keeper.old) }
+        ensures cause { CountsFault (H.fault_count keeper.old) (H.fault_count keeper.new) result }
+        ensures refused { RefusesNothing result }
+    {
+        if !self.is_open {
+            return Ok(());
+        }
+        let tables = keeper.load(alloc)?;
+        let Some(last) = &self.last else {
+            unreachable!();
+        };
+        take_in_made(alloc, &mut self.table, &mut self.marks, last, &tables)?;
+        self.is_open = false;
+        Ok(())
+    }
+
+    // Hands a commit to the keeper, and takes it in where it was made. All memory is taken before.
+    fn install<H: HubKeeper>(
+        &mut self,
+        alloc: Global,
+        keeper: &mut H,
+        commit: HubCommit,
+    ) -> Result<(), HubError>
+        requires fits { KeeperFits (H.stands_for keeper.old) self.old }
+        requires settled { self.old.is_open ≡ false }
+        requires can { CanCommit self.old.kept commit }
+        ensures fits { KeeperFits (H.stands_for keeper.new) self.new }
+        ensures told { (after : KeptState) → IsStanding self.new after → (H.stands_for keeper.new after → H.stands_for keeper.old self.old.kept) × Installs commit result self.old.kept after }
+        ensures last { IsLast commit result self.new.last }
+        ensures settled { LeavesOpen result self.new.is_open }
+        ensures cause { CountsFault (H.fault_count keeper.old) (H.fault_count keeper.new) result }
+        ensures refused { RefusesNothing result }
+    {
+        let copy = commit.copy(alloc)?;
+        make_room(&mut self.table, &mut self.marks, &commit)?;
+        let answer = keeper.commit(alloc, &commit);
+        drop(self.last.replace(copy));
+        match answer {
+            Ok(()) => {
+                take_in(&mut self.table, &mut self.marks, commit);
+                Ok(())
+            }
+            Err(KeeperError::Failed) => {
+                drop(commit);
+                self.is_open = true;
+                Err(HubError::Keeper)
+            }
+            Err(KeeperError::NoMemory) => {
+                drop(commit);
+                Err(HubError::NoMemory)
+            }
+        }
+    }
+
+    // Adds the version that a change leads to.
+    fn add_version<H: HubKeeper>(
+        &mut self,
+        alloc: Global,
+        keeper: &mut H,
+        change: Change,
+    ) -> Result<Published, HubError>
+        requires fits { KeeperFits (H.stands_for keeper.old) self.old }
+        requires settled { self.old.is_open ≡ false }
+        requires can { CanLead self.old.kept.versions change }
+        ensures fits { KeeperFits (H.stands_for keeper.new) self.new }
+        ensures told { (after : KeptState) → IsStanding self.new after → (H.stands_for keeper.new after → H.stands_for keeper.old self.old.kept) × Adopts (Ok (Some change)) result self.old.kept after }
+        ensures settled { LeavesOpen result self.new.is_open }
+        ensures cause { CountsFault (H.fault_count keeper.old) (H.fault_count keeper.new) result }
+    {
+        let version = change.version;
+        let commit = HubCommit {
+            change: Some(change),
+            mark: None,
+        };
+        match self.install(alloc, keeper, commit) {
+            Ok(()) => Ok(Published::New { version }),
+            Err(error) => Err(error),
+        }
+    }
+
+    // Makes what is due, where anything is.
+    fn adopt<H: HubKeeper>(
+        &mut self,
+        alloc: Global,
+        keeper: &mut H,
+        due: Result<Option<Change>, Refusal<PublishFault>>,
+    ) -> Result<Published, HubError>
+        requires fits { KeeperFits (H.stands_for keeper.old) self.old }
+        requires settled { self.old.is_open ≡ false }
+        requires can { IfOk due (λ change. ForSome change (CanLead self.old.kept.versions)) }
+        ensures fits { KeeperFits (H.stands_for keeper.new) self.new }
+        ensures told { (after : KeptState) → IsStanding self.new after → (H.stands_for keeper.new after → H.stands_for keeper.old self.old.kept) × Adopts due result self.old.kept after }
+        ensures settled { LeavesOpen result self.new.is_open }
+        ensures cause { CountsFault (H.fault_count keeper.old) (H.fault_count keeper.new) result }
+    {
+        match due {
+            Ok(Some(change)) => self.add_version(alloc, keeper, change),
+            Ok(None) => Ok(Published::Same {
+                version: self.table.newest(),
+            }),
+            Err(Refusal::Fault(fault)) => Err(HubError::Refused(fault)),
+            Err(Refusal::NoMemory) => Err(HubError::NoMemory),
+        }
+    }
+
+    /// Publishes a set at a moment: the next version, where the set changes a row of the newest.
+    pub fn publish<H: HubKeeper>(
+        &mut self,
+        alloc: Global,
+        keeper: &mut H,
+        set: &RosterSet,
+        at: Moment,
+    ) -> Result<Published, HubError>
+        requires { KeeperFits (H.stands_for keeper.old) self.old }
+        ensures fits { KeeperFits (H.stands_for keeper.new) self.new }
+        ensures told { (after : KeptState) → IsStanding self.new after → (before : KeptState) × IsStanding self.old before × (H.stands_for keeper.new after → H.stands_for keeper.old before) × MakesNext (λ version. Applies version set.now at) result before after }
+        ensures settled { LeavesOpen result self.new.is_open }
+        ensures cause { CountsFault (H.fault_count keeper.old) (H.fault_count keeper.new) result }
+    {
+        self.ready(alloc, keeper)?;
+        let due = set_change(alloc, &self.table, set, at);
+        self.adopt(alloc, keeper, due)
+    }
+}

@@ -1,0 +1,61 @@
+-- The calls that a keeper in memory has met, and those that are to fail.
+use Rattle.std.specs.Prelude.{◌≡◌, ℕ, Bool, List, Result, Err, Ok, ◌+◌, ◌-◌, ◌^◌, ◌==◌, min, if◌then◌else◌}
+use Rattle.std.specs.List.{list_any}
+use Rattle.roster_base.specs.declared.keeper.KeeperError.{KeeperError}
+use Rattle.roster_base.specs.declared.keeper.KeeperError.TheVariants.{Failed}
+
+-- the numbers, from 1, of the commits that fail before and after they have acted, and of the reads that fail;
+-- how many commits and reads came, and how many failed
+pub record FailurePlan : Type 0 where
+  pub before : List ℕ
+  pub after : List ℕ
+  pub reads : List ℕ
+  pub commits_made : ℕ
+  pub reads_made : ℕ
+  pub faults : ℕ
+
+-- one more, up to the end of u64
+abbrev pub one_more : ℕ → ℕ
+one_more n = min (n + 1) (2 ^ 64 - 1)
+
+abbrev pub planned : List ℕ → List ℕ → List ℕ → FailurePlan
+planned before after reads = record { before = before; after = after; reads = reads; commits_made = 0; reads_made = 0; faults = 0 }
+
+abbrev pub is_among : ℕ → List ℕ → Bool
+is_among number numbers = list_any (λ n. n == number) numbers
+
+-- whether the next read is to fail, and the next commit before it acts and after it has acted
+abbrev pub read_fails : FailurePlan → Bool
+read_fails plan = is_among (one_more plan.reads_made) plan.reads
+
+abbrev pub fails_before : FailurePlan → Bool
+fails_before plan = is_among (one_more plan.commits_made) plan.before
+
+abbrev pub fails_after : FailurePlan → Bool
+fails_after plan = is_among (one_more plan.commits_made) plan.after
+
+-- a fault is counted where there is one
+abbrev pub with_fault : Bool → FailurePlan → FailurePlan
+with_fault fails plan = record plan { faults = if fails then one_more plan.faults else plan.faults }
+
+abbrev pub after_read : FailurePlan → FailurePlan
+after_read plan = with_fault (read_fails plan) (record plan { reads_made = one_more plan.reads_made })
+
+-- and a commit before and after it has acted
+abbrev pub after_begin : FailurePlan → FailurePlan
+after_begin plan = with_fault (fails_before plan) (record plan { commits_made = one_more plan.commits_made })
+
+abbrev pub after_end : FailurePlan → FailurePlan
+after_end plan = with_fault (is_among plan.commits_made plan.after) plan
+
+-- a call that fails answers so, and another is done
+abbrev pub FailsIf : Bool → Result (Unit {0}) KeeperError → Type 0
+FailsIf fails result = result ≡ (if fails then Err Failed else Ok tt)
+
+-- a commit is counted, and what is listed stays
+pub record KeepsPlan (old new : FailurePlan) : Type 0 where
+  pub before : new.before ≡ old.before
+  pub after : new.after ≡ old.after
+  pub reads : new.reads ≡ old.reads
+  pub commits : new.commits_made ≡ one_more old.commits_made
+  pub loads : new.reads_made ≡ old.reads_made
