@@ -1,14 +1,14 @@
 -- The order of kinds and ids.
-use Rattle.std.proofs.Common.{◌≡◌, ℕ, List, Bool, true, false, ◌&&◌, refl, ap, subst, ◌∙◌, sym}
+use Rattle.std.proofs.Common.{◌≡◌, ℕ, List, [], ◌∷◌, Bool, true, false, ◌&&◌, cond, Some, refl, ap, subst, ◌∙◌, sym}
 use Rattle.std.specs.Cmp.{IsTotalOrder}
 use Rattle.std.specs.Cmp.Lexicographic.{slice_cmp}
-use Rattle.std.specs.Ordering.{is_lt, nat_cmp, ordering_reverse, ordering_then}
+use Rattle.std.specs.Ordering.{is_eq, is_lt, nat_cmp, ordering_reverse, ordering_then}
 use Rattle.std.specs.declared.cmp.Ordering.{Ordering}
 use Rattle.std.specs.declared.cmp.Ordering.TheVariants.{Equal, Greater, Less}
 use Rattle.std.proofs.lemmas.Cmp.{nat_cmp_total, nat_list_cmp_total, on_total, then_total, ranked, tied_itself}
 use Rattle.std.proofs.lemmas.Map.Lookups.{exact_pairs, exact_unsigned, exact_bytes}
 use Rattle.std.proofs.Common.{◌≤◌, arith}
-use Rattle.roster_types.specs.Keys.{Key, key_cmp}
+use Rattle.roster_types.specs.Keys.{Key, key_cmp, look_up}
 
 pub key_total : IsTotalOrder key_cmp
 unfolding key_cmp
@@ -22,6 +22,20 @@ pub less_from_is_lt : (o : Ordering) → is_lt o ≡ true → o ≡ Less
 less_from_is_lt Less e = refl
 less_from_is_lt Equal e = cc
 less_from_is_lt Greater e = cc
+
+pub equal_from_is_eq : (o : Ordering) → is_eq o ≡ true → o ≡ Equal
+equal_from_is_eq Less e = cc
+equal_from_is_eq Equal e = refl
+equal_from_is_eq Greater e = cc
+
+-- what is found under a key has it
+pub found_key : {X : Type 0} (key : X → Key) (k : Key) (xs : List X) (x : X) → look_up key k xs ≡ Some x → key x ≡ k
+found_key key k [] x e = cc
+found_key key k (y ∷ xs) x e =
+    elim (is_eq (key_cmp k (key y))) as (λ b. is_eq (key_cmp k (key y)) ≡ b → cond b (Some y) (look_up key k xs) ≡ Some x → key x ≡ k) [
+      | true ↦ λ t same. let is : y ≡ x = cc in subst (λ z. key z ≡ k) is (sym (key_exact _ _ (equal_from_is_eq _ t)))
+      | false ↦ λ _ later. found_key key k xs x later
+    ] refl e
 
 -- a smaller key is of the same kind or a smaller one
 pub kind_le : (a b : Key) → key_cmp a b ≡ Less → a.0 ≤ b.0

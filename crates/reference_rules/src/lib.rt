@@ -4,7 +4,7 @@
 
 ghost use Rattle.std.specs.Prelude.{◌≡◌, ◌++◌, ◌↔◌, IfOk, IsTrue, List, None, OnOk, Some, option_copied, slice_get, slice_index_or, ℕ};
 ghost use Rattle.std.specs.List.{flat_map};
-ghost use Rattle.reference_rules.specs.Faults.{faults_of, field_faults, kind_faults, row_faults};
+ghost use Rattle.reference_rules.specs.Faults.{AreAmong, faults_of, field_faults, kind_faults, row_faults};
 ghost use Rattle.reference_rules.specs.Parents.{IsInCycle, is_in_cycle};
 ghost use Rattle.roster_types.specs.Keys.{Ascends, count_of, row_key};
 ghost use Rattle.roster_types.specs.Records.{Record, all_values};
@@ -28,6 +28,7 @@ use roster_values::fields::fields;
 use roster_values::{FieldInfo, Kind};
 use std::alloc::Global;
 use std::collections::BTreeMap;
+pub use typed::type_in;
 
 // Adds what is wrong with the field at a place of the field table.
 fn add_field_faults<R: Rows>(
@@ -69,19 +70,23 @@ fn add_row_faults<R: Rows>(
     Ok(())
 }
 
-fn add_kind_faults<R: Rows>(
+// Adds what is wrong with the rows of a kind among these.
+fn add_kind_faults<'a, R: Rows, C: Rows>(
     alloc: Global,
-    rows: &R,
+    rows: &'a R,
+    among: &'a C,
     kind: Kind,
     found: &mut Vec<RefFault>,
 ) -> Result<(), NoMemory>
-    ensures found { OnOk result (found.new.items ≡ found.old.items ++ kind_faults (R.rows rows.now) kind) }
-    ensures order { Ascends row_key (R.rows rows.now) }
+    requires { AreAmong (R.rows rows.now) (C.rows among.now) }
+    ensures { OnOk result (found.new.items ≡ found.old.items ++ kind_faults (R.rows rows.now) (C.rows among.now) kind) }
 {
+    // Counted for its clause `order`.
+    let _ = among.count(kind);
     let turns = rows.count(kind);
     let mut notes = BTreeMap::new(alloc);
     let mut after = None;
-    while let Some(row) = rows.next(kind, after) {
+    while let Some(row) = among.next(kind, after) {
         let in_cycle = is_in_cycle(rows, row, turns, &mut notes)?;
         add_row_faults(alloc, rows, row, in_cycle, found)?;
         after = Some(row.id());
@@ -89,19 +94,35 @@ fn add_kind_faults<R: Rows>(
     Ok(())
 }
 
-// Adds what is wrong with the rows of these kinds.
-fn faults_of_kinds<R: Rows>(
+// Adds what is wrong with the rows of these kinds among these.
+fn faults_of_kinds<R: Rows, C: Rows>(
     alloc: Global,
     rows: &R,
+    among: &C,
     kinds: &[Kind],
 ) -> Result<Vec<RefFault>, NoMemory>
-    ensures { IfOk result (λ v. v.items ≡ flat_map (kind_faults (R.rows rows.now)) kinds.now) }
+    requires { AreAmong (R.rows rows.now) (C.rows among.now) }
+    ensures { IfOk result (λ v. v.items ≡ flat_map (kind_faults (R.rows rows.now) (C.rows among.now)) kinds.now) }
 {
     let mut found = Vec::new(alloc);
     for kind in kinds {
-        add_kind_faults(alloc, rows, *kind, &mut found)?;
+        add_kind_faults(alloc, rows, among, *kind, &mut found)?;
     }
     Ok(found)
+}
+
+/// The broken references that some of the rows have, in the order of `faults`. The other rows are only looked up.
+pub fn faults_among<R: Rows, C: Rows>(
+    alloc: Global,
+    rows: &R,
+    among: &C,
+) -> Result<Vec<RefFault>, NoMemory>
+    requires { AreAmong (R.rows rows.now) (C.rows among.now) }
+    ensures { IfOk result (λ v. v.items ≡ flat_map (row_faults (R.rows rows.now)) (C.rows among.now)) }
+{
+    // Counted for its clause `order`.
+    let _ = among.count(Kind::Orgs);
+    faults_of_kinds(alloc, rows, among, &Kind::ALL)
 }
 
 /// Every broken reference, in the order of kinds, ids, fields (as the field table has them) and places in a list. A row of
@@ -110,9 +131,7 @@ fn faults_of_kinds<R: Rows>(
 pub fn faults<R: Rows>(alloc: Global, rows: &R) -> Result<Vec<RefFault>, NoMemory>
     ensures { IfOk result (λ v. v.items ≡ faults_of (R.rows rows.now)) }
 {
-    // Counted for its clause `order`.
-    let _ = rows.count(Kind::Orgs);
-    faults_of_kinds(alloc, rows, &Kind::ALL)
+    faults_among(alloc, rows, rows)
 }
 
 /// The test by which cycles are listed is true exactly where the id is its own n-th parent, for some n from 1 to the number

@@ -1,7 +1,7 @@
 //! What the rules ask of a row's own fields.
 
 ghost use Rattle.std.specs.Prelude.{◌≡◌, option_copied, option_map};
-ghost use Rattle.reference_rules.specs.Faults.{first_day_name, has_type};
+ghost use Rattle.reference_rules.specs.Faults.{first_day_name, has_type, type_in};
 ghost use Rattle.reference_rules.specs.Parents.{parent_in};
 ghost use Rattle.roster_types.specs.Records.{field_of};
 ghost use Rattle.roster_values.specs.declared.value.Value.{Value as Values};
@@ -29,6 +29,17 @@ pub fn has_type(row: &Row, word: &str) -> bool
         Fields::Orgs(org) => org.type_word.as_str() == word,
         Fields::AcademicSessions(session) => session.type_word.as_str() == word,
         _ => false,
+    }
+}
+
+/// The type of an org or a session.
+pub fn type_in(row: &Row) -> Option<&str>
+    ensures { option_map (λ s. s.now) result ≡ type_in row.now }
+{
+    match row.fields() {
+        Fields::Orgs(org) => Some(org.type_word.as_str()),
+        Fields::AcademicSessions(session) => Some(session.type_word.as_str()),
+        _ => None,
     }
 }
 
