@@ -63,7 +63,7 @@ fn run(rt: HostRuntime, words: &[String], out: &mut impl Sink) -> u8 {
 }
 
 // Says where the words are explained, where they are bad. Standard output has the line that names the place.
-fn hint(rt: &impl Print, status: u8) {
+fn hint(rt: &impl Eprint, status: u8) {
     if status == 2 {
         // A hint that can't be written changes nothing.
         let _ = eprintln!(rt; "hub --help lists the commands");
