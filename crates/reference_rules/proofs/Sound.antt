@@ -39,7 +39,7 @@ append_none xs ys e e' = ap (λ zs. zs ++ ys) e ∙ e'
 
 module _ {A : Type 0} (f : Record → List A) where
   -- where nothing is collected, nothing is collected from a row that is found
-  none_from : (rows : List Record) (k : Key) (row : Record) → flat_map f rows ≡ [] → look_up row_key k rows ≡ Some row → f row ≡ []
+  pub none_from : (rows : List Record) (k : Key) (row : Record) → flat_map f rows ≡ [] → look_up row_key k rows ≡ Some row → f row ≡ []
   none_from [] k row none e = cc
   none_from (x ∷ rows) k row none e =
       elim (is_eq (key_cmp k (row_key x))) as (λ b. cond b (Some x) (look_up row_key k rows) ≡ Some row → f row ≡ []) [

@@ -5,12 +5,11 @@ use Rattle.std.specs.List.{flat_map}
 use Rattle.std.specs.Option.{option_and_then, option_to_list}
 use Rattle.std.specs.Ordering.{is_eq, is_lt}
 use Rattle.std.proofs.lemmas.Bool.{and_from}
-use Rattle.reference_rules.proofs.KeyOrder.{and_first, and_second, key_exact}
+use Rattle.reference_rules.proofs.KeyOrder.{and_first, and_second, equal_from_is_eq, found_key, key_exact}
 use Rattle.roster_types.specs.Keys.{Ascends, Key, key_cmp, keyed, look_up, row_key}
 use Rattle.roster_types.specs.Records.{Record}
 use Rattle.roster_types.specs.Sets.{SetRecord}
 use Rattle.roster_types.specs.declared.set_row.SetRow.{SetRow}
-use Rattle.set_changes.proofs.LookUps.{equal_from_is_eq, found_key}
 use Rattle.set_changes.specs.Applying.{is_left_out, marked, set_key}
 use Rattle.set_changes.specs.Steps.{mark_at, mark_of, marks_of}
 use Rattle.version_core.proofs.RowsOf.{is_sorted-rows_of, look_up-rows_of}

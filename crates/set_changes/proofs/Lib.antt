@@ -7,3 +7,4 @@ mod LookUps
 mod MarkLemmas
 mod Outcomes
 mod RefusalLemmas
+mod SoundLemmas

@@ -3,10 +3,10 @@ use Rattle.std.proofs.Common.{◌≡◌, ℕ, ℤ, ◌+◌, ◌<◌, List, [], �
 use Rattle.std.specs.Option.{option_or}
 use Rattle.std.specs.Ordering.{is_eq}
 use Rattle.std.proofs.lemmas.List.{take_more}
-use Rattle.reference_rules.proofs.KeyOrder.{key_exact}
+use Rattle.reference_rules.proofs.KeyOrder.{equal_from_is_eq, key_exact}
 use Rattle.roster_types.specs.Keys.{Ascends, Key, key_cmp, look_up}
 use Rattle.roster_types.specs.declared.set_row.SetRow.{SetRow}
-use Rattle.set_changes.proofs.LookUps.{equal_from_is_eq, fresh, look_up-append}
+use Rattle.set_changes.proofs.LookUps.{fresh, look_up-append}
 use Rattle.set_changes.specs.Applying.{dated, owned_by, set_key}
 use Rattle.set_changes.specs.Steps.{IsListedChange, ListedChangeAt, stored_as, with_change}
 use Rattle.version_core.proofs.OrderLemmas.{look_up-put}

@@ -1,7 +1,6 @@
 -- Look-ups in lists that are made step by step.
-use Rattle.std.proofs.Common.{◌≡◌, ℕ, zero, suc, ◌+◌, ◌<◌, List, [], ◌∷◌, ◌++◌, length, get_or, take, append-nil, true, false, cond, Some, None, refl, sym, ap, subst, ◌∙◌, arith}
-use Rattle.std.specs.declared.cmp.Ordering.{Ordering}
-use Rattle.std.specs.declared.cmp.Ordering.TheVariants.{Less, Equal, Greater}
+use Rattle.std.proofs.Common.{◌≡◌, ℕ, zero, suc, ◌+◌, ◌<◌, List, [], ◌∷◌, ◌++◌, length, get_or, take, append-nil, true, false, cond, Some, None, refl, sym, ap, ◌∙◌, arith}
+use Rattle.std.specs.declared.cmp.Ordering.TheVariants.{Less}
 use Rattle.std.specs.FinMap.Entries as entries
 use Rattle.std.specs.List.{flat_map}
 use Rattle.std.proofs.lemmas.List.{take_more}
@@ -9,29 +8,15 @@ use Rattle.std.proofs.lemmas.List.Concat.{flat_map-append}
 use Rattle.std.specs.Option.{option_or}
 use Rattle.std.specs.Ordering.{is_eq, is_lt}
 use Rattle.std.proofs.lemmas.Bool.{and_from}
-use Rattle.reference_rules.proofs.KeyOrder.{and_first, and_second, key_exact, key_total, less_from_is_lt}
+use Rattle.reference_rules.proofs.KeyOrder.{and_first, and_second, key_total, less_from_is_lt}
 use Rattle.roster_types.specs.Keys.{Ascends, Key, key_cmp, keyed, look_up}
 use Rattle.version_core.proofs.Places.{greater_from_less, less_at}
-
-pub equal_from_is_eq : (o : Ordering) → is_eq o ≡ true → o ≡ Equal
-equal_from_is_eq Less e = cc
-equal_from_is_eq Equal e = refl
-equal_from_is_eq Greater e = cc
 
 module _ {X : Type 0} (key : X → Key) where
   pub look_up-append : (k : Key) (xs ys : List X) → look_up key k (xs ++ ys) ≡ option_or (look_up key k xs) (look_up key k ys)
   look_up-append k [] ys = refl
   look_up-append k (x ∷ xs) ys =
       elim (is_eq (key_cmp k (key x))) as (λ b. cond b (Some x) (look_up key k (xs ++ ys)) ≡ option_or (cond b (Some x) (look_up key k xs)) (look_up key k ys)) [ true ↦ refl | false ↦ look_up-append k xs ys ]
-
-  -- what is found under a key has it
-  pub found_key : (k : Key) (xs : List X) (x : X) → look_up key k xs ≡ Some x → key x ≡ k
-  found_key k [] x e = cc
-  found_key k (y ∷ xs) x e =
-      elim (is_eq (key_cmp k (key y))) as (λ b. is_eq (key_cmp k (key y)) ≡ b → cond b (Some y) (look_up key k xs) ≡ Some x → key x ≡ k) [
-        | true ↦ λ t same. let is : y ≡ x = cc in subst (λ z. key z ≡ k) is (sym (key_exact _ _ (equal_from_is_eq _ t)))
-        | false ↦ λ _ later. found_key k xs x later
-      ] refl e
 
   pub below_trans : (k l : Key) (xs : List X) → key_cmp k l ≡ Less → entries.below_all key_cmp l (keyed key xs) ≡ true → entries.below_all key_cmp k (keyed key xs) ≡ true
   below_trans k l [] less below = refl

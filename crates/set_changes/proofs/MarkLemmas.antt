@@ -6,7 +6,7 @@ use Rattle.std.proofs.lemmas.Bool.Decides.{nat_tests}
 use Rattle.std.specs.Option.{option_and_then, option_to_list}
 use Rattle.std.specs.Ordering.{is_eq}
 use Rattle.std.proofs.lemmas.Cmp.{tied_itself}
-use Rattle.reference_rules.proofs.KeyOrder.{and_first, and_second, key_exact, key_total}
+use Rattle.reference_rules.proofs.KeyOrder.{and_first, and_second, equal_from_is_eq, found_key, key_exact, key_total}
 use Rattle.reference_rules.proofs.Rest.{rest_at, rest_none, rest_of}
 use Rattle.roster_types.specs.Keys.{Key, is_of_kind, key_cmp, look_up, row_key}
 use Rattle.roster_types.specs.Records.{Record}
@@ -15,7 +15,7 @@ use Rattle.roster_values.specs.Kinds.{place_of_kind}
 use Rattle.roster_types.specs.Sets.{SetRecord}
 use Rattle.roster_types.specs.declared.set_row.SetRow.{SetRow}
 use Rattle.roster_values.specs.declared.kind.Kind.{Kind}
-use Rattle.set_changes.proofs.LookUps.{equal_from_is_eq, found_key, look_up-below}
+use Rattle.set_changes.proofs.LookUps.{look_up-below}
 use Rattle.set_changes.specs.Applying.{is_active, is_bulk, is_own, is_whole, marked, set_key}
 use Rattle.set_changes.specs.Steps.{mark_at, mark_of, marks_of}
 use Rattle.version_core.proofs.RowsOf.{find-rows_of, is_sorted-rows_of}

@@ -1,6 +1,8 @@
 -- What is found on the way from a version to what a set makes of it.
-use Rattle.std.specs.Prelude.{◌≡◌, ℕ, ℤ, ◌&&◌, if◌then◌else◌, is_some, not, count_by, option_and_then, option_to_list, Bool, true, false, List, Option, Some, None}
+use Rattle.std.specs.Prelude.{◌≡◌, ℕ, ℤ, bytes_eq, ◌&&◌, if◌then◌else◌, is_some, not, count_by, option_and_then, option_to_list, Bool, true, false, List, [], Option, Some, None}
 use Rattle.std.specs.List.{flat_map}
+use Rattle.std.specs.Option.{option_map_or, option_or}
+use Rattle.reference_rules.specs.Faults.{faults_of, type_in}
 use Rattle.roster_base.specs.Order.{in_order}
 use Rattle.roster_types.specs.Keys.{Key, is_of_kind, look_up, row_key}
 use Rattle.roster_types.specs.Records.{Record, SameButDate}
@@ -8,9 +10,14 @@ use Rattle.roster_types.specs.Sets.{SetRecord}
 use Rattle.roster_types.specs.declared.set.SetPart.{SetPart}
 use Rattle.roster_types.specs.declared.set_row.SetRow.{SetRow}
 use Rattle.roster_values.specs.declared.kind.Kind.{Kind}
-use Rattle.set_changes.specs.Applying.{Becomes, dated, is_left_out, marked, owned_by, set_key}
-use Rattle.version_core.specs.Changes.{change_key}
+use Rattle.roster_values.specs.Kinds.{all_kinds}
+use Rattle.set_changes.specs.Applying.{Becomes, dated, is_left_out, marked, owned_by, set_key, too_many, unsound}
+use Rattle.set_changes.specs.declared.publish_fault.PublishFault.{PublishFault}
+use Rattle.version_core.specs.Changes.{change_key, rows_of}
 use Rattle.version_core.specs.Order.{put}
+use Rattle.version_core.specs.Version.{after}
+use Rattle.version_core.specs.declared.change.BaseVersion.{BaseVersion}
+use Rattle.version_core.specs.declared.change.Change.{Change}
 use Rattle.version_core.specs.declared.row_change.RowChange.{RowChange}
 
 -- the rows of a part in the order of ids, and those of all parts
@@ -70,3 +77,26 @@ is_added kind rows change = is_of_kind kind change.row && not (is_some (look_up 
 
 abbrev pub added : Kind → List RowChange → List RowChange → ℕ
 added kind rows changes = count_by (is_added kind rows) changes
+
+-- two types are one, or neither is there
+abbrev pub is_one_type : Option (List ℕ) → Option (List ℕ) → Bool
+is_one_type None None = true
+is_one_type (Some word) (Some other) = bytes_eq word other
+is_one_type _ _ = false
+
+-- a change has the type of the row that stands under its key, where one does
+abbrev pub keeps_type : List RowChange → RowChange → Bool
+keeps_type rows change = option_map_or (λ (stored : RowChange). is_one_type (type_in change.row) (type_in stored.row)) (look_up change_key (change_key change) rows) true
+
+-- the refusal of new rows, whoever publishes them
+abbrev pub rows_refusal : List Record → Option PublishFault
+rows_refusal rows = option_or (too_many rows all_kinds) (unsound (faults_of rows))
+
+-- the version that comes of a change, where there is one
+abbrev pub led_to : BaseVersion → Option Change → BaseVersion
+led_to version None = version
+led_to version (Some change) = after version change
+
+-- a version has no broken references
+abbrev pub IsSound : BaseVersion → Type 0
+IsSound version = faults_of (rows_of version.rows) ≡ []

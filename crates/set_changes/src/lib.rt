@@ -9,6 +9,7 @@ mod marks;
 pub mod publish;
 pub mod publish_fault;
 mod refusals;
+mod soundness;
 
-pub use publish::set_change;
+pub use publish::{set_change, set_change_over};
 pub use publish_fault::PublishFault;

@@ -1,10 +1,10 @@
 //! Sets applied to the newest version.
 
-ghost use Rattle.std.specs.Prelude.{IfOk, ◌≡◌, ◌≤◌, None};
+ghost use Rattle.std.specs.Prelude.{IfOk, ◌≡◌, ◌≤◌, None, true};
 ghost use Rattle.std.specs.Option.{ForSome};
 ghost use Rattle.roster_types.specs.Keys.{Key, look_up};
 ghost use Rattle.set_changes.specs.Applying.{Answers, LeadsOn, rows_in, set_key};
-ghost use Rattle.set_changes.specs.Steps.{ChangesAt};
+ghost use Rattle.set_changes.specs.Steps.{ChangesAt, IsSound, led_to};
 ghost use Rattle.version_core.specs.Changes.{AreChanges, change_key};
 ghost use Rattle.version_core.specs.Order.{overlaid};
 ghost use Rattle.version_core.specs.Version.{newest_of};
@@ -68,6 +68,24 @@ pub fn set_change(
 ) -> Result<Option<Change>, Refusal<PublishFault>>
     ensures change { Answers (newest_of table.now) set.now at result }
     ensures next { IfOk result (λ change. ForSome change (LeadsOn (newest_of table.now))) }
+    ensures sound { IfOk result (λ change. IsSound (led_to (newest_of table.now) change)) }
+{
+    set_change_over(alloc, table, false, set, at)
+}
+
+/// The same, for a caller who may know that the newest version is sound, as each is that a set led to: then the references
+/// of the rows that the set changes are mostly all that is checked.
+pub fn set_change_over(
+    alloc: Global,
+    table: &Table,
+    is_sound: bool,
+    set: &RosterSet,
+    at: Moment,
+) -> Result<Option<Change>, Refusal<PublishFault>>
+    requires { is_sound ≡ true → IsSound (newest_of table.now) }
+    ensures change { Answers (newest_of table.now) set.now at result }
+    ensures next { IfOk result (λ change. ForSome change (LeadsOn (newest_of table.now))) }
+    ensures sound { IfOk result (λ change. IsSound (led_to (newest_of table.now) change)) }
 {
     let view = table.newest_rows();
     let rows = changed_rows(alloc, &view, set, at)?;
@@ -78,7 +96,7 @@ pub fn set_change(
     if let Some(fault) = owned_by_other(alloc, &view, set)? {
         return Err(Refusal::Fault(fault));
     }
-    if let Some(fault) = refusal_of(alloc, &draft)? {
+    if let Some(fault) = refusal_of(alloc, &draft, is_sound)? {
         return Err(Refusal::Fault(fault));
     }
     if rows.as_slice().is_empty() {

@@ -1,13 +1,16 @@
 //! Why a set is refused before it is asked whether it changes anything.
 
-ghost use Rattle.std.specs.Prelude.{◌≡◌, IfOk, option_copied};
+ghost use Rattle.std.specs.Prelude.{◌≡◌, IfOk, [], option_copied, true};
 ghost use Rattle.reference_rules.specs.Faults.{faults_of};
-ghost use Rattle.roster_values.specs.Kinds.{all_kinds};
 ghost use Rattle.set_changes.specs.Applying.{fault_of_owner, owned_by_other, rows_in, too_many, unsound};
-ghost use Rattle.std.specs.Option.{option_or};
+ghost use Rattle.set_changes.specs.Steps.{rows_refusal};
+ghost use Rattle.version_core.specs.Changes.{change_key, rows_of};
+ghost use Rattle.version_core.specs.Order.{overlaid};
 
+use crate::draft::Draft;
 use crate::listed::is_own;
 use crate::publish_fault::PublishFault;
+use crate::soundness::stays_sound;
 use reference_rules::{RefFault, faults};
 use roster_base::{Items, NoMemory, TryCopy};
 use roster_texts::Name;
@@ -100,12 +103,21 @@ fn unsound(faults: Vec<RefFault>) -> Option<PublishFault>
     Some(PublishFault::Unsound(Items::from_vec(faults)))
 }
 
-/// The refusal of new rows, whoever publishes them.
-pub fn refusal_of<R: Rows>(alloc: Global, rows: &R) -> Result<Option<PublishFault>, NoMemory>
-    ensures { IfOk result (λ fault. fault ≡ option_or (too_many (R.rows rows.now) all_kinds) (unsound (faults_of (R.rows rows.now)))) }
+/// The refusal of new rows, whoever publishes them. Where the rows that stood are known to be sound, the references of those that
+/// change are checked first, and the others' only where these don't tell.
+pub fn refusal_of(
+    alloc: Global,
+    draft: &Draft,
+    is_sound: bool,
+) -> Result<Option<PublishFault>, NoMemory>
+    requires { is_sound ≡ true → faults_of (rows_of draft.now.view.now.rows) ≡ [] }
+    ensures { IfOk result (λ fault. fault ≡ rows_refusal (rows_of (overlaid change_key draft.now.view.now.rows draft.now.changes.now))) }
 {
-    if let Some(fault) = too_many(rows, &Kind::ALL) {
+    if let Some(fault) = too_many(draft, &Kind::ALL) {
         return Ok(Some(fault));
     }
-    Ok(unsound(faults(alloc, rows)?))
+    if stays_sound(alloc, draft, is_sound)? {
+        return Ok(None);
+    }
+    Ok(unsound(faults(alloc, draft)?))
 }

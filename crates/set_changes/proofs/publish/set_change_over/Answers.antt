@@ -1,14 +1,13 @@
-use Rattle.std.proofs.Common.{◌≡◌, ◌+◌, ◌==◌, suc, length, true, false, List, [], ◌∷◌, None, refl, sym, ap, subst, ◌∙◌, arith}
-use Rattle.std.proofs.lemmas.Bool.Decides.{nat_tests}
+use Rattle.std.proofs.Common.{◌≡◌, ◌+◌, ◌==◌, length, false, List, [], ◌∷◌, None, sym, ap, subst, ◌∙◌}
 use Rattle.set_changes.proofs.Answering.{leads, leads_on, refused_at_last, refused_for_owner, refused_for_rows, unchanged}
+use Rattle.reference_rules.specs.Faults.{faults_of}
+use Rattle.set_changes.proofs.SoundLemmas.{none_from_empty, sound_from_none}
+use Rattle.version_core.specs.Changes.{change_key, rows_of}
+use Rattle.version_core.specs.Order.{overlaid}
 use Rattle.set_changes.specs.Applying.{Applies, Leads, LeadsOn, Refuses, Unchanged}
 use Rattle.set_changes.specs.declared.publish_fault.PublishFault.TheVariants.{LastVersion}
 use Rattle.version_core.specs.Version.{IsVersion, after, last_version, newest_of}
-use Rattle.set_changes.proofs.publish.set_change.Goals as goal
-
-none_from_empty : {X : Type 0} (xs : List X) → (length xs == 0) ≡ true → xs ≡ []
-none_from_empty [] e = refl
-none_from_empty (x ∷ xs) e = let no : (suc (length xs) == 0) ≡ false = grind (arith, nat_tests) in cc
+use Rattle.set_changes.proofs.publish.set_change_over.Goals as goal
 
 some_from_test : {X : Type 0} (xs : List X) → (length xs == 0) ≡ false → xs ≡ [] → ⊥
 some_from_test [] e none = cc
@@ -77,3 +76,18 @@ returns-clause-next c =
     let on = leads_on c.args.set.now c.args.at c.newest_rows-view.result is c.in_ok-rows.rows c.in_ok-rows.ensures own good some more (c.newest-2.result + 1) next c.as_slice.ensures.sorted in
     λ change here. let same : record { version = c.newest-2.result + 1; moment = c.args.at; rows = c.in_ok-rows.rows; grants = None } ≡ change = cc in
     subst (LeadsOn (newest_of c.args.table.now)) same (subst (λ v. LeadsOn v (record { version = c.newest-2.result + 1; moment = c.args.at; rows = c.in_ok-rows.rows; grants = None })) newest on)
+
+pub refusal_of-requires : goal.refusal_of-requires
+refusal_of-requires c = λ is. subst (λ v. faults_of (rows_of v.rows) ≡ []) (sym c.newest_rows-view.ensures.newest) (c.requires is)
+
+pub returns-then-is_empty-clause-sound : goal.returns-then-is_empty-clause-sound
+returns-then-is_empty-clause-sound c =
+    let good = sym c.in_ok-fault-2.ensures ∙ c.in_default-2.is in
+    let none = none_from_empty c.in_ok-rows.rows (ap (λ xs. length xs == 0) (sym c.as_slice.ensures.changes) ∙ sym c.is_empty.ensures ∙ c.if-is_empty.true) in
+    subst (λ v. faults_of (rows_of v.rows) ≡ []) c.newest_rows-view.ensures.newest (
+    subst (λ changes. faults_of (rows_of (overlaid change_key c.newest_rows-view.result.rows changes)) ≡ []) none (sound_from_none (rows_of (overlaid change_key c.newest_rows-view.result.rows c.in_ok-rows.rows)) good))
+
+pub returns-clause-sound : goal.returns-clause-sound
+returns-clause-sound c =
+    let good = sym c.in_ok-fault-2.ensures ∙ c.in_default-2.is in
+    subst (λ v. faults_of (rows_of (overlaid change_key v.rows c.in_ok-rows.rows)) ≡ []) c.newest_rows-view.ensures.newest (sound_from_none (rows_of (overlaid change_key c.newest_rows-view.result.rows c.in_ok-rows.rows)) good)

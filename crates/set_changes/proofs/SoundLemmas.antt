@@ -1,0 +1,92 @@
+-- Sound rows under changes.
+use Rattle.std.proofs.Common.{◌≡◌, ◌==◌, ℕ, suc, length, arith, List, [], ◌∷◌, Bool, true, false, cond, Option, Some, None, option_map, inl, inr, refl, sym, ap, subst, ◌∙◌}
+use Rattle.std.specs.List.{flat_map, list_all}
+use Rattle.std.specs.Option.{option_map_or, option_or}
+use Rattle.std.specs.Ordering.{is_eq}
+use Rattle.std.proofs.lemmas.Bool.Decides.{nat_tests}
+use Rattle.std.proofs.lemmas.Slice.Eq.{bytes_eq-Decides}
+use Rattle.reference_rules.proofs.KeyOrder.{and_first, and_second, found_key}
+use Rattle.reference_rules.proofs.Sound.{StaysAt, none_from, stays_sound}
+use Rattle.reference_rules.specs.Faults.{AreAmong, faults_of, row_faults, type_in}
+use Rattle.reference_rules.specs.declared.ref_fault.RefFault.{RefFault}
+use Rattle.roster_types.specs.Keys.{Ascends, Key, key_cmp, look_up, row_key}
+use Rattle.roster_types.specs.Records.{Record}
+use Rattle.roster_values.specs.Kinds.{all_kinds}
+use Rattle.set_changes.specs.Applying.{too_many, unsound}
+use Rattle.set_changes.specs.Steps.{is_one_type, keeps_type, rows_refusal}
+use Rattle.set_changes.specs.declared.publish_fault.PublishFault.{PublishFault}
+use Rattle.version_core.proofs.OrderLemmas.{look_up-overlaid}
+use Rattle.version_core.proofs.RowsOf.{look_up-rows_of}
+use Rattle.version_core.specs.Changes.{change_key, rows_of}
+use Rattle.version_core.specs.Order.{overlaid}
+use Rattle.version_core.specs.declared.row_change.RowChange.{RowChange}
+
+pub none_from_empty : {X : Type 0} (xs : List X) → (length xs == 0) ≡ true → xs ≡ []
+none_from_empty [] e = refl
+none_from_empty (x ∷ xs) e = let no : (suc (length xs) == 0) ≡ false = grind (arith, nat_tests) in cc
+
+one_type : (o p : Option (List ℕ)) → is_one_type o p ≡ true → o ≡ p
+one_type None None e = refl
+one_type None (Some p) e = cc
+one_type (Some o) None e = cc
+one_type (Some o) (Some p) e = ap (λ w. Some w) ((bytes_eq-Decides o p).0 e)
+
+-- what all pass, one that is found passes
+found_passes : (p : RowChange → Bool) (k : Key) (changes : List RowChange) (change : RowChange) → list_all p changes ≡ true → look_up change_key k changes ≡ Some change → p change ≡ true
+found_passes p k [] change all e = cc
+found_passes p k (x ∷ changes) change all e =
+    elim (is_eq (key_cmp k (change_key x))) as (λ b. cond b (Some x) (look_up change_key k changes) ≡ Some change → p change ≡ true) [
+      | true ↦ λ same. let is : x ≡ change = cc in subst (λ c. p c ≡ true) is (and_first _ _ all)
+      | false ↦ λ later. found_passes p k changes change (and_second _ _ all) later
+    ] e
+
+module _ (rows changes : List RowChange) where
+  abbrev new : List Record
+  new = rows_of (overlaid change_key rows changes)
+
+  under : (k : Key) → look_up row_key k new ≡ option_map (λ change. change.row) (option_or (look_up change_key k changes) (look_up change_key k rows))
+  under k = look_up-rows_of k (overlaid change_key rows changes) ∙ ap (option_map (λ (change : RowChange). change.row)) (look_up-overlaid change_key k rows changes)
+
+  -- the changes stand among the new rows
+  pub among : AreAmong new (rows_of changes)
+  among k row e =
+      under k ∙ elim (look_up change_key k changes) as (λ o. option_map (λ (change : RowChange). change.row) o ≡ Some row → option_map (λ (change : RowChange). change.row) (option_or o (look_up change_key k rows)) ≡ Some row) [
+        | None ↦ λ no. cc
+        | Some change ↦ λ here. here
+      ] (sym (look_up-rows_of k changes) ∙ e)
+
+  module _ (keep : list_all (keeps_type rows) changes ≡ true) (none : flat_map (row_faults new) (rows_of changes) ≡ []) where
+    type_stays : (k : Key) (change : RowChange) (stored : Record) → look_up change_key k changes ≡ Some change → look_up row_key k (rows_of rows) ≡ Some stored → type_in change.row ≡ type_in stored
+    type_stays k change stored here stood =
+        let at : look_up change_key (change_key change) rows ≡ look_up change_key k rows = ap (λ k. look_up change_key k rows) (found_key change_key k changes change here) in
+        let keeps : option_map_or (λ (stored : RowChange). is_one_type (type_in change.row) (type_in stored.row)) (look_up change_key k rows) true ≡ true =
+        ap (λ o. option_map_or (λ (stored : RowChange). is_one_type (type_in change.row) (type_in stored.row)) o true) (sym at) ∙ found_passes (keeps_type rows) k changes change keep here in
+        elim (look_up change_key k rows) as (λ o. option_map (λ (c : RowChange). c.row) o ≡ Some stored → option_map_or (λ (stored : RowChange). is_one_type (type_in change.row) (type_in stored.row)) o true ≡ true → type_in change.row ≡ type_in stored) [
+          | None ↦ λ no _. cc
+          | Some c ↦ λ is same. let e : c.row ≡ stored = cc in one_type (type_in change.row) (type_in c.row) same ∙ ap type_in e
+        ] (sym (look_up-rows_of k rows) ∙ stood) keeps
+
+    stays_at : (k : Key) → StaysAt (rows_of rows) new k
+    stays_at k =
+        elim (look_up change_key k changes) as (λ o. look_up change_key k changes ≡ o → StaysAt (rows_of rows) new k) [
+          | None ↦ λ here. inl (under k ∙ ap (λ o. option_map (λ (change : RowChange). change.row) (option_or o (look_up change_key k rows))) here ∙ sym (look_up-rows_of k rows))
+          | Some change ↦ λ here.
+              let changed = look_up-rows_of k changes ∙ ap (option_map (λ (change : RowChange). change.row)) here in
+              inr (change.row, among k change.row changed, none_from (row_faults new) (rows_of changes) k change.row none changed, λ stored stood. type_stays k change stored here stood)
+        ] refl
+
+    -- sound rows stay sound
+    pub still_sound : Ascends row_key new → faults_of (rows_of rows) ≡ [] → faults_of new ≡ []
+    still_sound up sound = stays_sound (rows_of rows) new sound up stays_at
+
+sound_from : (faults : List RefFault) → unsound faults ≡ None → faults ≡ []
+sound_from [] e = refl
+sound_from (fault ∷ faults) e = cc
+
+-- rows that aren't refused are sound
+pub sound_from_none : (rows : List Record) → rows_refusal rows ≡ None → faults_of rows ≡ []
+sound_from_none rows e = sound_from (faults_of rows) (second (too_many rows all_kinds) (unsound (faults_of rows)) e)
+  where
+    second : (o p : Option PublishFault) → option_or o p ≡ None → p ≡ None
+    second None p e = e
+    second (Some fault) p e = cc
