@@ -180,3 +180,7 @@ pub told_change : (version next : BaseVersion) (set : SetRecord) (at : ℤ) (cha
     → (IsOk r → next ≡ after version change) → AppliesSet version next set at (or_no_memory r)
 told_change version next set at change (Ok line) applies line_is table_is = (Leads (after version change), applies, (table_is refl, line_is))
 told_change version next set at change (Err e) applies line_is table_is = tt
+
+pub line_made : (r : Result (String Global) Want) → IsOk (or_no_memory r) → IsOk r
+line_made (Ok line) ok = ok
+line_made (Err e) ok = ok

@@ -2,6 +2,7 @@
 
 ghost use Rattle.std.specs.Prelude.{◌≡◌, ◌⊎◌, ◌++◌, ℕ, List, IfOk, IsOk, string_bytes};
 ghost use Rattle.set_changes.specs.Applying.{LeadsOn};
+ghost use Rattle.set_changes.specs.Steps.{IsSound};
 ghost use Rattle.version_core.specs.Version.{after, empty_version, newest_of};
 ghost use Rattle.hub_cli.specs.Lines.{published_text};
 ghost use Rattle.hub_cli.specs.Outside.{outside_of};
@@ -17,7 +18,7 @@ use outside_ports::{Clock, Folder};
 use roster_base::{NoMemory, Refusal, Text};
 use roster_texts::{Moment, Name};
 use roster_types::set::RosterSet;
-use set_changes::set_change;
+use set_changes::set_change_over;
 use std::alloc::Global;
 use version_core::change::Change;
 use version_core::table::Table;
@@ -68,11 +69,14 @@ fn or_no_memory(line: Result<String, NoMemory>) -> Result<String, End>
     }
 }
 
-// Adds what a set changes to the table, and gives the line that tells it.
+// Adds what a set changes to the table, and gives the line that tells it. The newest version stays sound, so that no set asks for
+// a check of all references.
 fn apply(alloc: Global, table: &mut Table, set: &RosterSet, at: Moment) -> Result<String, End>
-    ensures { AppliesSet (newest_of table.old) (newest_of table.new) set.now at result }
+    requires { IsSound (newest_of table.old) }
+    ensures set { AppliesSet (newest_of table.old) (newest_of table.new) set.now at result }
+    ensures sound { IsOk result → IsSound (newest_of table.new) }
 {
-    match set_change(alloc, table, set, at) {
+    match set_change_over(alloc, table, true, set, at) {
         Ok(Some(change)) => or_no_memory(add(alloc, table, set.feed(), change)),
         Ok(None) => or_no_memory(unchanged_line(alloc, set.feed(), table.newest())),
         Err(Refusal::Fault(fault)) => Err(End::NotPublished(fault)),
@@ -88,8 +92,10 @@ fn publish_feed<F: Folder, K: Clock>(
     folder: &mut F,
     clock: &K,
 ) -> Result<String, End>
+    requires { IsSound (newest_of table.old) }
     ensures set { PublishesFeed (outside_of (F.files folder.old) (K.moment clock.now) (F.faults folder.old) (F.faults folder.new)) (newest_of table.old) (newest_of table.new) feed.now result }
     ensures files { F.files folder.new ≡ F.files folder.old }
+    ensures sound { IsOk result → IsSound (newest_of table.new) }
 {
     let set = set_of(alloc, feed, folder)?;
     apply(alloc, table, &set, moment_of(clock))
@@ -104,6 +110,7 @@ fn publish_feeds<F: Folder, K: Clock>(
     clock: &K,
     done: &mut String,
 ) -> End
+    requires { IsSound (newest_of table.old) }
     ensures { (more : List ℕ) × (string_bytes done.new ≡ string_bytes done.old ++ more)
         × IsRunOf (outside_of (F.files folder.old) (K.moment clock.now) (F.faults folder.old) (F.faults folder.new)) (newest_of table.old) feeds.now more result }
 {
