@@ -1,4 +1,4 @@
-use Rattle.std.proofs.Common.{◌≡◌, ◌≤◌}
+use Rattle.std.proofs.Common.{◌≡◌}
 use Rattle.hub_core.specs.Standing.{KeeperFits}
 use Rattle.keeper_tests.proofs.holding.no_version_follows_the_last.Given as goal
 
