@@ -1,0 +1,11 @@
+//! Tests of a hub over its keeper, beside a plain program that keeps every version of both.
+#![tactic(auto)]
+
+#[cfg(test)]
+mod holding;
+#[cfg(test)]
+mod plain;
+#[cfg(test)]
+mod publishing;
+#[cfg(test)]
+mod sets;

@@ -1,0 +1,57 @@
+//! Sets that are read from files.
+
+use csv_sets::read_set;
+use outside_ports::MemFolder;
+use roster_texts::Name;
+use roster_types::set::RosterSet;
+use std::alloc::Global;
+use std::process::Abort;
+use std::test::Fail;
+
+const MANIFEST: &str =
+    "propertyName,value\nmanifest.version,1.0\noneroster.version,1.1\nfile.categories,delta\n";
+
+// One category each.
+static CATEGORIES: [&str; 3] = [
+    "sourcedId,status,dateLastModified,title\na,active,2024-07-01,Quiz\n",
+    "sourcedId,status,dateLastModified,title\nb,active,2024-07-02,Test\n",
+    "sourcedId,status,dateLastModified,title\nc,active,2024-07-03,Exam\n",
+];
+
+fn file(alloc: Global, name: &str, text: &str) -> Result<(String, String, Vec<u8>), Fail> {
+    let dir = String::from_str(alloc, "lake")?;
+    let name = String::from_str(alloc, name)?;
+    Ok((dir, name, text.as_bytes().to_vec(alloc)?))
+}
+
+fn folder(alloc: Global, categories: &str) -> Result<MemFolder, Fail> {
+    let mut files = Vec::new(alloc);
+    files.push(file(alloc, "manifest.csv", MANIFEST)?)?;
+    files.push(file(alloc, "categories.csv", categories)?)?;
+    Ok(MemFolder::new(files, Vec::new(alloc)))
+}
+
+fn set_of(
+    rt: &impl Abort,
+    alloc: Global,
+    feed: &Name,
+    categories: &str,
+) -> Result<RosterSet, Fail> {
+    let mut folder = folder(alloc, categories)?;
+    match read_set(alloc, &mut folder, "lake", feed) {
+        Ok(set) => Ok(set),
+        Err(_) => panic!(rt; "no set"),
+    }
+}
+
+/// The sets of a feed with the categories a, b and c.
+pub fn three_sets(rt: &impl Abort, alloc: Global) -> Result<Vec<RosterSet>, Fail> {
+    let Some(feed) = Name::read(alloc, "sis")? else {
+        panic!(rt; "no name");
+    };
+    let mut sets = Vec::new(alloc);
+    for categories in &CATEGORIES {
+        sets.push(set_of(rt, alloc, &feed, categories)?)?;
+    }
+    Ok(sets)
+}
