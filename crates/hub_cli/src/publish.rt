@@ -69,8 +69,8 @@ fn or_no_memory(line: Result<String, NoMemory>) -> Result<String, End>
     }
 }
 
-// Adds what a set changes to the table, and gives the line that tells it. The newest version stays sound, so that no set asks for
-// a check of all references.
+// Adds what a set changes to the table, and gives the line that tells it. The newest version stays sound, so mostly the references of
+// the rows that change are all that is checked.
 fn apply(alloc: Global, table: &mut Table, set: &RosterSet, at: Moment) -> Result<String, End>
     requires { IsSound (newest_of table.old) }
     ensures set { AppliesSet (newest_of table.old) (newest_of table.new) set.now at result }
