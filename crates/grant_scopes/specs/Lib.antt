@@ -1,2 +1,4 @@
+pub mod Entries
+pub mod Opens
 pub mod Schools
 pub mod Scopes

@@ -24,7 +24,7 @@ use Rattle.hub_rules.specs.Puts.{put_of}
 use Rattle.hub_rules.specs.Runs.{Acts, ActedOrNot, Answer, Command, Does, Fails, Publish, Reopen, Runs, SetGrants, Step, Steps, Take, Wants, WantsMemory, end_of, state_with}
 use Rattle.hub_rules.specs.States.{AreCommands, AreEntries, HoldsRows, IsCommand, IsHub, IsNext, ListsRows}
 use Rattle.hub_rules.specs.GrantChanges.{GrantsMake}
-use Rattle.hub_views.specs.declared.entry.GrantEntry.{GrantEntry}
+use Rattle.grant_scopes.specs.declared.entry.GrantEntry.{GrantEntry}
 use Rattle.roster_types.specs.Sets.{SetRecord}
 use Rattle.hub_rules.specs.Refusals.{delete_refusal, first_of, has_grading_period, is_of_other, is_one_too_many, is_within, put_refusal, refused_if, stored_at}
 use Rattle.hub_rules.specs.Verdicts.{BodyJudged, Judged, Judges, Leads, NewJudged, PutJudged, PutMakes, Refused, Repeat, Same, Verdict, delete_judged, delete_makes, held_mark, leads_with, newest_in, repeated}

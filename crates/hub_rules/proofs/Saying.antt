@@ -15,9 +15,9 @@ use Rattle.hub_views.specs.Cuts.{grant_of, kind_cut, list_in}
 use Rattle.hub_views.specs.Lists.{list_of}
 use Rattle.hub_views.specs.Pages.{page_of_list, slice, whole}
 use Rattle.hub_views.specs.Rules.{rule_of}
-use Rattle.hub_views.specs.Scopes.{opens}
+use Rattle.grant_scopes.specs.Opens.{opens}
 use Rattle.hub_views.specs.Seen.{seen, sees_row}
-use Rattle.hub_views.specs.declared.access.Access.TheVariants.{Read}
+use Rattle.grant_scopes.specs.declared.access.Access.TheVariants.{Read}
 use Rattle.reference_rules.proofs.KeyOrder.{and_first, and_second}
 use Rattle.roster_base.specs.Reading.{◌>>=◌}
 use Rattle.roster_texts.specs.Results.{found_or}

@@ -5,8 +5,8 @@ use Rattle.hub_rules.specs.Verdicts.{newest_in}
 use Rattle.hub_rules.specs.Wanted.{Wanted}
 use Rattle.hub_views.specs.Cuts.{grant_of, list_in}
 use Rattle.hub_views.specs.Pages.{slice}
-use Rattle.hub_views.specs.Scopes.{opens}
-use Rattle.hub_views.specs.declared.access.Access.TheVariants.{Read}
+use Rattle.grant_scopes.specs.Opens.{opens}
+use Rattle.grant_scopes.specs.declared.access.Access.TheVariants.{Read}
 use Rattle.filter_grammar.specs.declared.query.Query.{Query}
 use Rattle.hub_paths.specs.declared.route.Collection.TheVariants.{Of}
 use Rattle.hub_paths.specs.declared.route.Route.TheVariants.{All}

@@ -6,7 +6,7 @@ use Rattle.hub_paths.specs.Paths.{IsPath}
 use Rattle.hub_rules.specs.Checks.{version_at}
 use Rattle.hub_rules.specs.Verdicts.{newest_in}
 use Rattle.hub_rules.specs.Runs.{Command, Publish, Reopen, SetGrants, Step, Take}
-use Rattle.hub_views.specs.declared.entry.GrantEntry.{GrantEntry}
+use Rattle.grant_scopes.specs.declared.entry.GrantEntry.{GrantEntry}
 use Rattle.roster_base.specs.Moments.{IsMoment}
 use Rattle.roster_types.specs.Rows.{IsRow}
 use Rattle.roster_types.specs.Sets.{SetRecord}
