@@ -1,5 +1,6 @@
 -- What is due and what is published.
-use Rattle.std.proofs.Common.{◌≡◌, ℕ, ℤ, ◌+◌, ◌≤◌, List, [], ◌∷◌, ◌++◌, Option, None, Some, Result, Ok, Err, arith, inl, inr, refl, sym, ap, subst}
+use Rattle.std.specs.Prelude.{is_ok}
+use Rattle.std.proofs.Common.{true, ◌≡◌, ℕ, ℤ, ◌+◌, ◌≤◌, List, [], ◌∷◌, ◌++◌, Option, None, Some, Result, Ok, Err, arith, inl, inr, refl, sym, ap, subst}
 use Rattle.std.specs.List.{AllByRecursion}
 use Rattle.std.specs.Prelude.{IfOk}
 use Rattle.std.specs.Option.{ForSome}
@@ -15,11 +16,12 @@ use Rattle.roster_base.specs.declared.refusal.Refusal.TheVariants as refusal
 use Rattle.set_changes.specs.Applying.{Answers, Applies, LeadsOn, Leads, Outcome}
 use Rattle.set_changes.specs.declared.publish_fault.PublishFault.{PublishFault}
 use Rattle.version_core.proofs.TableLemmas.{last-push}
-use Rattle.keeper_memory.proofs.KeptLemmas.{versions_are}
+use Rattle.keeper_memory.proofs.KeptLemmas.{newest_after, versions_are}
 use Rattle.keeper_memory.specs.Commits.{CanFollow, CanLead}
 use Rattle.keeper_memory.specs.Kept.{AreHubVersions, IsKept, KeptState, newest_kept}
 use Rattle.keeper_memory.specs.declared.hub_commit.HubCommit.{HubCommit}
 use Rattle.roster_types.specs.Sets.{SetRecord}
+use Rattle.set_changes.specs.Steps.{IsSound, led_to}
 use Rattle.hub_core.specs.Made.{Adopts, AnswersBy, after_change}
 use Rattle.hub_core.specs.Steps.{Installs, MakesNext}
 use Rattle.hub_core.specs.declared.hub_error.HubError.{HubError}
@@ -104,3 +106,13 @@ module _ (asks : BaseVersion → Outcome → Type 0) (before after : KeptState) 
   publishes (Ok (Some change)) (Err error.Keeper) answers (inr added) = inr (after_change before change, record { asked = answers; added = added })
   publishes (Ok (Some change)) (Err error.NoMemory) answers adopts = adopts
   publishes (Ok (Some change)) (Err (error.Refused fault)) answers adopts = absurd adopts
+
+-- what is adopted of a sound change is sound
+pub sound_after : (due : Result (Option Change) (Refusal PublishFault)) (result : Result Published HubError) (before after : KeptState) → IfOk due (λ change. IsSound (led_to (newest_kept before.versions) change)) → Adopts due result before after → is_ok result ≡ true → IsSound (newest_kept after.versions)
+sound_after (Err (refusal.Fault fault)) result before after sound adopts ok = cc (adopts.1, ok)
+sound_after (Err refusal.NoMemory) result before after sound adopts ok = cc (adopts.1, ok)
+sound_after (Ok None) result before after sound adopts ok = subst (λ (k : KeptState). IsSound (newest_kept k.versions)) (sym adopts.0) sound
+sound_after (Ok (Some change)) (Ok (published.New version)) before after sound adopts ok =
+    subst (λ (k : KeptState). IsSound (newest_kept k.versions)) (sym adopts.0) (subst IsSound (sym (newest_after before.keep before.versions (after_change before change))) sound)
+sound_after (Ok (Some change)) (Ok (published.Same version)) before after sound adopts ok = absurd adopts
+sound_after (Ok (Some change)) (Err e) before after sound adopts ok = cc ok

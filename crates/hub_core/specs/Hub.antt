@@ -1,9 +1,10 @@
 -- What a hub keeps of its fields.
 use Rattle.std.specs.Prelude.{◌≡◌, IsTrue, List, Option, Some}
+use Rattle.set_changes.specs.Steps.{IsSound}
 use Rattle.version_core.specs.Version.{Versions}
 use Rattle.version_core.specs.declared.mark.MarkRow.{MarkRow}
 use Rattle.keeper_memory.specs.Commits.{CanCommit}
-use Rattle.keeper_memory.specs.Kept.{IsKept, KeptState}
+use Rattle.keeper_memory.specs.Kept.{IsKept, KeptState, newest_kept}
 use Rattle.keeper_memory.specs.declared.hub_commit.HubCommit.{HubCommit}
 use Rattle.hub_core.specs.Standing.{HeldHub}
 use Rattle.hub_core.specs.declared.hub.Hub.TheInside.{Inside}
@@ -24,3 +25,4 @@ pub record MayBeMade (kept : KeptState) (handed : Option HubCommit) : Type 0 whe
 pub record IsHub (hub : Inside) : Type 0 where
   pub kept : IsKept (kept_in hub.table hub.marks.marks)
   pub left_open : IsTrue hub.is_open → MayBeMade (kept_in hub.table hub.marks.marks) hub.last
+  pub sound : IsTrue hub.is_sound → IsSound (newest_kept hub.table.versions)

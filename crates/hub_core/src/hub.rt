@@ -1,10 +1,11 @@
 //! The hub.
 
-ghost use Rattle.std.specs.Prelude.{◌≡◌, IfOk, None, Ok, OnErr, Some, false};
+ghost use Rattle.std.specs.Prelude.{◌≡◌, IfOk, None, Ok, OnErr, Some, false, true};
 ghost use Rattle.std.specs.Option.{ForSome};
 ghost use Rattle.set_changes.specs.Applying.{Applies};
+ghost use Rattle.set_changes.specs.Steps.{IsSound};
 ghost use Rattle.keeper_memory.specs.Commits.{CanCommit, CanLead};
-ghost use Rattle.keeper_memory.specs.Kept.{IsKept, KeptState};
+ghost use Rattle.keeper_memory.specs.Kept.{IsKept, KeptState, newest_kept};
 ghost use Rattle.hub_core.specs.Made.{Adopts};
 ghost use Rattle.hub_core.specs.Standing.{IsStanding, KeeperFits};
 ghost use Rattle.hub_core.specs.Steps.{CountsFault, Installs, IsLast, LeavesOpen, MakesNext, RefusesNothing};
@@ -16,7 +17,7 @@ use keeper_memory::{HubCommit, HubKeeper};
 use roster_base::{KeeperError, NoMemory, Refusal, TryCopy};
 use roster_texts::Moment;
 use roster_types::set::RosterSet;
-use set_changes::{PublishFault, set_change};
+use set_changes::{PublishFault, set_change_over};
 use std::alloc::Global;
 use std::marker::Model;
 use version_core::change::Change;
@@ -31,6 +32,8 @@ pub struct Hub {
     marks: Marks,
     last: Option<HubCommit>,
     is_open: bool,
+    // Whether the newest version is known to have no broken references, so that a set needs to be checked where it changes rows alone.
+    is_sound: bool,
 }
 
 impl Model for Hub {
@@ -50,6 +53,7 @@ impl Hub {
     pub fn open<H: HubKeeper>(alloc: Global, keeper: &mut H) -> Result<Hub, HubError>
         ensures fits { IfOk result (KeeperFits (H.stands_for keeper.new)) }
         ensures settled { IfOk result (λ hub. (hub.is_open ≡ false) × (hub.last ≡ None)) }
+        ensures kept { IfOk result (λ hub. IsKept hub.kept) }
         ensures told { (kept : KeptState) → H.stands_for keeper.new kept → H.stands_for keeper.old kept }
         ensures cause { CountsFault (H.fault_count keeper.old) (H.fault_count keeper.new) result }
         ensures refused { RefusesNothing result }
@@ -60,6 +64,7 @@ impl Hub {
             marks: Marks::from_tables(alloc, &tables)?,
             last: None,
             is_open: false,
+            is_sound: false,
         })
     }
 
@@ -99,6 +104,7 @@ impl Hub {
         let Some(last) = &self.last else {
             unreachable!();
         };
+        self.is_sound = false;
         take_in_made(alloc, &mut self.table, &mut self.marks, last, &tables)?;
         self.is_open = false;
         Ok(())
@@ -128,6 +134,7 @@ impl Hub {
         match answer {
             Ok(()) => {
                 take_in(&mut self.table, &mut self.marks, commit);
+                self.is_sound = false;
                 Ok(())
             }
             Err(KeeperError::Failed) => {
@@ -193,6 +200,16 @@ impl Hub {
         }
     }
 
+    // Remembers, where it is known, that the newest version has no broken references.
+    fn note_sound(&mut self, is_known: bool)
+        requires { is_known ≡ true → IsSound (newest_kept self.old.kept.versions) }
+        ensures { self.new ≡ self.old }
+    {
+        if is_known {
+            self.is_sound = true;
+        }
+    }
+
     /// Publishes a set at a moment: the next version, where the set changes a row of the newest.
     pub fn publish<H: HubKeeper>(
         &mut self,
@@ -208,7 +225,9 @@ impl Hub {
         ensures cause { CountsFault (H.fault_count keeper.old) (H.fault_count keeper.new) result }
     {
         self.ready(alloc, keeper)?;
-        let due = set_change(alloc, &self.table, set, at);
-        self.adopt(alloc, keeper, due)
+        let due = set_change_over(alloc, &self.table, self.is_sound, set, at);
+        let answer = self.adopt(alloc, keeper, due);
+        self.note_sound(answer.is_ok());
+        answer
     }
 }

@@ -18,4 +18,5 @@ invariant_of-self-in-Ok g c =
     record {
       kept = subst IsKept (sym taken) (IsKept-with_commit kept commit can c.self.invariant.kept);
       left_open = λ left. let shut : hub.is_open ≡ false = closed in cc;
+      sound = λ known. cc;
     }

@@ -5,4 +5,8 @@ pub invariant_of-result : goal.invariant_of-result
 invariant_of-result g c = record {
   kept = rw (c.in_ok-from_tables.ensures, c.in_ok-from_tables-2.ensures) (tables_are_kept c.in_ok-tables.tables c.in_ok-tables.ensures.tables);
   left_open = λ left. cc;
+  sound = λ known. cc;
 }
+
+pub returns-clause-kept : goal.returns-clause-kept
+returns-clause-kept g c = rw (c.in_ok-from_tables.ensures, c.in_ok-from_tables-2.ensures) (tables_are_kept c.in_ok-tables.tables c.in_ok-tables.ensures.tables)

@@ -14,6 +14,7 @@ invariant_of-self-2 g c =
     record {
       kept = subst IsKept (sym c.in_ok-take_in_made.ensures.ok) (IsKept-taken_in (has_commit (kept_by c.in_ok-tables.tables) last) kept last can c.self.invariant.kept);
       left_open = λ left. cc;
+      sound = λ known. cc;
     }
 
 pub returns-clause-fits : goal.returns-clause-fits
