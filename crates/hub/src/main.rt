@@ -2,7 +2,8 @@
 #![tactic(auto)]
 
 use hub_cli::lines::NO_MEMORY;
-use hub_cli::{print, root_of, run_hub};
+use hub_cli::{keep_of, print, root_of, run_hub};
+use keeper_memory::MemHub;
 use outside_ports::{DirFolder, IoSink, Sink, SystemClock};
 use std::env;
 use std::io::{self, ErrorKind};
@@ -10,7 +11,7 @@ use std::process::ExitCode;
 use std::rt::Env;
 
 const HELP: &str = "\
-hub [--folder DIR] COMMAND
+hub [--folder DIR] [--keep N] COMMAND
 
 publish FEED=DIR ..
               publishes the set in each folder DIR as the feed FEED, one after another, and
@@ -20,12 +21,13 @@ show KIND     prints the rows of KIND.csv, in order of id, as JSON
               demographics, categories, lineItems, results
 
 --folder DIR  the folder where the command finds its files, in place of the working folder
+--keep N      how many versions are kept beside the newest, 1 to 100000, in place of 10000
 --help        prints this
 --version     prints the version
 
 The status is 0 where the command is done, 1 where the output could not be written, 2 where the
-words are no command, 3 where the folder failed, 4 where the input is refused and 17 where memory
-ran out. All lines go to standard output.
+words are no command, 3 where the folder failed, 4 where the input is refused, 5 where the hub's
+store failed and 17 where memory ran out. All lines go to standard output.
 ";
 
 const VERSION: &str = "hub 0.1.0\n";
@@ -43,14 +45,24 @@ fn answer_unread(error: &io::Error, out: &mut impl Sink) -> u8 {
     }
 }
 
-// Runs a command over the real folder and clock.
+// Runs a command over the real folder and clock, and a hub in memory, which keeps so many versions beside the newest.
+fn run_in(rt: HostRuntime, words: &[String], root: String, keep: u32, out: &mut impl Sink) -> u8 {
+    let alloc = rt.alloc();
+    let mut folder = DirFolder::new(rt, root);
+    let mut keeper = MemHub::new(alloc, keep);
+    let clock = SystemClock::new(rt);
+    let status = run_hub(alloc, words, &mut folder, &mut keeper, &clock, out);
+    drop(keeper);
+    status
+}
+
+// Runs a command with the options that the words give.
 fn run_command(rt: HostRuntime, words: &[String], out: &mut impl Sink) -> u8 {
     let alloc = rt.alloc();
-    let Ok(root) = root_of(alloc, words) else {
-        return print(out, 17, NO_MEMORY);
-    };
-    let mut folder = DirFolder::new(rt, root);
-    run_hub(alloc, words, &mut folder, &SystemClock::new(rt), out)
+    match (root_of(alloc, words), keep_of(alloc, words)) {
+        (Ok(root), Ok(keep)) => run_in(rt, words, root, keep, out),
+        _ => print(out, 17, NO_MEMORY),
+    }
 }
 
 // Runs the words, of which two are the program's own.

@@ -2,33 +2,38 @@
 use Rattle.std.proofs.Common.{◌≡◌, ◌≢◌, ◌⊎◌, ℕ, ℤ, List, [], Option, Some, None, Result, Ok, Err, IsErr, refl, sym, ap, subst, ◌∙◌, inl, inr}
 use Rattle.csv_sets.specs.declared.fault.SetFault.{SetFault}
 use Rattle.csv_sets.specs.Files as files
-use Rattle.roster_base.specs.Faults.{Rose}
+use Rattle.keeper_memory.specs.Kept.{KeptState}
 use Rattle.roster_types.specs.declared.set_row.SetRow.{SetRow}
 use Rattle.roster_values.specs.declared.kind.Kind.{Kind}
 use Rattle.roster_values.specs.declared.mode.Mode.TheVariants.{Bulk}
-use Rattle.version_core.specs.declared.change.BaseVersion.{BaseVersion}
-use Rattle.version_core.specs.Version.{empty_version}
 use Rattle.hub_cli.specs.Answers.{IsPrinted, status_of}
-use Rattle.hub_cli.specs.Outside.{Outside}
-use Rattle.hub_cli.specs.Publishes.{IsRunOf}
-use Rattle.hub_cli.specs.Runs.{IsAnswer, IsCommandAnswer}
+use Rattle.outside_ports.specs.Files.{Stored}
+use Rattle.hub_cli.specs.Outside.{HaveRisen, Outside, faults_of, outside_of}
+use Rattle.hub_cli.specs.Runs.{IsAnswer, IsCommandAnswer, IsHubFailure, IsShowAnswer, LeadsFrom, WantsMemory}
 use Rattle.hub_cli.specs.Shows.{IsShown, answer_of_file, answer_of_rows}
 use Rattle.hub_cli.specs.declared.answer.Answer.{Answer}
 use Rattle.hub_cli.specs.declared.answer.End.{End}
 use Rattle.hub_cli.specs.declared.answer.End.TheVariants as ends
 use Rattle.hub_cli.specs.declared.words.Command.{Command}
 use Rattle.hub_cli.specs.declared.words.Command.TheVariants.{Publish, Show}
-use Rattle.hub_cli.specs.declared.words.Feed.{Feed}
 use Rattle.hub_cli.specs.declared.words.Parsed.{Parsed}
-use Rattle.hub_cli.proofs.Publishing.{run-rose, run-wants, run-words}
+use Rattle.hub_cli.proofs.Leading.{leads-nowhere, leads-on}
+use Rattle.hub_cli.proofs.Publishing.{Says, run-says, run-wants}
 
-abbrev out_of_memory : Answer
+abbrev pub out_of_memory : Answer
 out_of_memory = record { done = []; end = ends.NoMemory }
 
 -- memory may run out before anything is done
-pub wants-any : (r : Result Parsed ℕ) (o : Outside) → IsAnswer r o out_of_memory
-wants-any (Err place) o = inr (refl, refl)
-wants-any (Ok parsed) o = inr (refl, refl)
+wants-any : (r : Result Parsed ℕ) (o : Outside) (kept : KeptState) → IsAnswer r o out_of_memory kept kept
+wants-any (Err place) o kept = (refl, inr (refl, refl))
+wants-any (Ok parsed) o kept = inr (refl, (refl, refl))
+
+pub leads-wants : (stands : KeptState → Type 0) (r : Result Parsed ℕ) (o : Outside) → LeadsFrom stands stands (IsAnswer r o out_of_memory)
+leads-wants stands r o = leads-nowhere stands (IsAnswer r o out_of_memory) (wants-any r o)
+
+-- words that are no command
+pub bad-words : (stands : KeptState → Type 0) (files : Option (List Stored)) (moment : Option ℤ) (folder keeper place : ℕ) → LeadsFrom stands stands (IsAnswer (Err place) (outside_of files moment (faults_of folder folder) (faults_of keeper keeper)) (record { done = []; end = ends.BadWord place }))
+bad-words stands files moment folder keeper place = leads-nowhere stands _ (λ kept. (refl, inl (refl, record { folder = refl; keeper = refl })))
 
 -- ---- want of memory for the line of an end
 
@@ -43,77 +48,78 @@ file-done kind at (Some bytes) other = rows-done kind at (files.file_of kind Bul
 shown-done : (o : Outside) (kind : Kind) (a : Answer) → IsShown o kind a → a.end ≢ ends.Done → a.done ≡ []
 shown-done o kind a shown other = ap (λ (x : Answer). x.done) shown.is ∙ file-done kind shown.at shown.file (λ e. other (ap (λ (x : Answer). x.end) shown.is ∙ e))
 
-command-wants : (command : Command) (o : Outside) (a : Answer) → IsCommandAnswer command o a → a.end ≢ ends.Done → IsCommandAnswer command o (record a { end = ends.NoMemory })
-command-wants (Show kind) o a (inl failed) other = inr (inr (failed.0, refl))
-command-wants (Show kind) o a (inr (inl shown)) other = inr (inr (shown-done o kind a shown.0 other, refl))
-command-wants (Show kind) o a (inr (inr wants)) other = inr (inr (wants.0, refl))
-command-wants (Publish feeds) o a run other = run-wants o empty_version feeds a.done a.end run
+show-wants : (kind : Kind) (o : Outside) (a : Answer) → IsShowAnswer kind o a → a.end ≢ ends.Done → WantsMemory (record a { end = ends.NoMemory })
+show-wants kind o a (inl failed) other = (failed.0, refl)
+show-wants kind o a (inr (inl shown)) other = (shown-done o kind a shown.0 other, refl)
+show-wants kind o a (inr (inr wants)) other = (wants.0, refl)
 
-answer-wants : (r : Result Parsed ℕ) (o : Outside) (a : Answer) → IsAnswer r o a → a.end ≢ ends.Done → IsAnswer r o (record a { end = ends.NoMemory })
-answer-wants (Err place) o a (inl bad) other = inr (ap (λ (x : Answer). x.done) bad.0, refl)
-answer-wants (Err place) o a (inr wants) other = inr (wants.0, refl)
-answer-wants (Ok parsed) o a (inl is) other = inl (command-wants parsed.command o a is other)
-answer-wants (Ok parsed) o a (inr wants) other = inr (wants.0, refl)
+command-wants : (command : Command) (o : Outside) (a : Answer) (before after : KeptState) → IsCommandAnswer command o a before after → a.end ≢ ends.Done → IsAnswer (Ok (record { folder = None; keep = None; command = command })) o (record a { end = ends.NoMemory }) before after
+command-wants (Show kind) o a before after is other = inr (is.0, show-wants kind o a is.1 other)
+command-wants (Publish feeds) o a before after (inl failed) other = inr (failed.0, (failed.1.0, refl))
+command-wants (Publish feeds) o a before after (inr run) other = inl (inr (run-wants o feeds a.done a.end before after run))
+
+answer-wants : (r : Result Parsed ℕ) (o : Outside) (a : Answer) (before after : KeptState) → IsAnswer r o a before after → a.end ≢ ends.Done → IsAnswer r o (record a { end = ends.NoMemory }) before after
+answer-wants (Err place) o a before after (same, inl bad) other = (same, inr (ap (λ (x : Answer). x.done) bad.0, refl))
+answer-wants (Err place) o a before after (same, inr wants) other = (same, inr (wants.0, refl))
+answer-wants (Ok parsed) o a before after (inl is) other = command-wants parsed.command o a before after is other
+answer-wants (Ok parsed) o a before after (inr wants) other = inr (wants.0, (wants.1.0, refl))
 
 -- what is printed of an answer is one
-pub answer-printed : (r : Result Parsed ℕ) (o : Outside) (a b : Answer) → IsAnswer r o a → IsPrinted a b → IsAnswer r o b
-answer-printed r o a b is (inl same) = subst (IsAnswer r o) (sym same) is
-answer-printed r o a b is (inr (other, same)) = subst (IsAnswer r o) (sym same) (answer-wants r o a is other)
+answer-printed : (r : Result Parsed ℕ) (o : Outside) (a b : Answer) (before after : KeptState) → IsPrinted a b → IsAnswer r o a before after → IsAnswer r o b before after
+answer-printed r o a b before after (inl same) is = subst (λ (x : Answer). IsAnswer r o x before after) (sym same) is
+answer-printed r o a b before after (inr (other, same)) is = subst (λ (x : Answer). IsAnswer r o x before after) (sym same) (answer-wants r o a before after is other)
+
+pub leads-printed : (old new : KeptState → Type 0) (r : Result Parsed ℕ) (o : Outside) (a b : Answer) → IsPrinted a b → LeadsFrom old new (IsAnswer r o a) → LeadsFrom old new (IsAnswer r o b)
+leads-printed old new r o a b printed = leads-on old old new (IsAnswer r o a) (IsAnswer r o b) (λ kept stands. stands) (λ before after is. answer-printed r o a b before after printed is)
 
 -- ---- what a status says
 
-rows-status : (kind : Kind) (at : ℤ) (r : Result (List SetRow) SetFault) (n : ℕ) → status_of (answer_of_rows kind at r).end ≡ n → (n ≡ 0) ⊎ (n ≡ 4)
-rows-status kind at (Ok rows) n e = inl (sym e)
-rows-status kind at (Err fault) n e = inr (sym e)
+module _ (o : Outside) where
+  says_only : (end : End) (n : ℕ) → status_of end ≡ n → n ≢ 2 → n ≢ 3 → n ≢ 5 → Says o end
+  says_only end n is a b d = record { words = λ e. a (sym is ∙ e); folder = λ e. absurd (b (sym is ∙ e)); keeper = λ e. absurd (d (sym is ∙ e)) }
 
-file-status : (kind : Kind) (at : ℤ) (file : Option (List ℕ)) (n : ℕ) → status_of (answer_of_file kind at file).end ≡ n → (n ≡ 0) ⊎ (n ≡ 4)
-file-status kind at None n e = inr (sym e)
-file-status kind at (Some bytes) n e = rows-status kind at (files.file_of kind Bulk bytes) n e
+  says_done : (end : End) → status_of end ≡ 0 → Says o end
+  says_done end is = says_only end 0 is (λ f. cc f) (λ f. cc f) (λ f. cc f)
 
-shown-status : (o : Outside) (kind : Kind) (a : Answer) (n : ℕ) → IsShown o kind a → status_of a.end ≡ n → (n ≡ 0) ⊎ (n ≡ 4)
-shown-status o kind a n shown e = file-status kind shown.at shown.file n (ap (λ (x : Answer). status_of x.end) (sym shown.is) ∙ e)
+  says_refused : (end : End) → status_of end ≡ 4 → Says o end
+  says_refused end is = says_only end 4 is (λ f. cc f) (λ f. cc f) (λ f. cc f)
 
-run-words-by : (o : Outside) (v : BaseVersion) (feeds : List Feed) (done : List ℕ) (end : End) → IsRunOf o v feeds done end → status_of end ≡ 2 → ⊥
-run-words-by o v feeds done ends.Done r e = cc e
-run-words-by o v feeds done (ends.BadWord place) r e = run-words o v feeds done place r
-run-words-by o v feeds done ends.FolderFailed r e = cc e
-run-words-by o v feeds done (ends.Refused f) r e = cc e
-run-words-by o v feeds done (ends.NotPublished f) r e = cc e
-run-words-by o v feeds done ends.NoMemory r e = cc e
+  says_memory : (end : End) → end ≡ ends.NoMemory → Says o end
+  says_memory end is = says_only end 17 (ap status_of is) (λ f. cc f) (λ f. cc f) (λ f. cc f)
 
-run-rose-by : (o : Outside) (v : BaseVersion) (feeds : List Feed) (done : List ℕ) (end : End) → IsRunOf o v feeds done end → status_of end ≡ 3 → Rose o.before o.now
-run-rose-by o v feeds done ends.Done r e = cc e
-run-rose-by o v feeds done (ends.BadWord place) r e = cc e
-run-rose-by o v feeds done ends.FolderFailed r e = run-rose o v feeds done r
-run-rose-by o v feeds done (ends.Refused f) r e = cc e
-run-rose-by o v feeds done (ends.NotPublished f) r e = cc e
-run-rose-by o v feeds done ends.NoMemory r e = cc e
+  rows-say : (kind : Kind) (at : ℤ) (r : Result (List SetRow) SetFault) → Says o (answer_of_rows kind at r).end
+  rows-say kind at (Ok rows) = says_done ends.Done refl
+  rows-say kind at (Err fault) = says_refused (ends.Refused fault) refl
 
-none-of : (n : ℕ) → (n ≡ 0) ⊎ (n ≡ 4) → n ≢ 0 → n ≢ 4 → ⊥
-none-of n (inl e) a b = a e
-none-of n (inr e) a b = b e
+  file-says : (kind : Kind) (at : ℤ) (file : Option (List ℕ)) → Says o (answer_of_file kind at file).end
+  file-says kind at None = says_refused _ refl
+  file-says kind at (Some bytes) = rows-say kind at (files.file_of kind Bulk bytes)
 
-command-words-by : (command : Command) (o : Outside) (a : Answer) → IsCommandAnswer command o a → status_of a.end ≡ 2 → ⊥
-command-words-by (Show kind) o a (inl failed) e = cc (e, failed.1)
-command-words-by (Show kind) o a (inr (inl shown)) e = none-of 2 (shown-status o kind a 2 shown.0 e) (λ f. cc f) (λ f. cc f)
-command-words-by (Show kind) o a (inr (inr wants)) e = cc (e, wants.1)
-command-words-by (Publish feeds) o a run e = run-words-by o empty_version feeds a.done a.end run e
+  show-says : (kind : Kind) (a : Answer) → IsShowAnswer kind o a → Says o a.end
+  show-says kind a (inl failed) = subst (Says o) (sym failed.1) (record { words = λ e. cc e; folder = λ e. failed.2; keeper = λ e. cc e })
+  show-says kind a (inr (inl shown)) = subst (λ (x : Answer). Says o x.end) (sym shown.0.is) (file-says kind shown.0.at shown.0.file)
+  show-says kind a (inr (inr wants)) = says_memory a.end wants.1
+
+  command-says : (command : Command) (a : Answer) (before after : KeptState) → IsCommandAnswer command o a before after → Says o a.end
+  command-says (Show kind) a before after is = show-says kind a is.1
+  command-says (Publish feeds) a before after (inl failed) = subst (Says o) (sym failed.1.1) (record { words = λ e. cc e; folder = λ e. cc e; keeper = λ e. failed.1.2 })
+  command-says (Publish feeds) a before after (inr run) = run-says o feeds a.done a.end before after run
 
 -- status 2 comes only with bad words
-pub answer-words : (r : Result Parsed ℕ) (o : Outside) (a : Answer) → IsAnswer r o a → status_of a.end ≡ 2 → IsErr r
-answer-words (Err place) o a is e = refl
-answer-words (Ok parsed) o a (inl is) e = absurd (command-words-by parsed.command o a is e)
-answer-words (Ok parsed) o a (inr wants) e = cc (e, wants.1)
+pub answer-words : (r : Result Parsed ℕ) (o : Outside) (a : Answer) (before after : KeptState) → IsAnswer r o a before after → status_of a.end ≡ 2 → IsErr r
+answer-words (Err place) o a before after is e = refl
+answer-words (Ok parsed) o a before after (inl is) e = absurd ((command-says o parsed.command a before after is).words e)
+answer-words (Ok parsed) o a before after (inr wants) e = absurd ((says_memory o a.end wants.1.1).words e)
 
-command-rose : (command : Command) (o : Outside) (a : Answer) → IsCommandAnswer command o a → status_of a.end ≡ 3 → Rose o.before o.now
-command-rose (Show kind) o a (inl failed) e = failed.2
-command-rose (Show kind) o a (inr (inl shown)) e = absurd (none-of 3 (shown-status o kind a 3 shown.0 e) (λ f. cc f) (λ f. cc f))
-command-rose (Show kind) o a (inr (inr wants)) e = cc (e, wants.1)
-command-rose (Publish feeds) o a run e = run-rose-by o empty_version feeds a.done a.end run e
+-- and 3 and 5 only where the count of the folder's faults, or of the keeper's, rose
+answer-says : (r : Result Parsed ℕ) (o : Outside) (a : Answer) (before after : KeptState) → IsAnswer r o a before after → (status_of a.end ≡ 3 → HaveRisen o.folder) × (status_of a.end ≡ 5 → HaveRisen o.keeper)
+answer-says (Err place) o a before after (same, inl bad) = ((λ e. cc (e, bad.0)), (λ e. cc (e, bad.0)))
+answer-says (Err place) o a before after (same, inr wants) = let says = says_memory o a.end wants.1 in (says.folder, says.keeper)
+answer-says (Ok parsed) o a before after (inl is) = let says = command-says o parsed.command a before after is in (says.folder, says.keeper)
+answer-says (Ok parsed) o a before after (inr wants) = let says = says_memory o a.end wants.1.1 in (says.folder, says.keeper)
 
--- status 3 comes only where the folder's count of faults rose
-pub answer-rose : (r : Result Parsed ℕ) (o : Outside) (a : Answer) → IsAnswer r o a → status_of a.end ≡ 3 → Rose o.before o.now
-answer-rose (Err place) o a (inl bad) e = cc (e, bad.0)
-answer-rose (Err place) o a (inr wants) e = cc (e, wants.1)
-answer-rose (Ok parsed) o a (inl is) e = command-rose parsed.command o a is e
-answer-rose (Ok parsed) o a (inr wants) e = cc (e, wants.1)
+pub leads-words : (old new : KeptState → Type 0) (r : Result Parsed ℕ) (o : Outside) (a : Answer) → LeadsFrom old new (IsAnswer r o a) → status_of a.end ≡ 2 → IsErr r
+leads-words old new r o a from = answer-words r o a from.before from.after from.some
+
+pub leads-says : (old new : KeptState → Type 0) (r : Result Parsed ℕ) (o : Outside) (a : Answer) → LeadsFrom old new (IsAnswer r o a) → (status_of a.end ≡ 3 → HaveRisen o.folder) × (status_of a.end ≡ 5 → HaveRisen o.keeper)
+leads-says old new r o a from = answer-says r o a from.before from.after from.some

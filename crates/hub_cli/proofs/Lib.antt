@@ -1,5 +1,7 @@
 mod Dating
 mod Ending
 mod FeedWords
+mod Leading
+mod OptionWords
 mod Publishing
 mod Showing

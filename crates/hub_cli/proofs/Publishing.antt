@@ -1,142 +1,237 @@
 -- Runs of `publish`, set by set.
-use Rattle.std.proofs.Common.{◌≡◌, ◌≢◌, ◌⊎◌, ◌≤◌, ℕ, ℤ, zero, suc, List, [], ◌∷◌, ◌++◌, Option, Result, Ok, Err, IfOk, IsOk, String, Global, string_bytes, drop, length, refl, sym, ap, subst, ◌∙◌, append_assoc, length-append, inl, inr, arith}
+use Rattle.std.proofs.Common.{◌≡◌, ◌≢◌, ◌⊎◌, ℕ, ℤ, List, [], ◌∷◌, ◌++◌, Option, Result, Ok, Err, false, true, refl, sym, ap, subst, ◌∙◌, append_assoc, inl, inr, arith}
 use Rattle.std.proofs.lemmas.List.{append-nil}
+use Rattle.std.specs.Prelude.{IfOk, Bool, min, ◌+◌, ◌-◌, ◌^◌}
 use Rattle.csv_sets.specs.declared.fault.SetFault.{SetFault}
 use Rattle.csv_sets.specs.declared.fault.SetFault.TheVariants as fault
 use Rattle.csv_sets.specs.declared.fault.SetFault.TheVariants.{Folder}
 use Rattle.csv_sets.specs.Folders.{FaultOf}
 use Rattle.csv_sets.specs.Sets.{set_of}
+use Rattle.hub_core.specs.declared.hub_error.HubError.{HubError}
+use Rattle.hub_core.specs.declared.hub_error.HubError.TheVariants as error
+use Rattle.hub_core.specs.declared.published.Published.{Published}
+use Rattle.hub_core.specs.declared.published.Published.TheVariants.{New}
+use Rattle.hub_core.specs.Standing.{HeldHub, IsStanding, KeeperFits}
+use Rattle.hub_core.specs.Steps.{CountsFault, MakesNext, RefusesNothing}
+use Rattle.keeper_memory.specs.Kept.{IsKept, KeptState}
 use Rattle.outside_ports.specs.Files.{Stored}
-use Rattle.roster_base.specs.Faults.{Rose}
-use Rattle.roster_base.specs.declared.memory.NoMemory.{NoMemory as Want}
-use Rattle.set_changes.specs.Applying.{Applies, Leads}
-use Rattle.version_core.specs.declared.change.Change.{Change}
-use Rattle.version_core.specs.Version.{Versions, after, empty_version, last_or, newest_of, with_version}
-use Rattle.version_core.specs.declared.change.BaseVersion.{BaseVersion}
 use Rattle.roster_types.specs.Sets.{SetRecord}
-use Rattle.hub_cli.specs.Lines.{published_text}
-use Rattle.hub_cli.specs.Outside.{IsMomentOf, Outside, outside_of}
-use Rattle.hub_cli.specs.Publishes.{IsRunOf, IsSetOf, Publishes, StopsAt}
-use Rattle.hub_cli.specs.Steps.{AppliesSet, PublishesFeed, ReadsSet, end_of, or_no_memory}
+use Rattle.set_changes.specs.Applying.{Applies}
+use Rattle.hub_cli.specs.Answers.{status_of}
+use Rattle.hub_cli.specs.Outside.{Faults, HaveRisen, HaveStood, IsMomentOf, NothingFailed, Outside, faults_of, outside_of}
+use Rattle.hub_cli.specs.Publishes.{IsRunOf, IsSetOf, PublishesSet, StopsAt, told_text}
+use Rattle.hub_cli.specs.Runs.{IsCommandAnswer, LeadsFrom}
+use Rattle.hub_cli.specs.Steps.{PublishesFeed, ReadsSet, end_of, end_of_error}
+use Rattle.hub_cli.specs.declared.answer.Answer.{Answer}
 use Rattle.hub_cli.specs.declared.answer.End.{End}
-use Rattle.hub_cli.specs.declared.answer.End.TheVariants.{BadWord, Done, FolderFailed, NoMemory, NotPublished, Refused}
+use Rattle.hub_cli.specs.declared.answer.End.TheVariants.{BadWord, Done, FolderFailed, HubFailed, NoMemory, NotPublished, Refused}
+use Rattle.hub_cli.specs.declared.words.Command.TheVariants.{Publish}
 use Rattle.hub_cli.specs.declared.words.Feed.{Feed}
+use Rattle.hub_cli.proofs.Leading.{leads-nowhere, leads-on}
 
--- ---- the newest version
-
-last-push : (d v : BaseVersion) (xs : List BaseVersion) → last_or d (xs ++ v ∷ []) ≡ v
-last-push d v [] = refl
-last-push d v (x ∷ xs) = last-push x v xs
-
-last-drop : (n : ℕ) (d v : BaseVersion) (xs : List BaseVersion) → n ≤ length xs → last_or d (drop n (xs ++ v ∷ [])) ≡ v
-last-drop zero d v xs h = last-push d v xs
-last-drop (suc n) d v [] h = absurd (omega (arith, h))
-last-drop (suc n) d v (x ∷ xs) h = last-drop n d v xs (omega (arith, h))
-
--- a version that is added is the newest
-pub newest-with : (table : Versions) (v : BaseVersion) → newest_of (with_version table v) ≡ v
-newest-with table v =
-    last-drop _ empty_version v table.versions (omega (arith, length-append table.versions (v ∷ [])))
+-- a failure that is counted makes the count rise
+rose : (before now : ℕ) → now ≡ min (before + 1) (2 ^ 64 - 1) → HaveRisen (faults_of before now)
+rose before now counted = omega arith
 
 -- ---- how a run may end
 
--- memory may run out for the line of an end
-pub run-wants : (o : Outside) (v : BaseVersion) (feeds : List Feed) (done : List ℕ) (end : End) → IsRunOf o v feeds done end → IsRunOf o v feeds done NoMemory
-run-wants o v [] done end r = (r.0, inr refl)
-run-wants o v (feed ∷ feeds) done end (inl r) = inl (r.0, inr refl)
-run-wants o v (feed ∷ feeds) done end (inr (next, line, more, p, is, r)) = inr (next, line, more, p, is, run-wants o next feeds more end r)
+module _ (o : Outside) where
+  made_or_not : (feed : Feed) (before after : KeptState) → PublishesSet o feed (Err error.Keeper) before after → (after ≡ before) ⊎ ((answer : Published) × PublishesSet o feed (Ok answer) before after)
+  made_or_not feed before after (set, at, is, moment, inl same) = inl same
+  made_or_not feed before after (set, at, is, moment, inr (next, adds)) = inr (New next.number, (set, at, is, moment, (next, adds, refl)))
 
-last-rose : (o : Outside) → ((FolderFailed ≡ Done) × (o.now ≡ o.before)) ⊎ (FolderFailed ≡ NoMemory) → Rose o.before o.now
-last-rose o (inl e) = cc e.0
-last-rose o (inr e) = cc e
+  -- memory may run out for the line of an end
+  stop-wants : (feed : Feed) (end : End) (before after : KeptState) → StopsAt o feed end before after → StopsAt o feed NoMemory before after
+  stop-wants feed Done before after stops = absurd stops
+  stop-wants feed (BadWord place) before after stops = absurd stops
+  stop-wants feed FolderFailed before after stops = inl stops.1
+  stop-wants feed HubFailed before after stops = made_or_not feed before after stops.1
+  stop-wants feed (Refused f) before after stops = inl stops.2
+  stop-wants feed (NotPublished f) before after stops = inl stops.0.4.1
+  stop-wants feed NoMemory before after stops = stops
 
-stop-rose : (o : Outside) (v : BaseVersion) (feed : Feed) → StopsAt o v feed FolderFailed ⊎ (FolderFailed ≡ NoMemory) → Rose o.before o.now
-stop-rose o v feed (inl rose) = rose
-stop-rose o v feed (inr e) = cc e
+  pub run-wants : (feeds : List Feed) (done : List ℕ) (end : End) (before after : KeptState) → IsRunOf o feeds done end before after → IsRunOf o feeds done NoMemory before after
+  run-wants [] done end before after run = (run.0, run.1, inr refl)
+  run-wants (feed ∷ feeds) done end before after (inl stops) = inl (stops.0, stop-wants feed end before after stops.1)
+  run-wants (feed ∷ feeds) done end before after (inr (next, answer, more, publishes, is, run)) = inr (next, answer, more, publishes, is, run-wants feeds more end next after run)
 
--- where the folder fails, its count of faults rose
-pub run-rose : (o : Outside) (v : BaseVersion) (feeds : List Feed) (done : List ℕ) → IsRunOf o v feeds done FolderFailed → Rose o.before o.now
-run-rose o v [] done r = last-rose o r.1
-run-rose o v (feed ∷ feeds) done (inl r) = stop-rose o v feed r.1
-run-rose o v (feed ∷ feeds) done (inr (next, line, more, p, is, r)) = run-rose o next feeds more r
+  -- memory may run out before anything is done
+  pub run-none : (feeds : List Feed) (kept : KeptState) → IsRunOf o feeds [] NoMemory kept kept
+  run-none [] kept = (refl, refl, inr refl)
+  run-none (feed ∷ feeds) kept = inl (refl, inl refl)
 
-last-words : (o : Outside) (place : ℕ) → ((BadWord place ≡ Done) × (o.now ≡ o.before)) ⊎ (BadWord place ≡ NoMemory) → ⊥
-last-words o place (inl e) = cc e.0
-last-words o place (inr e) = cc e
+  -- what the status of an end says
+  pub record Says (end : End) : Type 0 where
+    pub words : status_of end ≢ 2
+    pub folder : status_of end ≡ 3 → HaveRisen o.folder
+    pub keeper : status_of end ≡ 5 → HaveRisen o.keeper
 
-stop-words : (o : Outside) (v : BaseVersion) (feed : Feed) (place : ℕ) → StopsAt o v feed (BadWord place) ⊎ (BadWord place ≡ NoMemory) → ⊥
-stop-words o v feed place (inl empty) = empty
-stop-words o v feed place (inr e) = cc e
+  stop-says : (feed : Feed) (end : End) (before after : KeptState) → StopsAt o feed end before after → Says end
+  stop-says feed Done before after stops = absurd stops
+  stop-says feed (BadWord place) before after stops = absurd stops
+  stop-says feed FolderFailed before after stops = record { words = λ e. cc e; folder = λ e. stops.0; keeper = λ e. cc e }
+  stop-says feed HubFailed before after stops = record { words = λ e. cc e; folder = λ e. cc e; keeper = λ e. stops.0 }
+  stop-says feed (Refused f) before after stops = record { words = λ e. cc e; folder = λ e. cc e; keeper = λ e. cc e }
+  stop-says feed (NotPublished f) before after stops = record { words = λ e. cc e; folder = λ e. cc e; keeper = λ e. cc e }
+  stop-says feed NoMemory before after stops = record { words = λ e. cc e; folder = λ e. cc e; keeper = λ e. cc e }
 
--- no run ends with bad words
-pub run-words : (o : Outside) (v : BaseVersion) (feeds : List Feed) (done : List ℕ) (place : ℕ) → IsRunOf o v feeds done (BadWord place) → ⊥
-run-words o v [] done place r = last-words o place r.1
-run-words o v (feed ∷ feeds) done place (inl r) = stop-words o v feed place r.1
-run-words o v (feed ∷ feeds) done place (inr (next, line, more, p, is, r)) = run-words o next feeds more place r
+  quiet-says : (end : End) → ((end ≡ Done) × NothingFailed o) ⊎ (end ≡ NoMemory) → Says end
+  quiet-says end (inl is) = subst Says (sym is.0) (record { words = λ e. cc e; folder = λ e. cc e; keeper = λ e. cc e })
+  quiet-says end (inr is) = subst Says (sym is) (record { words = λ e. cc e; folder = λ e. cc e; keeper = λ e. cc e })
 
--- ---- one feed after another
+  pub run-says : (feeds : List Feed) (done : List ℕ) (end : End) (before after : KeptState) → IsRunOf o feeds done end before after → Says end
+  run-says [] done end before after run = quiet-says end run.2
+  run-says (feed ∷ feeds) done end before after (inl stops) = stop-says feed end before after stops.1
+  run-says (feed ∷ feeds) done end before after (inr (next, answer, more, publishes, is, run)) = run-says feeds more end next after run
 
--- how far a run has come: what is left leads to the whole run, behind what is written
-pub record Left (first files : Option (List Stored)) (moment : Option ℤ) (before count : ℕ) (version newest : BaseVersion) (feeds left : List Feed) (start done : List ℕ) : Type 0 where
-  pub told : files ≡ first
-  pub counted : count ≡ before
-  pub leads : (now : ℕ) (more : List ℕ) (end : End) → IsRunOf (outside_of first moment before now) newest left more end
-      → (all : List ℕ) × (done ++ more ≡ start ++ all) × IsRunOf (outside_of first moment before now) version feeds all end
+-- ---- how far the feeds are published
 
-pub left-start : (files : Option (List Stored)) (moment : Option ℤ) (count : ℕ) (version : BaseVersion) (feeds : List Feed) (start : List ℕ) → Left files files moment count count version version feeds feeds start start
-left-start files moment count version feeds start = record { told = refl; counted = refl; leads = λ now more end r. (more, refl, r) }
+-- from what stood at the start: the folder's files, the clock's moment, both counts of faults, what the keeper stood for, and the hub
+module _ (told : Option (List Stored)) (moment : Option ℤ) (folder keeper : ℕ) (stood : KeptState → Type 0) (first : HeldHub) (feeds : List Feed) (start : List ℕ) where
+  abbrev pub since : ℕ → ℕ → Outside
+  since folder_now keeper_now = outside_of told moment (faults_of folder folder_now) (faults_of keeper keeper_now)
 
--- one feed more, whose line is written
-pub left-next : (first files now_files : Option (List Stored)) (moment : Option ℤ) (before count now_count : ℕ) (version newest next : BaseVersion) (feeds left : List Feed) (feed : Feed) (start done written : List ℕ) (line : String Global)
-    → Left first files moment before count version newest feeds (feed ∷ left) start done
-    → PublishesFeed (outside_of files moment count now_count) newest next feed (Ok line) → now_files ≡ files → written ≡ done ++ string_bytes line
-    → Left first now_files moment before now_count version next feeds left start written
-left-next first files now_files moment before count now_count version newest next feeds left feed start done written line l p same is = record {
-  told = same ∙ l.told;
-  counted = p.1 ∙ l.counted;
-  leads = λ now more end r.
-      let text = string_bytes line in
-      let whole = l.leads now (text ++ more) end (inr (next, text, more, subst (λ f. Publishes (outside_of f moment before now) newest feed next text) l.told p.0, refl, r)) in
-      (whole.0, ap (λ (t : List ℕ). t ++ more) is ∙ append_assoc done text more ∙ whole.1, whole.2);
-}
+  -- what stands now stood before for something from which a run over all feeds leads here
+  abbrev pub Comes : ℕ → ℕ → (KeptState → Type 0) → List ℕ → End → KeptState → KeptState → Type 0
+  Comes folder_now keeper_now stands done end between after =
+      (before : KeptState) × IsStanding first before × (stands between → stood before) × IsRunOf (since folder_now keeper_now) feeds done end before after
 
--- the run over all feeds has ended with what is written
-abbrev pub Ended : Option (List Stored) → Option ℤ → ℕ → ℕ → BaseVersion → List Feed → List ℕ → List ℕ → End → Type 0
-Ended first moment before now version feeds start done end =
-    (all : List ℕ) × (done ≡ start ++ all) × IsRunOf (outside_of first moment before now) version feeds all end
+  -- the feeds that are left lead to the whole
+  pub record Left (files : Option (List Stored)) (folder_now keeper_now : ℕ) (stands : KeptState → Type 0) (hub : HeldHub) (left : List Feed) (done : List ℕ) : Type 0 where
+    pub files_stay : files ≡ told
+    pub folder_stands : folder_now ≡ folder
+    pub keeper_stands : keeper_now ≡ keeper
+    pub all : List ℕ
+    pub written : done ≡ start ++ all
+    pub leads : (folder_last keeper_last : ℕ) (more : List ℕ) (end : End) (between after : KeptState) → IsStanding hub between → IsRunOf (since folder_last keeper_last) left more end between after
+        → Comes folder_last keeper_last stands (all ++ more) end between after
 
-left-ends : (first files : Option (List Stored)) (moment : Option ℤ) (before count now : ℕ) (version newest : BaseVersion) (feeds left : List Feed) (start done : List ℕ) (end : End)
-    → Left first files moment before count version newest feeds left start done → IsRunOf (outside_of first moment before now) newest left [] end → Ended first moment before now version feeds start done end
-left-ends first files moment before count now version newest feeds left start done end l r =
-    let whole = l.leads now [] end r in
-    (whole.0, sym (append-nil done) ∙ whole.1, whole.2)
+  -- the run over all feeds has ended
+  abbrev pub Ended : ℕ → ℕ → (KeptState → Type 0) → HeldHub → List ℕ → End → Type 0
+  Ended folder_now keeper_now stands hub done end =
+      (more : List ℕ) × (done ≡ start ++ more) × ((after : KeptState) → IsStanding hub after → Comes folder_now keeper_now stands more end after after)
 
-wants : (o : Outside) (v : BaseVersion) (feeds : List Feed) → IsRunOf o v feeds [] NoMemory
-wants o v [] = (refl, inr refl)
-wants o v (feed ∷ feeds) = inl (refl, inr refl)
+  module _ (files : Option (List Stored)) (folder_now keeper_now : ℕ) (stands : KeptState → Type 0) (hub : HeldHub) (done : List ℕ) where
+    abbrev LeftHere : List Feed → Type 0
+    LeftHere left = Left files folder_now keeper_now stands hub left done
 
--- memory ran out
-pub left-wants : (first files : Option (List Stored)) (moment : Option ℤ) (before count now : ℕ) (version newest : BaseVersion) (feeds left : List Feed) (start done : List ℕ)
-    → Left first files moment before count version newest feeds left start done → Ended first moment before now version feeds start done NoMemory
-left-wants first files moment before count now version newest feeds left start done l =
-    left-ends first files moment before count now version newest feeds left start done NoMemory l (wants _ newest left)
+    -- what the next step leads to stood before it for something
+    module _ (folder_next keeper_next : ℕ) (next : KeptState → Type 0) (hub_next : HeldHub) where
+      abbrev pub Told : Feed → Result Published End → Type 0
+      Told feed result = (after : KeptState) → IsStanding hub_next after → (before : KeptState) × IsStanding hub before × (next after → stands before)
+          × PublishesFeed (outside_of files moment (faults_of folder_now folder_next) (faults_of keeper_now keeper_next)) feed result before after
 
--- a set isn't published
-pub left-stops : (first files : Option (List Stored)) (moment : Option ℤ) (before count now : ℕ) (version newest next : BaseVersion) (feeds left : List Feed) (feed : Feed) (start done : List ℕ) (end : End)
-    → Left first files moment before count version newest feeds (feed ∷ left) start done → PublishesFeed (outside_of files moment count now) newest next feed (Err end) → Ended first moment before now version feeds start done end
-left-stops first files moment before count now version newest next feeds left feed start done end l p =
-    left-ends first files moment before count now version newest feeds (feed ∷ left) start done end l
-    (inl (refl, subst (λ f. Stops f before) l.told (subst (λ n. Stops files n) l.counted p)))
-  where
-    Stops : Option (List Stored) → ℕ → Type 0
-    Stops f n = StopsAt (outside_of f moment n now) newest feed end ⊎ (end ≡ NoMemory)
+      ends : (left : List Feed) → LeftHere left → (end : End)
+          → ((after : KeptState) → IsStanding hub_next after → (before : KeptState) × IsStanding hub before × (next after → stands before) × IsRunOf (since folder_next keeper_next) left [] end before after)
+          → Ended folder_next keeper_next next hub_next done end
+      ends left l end run = (
+        l.all,
+        l.written,
+        λ after standing.
+            let r = run after standing in
+            let whole = l.leads folder_next keeper_next [] end r.0 after r.1 r.3 in
+            (whole.0, whole.1, (λ s. whole.2 (r.2 s)), subst (λ t. IsRunOf (since folder_next keeper_next) feeds t end whole.0 after) (append-nil l.all) whole.3),
+      )
 
--- all sets are published
-pub left-none : (first files : Option (List Stored)) (moment : Option ℤ) (before count : ℕ) (version newest : BaseVersion) (feeds left : List Feed) (start done : List ℕ)
-    → Left first files moment before count version newest feeds left start done → left ≡ [] → Ended first moment before count version feeds start done Done
-left-none first files moment before count version newest feeds left start done l none =
-    left-ends first files moment before count count version newest feeds left start done Done l
-    (subst (λ (fs : List Feed). IsRunOf (outside_of first moment before count) newest fs [] Done) (sym none) (refl, inl (refl, l.counted)))
+    -- all sets are published
+    pub left-none : (left : List Feed) → LeftHere left → left ≡ [] → Ended folder_now keeper_now stands hub done Done
+    left-none left l none = ends folder_now keeper_now stands hub left l Done (λ after standing. (after, standing, (λ s. s), subst (λ (fs : List Feed). IsRunOf (since folder_now keeper_now) fs [] Done after after) (sym none) (refl, refl, inl (refl, record { folder = l.folder_stands; keeper = l.keeper_stands }))))
+
+    module _ (folder_next keeper_next : ℕ) (next : KeptState → Type 0) (hub_next : HeldHub) (feed : Feed) (left : List Feed) where
+      abbrev Step : Result Published End → Type 0
+      Step result = Told folder_next keeper_next next hub_next feed result
+
+      -- a set isn't published
+      pub left-stops : LeftHere (feed ∷ left) → (end : End) → Step (Err end) → Ended folder_next keeper_next next hub_next done end
+      left-stops l end step = ends folder_next keeper_next next hub_next (feed ∷ left) l end (λ after standing.
+          let s = step after standing in
+          (s.0, s.1, s.2, inl (refl, subst (λ fs. Stops fs folder keeper s.0 after) l.files_stay (subst (λ n. Stops files n keeper s.0 after) l.folder_stands (subst (λ n. Stops files folder_now n s.0 after) l.keeper_stands s.3)))))
+        where
+          Stops : Option (List Stored) → ℕ → ℕ → KeptState → KeptState → Type 0
+          Stops fs f k before after = StopsAt (outside_of fs moment (faults_of f folder_next) (faults_of k keeper_next)) feed end before after
+
+      module _ (l : LeftHere (feed ∷ left)) (answer : Published) (step : Step (Ok answer)) where
+        published : (folder_last keeper_last : ℕ) (before after : KeptState) → PublishesSet (outside_of files moment (faults_of folder_now folder_next) (faults_of keeper_now keeper_next)) feed (Ok answer) before after
+            → PublishesSet (since folder_last keeper_last) feed (Ok answer) before after
+        published folder_last keeper_last before after = subst (λ fs. PublishesSet (outside_of fs moment (faults_of folder folder_last) (faults_of keeper keeper_last)) feed (Ok answer) before after) l.files_stay
+
+        -- memory runs out for the line of a set that is published
+        pub left-wants : Ended folder_next keeper_next next hub_next done NoMemory
+        left-wants = ends folder_next keeper_next next hub_next (feed ∷ left) l NoMemory (λ after standing.
+            let s = step after standing in
+            (s.0, s.1, s.2, inl (refl, inr (answer, published folder_next keeper_next s.0 after s.3.0))))
+
+        -- a set is published and told
+        pub left-next : (files_next : Option (List Stored)) (done_next : List ℕ) → files_next ≡ files → done_next ≡ done ++ told_text feed.name answer → Left files_next folder_next keeper_next next hub_next left done_next
+        left-next files_next done_next same is =
+            let line = told_text feed.name answer in
+            let nothing = (step hub_next.kept (inl refl)).3.1 in
+            record {
+              files_stay = same ∙ l.files_stay;
+              folder_stands = nothing.folder ∙ l.folder_stands;
+              keeper_stands = nothing.keeper ∙ l.keeper_stands;
+              all = l.all ++ line;
+              written = is ∙ ap (λ (t : List ℕ). t ++ line) l.written ∙ append_assoc start l.all line;
+              leads = λ folder_last keeper_last more end between after standing run.
+                  let s = step between standing in
+                  let whole = l.leads folder_last keeper_last (line ++ more) end s.0 after s.1 (inr (between, answer, more, published folder_last keeper_last s.0 between s.3.0, refl, run)) in
+                  (whole.0, whole.1, (λ t. whole.2 (s.2 t)), subst (λ t. IsRunOf (since folder_last keeper_last) feeds t end whole.0 after) (sym (append_assoc l.all line more)) whole.3);
+            }
+
+  -- nothing is published yet
+  pub left-start : Left told folder keeper stood first feeds start
+  left-start = record {
+    files_stay = refl;
+    folder_stands = refl;
+    keeper_stands = refl;
+    all = [];
+    written = sym (append-nil start);
+    leads = λ folder_last keeper_last more end between after standing run. (between, standing, (λ s. s), run);
+  }
+
+-- ---- the whole command
+
+module _ (files : Option (List Stored)) (moment : Option ℤ) (folder folder_now keeper keeper_now : ℕ) (old new : KeptState → Type 0) (feeds : List Feed) where
+  abbrev outside : Outside
+  outside = outside_of files moment (faults_of folder folder_now) (faults_of keeper keeper_now)
+
+  -- a run over a hub that was opened
+  pub ran : (first hub : HeldHub) (done : List ℕ) (end : End) → IsKept first.kept → first.is_open ≡ false → Ended files moment folder keeper old first feeds [] folder_now keeper_now new hub done end → KeeperFits new hub
+      → LeadsFrom old new (IsRunOf outside feeds done end)
+  ran first hub done end is shut ended fits =
+      let some = comes hub.kept (inl refl) in
+      record {
+        before = some.0;
+        after = hub.kept;
+        is = kept_one some.0 some.1;
+        some = some.3;
+        told = λ now stands. let c = comes now (fits now stands) in (c.0, c.2 stands, c.3);
+      }
+    where
+      kept_one : (kept : KeptState) → IsStanding first kept → IsKept kept
+      kept_one kept (inl e) = subst IsKept (sym e) is
+      kept_one kept (inr last) = let left : first.is_open ≡ true = last.left_open in cc (left, shut)
+
+      comes : (after : KeptState) → IsStanding hub after → (before : KeptState) × IsStanding first before × (new after → old before) × IsRunOf outside feeds done end before after
+      comes after standing =
+          let c = ended.2 after standing in
+          (c.0, c.1, c.2, subst (λ t. IsRunOf outside feeds t end c.0 after) (sym ended.1) c.3)
+
+  -- the run of a command that opened its hub
+  pub opened : (keeper_open : ℕ) (stands : KeptState → Type 0) (answer : Answer) → ((kept : KeptState) → stands kept → old kept) → keeper_open ≡ keeper
+      → LeadsFrom stands new (IsRunOf (outside_of files moment (faults_of folder folder_now) (faults_of keeper_open keeper_now)) feeds answer.done answer.end) → LeadsFrom old new (IsCommandAnswer (Publish feeds) outside answer)
+  opened keeper_open stands answer told same =
+      leads-on old stands new _ _ told (λ before after run. inr (subst (λ k. IsRunOf (outside_of files moment (faults_of folder folder_now) (faults_of k keeper_now)) feeds answer.done answer.end before after) same run))
+
+  -- a hub that couldn't be opened
+  pub not_opened : (T : Type 0) (e : HubError) → RefusesNothing {T = T} (Err e) → CountsFault {T = T} keeper keeper_now (Err e) → ((kept : KeptState) → new kept → old kept)
+      → LeadsFrom old new (IsCommandAnswer (Publish feeds) outside (record { done = []; end = end_of_error e }))
+  not_opened T e quiet counts told = leads-on old new new _ _ told (λ before after is. is) (leads-nowhere new (IsCommandAnswer (Publish feeds) outside (record { done = []; end = end_of_error e })) (failed e quiet counts))
+    where
+      failed : (e : HubError) → RefusesNothing {T = T} (Err e) → CountsFault {T = T} keeper keeper_now (Err e) → (kept : KeptState) → IsCommandAnswer (Publish feeds) outside (record { done = []; end = end_of_error e }) kept kept
+      failed error.Keeper quiet counts kept = inl (refl, (refl, refl, rose keeper keeper_now counts))
+      failed error.NoMemory quiet counts kept = inr (run-none outside feeds kept)
+      failed (error.Refused f) quiet counts kept = absurd quiet
 
 -- ---- the steps of one feed
 
@@ -152,35 +247,31 @@ other_fault (fault.NotUtf8 file) other = refl
 other_fault fault.Folder other = absurd (other refl)
 
 -- a fault of a set brings its end
-pub fault_end : (files : Option (List Stored)) (before now : ℕ) (feed : Feed) (f : SetFault) → FaultOf files before now f (set_of feed.dir feed.name) → ReadsSet files before now feed (Err (end_of f))
+pub fault_end : (files : Option (List Stored)) (before now : ℕ) (feed : Feed) (f : SetFault) → FaultOf files before now f (set_of feed.dir feed.name) → ReadsSet files (faults_of before now) feed (Err (end_of f))
 fault_end files before now feed f (inl (is, rose)) = rw is rose
 fault_end files before now feed f (inr (other, same, meant)) = rw (other_fault f other) ((meant, other), same)
 
--- an end that the set of a feed brings
-pub end_of_set : (files : Option (List Stored)) (moment : Option ℤ) (before now : ℕ) (version : BaseVersion) (feed : Feed) (end : End) → ReadsSet files before now feed (Err end) → StopsAt (outside_of files moment before now) version feed end ⊎ (end ≡ NoMemory)
-end_of_set files moment before now version feed Done empty = absurd empty
-end_of_set files moment before now version feed (BadWord place) empty = absurd empty
-end_of_set files moment before now version feed FolderFailed rose = inl rose
-end_of_set files moment before now version feed (Refused f) is = inl is
-end_of_set files moment before now version feed (NotPublished f) empty = absurd empty
-end_of_set files moment before now version feed NoMemory is = inr refl
+module _ (files : Option (List Stored)) (moment : Option ℤ) (folder keeper : Faults) (feed : Feed) where
+  -- an end that the set of a feed brings, before the hub is asked
+  pub end_of_set : (end : End) (kept : KeptState) → ReadsSet files folder feed (Err end) → HaveStood keeper → StopsAt (outside_of files moment folder keeper) feed end kept kept
+  end_of_set Done kept empty quiet = absurd empty
+  end_of_set (BadWord place) kept empty quiet = absurd empty
+  end_of_set FolderFailed kept rose quiet = (rose, refl)
+  end_of_set HubFailed kept empty quiet = absurd empty
+  end_of_set (Refused f) kept is quiet = (is.0, record { folder = is.1; keeper = quiet }, refl)
+  end_of_set (NotPublished f) kept empty quiet = absurd empty
+  end_of_set NoMemory kept is quiet = inl refl
 
--- an end that the application of a set brings
-pub end_of_change : (files : Option (List Stored)) (moment : Option ℤ) (before now : ℕ) (version next : BaseVersion) (feed : Feed) (set : SetRecord) (at : ℤ) (end : End) → IsSetOf files feed (Ok set) → now ≡ before → IsMomentOf moment at
-    → AppliesSet version next set at (Err end) → StopsAt (outside_of files moment before now) version feed end ⊎ (end ≡ NoMemory)
-end_of_change files moment before now version next feed set at Done is same m empty = absurd empty
-end_of_change files moment before now version next feed set at (BadWord place) is same m empty = absurd empty
-end_of_change files moment before now version next feed set at FolderFailed is same m empty = absurd empty
-end_of_change files moment before now version next feed set at (Refused f) is same m empty = absurd empty
-end_of_change files moment before now version next feed set at (NotPublished f) is same m a = inl (set, at, is, m, a, same)
-end_of_change files moment before now version next feed set at NoMemory is same m a = inr refl
+  module _ (set : SetRecord) (at : ℤ) (is : IsSetOf files feed (Ok set)) (stood : HaveStood folder) (m : IsMomentOf moment at) where
+    abbrev Makes : Result Published HubError → KeptState → KeptState → Type 0
+    Makes = MakesNext (λ version. Applies version set at)
 
--- the line of a change that is added tells it, and so does want of memory
-pub told_change : (version next : BaseVersion) (set : SetRecord) (at : ℤ) (change : Change) (r : Result (String Global) Want) → Applies version set at (Leads (after version change)) → IfOk r (λ line. string_bytes line ≡ published_text set.feed change.version)
-    → (IsOk r → next ≡ after version change) → AppliesSet version next set at (or_no_memory r)
-told_change version next set at change (Ok line) applies line_is table_is = (Leads (after version change), applies, (table_is refl, line_is))
-told_change version next set at change (Err e) applies line_is table_is = tt
+    -- what the hub makes of a set
+    pub set_published : (answer : Published) (before after : KeptState) → Makes (Ok answer) before after → CountsFault {T = Published} keeper.before keeper.now (Ok answer) → PublishesFeed (outside_of files moment folder keeper) feed (Ok answer) before after
+    set_published answer before after makes quiet = ((set, at, is, m, makes), record { folder = stood; keeper = quiet })
 
-pub line_made : (r : Result (String Global) Want) → IsOk (or_no_memory r) → IsOk r
-line_made (Ok line) ok = ok
-line_made (Err e) ok = ok
+    -- and why it makes nothing of it
+    pub set_not_published : (e : HubError) (before after : KeptState) → Makes (Err e) before after → CountsFault {T = Published} keeper.before keeper.now (Err e) → PublishesFeed (outside_of files moment folder keeper) feed (Err (end_of_error e)) before after
+    set_not_published error.Keeper before after makes counts = (rose keeper.before keeper.now counts, (set, at, is, m, makes))
+    set_not_published error.NoMemory before after makes counts = inl makes
+    set_not_published (error.Refused f) before after makes counts = ((set, at, is, m, makes), record { folder = stood; keeper = counts })

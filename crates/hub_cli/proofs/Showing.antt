@@ -12,7 +12,7 @@ use Rattle.roster_values.specs.declared.kind.Kind.{Kind}
 use Rattle.roster_values.specs.Kinds.{file_of}
 use Rattle.hub_cli.specs.declared.answer.Answer.{Answer}
 use Rattle.hub_cli.specs.declared.answer.End.TheVariants.{Refused}
-use Rattle.hub_cli.specs.Outside.{IsMomentOf, outside_of}
+use Rattle.hub_cli.specs.Outside.{Faults, IsMomentOf, outside_of}
 use Rattle.hub_cli.specs.Reads.{IsAnswerTo}
 use Rattle.hub_cli.specs.Shows.{IsShown, answer_of_file}
 
@@ -27,19 +27,19 @@ too_large kind at bytes long =
     let test : nat_lt files.largest (length bytes) ≡ true = lt-ltb files.largest (length bytes) long in
     rw test refl
 
-module _ (told : Option (List Stored)) (moment : Option ℤ) (before now : ℕ) (kind : Kind) (at : ℤ) (m : IsMomentOf moment at) where
-  shown_over : (answer : Answer) (file : Option (List ℕ)) → IfSome told (λ fs. file ≡ file_at fs [] (file_of kind)) → answer ≡ answer_of_file kind at file → IsShown (outside_of told moment before now) kind answer
+module _ (told : Option (List Stored)) (moment : Option ℤ) (folder keeper : Faults) (kind : Kind) (at : ℤ) (m : IsMomentOf moment at) where
+  shown_over : (answer : Answer) (file : Option (List ℕ)) → IfSome told (λ fs. file ≡ file_at fs [] (file_of kind)) → answer ≡ answer_of_file kind at file → IsShown (outside_of told moment folder keeper) kind answer
   shown_over answer file t e = record { file = file; at = at; is_file = t; is_moment = m; is = e }
 
-pub shown_by : (told : Option (List Stored)) (moment : Option ℤ) (before now : ℕ) (kind : Kind) (at : ℤ) (read : FileRead) (answer : Answer) → ReadsFile {E = IoError} told [] (file_of kind) files.largest (Ok read) → IsMomentOf moment at
-    → IsAnswerTo kind at read answer → IsShown (outside_of told moment before now) kind answer
-shown_by None moment before now kind at Absent answer t m h = shown_over None moment before now kind at m answer None tt h
-shown_by None moment before now kind at TooLong answer t m h =
+pub shown_by : (told : Option (List Stored)) (moment : Option ℤ) (folder keeper : Faults) (kind : Kind) (at : ℤ) (read : FileRead) (answer : Answer) → ReadsFile {E = IoError} told [] (file_of kind) files.largest (Ok read) → IsMomentOf moment at
+    → IsAnswerTo kind at read answer → IsShown (outside_of told moment folder keeper) kind answer
+shown_by None moment folder keeper kind at Absent answer t m h = shown_over None moment folder keeper kind at m answer None tt h
+shown_by None moment folder keeper kind at TooLong answer t m h =
     let (bytes, long) = longer files.largest in
-    shown_over None moment before now kind at m answer (Some bytes) tt (h ∙ sym (too_large kind at bytes long))
-shown_by None moment before now kind at (Bytes bytes) answer t m h = shown_over None moment before now kind at m answer (Some bytes) tt h
-shown_by (Some fs) moment before now kind at Absent answer t m h = shown_over (Some fs) moment before now kind at m answer None (sym t) h
-shown_by (Some fs) moment before now kind at TooLong answer t m h =
+    shown_over None moment folder keeper kind at m answer (Some bytes) tt (h ∙ sym (too_large kind at bytes long))
+shown_by None moment folder keeper kind at (Bytes bytes) answer t m h = shown_over None moment folder keeper kind at m answer (Some bytes) tt h
+shown_by (Some fs) moment folder keeper kind at Absent answer t m h = shown_over (Some fs) moment folder keeper kind at m answer None (sym t) h
+shown_by (Some fs) moment folder keeper kind at TooLong answer t m h =
     let (bytes, is, long) = t in
-    shown_over (Some fs) moment before now kind at m answer (Some bytes) (sym is) (h ∙ sym (too_large kind at bytes long))
-shown_by (Some fs) moment before now kind at (Bytes bytes) answer t m h = shown_over (Some fs) moment before now kind at m answer (Some bytes) (sym t.0) h
+    shown_over (Some fs) moment folder keeper kind at m answer (Some bytes) (sym is) (h ∙ sym (too_large kind at bytes long))
+shown_by (Some fs) moment folder keeper kind at (Bytes bytes) answer t m h = shown_over (Some fs) moment folder keeper kind at m answer (Some bytes) (sym t.0) h

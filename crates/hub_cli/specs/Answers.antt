@@ -2,8 +2,8 @@
 use Rattle.std.specs.Prelude.{◌≡◌, ◌≢◌, ◌⊎◌, ℕ, ◌++◌, List, []}
 use Rattle.hub_cli.specs.declared.answer.Answer.{Answer}
 use Rattle.hub_cli.specs.declared.answer.End.{End}
-use Rattle.hub_cli.specs.declared.answer.End.TheVariants.{BadWord, Done, FolderFailed, NoMemory, NotPublished, Refused}
-use Rattle.hub_cli.specs.Lines.{bad_word_text, fault_text, folder_failed, no_memory, publish_fault_text}
+use Rattle.hub_cli.specs.declared.answer.End.TheVariants.{BadWord, Done, FolderFailed, HubFailed, NoMemory, NotPublished, Refused}
+use Rattle.hub_cli.specs.Lines.{bad_word_text, fault_text, folder_failed, hub_failed, no_memory, publish_fault_text}
 
 abbrev pub status_of : End → ℕ
 status_of Done = 0
@@ -11,6 +11,7 @@ status_of (BadWord place) = 2
 status_of FolderFailed = 3
 status_of (Refused fault) = 4
 status_of (NotPublished fault) = 4
+status_of HubFailed = 5
 status_of NoMemory = 17
 
 -- the line that an end is told by
@@ -20,6 +21,7 @@ end_text (BadWord place) = bad_word_text place
 end_text FolderFailed = folder_failed
 end_text (Refused fault) = fault_text fault
 end_text (NotPublished fault) = publish_fault_text fault
+end_text HubFailed = hub_failed
 end_text NoMemory = no_memory
 
 -- what was done, and how it ended

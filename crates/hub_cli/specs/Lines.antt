@@ -109,5 +109,8 @@ publish_fault_text LastVersion = codes "refused: last version\n"
 unfoldable pub bad_word_text : ℕ → List ℕ
 bad_word_text place = codes "bad word " ++ decimal place ++ codes "\n"
 
+abbrev pub hub_failed : List ℕ
+hub_failed = codes "hub store failed\n"
+
 abbrev pub no_memory : List ℕ
 no_memory = codes "no memory\n"

@@ -1,13 +1,13 @@
 -- What a run of the program answers, and why.
 use Rattle.std.specs.Prelude.{◌≡◌, ◌⊎◌, ℕ, [], Result, Ok, Err}
-use Rattle.roster_base.specs.Faults.{Rose}
-use Rattle.version_core.specs.Version.{empty_version}
+use Rattle.keeper_memory.specs.Kept.{IsKept, KeptState}
+use Rattle.roster_values.specs.declared.kind.Kind.{Kind}
 use Rattle.hub_cli.specs.declared.answer.Answer.{Answer}
-use Rattle.hub_cli.specs.declared.answer.End.TheVariants.{BadWord, FolderFailed, NoMemory}
+use Rattle.hub_cli.specs.declared.answer.End.TheVariants.{BadWord, FolderFailed, HubFailed, NoMemory}
 use Rattle.hub_cli.specs.declared.words.Command.{Command}
 use Rattle.hub_cli.specs.declared.words.Command.TheVariants.{Publish, Show}
 use Rattle.hub_cli.specs.declared.words.Parsed.{Parsed}
-use Rattle.hub_cli.specs.Outside.{Outside}
+use Rattle.hub_cli.specs.Outside.{HaveRisen, HaveStood, NothingFailed, Outside}
 use Rattle.hub_cli.specs.Publishes.{IsRunOf}
 use Rattle.hub_cli.specs.Shows.{IsShown}
 
@@ -17,16 +17,34 @@ WantsMemory answer = (answer.done ≡ []) × (answer.end ≡ NoMemory)
 
 -- the folder failed, and its count of faults rose
 abbrev pub IsFolderFailure : Outside → Answer → Type 0
-IsFolderFailure outside answer = (answer.done ≡ []) × (answer.end ≡ FolderFailed) × Rose outside.before outside.now
+IsFolderFailure outside answer = (answer.done ≡ []) × (answer.end ≡ FolderFailed) × HaveRisen outside.folder
 
--- the answer of a command: a run of `publish` begins with the empty version 0
-abbrev pub IsCommandAnswer : Command → Outside → Answer → Type 0
-IsCommandAnswer (Show kind) outside answer =
-    IsFolderFailure outside answer ⊎ (IsShown outside kind answer × (outside.now ≡ outside.before)) ⊎ WantsMemory answer
-IsCommandAnswer (Publish feeds) outside answer = IsRunOf outside empty_version feeds answer.done answer.end
+-- the hub couldn't be opened: its keeper failed, and the keeper's count of faults rose
+abbrev pub IsHubFailure : Outside → Answer → Type 0
+IsHubFailure outside answer = (answer.done ≡ []) × (answer.end ≡ HubFailed) × HaveRisen outside.keeper
+
+-- the answer of `show`, which looks at no hub
+abbrev pub IsShowAnswer : Kind → Outside → Answer → Type 0
+IsShowAnswer kind outside answer = IsFolderFailure outside answer ⊎ (IsShown outside kind answer × HaveStood outside.folder) ⊎ WantsMemory answer
+
+-- the answer of a command, and the states of the hub before it and after it
+abbrev pub IsCommandAnswer : Command → Outside → Answer → KeptState → KeptState → Type 0
+IsCommandAnswer (Show kind) outside answer before after =
+    (after ≡ before) × IsShowAnswer kind outside answer
+IsCommandAnswer (Publish feeds) outside answer before after =
+    ((after ≡ before) × IsHubFailure outside answer) ⊎ IsRunOf outside feeds answer.done answer.end before after
 
 -- the answer to words
-abbrev pub IsAnswer : Result Parsed ℕ → Outside → Answer → Type 0
-IsAnswer (Err place) outside answer =
-    ((answer ≡ record { done = []; end = BadWord place }) × (outside.now ≡ outside.before)) ⊎ WantsMemory answer
-IsAnswer (Ok parsed) outside answer = IsCommandAnswer parsed.command outside answer ⊎ WantsMemory answer
+abbrev pub IsAnswer : Result Parsed ℕ → Outside → Answer → KeptState → KeptState → Type 0
+IsAnswer (Err place) outside answer before after =
+    (after ≡ before) × (((answer ≡ record { done = []; end = BadWord place }) × NothingFailed outside) ⊎ WantsMemory answer)
+IsAnswer (Ok parsed) outside answer before after = IsCommandAnswer parsed.command outside answer before after ⊎ ((after ≡ before) × WantsMemory answer)
+
+-- a relation of states holds of a run over a keeper that stood for what `old` holds of, and then for what `new` holds of: there is a
+-- state of a hub from which it leads to another; and where the keeper tells, it stood for such a state before
+pub record LeadsFrom (old new : KeptState → Type 0) (leads : KeptState → KeptState → Type 0) : Type 0 where
+  pub before : KeptState
+  pub after : KeptState
+  pub is : IsKept before
+  pub some : leads before after
+  pub told : (now : KeptState) → new now → (stood : KeptState) × old stood × leads stood now

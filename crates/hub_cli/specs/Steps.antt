@@ -1,19 +1,17 @@
 -- What the steps of `publish` give.
-use Rattle.std.specs.Prelude.{◌≡◌, ◌⊎◌, ⊤, ℕ, ℤ, List, Option, Result, Ok, Err}
-use Rattle.std.specs.Global.{Global}
-use Rattle.std.specs.Prelude.{String, string_bytes}
+use Rattle.std.specs.Prelude.{◌≡◌, ⊤, ℕ, List, Option, Result, Ok, Err}
 use Rattle.csv_sets.specs.declared.fault.SetFault.{SetFault}
 use Rattle.csv_sets.specs.declared.fault.SetFault.TheVariants.{Folder}
+use Rattle.hub_core.specs.declared.hub_error.HubError.{HubError}
+use Rattle.hub_core.specs.declared.hub_error.HubError.TheVariants as error
+use Rattle.hub_core.specs.declared.published.Published.{Published}
+use Rattle.keeper_memory.specs.Kept.{KeptState}
 use Rattle.outside_ports.specs.Files.{Stored}
-use Rattle.roster_base.specs.Faults.{Rose}
-use Rattle.roster_base.specs.declared.memory.NoMemory.{NoMemory as Want}
 use Rattle.roster_types.specs.Sets.{SetRecord}
-use Rattle.set_changes.specs.Applying.{Applies, Outcome, Refuses}
-use Rattle.version_core.specs.declared.change.BaseVersion.{BaseVersion}
-use Rattle.hub_cli.specs.Outside.{Outside}
-use Rattle.hub_cli.specs.Publishes.{IsSetOf, Publishes, StopsAt, Told}
+use Rattle.hub_cli.specs.Outside.{Faults, HaveRisen, HaveStood, NothingFailed, Outside}
+use Rattle.hub_cli.specs.Publishes.{IsSetOf, PublishesSet, StopsAt}
 use Rattle.hub_cli.specs.declared.answer.End.{End}
-use Rattle.hub_cli.specs.declared.answer.End.TheVariants.{FolderFailed, NoMemory, NotPublished, Refused}
+use Rattle.hub_cli.specs.declared.answer.End.TheVariants.{FolderFailed, HubFailed, NoMemory, NotPublished, Refused}
 use Rattle.hub_cli.specs.declared.words.Feed.{Feed}
 
 -- the end that a set's fault brings
@@ -21,27 +19,21 @@ abbrev pub end_of : SetFault → End
 end_of Folder = FolderFailed
 end_of fault = Refused fault
 
--- the set of a feed, or the end that it brings, and the folder's count of faults before and after
-abbrev pub ReadsSet : Option (List Stored) → ℕ → ℕ → Feed → Result SetRecord End → Type 0
-ReadsSet files before now feed (Ok set) = IsSetOf files feed (Ok set) × (now ≡ before)
-ReadsSet files before now feed (Err FolderFailed) = Rose before now
-ReadsSet files before now feed (Err (Refused fault)) = IsSetOf files feed (Err fault) × (now ≡ before)
-ReadsSet files before now feed (Err NoMemory) = ⊤
-ReadsSet files before now feed (Err _) = ⊥
+-- the end that a hub's error brings
+abbrev pub end_of_error : HubError → End
+end_of_error error.Keeper = HubFailed
+end_of_error error.NoMemory = NoMemory
+end_of_error (error.Refused fault) = NotPublished fault
 
--- a line, or the end that want of memory for it brings
-abbrev pub or_no_memory : Result (String Global) Want → Result (String Global) End
-or_no_memory (Ok line) = Ok line
-or_no_memory (Err e) = Err NoMemory
+-- the set of a feed, or the end that it brings, and the folder's faults
+abbrev pub ReadsSet : Option (List Stored) → Faults → Feed → Result SetRecord End → Type 0
+ReadsSet files faults feed (Ok set) = IsSetOf files feed (Ok set) × HaveStood faults
+ReadsSet files faults feed (Err FolderFailed) = HaveRisen faults
+ReadsSet files faults feed (Err (Refused fault)) = IsSetOf files feed (Err fault) × HaveStood faults
+ReadsSet files faults feed (Err NoMemory) = ⊤
+ReadsSet files faults feed (Err _) = ⊥
 
--- what a set makes of the newest version, and the line that tells it
-abbrev pub AppliesSet : BaseVersion → BaseVersion → SetRecord → ℤ → Result (String Global) End → Type 0
-AppliesSet version next set at (Ok line) = (outcome : Outcome) × Applies version set at outcome × Told version set.feed outcome next (string_bytes line)
-AppliesSet version next set at (Err (NotPublished fault)) = Applies version set at (Refuses fault)
-AppliesSet version next set at (Err NoMemory) = ⊤
-AppliesSet version next set at (Err _) = ⊥
-
--- what the set of a feed makes of the newest version, and the line that tells it
-abbrev pub PublishesFeed : Outside → BaseVersion → BaseVersion → Feed → Result (String Global) End → Type 0
-PublishesFeed outside version next feed (Ok line) = Publishes outside version feed next (string_bytes line) × (outside.now ≡ outside.before)
-PublishesFeed outside version next feed (Err end) = StopsAt outside version feed end ⊎ (end ≡ NoMemory)
+-- what the hub makes of the set of a feed, or how that ends
+abbrev pub PublishesFeed : Outside → Feed → Result Published End → KeptState → KeptState → Type 0
+PublishesFeed outside feed (Ok answer) before after = PublishesSet outside feed (Ok answer) before after × NothingFailed outside
+PublishesFeed outside feed (Err end) before after = StopsAt outside feed end before after

@@ -1,14 +1,18 @@
 -- The command that words spell, or the place of the first word that no command continues.
-use Rattle.std.specs.Prelude.{ℕ, ◌+◌, ◌==◌, ◌&&◌, Bool, false, not, List, [], ◌∷◌, Option, None, Some, Result, Ok, Err, bytes_eq, codes, if◌then◌else◌, unwrap_or}
+use Rattle.std.specs.Prelude.{ℕ, ◌+◌, ◌==◌, ◌&&◌, ◌||◌, Bool, false, not, List, [], ◌∷◌, Option, None, Some, Result, Ok, Err, bytes_eq, codes, if◌then◌else◌, is_none, is_some, length, nat_le, nat_lt, unwrap_or}
 use Rattle.std.specs.List.{after_first, before_first}
 use Rattle.roster_base.specs.Reading.{◌>>=◌}
-use Rattle.roster_texts.specs.Signs.{dot}
+use Rattle.roster_texts.specs.Digits.{digits_value}
+use Rattle.roster_texts.specs.Signs.{digit_zero, dot}
 use Rattle.roster_texts.specs.Texts.{is_name}
 use Rattle.roster_values.specs.Kinds.{kind_of_word}
 use Rattle.roster_values.specs.declared.kind.Kind.{Kind}
 use Rattle.hub_cli.specs.declared.words.Command.{Command}
 use Rattle.hub_cli.specs.declared.words.Command.TheVariants.{Publish, Show}
 use Rattle.hub_cli.specs.declared.words.Feed.{Feed}
+use Rattle.hub_cli.specs.declared.words.OptionWord.{OptionWord}
+use Rattle.hub_cli.specs.declared.words.OptionWord.TheVariants.{Folder, Keep}
+use Rattle.hub_cli.specs.declared.words.Options.{Options}
 use Rattle.hub_cli.specs.declared.words.Parsed.{Parsed}
 
 -- a command whose words end here, before the word of that place
@@ -70,24 +74,78 @@ command_words place (word ∷ words) =
     else if bytes_eq word (codes "publish") then publish_words (place + 1) words
     else Err place
 
-abbrev pub with_folder : Option (List ℕ) → Result Command ℕ → Result Parsed ℕ
-with_folder folder command = do
+-- ---- options
+
+abbrev pub no_options : Options
+no_options = record { folder = None; keep = None }
+
+-- the option that a word names, if it isn't given yet
+unfoldable pub option_of : Options → List ℕ → Option OptionWord
+option_of options word =
+    if bytes_eq word (codes "--folder") && is_none options.folder then Some Folder
+    else if bytes_eq word (codes "--keep") && is_none options.keep then Some Keep
+    else None
+
+-- a number in at most 12 digits, the first of which isn't 0
+unfoldable pub number_in : List ℕ → Option ℕ
+number_in [] = None
+number_in (b ∷ bs) = if (b == digit_zero) || nat_lt 12 (length (b ∷ bs)) then None else digits_value (b ∷ bs)
+
+abbrev pub largest_keep : ℕ
+largest_keep = 100000
+
+-- how many versions are to be kept beside the newest: 1 to 100,000
+abbrev pub in_bounds : Option ℕ → Option ℕ
+in_bounds None = None
+in_bounds (Some n) = if nat_le 1 n && nat_le n largest_keep then Some n else None
+
+abbrev pub with_keep : ℕ → Options → Option ℕ → Result Options ℕ
+with_keep place options None = Err place
+with_keep place options (Some n) = Ok (record options { keep = Some n })
+
+abbrev pub with_folder : ℕ → Options → List ℕ → Result Options ℕ
+with_folder place options [] = Err place
+with_folder place options (b ∷ bs) = Ok (record options { folder = Some (b ∷ bs) })
+
+-- the options with one more, whose value stands at a place
+abbrev pub set_option : ℕ → Options → OptionWord → List ℕ → Result Options ℕ
+set_option place options Folder value = with_folder place options value
+set_option place options Keep value = with_keep place options (in_bounds (number_in value))
+
+abbrev pub with_options : Options → Result Command ℕ → Result Parsed ℕ
+with_options options command = do
   c ← command
-  Ok (record { folder = folder; command = c })
+  Ok (record { folder = options.folder; keep = options.keep; command = c })
 
--- behind `--folder`: a word that isn't empty, and a command
-abbrev pub folder_words : List (List ℕ) → Result Parsed ℕ
-folder_words [] = Err 1
-folder_words ([] ∷ words) = Err 1
-folder_words ((b ∷ bs) ∷ words) = with_folder (Some (b ∷ bs)) (command_words 2 words)
+-- what follows a word: options behind the value of one, or the command that begins with the word
+abbrev pub behind : Option (Result Options ℕ) → Result Parsed ℕ → (Options → Result Parsed ℕ) → Result Parsed ℕ
+behind None command more = command
+behind (Some options) command more = options >>= more
 
--- options first, each at most once, and then a command
-unfoldable pub split : List (List ℕ) → Result Parsed ℕ
-split [] = Err 0
-split (word ∷ words) =
-    if bytes_eq word (codes "--folder") then folder_words words else with_folder None (command_words 0 (word ∷ words))
+abbrev pub set_if : ℕ → Options → Option OptionWord → List ℕ → Option (Result Options ℕ)
+set_if place options None value = None
+set_if place options (Some option) value = Some (set_option place options option value)
+
+-- options, each at most once and with its value behind it, and then a command
+unfoldable pub option_words : ℕ → Options → List (List ℕ) → Result Parsed ℕ
+option_words place options [] = Err place
+option_words place options (word ∷ []) =
+    if is_some (option_of options word) then Err (place + 1) else with_options options (command_words place (word ∷ []))
+option_words place options (word ∷ value ∷ words) =
+    behind (set_if (place + 1) options (option_of options word) value)
+    (with_options options (command_words place (word ∷ value ∷ words)))
+    (λ more. option_words (place + 2) more words)
+
+-- options first, and then a command
+abbrev pub split : List (List ℕ) → Result Parsed ℕ
+split words = option_words 0 no_options words
 
 -- the root folder: the one that the words name, and else the working folder
 abbrev pub root_in : Result Parsed ℕ → List ℕ
 root_in (Ok parsed) = unwrap_or parsed.folder []
 root_in (Err place) = []
+
+-- how many versions a new keeper keeps beside the newest
+abbrev pub keep_in : Result Parsed ℕ → ℕ
+keep_in (Ok parsed) = unwrap_or parsed.keep 10000
+keep_in (Err place) = 10000

@@ -4,7 +4,9 @@ ghost use Rattle.std.specs.Prelude.{◌≡◌, ◌≢◌, [], IfOk, IsOk, string
 ghost use Rattle.hub_cli.specs.Answers as answers;
 ghost use Rattle.hub_cli.specs.declared.answer.End.TheVariants as ends;
 
-use crate::lines::{FOLDER_FAILED, NO_MEMORY, bad_word_line, fault_line, publish_fault_lines};
+use crate::lines::{
+    FOLDER_FAILED, HUB_FAILED, NO_MEMORY, bad_word_line, fault_line, publish_fault_lines,
+};
 use csv_sets::SetFault;
 use roster_base::{NoMemory, Text};
 use set_changes::PublishFault;
@@ -22,6 +24,8 @@ pub enum End {
     Refused(SetFault),
     /// A set isn't published, for this reason, the first.
     NotPublished(PublishFault),
+    /// The hub's keeper failed, and its count of faults rose.
+    HubFailed,
     /// Memory ran out, which says nothing of the input.
     NoMemory,
 }
@@ -46,7 +50,7 @@ impl Answer {
 }
 
 impl End {
-    /// The status of the process: 0, 2, 3, 4 or 17.
+    /// The status of the process: 0, 2, 3, 4, 5 or 17.
     pub fn status(&self) -> u8
         ensures value { result ≡ answers.status_of self.now }
         ensures other { result ≢ 1 }
@@ -56,6 +60,7 @@ impl End {
             End::BadWord(_) => 2,
             End::FolderFailed => 3,
             End::Refused(_) | End::NotPublished(_) => 4,
+            End::HubFailed => 5,
             End::NoMemory => 17,
         }
     }
@@ -71,6 +76,7 @@ impl End {
             End::FolderFailed => Ok(String::from_str(alloc, FOLDER_FAILED)?),
             End::Refused(fault) => fault_line(alloc, fault),
             End::NotPublished(fault) => publish_fault_lines(alloc, fault),
+            End::HubFailed => Ok(String::from_str(alloc, HUB_FAILED)?),
             End::NoMemory => Ok(String::from_str(alloc, NO_MEMORY)?),
         }
     }

@@ -12,4 +12,6 @@ pub mod words;
 
 pub use answer::{Answer, End};
 pub use run::{print, run_hub};
-pub use words::{Command, Feed, Parsed, WordError, root_of, split_words};
+pub use words::{
+    Command, Feed, OptionWord, Options, Parsed, WordError, keep_of, root_of, split_words,
+};

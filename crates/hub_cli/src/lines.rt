@@ -19,6 +19,9 @@ use std::alloc::Global;
 /// Status 3.
 pub const FOLDER_FAILED: &str = "folder failed\n";
 
+/// Status 5.
+pub const HUB_FAILED: &str = "hub store failed\n";
+
 /// Status 17.
 pub const NO_MEMORY: &str = "no memory\n";
 

@@ -1,30 +1,26 @@
 //! The command `publish`.
 
-ghost use Rattle.std.specs.Prelude.{◌≡◌, ◌⊎◌, ◌++◌, ℕ, List, IfOk, IsOk, string_bytes};
-ghost use Rattle.set_changes.specs.Applying.{LeadsOn};
-ghost use Rattle.set_changes.specs.Steps.{IsSound};
-ghost use Rattle.version_core.specs.Version.{after, empty_version, newest_of};
-ghost use Rattle.hub_cli.specs.Lines.{published_text};
-ghost use Rattle.hub_cli.specs.Outside.{outside_of};
-ghost use Rattle.hub_cli.specs.Publishes.{IsRunOf};
-ghost use Rattle.hub_cli.specs.Steps.{AppliesSet, PublishesFeed, ReadsSet, end_of, or_no_memory};
+ghost use Rattle.std.specs.Prelude.{◌≡◌, ◌++◌, ℕ, List, IfOk, OnErr, OnOk, false, string_bytes};
+ghost use Rattle.hub_core.specs.Standing.{IsStanding, KeeperFits};
+ghost use Rattle.keeper_memory.specs.Kept.{IsKept, KeptState};
+ghost use Rattle.hub_cli.specs.Outside.{faults_of, outside_of};
+ghost use Rattle.hub_cli.specs.Publishes.{IsRunOf, told_text};
+ghost use Rattle.hub_cli.specs.Runs.{IsCommandAnswer, LeadsFrom};
+ghost use Rattle.hub_cli.specs.Steps.{PublishesFeed, ReadsSet, end_of, end_of_error};
+ghost use Rattle.hub_cli.specs.declared.words.Command.{Command};
 
 use crate::answer::{Answer, End};
 use crate::lines::{published_line, unchanged_line};
 use crate::moment::moment_of;
 use crate::words::Feed;
 use csv_sets::{SetFault, read_set};
+use hub_core::{Hub, HubError, Published};
+use keeper_memory::HubKeeper;
 use outside_ports::{Clock, Folder};
-use roster_base::{NoMemory, Refusal, Text};
-use roster_texts::{Moment, Name};
+use roster_base::{Items, NoMemory, Refusal, Text};
+use roster_texts::Name;
 use roster_types::set::RosterSet;
-use set_changes::set_change_over;
 use std::alloc::Global;
-use version_core::change::Change;
-use version_core::table::Table;
-
-// How many versions are kept beside the newest.
-const KEEP: u64 = 10_000;
 
 // The end that a set's fault brings.
 fn end_of(fault: SetFault) -> End
@@ -36,9 +32,20 @@ fn end_of(fault: SetFault) -> End
     }
 }
 
+/// The end that a hub's error brings.
+pub fn end_of_error(error: HubError) -> End
+    ensures { result ≡ end_of_error error }
+{
+    match error {
+        HubError::Keeper => End::HubFailed,
+        HubError::NoMemory => End::NoMemory,
+        HubError::Refused(fault) => End::NotPublished(fault),
+    }
+}
+
 // The set of a feed, or the end that it brings.
 fn set_of<F: Folder>(alloc: Global, feed: &Feed, folder: &mut F) -> Result<RosterSet, End>
-    ensures set { ReadsSet (F.files folder.old) (F.faults folder.old) (F.faults folder.new) feed.now result }
+    ensures set { ReadsSet (F.files folder.old) (faults_of (F.faults folder.old) (F.faults folder.new)) feed.now result }
     ensures files { F.files folder.new ≡ F.files folder.old }
 {
     match read_set(alloc, folder, feed.dir.as_str(), &feed.name) {
@@ -48,98 +55,113 @@ fn set_of<F: Folder>(alloc: Global, feed: &Feed, folder: &mut F) -> Result<Roste
     }
 }
 
-// Adds a change to the table, and gives the line that tells it. All memory is taken before.
-fn add(alloc: Global, table: &mut Table, feed: &Name, change: Change) -> Result<String, NoMemory>
-    requires { LeadsOn (newest_of table.old) change }
-    ensures line { IfOk result (λ line. string_bytes line ≡ published_text feed.now change.version) }
-    ensures table { IsOk result → newest_of table.new ≡ after (newest_of table.old) change }
+// The line of what was made of a set of this name.
+fn told_line(alloc: Global, name: &Name, answer: Published) -> Result<String, NoMemory>
+    ensures { IfOk result (λ line. string_bytes line ≡ told_text name.now answer) }
 {
-    let line = published_line(alloc, feed, change.version)?;
-    table.reserve(&change)?;
-    table.add(change);
-    Ok(line)
-}
-
-fn or_no_memory(line: Result<String, NoMemory>) -> Result<String, End>
-    ensures { result ≡ or_no_memory line }
-{
-    match line {
-        Ok(line) => Ok(line),
-        Err(NoMemory) => Err(End::NoMemory),
+    match answer {
+        Published::New { version } => published_line(alloc, name, version),
+        Published::Same { version } => unchanged_line(alloc, name, version),
     }
 }
 
-// Adds what a set changes to the table, and gives the line that tells it. The newest version stays sound, so mostly the references of
-// the rows that change are all that is checked.
-fn apply(alloc: Global, table: &mut Table, set: &RosterSet, at: Moment) -> Result<String, End>
-    requires { IsSound (newest_of table.old) }
-    ensures set { AppliesSet (newest_of table.old) (newest_of table.new) set.now at result }
-    ensures sound { IsOk result → IsSound (newest_of table.new) }
+// Adds the line of what was made of a set of this name. Where memory runs out, nothing is added.
+fn tell(alloc: Global, done: &mut String, name: &Name, answer: Published) -> Result<(), NoMemory>
+    ensures ok { OnOk result (string_bytes done.new ≡ string_bytes done.old ++ told_text name.now answer) }
+    ensures err { OnErr result (string_bytes done.new ≡ string_bytes done.old) }
 {
-    match set_change_over(alloc, table, true, set, at) {
-        Ok(Some(change)) => or_no_memory(add(alloc, table, set.feed(), change)),
-        Ok(None) => or_no_memory(unchanged_line(alloc, set.feed(), table.newest())),
-        Err(Refusal::Fault(fault)) => Err(End::NotPublished(fault)),
-        Err(Refusal::NoMemory) => Err(End::NoMemory),
-    }
+    let line = told_line(alloc, name, answer)?;
+    done.push_str(line.as_str())?;
+    Ok(())
 }
 
-// Publishes the set of a feed, and gives the line that tells it.
-fn publish_feed<F: Folder, K: Clock>(
+// Publishes the set of a feed.
+fn publish_feed<F: Folder, H: HubKeeper, K: Clock>(
     alloc: Global,
-    table: &mut Table,
+    hub: &mut Hub,
+    keeper: &mut H,
     feed: &Feed,
     folder: &mut F,
     clock: &K,
-) -> Result<String, End>
-    requires { IsSound (newest_of table.old) }
-    ensures set { PublishesFeed (outside_of (F.files folder.old) (K.moment clock.now) (F.faults folder.old) (F.faults folder.new)) (newest_of table.old) (newest_of table.new) feed.now result }
+) -> Result<Published, End>
+    requires { KeeperFits (H.stands_for keeper.old) hub.old }
+    ensures fits { KeeperFits (H.stands_for keeper.new) hub.new }
+    ensures told { (after : KeptState) → IsStanding hub.new after → (before : KeptState) × IsStanding hub.old before × (H.stands_for keeper.new after → H.stands_for keeper.old before)
+        × PublishesFeed (outside_of (F.files folder.old) (K.moment clock.now) (faults_of (F.faults folder.old) (F.faults folder.new)) (faults_of (H.fault_count keeper.old) (H.fault_count keeper.new))) feed.now result before after }
     ensures files { F.files folder.new ≡ F.files folder.old }
-    ensures sound { IsOk result → IsSound (newest_of table.new) }
 {
     let set = set_of(alloc, feed, folder)?;
-    apply(alloc, table, &set, moment_of(clock))
+    let answer = hub.publish(alloc, keeper, &set, moment_of(clock));
+    drop(set);
+    match answer {
+        Ok(published) => Ok(published),
+        Err(error) => Err(end_of_error(error)),
+    }
 }
 
 // Publishes the sets of feeds up to the first that isn't, and adds the lines that tell them.
-fn publish_feeds<F: Folder, K: Clock>(
+fn publish_feeds<F: Folder, H: HubKeeper, K: Clock>(
     alloc: Global,
-    table: &mut Table,
+    hub: &mut Hub,
+    keeper: &mut H,
     feeds: &[Feed],
     folder: &mut F,
     clock: &K,
     done: &mut String,
 ) -> End
-    requires { IsSound (newest_of table.old) }
-    ensures { (more : List ℕ) × (string_bytes done.new ≡ string_bytes done.old ++ more)
-        × IsRunOf (outside_of (F.files folder.old) (K.moment clock.now) (F.faults folder.old) (F.faults folder.new)) (newest_of table.old) feeds.now more result }
+    requires { KeeperFits (H.stands_for keeper.old) hub.old }
+    ensures fits { KeeperFits (H.stands_for keeper.new) hub.new }
+    ensures run { (more : List ℕ) × (string_bytes done.new ≡ string_bytes done.old ++ more)
+        × ((after : KeptState) → IsStanding hub.new after → (before : KeptState) × IsStanding hub.old before × (H.stands_for keeper.new after → H.stands_for keeper.old before)
+        × IsRunOf (outside_of (F.files folder.old) (K.moment clock.now) (faults_of (F.faults folder.old) (F.faults folder.new)) (faults_of (H.fault_count keeper.old) (H.fault_count keeper.new))) feeds.now more result before after) }
 {
     for feed in feeds {
-        let line = match publish_feed(alloc, table, feed, folder, clock) {
-            Ok(line) => line,
+        let answer = match publish_feed(alloc, hub, keeper, feed, folder, clock) {
+            Ok(answer) => answer,
             Err(end) => return end,
         };
-        if let Err(_) = done.push_str(line.as_str()) {
+        if let Err(NoMemory) = tell(alloc, done, &feed.name, answer) {
             return End::NoMemory;
         }
     }
     End::Done
 }
 
-/// Publishes the sets of feeds one after another, from the empty version 0 on, up to the first that is refused.
-pub fn publish<F: Folder, K: Clock>(
+// Publishes the sets of feeds into a hub that was opened.
+fn publish_into<F: Folder, H: HubKeeper, K: Clock>(
     alloc: Global,
+    mut hub: Hub,
     feeds: &[Feed],
     folder: &mut F,
+    keeper: &mut H,
     clock: &K,
 ) -> Answer
-    ensures { IsRunOf (outside_of (F.files folder.old) (K.moment clock.now) (F.faults folder.old) (F.faults folder.new)) empty_version feeds.now result.done result.end }
+    requires fits { KeeperFits (H.stands_for keeper.old) hub }
+    requires settled { hub.is_open ≡ false }
+    requires kept { IsKept hub.kept }
+    ensures { LeadsFrom (H.stands_for keeper.old) (H.stands_for keeper.new) (IsRunOf (outside_of (F.files folder.old) (K.moment clock.now) (faults_of (F.faults folder.old) (F.faults folder.new)) (faults_of (H.fault_count keeper.old) (H.fault_count keeper.new))) feeds.now result.done result.end) }
 {
-    let mut table = Table::new(alloc, KEEP);
     let mut done = String::new(alloc);
-    let end = publish_feeds(alloc, &mut table, feeds, folder, clock, &mut done);
+    let end = publish_feeds(alloc, &mut hub, keeper, feeds, folder, clock, &mut done);
+    drop(hub);
     Answer {
         done: Text::from_string(done),
         end,
+    }
+}
+
+/// Publishes the sets of feeds one after another into the hub that a keeper keeps, up to the first that is refused.
+pub fn publish<F: Folder, H: HubKeeper, K: Clock>(
+    alloc: Global,
+    feeds: &Items<Feed>,
+    folder: &mut F,
+    keeper: &mut H,
+    clock: &K,
+) -> Answer
+    ensures { LeadsFrom (H.stands_for keeper.old) (H.stands_for keeper.new) (IsCommandAnswer (Command.Publish feeds.now) (outside_of (F.files folder.old) (K.moment clock.now) (faults_of (F.faults folder.old) (F.faults folder.new)) (faults_of (H.fault_count keeper.old) (H.fault_count keeper.new))) result) }
+{
+    match Hub::open(alloc, keeper) {
+        Ok(hub) => publish_into(alloc, hub, feeds.as_slice(), folder, keeper, clock),
+        Err(error) => Answer::nothing_done(alloc, end_of_error(error)),
     }
 }

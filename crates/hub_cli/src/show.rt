@@ -2,12 +2,11 @@
 
 ghost use Rattle.std.specs.Prelude.{◌≡◌, [], IfOk, map, string_bytes};
 ghost use Rattle.csv_sets.specs.Files as files;
-ghost use Rattle.hub_cli.specs.Outside.{outside_of};
+ghost use Rattle.hub_cli.specs.Outside.{Faults, faults_of, outside_of};
 ghost use Rattle.hub_cli.specs.Reads.{IsAnswerTo};
-ghost use Rattle.hub_cli.specs.Runs.{IsCommandAnswer};
+ghost use Rattle.hub_cli.specs.Runs.{IsShowAnswer};
 ghost use Rattle.hub_cli.specs.Shows.{answer_of_rows, dated_row, shown_text};
 ghost use Rattle.hub_cli.specs.declared.answer.End.TheVariants.{Done, Refused};
-ghost use Rattle.hub_cli.specs.declared.words.Command.{Command};
 
 use crate::answer::{Answer, End};
 use crate::moment::moment_of;
@@ -95,7 +94,7 @@ pub fn show<F: Folder, K: Clock>(
     folder: &mut F,
     clock: &K,
 ) -> Result<Answer, NoMemory>
-    ensures { IfOk result (λ a. IsCommandAnswer (Command.Show kind) (outside_of (F.files folder.old) (K.moment clock.now) (F.faults folder.old) (F.faults folder.new)) a) }
+    ensures { IfOk result (λ a. (keeper : Faults) → IsShowAnswer kind (outside_of (F.files folder.old) (K.moment clock.now) (faults_of (F.faults folder.old) (F.faults folder.new)) keeper) a) }
 {
     let at = moment_of(clock);
     match folder.read(alloc, "", kind.file_name(), LARGEST as u64) {

@@ -1,11 +1,12 @@
 //! The words of the command line.
 
-ghost use Rattle.std.specs.Prelude.{◌≡◌, ◌≤◌, IfOk, Ok, map, string_bytes};
+ghost use Rattle.std.specs.Prelude.{◌≡◌, ◌+◌, ◌<◌, ◌^◌, IfOk, Ok, length, map, string_bytes};
 ghost use Rattle.roster_base.specs.Reading.{Gives};
-ghost use Rattle.hub_cli.specs.Words.{command_words, ended, feed_in, feed_of, feed_words, folder_words, is_file_word, publish_words, root_in, show_words, split};
+ghost use Rattle.hub_cli.specs.Words.{command_words, ended, feed_in, feed_of, feed_words, in_bounds, is_file_word, keep_in, no_options, number_in, option_of, option_words, publish_words, root_in, set_option, show_words, split, with_folder, with_keep, with_options};
 
 use roster_base::{Items, NoMemory, Refusal, Text};
 use roster_texts::Name;
+use roster_texts::digits::number;
 use roster_values::Kind;
 use std::alloc::Global;
 
@@ -25,13 +26,36 @@ pub enum Command {
     Publish { feeds: Items<Feed> },
 }
 
+/// An option, whose value is the word behind it.
+#[derive(Clone, Copy)]
+pub enum OptionWord {
+    Folder,
+    Keep,
+}
+
+/// The options that are given.
+#[derive(Drop)]
+pub struct Options {
+    /// The folder of the files, where another than the working folder is named.
+    pub folder: Option<Text>,
+    /// How many versions a new keeper keeps beside the newest.
+    pub keep: Option<u32>,
+}
+
 /// What the words say: the options, which stand first, and the command.
 #[derive(Drop)]
 pub struct Parsed {
     /// The folder of the files, where another than the working folder is named.
     pub folder: Option<Text>,
+    /// How many versions a new keeper keeps beside the newest, where the words say so: 1 to 100,000.
+    pub keep: Option<u32>,
     pub command: Command,
 }
+
+/// How many versions a new keeper keeps beside the newest at most, and where the words don't say.
+const LARGEST_KEEP: u64 = 100_000;
+
+const USUAL_KEEP: u32 = 10_000;
 
 /// Why words are no command: the place, from 0, of the first word that no command continues, or the number of words
 /// where one is missing.
@@ -48,7 +72,7 @@ fn end(place: usize, command: Command, words: &[String]) -> Result<Command, Word
 }
 
 fn show(place: usize, words: &[String]) -> Result<Command, WordError>
-    requires { place ≤ 3 }
+    requires { place + length words.now < 2 ^ 63 }
     ensures { Gives (λ c. c) result (show_words place (map string_bytes words.now)) }
 {
     let Some((word, words)) = words.split_first() else {
@@ -96,7 +120,7 @@ fn feed_of(alloc: Global, word: &str) -> Result<Option<Feed>, NoMemory>
 
 // The feed that each word names.
 fn feeds_at(alloc: Global, place: usize, words: &[String]) -> Result<Vec<Feed>, WordError>
-    requires { place ≤ 3 }
+    requires { place + length words.now < 2 ^ 63 }
     ensures { Gives (λ v. v.items) result (feed_words place (map string_bytes words.now)) }
 {
     let mut feeds = Vec::new(alloc);
@@ -110,7 +134,7 @@ fn feeds_at(alloc: Global, place: usize, words: &[String]) -> Result<Vec<Feed>, 
 }
 
 fn publish(alloc: Global, place: usize, words: &[String]) -> Result<Command, WordError>
-    requires { place ≤ 3 }
+    requires { place + length words.now < 2 ^ 63 }
     ensures { Gives (λ c. c) result (publish_words place (map string_bytes words.now)) }
 {
     if words.is_empty() {
@@ -122,7 +146,7 @@ fn publish(alloc: Global, place: usize, words: &[String]) -> Result<Command, Wor
 
 // The command of the words from a place on.
 fn command_at(alloc: Global, place: usize, words: &[String]) -> Result<Command, WordError>
-    requires { place ≤ 2 }
+    requires { place + length words.now < 2 ^ 63 }
     ensures { Gives (λ c. c) result (command_words place (map string_bytes words.now)) }
 {
     match words.split_first() {
@@ -132,43 +156,150 @@ fn command_at(alloc: Global, place: usize, words: &[String]) -> Result<Command, 
     }
 }
 
-// The folder behind its option, and the command behind that.
-fn in_folder(alloc: Global, words: &[String]) -> Result<Parsed, WordError>
-    ensures { Gives (λ p. p) result (folder_words (map string_bytes words.now)) }
+// The command from a place on, behind these options.
+fn with_command(
+    alloc: Global,
+    place: usize,
+    options: Options,
+    words: &[String],
+) -> Result<Parsed, WordError>
+    requires { place + length words.now < 2 ^ 63 }
+    ensures { Gives (λ p. p) result (with_options options (command_words place (map string_bytes words.now))) }
 {
-    let Some((word, words)) = words.split_first() else {
-        return Err(Refusal::Fault(1));
-    };
-    if word.as_str().is_empty() {
-        return Err(Refusal::Fault(1));
+    let command = command_at(alloc, place, words)?;
+    let Options { folder, keep } = options;
+    Ok(Parsed {
+        folder,
+        keep,
+        command,
+    })
+}
+
+// The option that a word names, if it isn't given yet.
+#[tactic(auto, unfolding(crate::specs::Words::option_of))]
+fn option_of(options: &Options, word: &str) -> Option<OptionWord>
+    ensures { result ≡ option_of options.now word.now }
+{
+    if word == "--folder" && options.folder.is_none() {
+        return Some(OptionWord::Folder);
     }
-    let command = command_at(alloc, 2, words)?;
-    let folder = Some(Text::new(alloc, word.as_str())?);
-    Ok(Parsed { folder, command })
+    if word == "--keep" && options.keep.is_none() {
+        return Some(OptionWord::Keep);
+    }
+    None
+}
+
+// The number that a word writes, without a zero in front.
+#[tactic(auto, unfolding(crate::specs::Words::number_in))]
+fn number_in(word: &str) -> Option<u64>
+    ensures { result ≡ number_in word.now }
+{
+    let digits = word.as_bytes();
+    match digits.first() {
+        None | Some(b'0') => None,
+        Some(_) if digits.len() > 12 => None,
+        Some(_) => number(digits),
+    }
+}
+
+// How many versions a word wants to be kept beside the newest.
+fn keep_word(word: &str) -> Option<u32>
+    ensures { result ≡ in_bounds (number_in word.now) }
+{
+    match number_in(word) {
+        Some(keep) if 1 <= keep && keep <= LARGEST_KEEP => Some(keep as u32),
+        _ => None,
+    }
+}
+
+// The options with the folder that a word names.
+fn with_folder(
+    alloc: Global,
+    place: usize,
+    options: Options,
+    value: &str,
+) -> Result<Options, WordError>
+    ensures { Gives (λ o. o) result (with_folder place options value.now) }
+{
+    if value.is_empty() {
+        return Err(Refusal::Fault(place));
+    }
+    let folder = Some(Text::new(alloc, value)?);
+    Ok(Options { folder, ..options })
+}
+
+// The options with as many versions to keep as a word says.
+fn with_keep(place: usize, options: Options, value: &str) -> Result<Options, WordError>
+    ensures { Gives (λ o. o) result (with_keep place options (in_bounds (number_in value.now))) }
+{
+    match keep_word(value) {
+        Some(keep) => Ok(Options {
+            keep: Some(keep),
+            ..options
+        }),
+        None => Err(Refusal::Fault(place)),
+    }
+}
+
+// The options with one more, whose value stands at a place.
+fn set_option(
+    alloc: Global,
+    place: usize,
+    options: Options,
+    option: OptionWord,
+    value: &str,
+) -> Result<Options, WordError>
+    ensures { Gives (λ o. o) result (set_option place options option value.now) }
+{
+    match option {
+        OptionWord::Folder => with_folder(alloc, place, options, value),
+        OptionWord::Keep => with_keep(place, options, value),
+    }
+}
+
+// The options from a place on, each at most once, and the command behind them.
+fn options_at(
+    alloc: Global,
+    place: usize,
+    options: Options,
+    words: &[String],
+) -> Result<Parsed, WordError>
+    requires { place + length words.now < 2 ^ 63 }
+    ensures { Gives (λ p. p) result (option_words place options (map string_bytes words.now)) }
+{
+    let Some((word, behind)) = words.split_first() else {
+        return Err(Refusal::Fault(place));
+    };
+    let Some(option) = option_of(&options, word.as_str()) else {
+        return with_command(alloc, place, options, words);
+    };
+    let Some((value, behind)) = behind.split_first() else {
+        return Err(Refusal::Fault(place + 1));
+    };
+    let options = set_option(alloc, place + 1, options, option, value.as_str())?;
+    options_at(alloc, place + 2, options, behind)
 }
 
 /// The options and the command that words spell.
-#[tactic(auto, unfolding(crate::specs::Words::split))]
 pub fn split_words(alloc: Global, words: &[String]) -> Result<Parsed, WordError>
     ensures { Gives (λ p. p) result (split (map string_bytes words.now)) }
 {
-    match words.split_first() {
-        Some((word, words)) if word.as_str() == "--folder" => in_folder(alloc, words),
-        _ => {
-            let command = command_at(alloc, 0, words)?;
-            Ok(Parsed {
-                folder: None,
-                command,
-            })
-        }
-    }
+    let none = Options {
+        folder: None,
+        keep: None,
+    };
+    options_at(alloc, 0, none, words)
 }
 
 // The folder of parsed words, and nothing where they name none.
 fn folder_in(alloc: Global, parsed: Parsed) -> String
     ensures { string_bytes result ≡ root_in (Ok parsed) }
 {
-    let Parsed { folder, command } = parsed;
+    let Parsed {
+        folder,
+        command,
+        ..
+    } = parsed;
     drop(command);
     match folder {
         Some(folder) => folder.into_string(),
@@ -184,6 +315,17 @@ pub fn root_of(alloc: Global, words: &[String]) -> Result<String, NoMemory>
     match split_words(alloc, words) {
         Ok(parsed) => Ok(folder_in(alloc, parsed)),
         Err(Refusal::Fault(_)) => Ok(String::new(alloc)),
+        Err(Refusal::NoMemory) => Err(NoMemory),
+    }
+}
+
+/// How many versions a new keeper keeps beside the newest: as many as the words say, and else 10,000.
+pub fn keep_of(alloc: Global, words: &[String]) -> Result<u32, NoMemory>
+    ensures { IfOk result (λ n. n ≡ keep_in (split (map string_bytes words.now))) }
+{
+    match split_words(alloc, words) {
+        Ok(parsed) => Ok(parsed.keep.unwrap_or(USUAL_KEEP)),
+        Err(Refusal::Fault(_)) => Ok(USUAL_KEEP),
         Err(Refusal::NoMemory) => Err(NoMemory),
     }
 }

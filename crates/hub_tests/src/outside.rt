@@ -1,6 +1,7 @@
 //! What a run of a test is given, and what it left.
 
 use hub_cli::run_hub;
+use keeper_memory::MemHub;
 use outside_ports::{FixedClock, MemFolder, MemSink};
 use std::alloc::Global;
 use std::process::Abort;
@@ -35,16 +36,27 @@ pub fn push_file(
     Ok(())
 }
 
-/// Runs the words between spaces over a folder and a sink, at noon.
+/// Runs the words between spaces over a folder, a keeper and a sink, at noon.
+pub fn run_over(
+    alloc: Global,
+    line: &str,
+    folder: &mut MemFolder,
+    keeper: &mut MemHub,
+    sink: &mut MemSink,
+) -> Result<u8, Fail> {
+    let words = words_of(alloc, line)?;
+    let clock = FixedClock::at(NOON);
+    Ok(run_hub(alloc, words.as_slice(), folder, keeper, &clock, sink))
+}
+
+/// The same, over a new keeper.
 pub fn run_line(
     alloc: Global,
     line: &str,
     folder: &mut MemFolder,
     sink: &mut MemSink,
 ) -> Result<u8, Fail> {
-    let words = words_of(alloc, line)?;
-    let clock = FixedClock::at(NOON);
-    Ok(run_hub(alloc, words.as_slice(), folder, &clock, sink))
+    run_over(alloc, line, folder, &mut MemHub::new(alloc, 10_000), sink)
 }
 
 /// Runs the words over the files, and tells the status and the text that are wanted from others.

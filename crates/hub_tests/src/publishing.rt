@@ -13,8 +13,8 @@ const ORGS: &str =
 const SOME_ORGS: &str =
     "propertyName,value\nmanifest.version,1.0\noneroster.version,1.1\nfile.orgs,delta\n";
 
-// The files of the example district in `lake`.
-fn push_lake(alloc: Global, files: &mut Files) -> Result<(), Fail> {
+/// Adds the files of the example district in `lake`.
+pub fn push_lake(alloc: Global, files: &mut Files) -> Result<(), Fail> {
     push_file(alloc, files, "lake", "manifest.csv", MANIFEST)?;
     for (kind, text, _) in &LAKE {
         let name = format!(in alloc; "{kind}.csv")?;

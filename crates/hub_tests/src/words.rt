@@ -1,12 +1,12 @@
 //! Words that are no command, and the folder that words name.
 
 use crate::outside::assert_run;
-use hub_cli::root_of;
+use hub_cli::{keep_of, root_of};
 use std::alloc::Global;
 use std::test::Fail;
 
 // Words, and the line that names the first bad one.
-static BAD_WORDS: [(&str, &str); 15] = [
+static BAD_WORDS: [(&str, &str); 24] = [
     ("", "bad word 0\n"),
     ("hide", "bad word 0\n"),
     ("--help", "bad word 0\n"),
@@ -22,6 +22,15 @@ static BAD_WORDS: [(&str, &str); 15] = [
     ("publish", "bad word 1\n"),
     ("publish sis=lake sis", "bad word 2\n"),
     ("publish sis=.lake", "bad word 1\n"),
+    ("--keep", "bad word 1\n"),
+    ("--keep 0 show orgs", "bad word 1\n"),
+    ("--keep 01 show orgs", "bad word 1\n"),
+    ("--keep 1x show orgs", "bad word 1\n"),
+    ("--keep 100001 show orgs", "bad word 1\n"),
+    ("--keep 1000000000000 show orgs", "bad word 1\n"),
+    ("--keep 5 --keep 5 show orgs", "bad word 2\n"),
+    ("--keep 5 --folder lake", "bad word 4\n"),
+    ("--folder lake --keep 5 show org", "bad word 5\n"),
 ];
 
 #[test]
@@ -32,25 +41,41 @@ fn words_that_are_no_command(rt: HostRuntime) -> Result<(), Fail> {
     Ok(())
 }
 
-// Words, and the folder that they name.
-static ROOTS: [(&[&str], &str); 3] = [
-    (&["show", "orgs"], ""),
-    (&["--folder", "lake", "show", "orgs"], "lake"),
-    (&["--folder", "lake"], ""),
+// Words, the folder that they name, and how many versions a new keeper keeps.
+static ROOTS: [(&[&str], &str, u32); 6] = [
+    (&["show", "orgs"], "", 10_000),
+    (&["--folder", "lake", "show", "orgs"], "lake", 10_000),
+    (&["--folder", "lake"], "", 10_000),
+    (&["--keep", "1", "show", "orgs"], "", 1),
+    (
+        &["--folder", "lake", "--keep", "100000", "show", "orgs"],
+        "lake",
+        100_000,
+    ),
+    (
+        &["--keep", "20", "--folder", "lake", "show", "orgs"],
+        "lake",
+        20,
+    ),
 ];
 
-fn root_is(alloc: Global, words: &[&str], want: &str) -> Result<bool, Fail> {
+// The folder that words name, and how many versions a new keeper keeps.
+fn options_of(alloc: Global, words: &[&str]) -> Result<(String, u32), Fail> {
     let mut owned = Vec::new(alloc);
     for word in words {
         owned.push(String::from_str(alloc, word)?)?;
     }
-    Ok(root_of(alloc, owned.as_slice())?.as_str() == want)
+    Ok((
+        root_of(alloc, owned.as_slice())?,
+        keep_of(alloc, owned.as_slice())?,
+    ))
 }
 
 #[test]
-fn words_name_their_folder(rt: HostRuntime) -> Result<(), Fail> {
-    for (words, want) in &ROOTS {
-        assert!(rt; root_is(rt.alloc(), words, want)?, "{want}");
+fn words_name_their_options(rt: HostRuntime) -> Result<(), Fail> {
+    for (words, root, keep) in &ROOTS {
+        let (named, kept) = options_of(rt.alloc(), words)?;
+        assert_eq!(rt; (named.as_str(), kept), (*root, *keep), "{root}");
     }
     Ok(())
 }
