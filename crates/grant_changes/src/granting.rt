@@ -104,12 +104,11 @@ fn all_granted(
 ) -> Result<Vec<GrantRow>, NoMemory>
     ensures { IfOk result (λ rows. rows.items ≡ map (granted (newest_of table.now)) entries.items) }
 {
-    Ok(
-        entries
-            .into_iter()
-            .map(|entry| granted(table, entry))
-            .collect(alloc)?,
-    )
+    let rows = entries
+        .into_iter()
+        .map(|entry| granted(table, entry))
+        .collect(alloc)?;
+    Ok(rows)
 }
 
 // The grants that a list leads to, in the order of the callers.
@@ -123,8 +122,9 @@ fn grants_from(alloc: Global, table: &Table, list: &GrantList) -> Result<Items<G
 }
 
 /// What a list of grants makes of the newest version of a table, where it is published at a moment: the change to the next version,
-/// in which each caller that has what it asks for keeps since when, and each other has it anew; or nothing where no grant changes.
-/// It is refused only where a grant changes and the newest version has the last number.
+/// or nothing where no grant changes. A caller that has what it asks for keeps it since the version since which it has it; any other
+/// caller of the list has it since the next version, and a caller that isn't listed has nothing. The one fault is that a change is
+/// due and the newest version has the last number.
 pub fn grants_change(
     alloc: Global,
     table: &Table,
