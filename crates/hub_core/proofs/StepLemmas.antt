@@ -1,28 +1,32 @@
 -- What is due and what is published.
-use Rattle.std.specs.Prelude.{is_ok}
-use Rattle.std.proofs.Common.{true, ◌≡◌, ℕ, ℤ, ◌+◌, ◌≤◌, List, [], ◌∷◌, ◌++◌, Option, None, Some, Result, Ok, Err, arith, inl, inr, refl, sym, ap, subst}
+use Rattle.std.proofs.Common.{◌≡◌, ℕ, ℤ, ◌≤◌, ◌⊎◌, true, List, [], ◌∷◌, Option, None, Some, Result, Ok, Err, bytes_eq, arith, inl, inr, refl, sym, ap, subst}
 use Rattle.std.specs.List.{AllByRecursion}
-use Rattle.std.specs.Prelude.{IfOk}
+use Rattle.std.specs.Prelude.{IfOk, is_ok}
 use Rattle.std.specs.Option.{ForSome}
+use Rattle.grant_changes.proofs.Finding.{all_each, found_meets}
+use Rattle.grant_changes.proofs.Following.{KeepGrants-push, below, same_grants}
+use Rattle.grant_changes.proofs.Granted.{grants_go_on}
+use Rattle.grant_changes.specs.Asked.{AnswersBy}
+use Rattle.grant_changes.specs.Granting.{GrantsMake}
+use Rattle.grant_changes.specs.Next.{IsNext}
+use Rattle.grant_scopes.specs.declared.entry.GrantEntry.{GrantEntry}
 use Rattle.version_core.specs.Grants.{HasGrant}
-use Rattle.version_core.specs.HubStates.{HasFromSince, KeepGrants}
 use Rattle.version_core.specs.Version.{IsVersion, after, empty_version, last_or}
 use Rattle.version_core.specs.declared.change.BaseVersion.{BaseVersion}
 use Rattle.version_core.specs.declared.change.Change.{Change}
 use Rattle.version_core.specs.declared.grant_row.GrantRow.{GrantRow}
-use Rattle.version_core.proofs.VersionLemmas.{AllByRecursion-push}
 use Rattle.roster_base.specs.declared.refusal.Refusal.{Refusal}
 use Rattle.roster_base.specs.declared.refusal.Refusal.TheVariants as refusal
 use Rattle.set_changes.specs.Applying.{Answers, Applies, LeadsOn, Leads, Outcome}
 use Rattle.set_changes.specs.declared.publish_fault.PublishFault.{PublishFault}
-use Rattle.version_core.proofs.TableLemmas.{last-push}
+use Rattle.version_core.proofs.TableLemmas.{last_number}
 use Rattle.keeper_memory.proofs.KeptLemmas.{newest_after, versions_are}
 use Rattle.keeper_memory.specs.Commits.{CanFollow, CanLead}
-use Rattle.keeper_memory.specs.Kept.{AreHubVersions, IsKept, KeptState, newest_kept}
+use Rattle.keeper_memory.specs.Kept.{AreHubVersions, IsKept, KeptState, newest_kept, oldest_kept}
 use Rattle.keeper_memory.specs.declared.hub_commit.HubCommit.{HubCommit}
 use Rattle.roster_types.specs.Sets.{SetRecord}
 use Rattle.set_changes.specs.Steps.{IsSound, led_to}
-use Rattle.hub_core.specs.Made.{Adopts, AnswersBy, after_change}
+use Rattle.hub_core.specs.Made.{Adopts, after_change}
 use Rattle.hub_core.specs.Steps.{Installs, MakesNext}
 use Rattle.hub_core.specs.declared.hub_error.HubError.{HubError}
 use Rattle.hub_core.specs.declared.hub_error.HubError.TheVariants as error
@@ -42,39 +46,33 @@ pub last_meets : (P : BaseVersion → Type 0) (d version : BaseVersion) (version
 last_meets P d version [] all = all.0
 last_meets P d version (other ∷ versions) all = last_meets P version other versions all.1
 
--- a version with the grants of the newest may follow
-module _ (keep : ℕ) (version : BaseVersion) (versions : List BaseVersion) (kept : AreHubVersions keep (version ∷ versions)) where
-  abbrev newest : BaseVersion
-  newest = newest_kept (version ∷ versions)
+-- the newest of a hub's versions is one
+newest_is : (keep : ℕ) (versions : List BaseVersion) → AreHubVersions keep versions → IsVersion (newest_kept versions)
+newest_is keep [] kept = absurd (let some = kept.kept.some in omega arith)
+newest_is keep (version ∷ versions) kept = last_meets IsVersion empty_version version versions (versions_are version.number (version ∷ versions) kept.kept.run)
 
-  module _ (next : BaseVersion) (number : next.number ≡ newest.number + 1) (is : IsVersion next) (same : next.grants ≡ newest.grants) where
-    keeps : KeepGrants (version ∷ versions ++ next ∷ [])
-    keeps =
-        subst (λ (v : BaseVersion). AllByRecursion (HasFromSince (version ∷ versions ++ next ∷ [])) v.grants) (sym (last-push version next versions))
-        (subst (AllByRecursion (HasFromSince (version ∷ versions ++ next ∷ []))) (sym same) (each newest.grants newest_is.grants.since kept.grants))
-      where
-        newest_is : IsVersion newest
-        newest_is = last_meets IsVersion empty_version version versions (versions_are version.number (version ∷ versions) kept.kept.run)
+-- a version whose grants are new with it, or were there already, may follow
+pub may_follow : (keep : ℕ) (versions : List BaseVersion) → AreHubVersions keep versions → (next : BaseVersion) → IsNext (newest_kept versions) next → CanFollow versions next
+may_follow keep versions kept next is = record {
+  number = is.number;
+  version = is.version;
+  since = all_each (λ row. (row.grant.since ≡ next.number) ⊎ HasGrant (newest_kept versions).grants row) (λ row. 1 ≤ row.grant.since) next.grants late is.grants;
+  grants = KeepGrants-push versions kept.grants next is (below (oldest_kept versions).number versions next.number kept.kept.run (let number = is.number in let last = last_number empty_version (oldest_kept versions).number versions kept.kept.run kept.kept.some in omega arith));
+}
+  where
+    late : (row : GrantRow) → (row.grant.since ≡ next.number) ⊎ HasGrant (newest_kept versions).grants row → 1 ≤ row.grant.since
+    late row (inl new) = let number = is.number in omega arith
+    late row (inr old) = found_meets (λ r. 1 ≤ r.grant.since) (λ r. bytes_eq r.caller row.caller) (newest_kept versions).grants row kept.since old
 
-        each : (grants : List GrantRow) → AllByRecursion (λ row. row.grant.since ≤ newest.number) grants → AllByRecursion (HasFromSince (version ∷ versions)) grants → AllByRecursion (HasFromSince (version ∷ versions ++ next ∷ [])) grants
-        each [] since all = tt
-        each (row ∷ grants) since all =
-            let here : HasGrant newest.grants row = last_meets (λ v. row.grant.since ≤ v.number → HasGrant v.grants row) empty_version version versions all.0 since.0 in
-            (AllByRecursion-push (λ v. row.grant.since ≤ v.number → HasGrant v.grants row) (version ∷ versions) next all.0 (λ _. subst (λ (g : List GrantRow). HasGrant g row) (sym same) here), each grants since.1 all.1)
-
-    pub may_follow : CanFollow (version ∷ versions) next
-    may_follow = record {
-      number = number;
-      version = is;
-      since = subst (AllByRecursion (λ row. 1 ≤ row.grant.since)) (sym same) kept.since;
-      grants = keeps;
-    }
-
--- what a set makes may follow
-pub set_leads : (keep : ℕ) (versions : List BaseVersion) → AreHubVersions keep versions → (change : Change) → LeadsOn (newest_kept versions) change → (after (newest_kept versions) change).grants ≡ (newest_kept versions).grants → CanLead versions change
-set_leads keep [] kept change on same = absurd (let some = kept.kept.some in omega arith)
-set_leads keep (version ∷ versions) kept change on same =
-    record { follows = may_follow keep version versions kept (after (newest_kept (version ∷ versions)) change) on.next on.version same; changes = on.changes }
+-- what is due leads to what may follow, where each change that is asked for does
+can : (asks : Outcome → Type 0) (versions : List BaseVersion) → ((change : Change) → LeadsOn (newest_kept versions) change → asks (Leads (after (newest_kept versions) change)) → IsNext (newest_kept versions) (after (newest_kept versions) change)) → (keep : ℕ) → AreHubVersions keep versions
+    → (due : Result (Option Change) (Refusal PublishFault)) → AnswersBy asks (newest_kept versions) due → IfOk due (λ change. ForSome change (LeadsOn (newest_kept versions))) → IfOk due (λ change. ForSome change (CanLead versions))
+can asks versions goes_on keep kept (Ok None) answers next = λ change some. cc
+can asks versions goes_on keep kept (Ok (Some change)) answers next = λ other some.
+    let same : change ≡ other = cc in
+    let on = next change refl in
+    subst (CanLead versions) same (record { follows = may_follow keep versions kept (after (newest_kept versions) change) (goes_on change on answers); changes = on.changes })
+can asks versions goes_on keep kept (Err e) answers next = tt
 
 -- a set is answered by what is made of it
 pub set_answers : (version : BaseVersion) (set : SetRecord) (at : ℤ) (due : Result (Option Change) (Refusal PublishFault)) → Answers version set at due → AnswersBy (Applies version set at) version due
@@ -83,16 +81,23 @@ set_answers version set at (Ok (Some change)) answers = answers
 set_answers version set at (Err (refusal.Fault fault)) answers = answers
 set_answers version set at (Err refusal.NoMemory) answers = answers
 
--- the grants stay where a set leads to a version
-pub set_grants : (version : BaseVersion) (set : SetRecord) (at : ℤ) (change : Change) → Applies version set at (Leads (after version change)) → (after version change).grants ≡ version.grants
-set_grants version set at change applies = ap (λ (v : BaseVersion). v.grants) applies.2.2
-
+-- what a set makes may follow, with the grants as they were
 pub set_can : (kept : KeptState) → IsKept kept → (set : SetRecord) (at : ℤ) (due : Result (Option Change) (Refusal PublishFault)) → Answers (newest_kept kept.versions) set at due → IfOk due (λ change. ForSome change (LeadsOn (newest_kept kept.versions))) → IfOk due (λ change. ForSome change (CanLead kept.versions))
-set_can kept is set at (Ok None) answers next = λ change some. cc
-set_can kept is set at (Ok (Some change)) answers next = λ other some.
-    let same : change ≡ other = cc in
-    subst (CanLead kept.versions) same (set_leads kept.keep kept.versions is.versions change (next change refl) (set_grants (newest_kept kept.versions) set at change answers))
-set_can kept is set at (Err e) answers next = tt
+set_can kept is set at due answers next =
+    let newest = newest_kept kept.versions in
+    can (Applies newest set at) kept.versions goes_on kept.keep is.versions due (set_answers newest set at due answers) next
+  where
+    goes_on : (change : Change) → LeadsOn (newest_kept kept.versions) change → Applies (newest_kept kept.versions) set at (Leads (after (newest_kept kept.versions) change)) → IsNext (newest_kept kept.versions) (after (newest_kept kept.versions) change)
+    goes_on change on applies = record {
+      number = on.next;
+      version = on.version;
+      grants = subst (AllByRecursion (λ row. (row.grant.since ≡ change.version) ⊎ HasGrant (newest_kept kept.versions).grants row)) (sym (ap (λ (v : BaseVersion). v.grants) applies.2.2)) (same_grants (newest_kept kept.versions) (newest_is kept.keep kept.versions is.versions) change.version);
+    }
+
+-- what a list of grants makes may follow
+pub grants_can : (kept : KeptState) → IsKept kept → (list : List GrantEntry) (at : ℤ) (due : Result (Option Change) (Refusal PublishFault)) → AnswersBy (GrantsMake (newest_kept kept.versions) list at) (newest_kept kept.versions) due → IfOk due (λ change. ForSome change (LeadsOn (newest_kept kept.versions))) → IfOk due (λ change. ForSome change (CanLead kept.versions))
+grants_can kept is list at due answers next =
+    can (GrantsMake (newest_kept kept.versions) list at) kept.versions (λ change on makes. grants_go_on (newest_kept kept.versions) (newest_is kept.keep kept.versions is.versions) list at (after (newest_kept kept.versions) change) on.version makes) kept.keep is.versions due answers next
 
 -- what is made of what an outcome asks for is what is published
 module _ (asks : BaseVersion → Outcome → Type 0) (before after : KeptState) where

@@ -1,5 +1,5 @@
 -- What is found on the way from a state to what a call makes of it.
-use Rattle.std.specs.Prelude.{◌≡◌, ◌⊎◌, ⊤, Bool, false, Option, None, Some, Result, Ok, Err, if◌then◌else◌, is_some, nat_le}
+use Rattle.std.specs.Prelude.{◌≡◌, ◌⊎◌, Bool, false, Option, None, Some, Result, Ok, Err, if◌then◌else◌, is_some, nat_le}
 use Rattle.version_core.specs.Marks.{mark_at, mark_key}
 use Rattle.version_core.specs.Version.{after}
 use Rattle.version_core.specs.declared.change.BaseVersion.{BaseVersion}
@@ -10,7 +10,6 @@ use Rattle.keeper_memory.specs.Kept.{KeptState, newest_kept}
 use Rattle.keeper_memory.specs.declared.hub_commit.HubCommit.{HubCommit}
 use Rattle.roster_base.specs.declared.refusal.Refusal.{Refusal}
 use Rattle.roster_base.specs.declared.refusal.Refusal.TheVariants as refusal
-use Rattle.set_changes.specs.Applying.{Leads, Outcome, Refuses, Unchanged}
 use Rattle.set_changes.specs.declared.publish_fault.PublishFault.{PublishFault}
 use Rattle.hub_core.specs.declared.hub_error.HubError.{HubError}
 use Rattle.hub_core.specs.declared.hub_error.HubError.TheVariants as error
@@ -33,13 +32,6 @@ taken_in made kept commit = if made then with_commit kept commit else kept
 -- the version that a change leads to
 abbrev pub after_change : KeptState → Change → BaseVersion
 after_change kept change = after (newest_kept kept.versions) change
-
--- what is due of a version is an outcome that is asked for, memory aside
-abbrev pub AnswersBy : (Outcome → Type 0) → BaseVersion → Result (Option Change) (Refusal PublishFault) → Type 0
-AnswersBy asks version (Ok None) = asks Unchanged
-AnswersBy asks version (Ok (Some change)) = asks (Leads (after version change))
-AnswersBy asks version (Err (refusal.Fault fault)) = asks (Refuses fault)
-AnswersBy asks version (Err refusal.NoMemory) = ⊤
 
 -- what is due is made, or not at all, which a failure leaves open; a refusal leaves all as it was
 abbrev pub Adopts : Result (Option Change) (Refusal PublishFault) → Result Published HubError → KeptState → KeptState → Type 0

@@ -2,6 +2,7 @@
 
 ghost use Rattle.std.specs.Prelude.{◌≡◌, IfOk, None, Ok, OnErr, Some, false, true};
 ghost use Rattle.std.specs.Option.{ForSome};
+ghost use Rattle.grant_changes.specs.Granting.{GrantsMake};
 ghost use Rattle.set_changes.specs.Applying.{Applies};
 ghost use Rattle.set_changes.specs.Steps.{IsSound};
 ghost use Rattle.keeper_memory.specs.Commits.{CanCommit, CanLead};
@@ -13,6 +14,8 @@ ghost use Rattle.hub_core.specs.Steps.{CountsFault, Installs, IsLast, LeavesOpen
 use crate::hub_error::HubError;
 use crate::published::Published;
 use crate::room::{make_room, take_in, take_in_made};
+use grant_changes::grants_change;
+use grant_scopes::GrantList;
 use keeper_memory::{HubCommit, HubKeeper};
 use roster_base::{KeeperError, NoMemory, Refusal, TryCopy};
 use roster_texts::Moment;
@@ -229,5 +232,25 @@ impl Hub {
         let answer = self.adopt(alloc, keeper, due);
         self.note_sound(answer.is_ok());
         answer
+    }
+
+    /// Gives each caller of a list what it asks for, and takes all other grants away, at a moment: the next version, where a grant of
+    /// the newest changes.
+    pub fn set_grants<H: HubKeeper>(
+        &mut self,
+        alloc: Global,
+        keeper: &mut H,
+        list: &GrantList,
+        at: Moment,
+    ) -> Result<Published, HubError>
+        requires { KeeperFits (H.stands_for keeper.old) self.old }
+        ensures fits { KeeperFits (H.stands_for keeper.new) self.new }
+        ensures told { (after : KeptState) → IsStanding self.new after → (before : KeptState) × IsStanding self.old before × (H.stands_for keeper.new after → H.stands_for keeper.old before) × MakesNext (λ version. GrantsMake version list.now at) result before after }
+        ensures settled { LeavesOpen result self.new.is_open }
+        ensures cause { CountsFault (H.fault_count keeper.old) (H.fault_count keeper.new) result }
+    {
+        self.ready(alloc, keeper)?;
+        let due = grants_change(alloc, &self.table, list, at);
+        self.adopt(alloc, keeper, due)
     }
 }

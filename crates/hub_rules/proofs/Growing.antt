@@ -10,7 +10,7 @@ use Rattle.hub_rules.specs.Verdicts.{Judged, Judges, Leads, Refused, Repeat, Sam
 use Rattle.hub_rules.specs.Wanted.{Wanted, allows, is_write, mark_number}
 use Rattle.hub_rules.specs.Written.{kept_mark, newest_after, outcome_of, published_after, state_after, with_kept}
 use Rattle.hub_paths.specs.Paths.{PathParts as Path}
-use Rattle.hub_rules.proofs.Cutting.{same_text}
+use Rattle.grant_changes.proofs.Finding.{same_text}
 use Rattle.reference_rules.proofs.KeyOrder.{and_first, and_second}
 use Rattle.std.proofs.lemmas.Bool.Decides.{nat_tests}
 use Rattle.std.specs.List.{insert, prefix_len}

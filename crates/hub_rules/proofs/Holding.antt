@@ -1,5 +1,5 @@
 -- What a version holds that a step leads to are rows, as in the version before.
-use Rattle.std.proofs.Common.{◌≡◌, ℕ, ℤ, zero, suc, ◌+◌, ◌<◌, ◌==◌, inl, inr, Bool, true, false, cond, List, [], ◌∷◌, Option, Some, None, Result, Ok, Err, get_or, length, refl, sym, ap, subst, ◌∙◌, arith}
+use Rattle.std.proofs.Common.{◌≡◌, ℕ, ℤ, suc, ◌+◌, ◌<◌, ◌==◌, inl, inr, Bool, true, false, cond, List, [], ◌∷◌, Option, Some, None, Result, Ok, Err, get_or, length, refl, sym, subst, arith}
 use Rattle.std.proofs.lemmas.Cmp.{tied_itself}
 use Rattle.std.specs.List.{AllByRecursion, list_all}
 use Rattle.std.specs.Ordering.{is_eq}
@@ -7,7 +7,6 @@ use Rattle.std.specs.Prelude.{slice_index_or}
 use Rattle.std.specs.declared.cmp.Ordering.TheVariants.{Equal, Greater, Less}
 use Rattle.hub_paths.specs.Paths.{IsPath, PathParts}
 use Rattle.hub_paths.specs.Routes.{objects_in}
-use Rattle.hub_paths.specs.declared.route.Collection.TheVariants.{Of, Schools, Terms, GradingPeriods, Students, Teachers}
 use Rattle.hub_paths.specs.declared.route.Route.{Route}
 use Rattle.hub_paths.specs.declared.route.Route.TheVariants as route
 use Rattle.hub_rules.proofs.PutRows.{put_row}
@@ -15,7 +14,7 @@ use Rattle.hub_rules.specs.Marked.{same_write}
 use Rattle.hub_rules.specs.Puts.{put_of}
 use Rattle.hub_rules.specs.Refusals.{delete_refusal, put_refusal, stored_at}
 use Rattle.hub_rules.specs.States.{HoldsRows, ListsRows}
-use Rattle.hub_rules.specs.Verdicts.{BodyJudged, Judged, Leads, NewJudged, PutJudged, PutMakes, Refused, Repeat, Same, Verdict, delete_judged, delete_makes, leads_with, repeated}
+use Rattle.hub_rules.specs.Verdicts.{BodyJudged, Judged, Leads, NewJudged, PutJudged, PutMakes, Refused, Repeat, Same, delete_judged, delete_makes, leads_with}
 use Rattle.hub_rules.specs.Wanted.{takes_writes, takes_writes_at}
 use Rattle.hub_views.specs.Lists.{id_at}
 use Rattle.reference_rules.proofs.KeyOrder.{and_first, key_total}
@@ -28,7 +27,6 @@ use Rattle.roster_types.specs.Rows.{IsRow}
 use Rattle.roster_types.specs.Sets.{SetRecord}
 use Rattle.roster_types.specs.declared.owner.Owner.TheVariants.{Caller}
 use Rattle.roster_types.specs.declared.set_row.SetRow.{SetRow}
-use Rattle.roster_types.specs.declared.status.Status.{Status}
 use Rattle.roster_types.specs.declared.status.Status.TheVariants.{ToBeDeleted}
 use Rattle.row_json.specs.declared.fault.JsonFault.{JsonFault}
 use Rattle.set_changes.specs.Applying as applying

@@ -1,15 +1,13 @@
 -- What is kept of a verdict may be held, so each step leads from a state that a hub can have to another.
-use Rattle.std.proofs.Common.{◌≡◌, ℕ, ℤ, zero, suc, ◌+◌, ◌-◌, ◌≤◌, inl, inr, Bool, true, false, ◌&&◌, ◌||◌, ◌==◌, not, cond, List, [], ◌∷◌, ◌++◌, length, length-append, map, Option, None, Some, Result, Ok, Err, nat_le, refl, sym, ap, subst, ◌∙◌, arith}
-use Rattle.std.proofs.lemmas.Bool.Decides.{Decides-eqb, nat_tests, same_from_decides}
-use Rattle.std.proofs.lemmas.List.Sorted.{IsPermutation-insert, IsPermutation-map}
-use Rattle.std.proofs.lemmas.Map.Keys.{IsDistinct-IsPermutation}
-use Rattle.std.specs.List.{AllByRecursion, IsDistinct, insert, prefix_len}
+use Rattle.std.proofs.Common.{◌≡◌, ℕ, ℤ, ◌+◌, ◌-◌, ◌≤◌, inl, inr, Bool, true, false, ◌&&◌, ◌||◌, ◌==◌, not, cond, List, [], ◌∷◌, ◌++◌, length, length-append, Option, None, Some, Result, Ok, Err, nat_le, refl, sym, ap, subst, ◌∙◌, arith}
+use Rattle.std.proofs.lemmas.Bool.Decides.{nat_tests}
+use Rattle.std.specs.List.{AllByRecursion}
 use Rattle.std.specs.Option.{ForSome}
 use Rattle.hub_rules.proofs.Following.{marked_is_hub, next_is_hub}
 use Rattle.hub_rules.proofs.Growing.{Enters, enters, free_of_judged}
 use Rattle.hub_rules.proofs.Holding.{judged_holds, newest_holds, path_id, set_holds}
 use Rattle.hub_rules.proofs.Judging.{judged_led}
-use Rattle.hub_rules.proofs.Publishing.{bytes_flip, grants_next, set_next}
+use Rattle.hub_rules.proofs.Publishing.{set_next}
 use Rattle.hub_rules.proofs.Versions.{newest_is}
 use Rattle.hub_paths.specs.Paths.{IsPath, PathParts as Path}
 use Rattle.hub_views.specs.Lists.{id_at}
@@ -22,8 +20,11 @@ use Rattle.hub_rules.specs.Checks.{Entry, entry_of}
 use Rattle.hub_rules.specs.Marked.{same_write}
 use Rattle.hub_rules.specs.Puts.{put_of}
 use Rattle.hub_rules.specs.Runs.{Acts, ActedOrNot, Answer, Command, Does, Fails, Publish, Reopen, Runs, SetGrants, Step, Steps, Take, Wants, WantsMemory, end_of, state_with}
-use Rattle.hub_rules.specs.States.{AreCommands, AreEntries, HoldsRows, IsCommand, IsHub, IsNext, ListsRows}
-use Rattle.hub_rules.specs.GrantChanges.{GrantsMake}
+use Rattle.hub_rules.specs.States.{AreCommands, HoldsRows, IsCommand, IsHub, ListsRows}
+use Rattle.grant_changes.proofs.Granted.{grants_next}
+use Rattle.grant_changes.specs.Granting.{GrantsMake}
+use Rattle.grant_changes.specs.Next.{IsNext}
+use Rattle.grant_scopes.specs.Entries.{AreEntries}
 use Rattle.grant_scopes.specs.declared.entry.GrantEntry.{GrantEntry}
 use Rattle.roster_types.specs.Sets.{SetRecord}
 use Rattle.hub_rules.specs.Refusals.{delete_refusal, first_of, has_grading_period, is_of_other, is_one_too_many, is_within, put_refusal, refused_if, stored_at}
@@ -40,7 +41,7 @@ use Rattle.hub_views.specs.Seen.{sees}
 use Rattle.version_core.proofs.MarkLemmas.{AreMarks-later, AreMarks-with_mark}
 use Rattle.version_core.specs.Changes.{change_key, rows_of}
 use Rattle.version_core.specs.HubStates.{HubState, newest_number}
-use Rattle.version_core.specs.Marks.{AreMarks, is_below, is_outcome, mark_at, mark_key, same_mark, with_mark}
+use Rattle.version_core.specs.Marks.{AreMarks, is_outcome}
 use Rattle.version_core.specs.Order.{put}
 use Rattle.version_core.specs.Version.{last_version}
 use Rattle.version_core.specs.declared.change.BaseVersion.{BaseVersion}

@@ -1,5 +1,5 @@
 -- What a body puts is a row: its values fit, its metadata rises under good keys, and it isn't too long.
-use Rattle.std.proofs.Common.{◌≡◌, ℕ, ℤ, ◌+◌, ◌&&◌, ◌≤◌, Bool, true, false, cond, List, [], ◌∷◌, Option, Some, None, Result, Ok, Err, IfOk, IfSome, Less, bytes_eq, codes, drop, get_or, map, nat_lt, refl, sym, ap, subst, ◌∙◌, arith}
+use Rattle.std.proofs.Common.{◌≡◌, ℕ, ℤ, ◌+◌, true, false, cond, List, [], ◌∷◌, Option, Some, None, Result, Ok, Err, IfSome, Less, bytes_eq, codes, drop, get_or, map, nat_lt, refl, sym, subst, arith}
 use Rattle.std.proofs.lemmas.Bool.{and_from}
 use Rattle.std.proofs.lemmas.Bool.Decides.{nat_tests}
 use Rattle.std.proofs.lemmas.Result.{IfOk-at_ok}

@@ -1,19 +1,18 @@
 -- The states that a hub can have.
-use Rattle.std.specs.Prelude.{◌≡◌, ◌+◌, ◌-◌, ◌≤◌, ◌⊎◌, ⊤, ℕ, List, bytes_eq, map, slice_index_or}
-use Rattle.std.specs.List.{AllByRecursion, IsDistinct}
+use Rattle.std.specs.Prelude.{◌≡◌, ◌-◌, ◌≤◌, ⊤, ℕ, List, slice_index_or}
+use Rattle.std.specs.List.{AllByRecursion}
 use Rattle.std.specs.Option.{ForSome}
 use Rattle.hub_paths.specs.Paths.{IsPath}
 use Rattle.hub_rules.specs.Checks.{version_at}
 use Rattle.hub_rules.specs.Verdicts.{newest_in}
 use Rattle.hub_rules.specs.Runs.{Command, Publish, Reopen, SetGrants, Step, Take}
-use Rattle.grant_scopes.specs.declared.entry.GrantEntry.{GrantEntry}
+use Rattle.grant_scopes.specs.Entries.{AreEntries}
 use Rattle.roster_base.specs.Moments.{IsMoment}
 use Rattle.roster_types.specs.Rows.{IsRow}
 use Rattle.roster_types.specs.Sets.{SetRecord}
 use Rattle.set_changes.specs.Applying.{rows_in}
-use Rattle.version_core.specs.Grants.{HasGrant}
 use Rattle.version_core.specs.HubStates.{HubState, IsHubState, KeepGrants, newest_number, oldest_number}
-use Rattle.version_core.specs.Version.{IsVersion, empty_version, last_or}
+use Rattle.version_core.specs.Version.{empty_version, last_or}
 use Rattle.version_core.specs.declared.change.BaseVersion.{BaseVersion}
 
 -- what a version holds are rows: they fit their fields and aren't too long, so they are read back from their texts
@@ -25,17 +24,6 @@ pub record IsHub (hub : HubState) : Type 0 where
   pub state : IsHubState hub
   pub grants : KeepGrants hub.published
   pub rows : AllByRecursion HoldsRows hub.published
-
--- a version that may stand behind another: each of its grants is new with it, or was there already
-pub record IsNext (newest next : BaseVersion) : Type 0 where
-  pub number : next.number ≡ newest.number + 1
-  pub version : IsVersion next
-  pub grants : AllByRecursion (λ row. (row.grant.since ≡ next.number) ⊎ HasGrant newest.grants row) next.grants
-
--- grants that may be asked for: no two are of one caller, and no two have one token
-pub record AreEntries (entries : List GrantEntry) : Type 0 where
-  pub callers : IsDistinct bytes_eq (map (λ entry. entry.caller) entries)
-  pub tokens : IsDistinct bytes_eq (map (λ entry. entry.token) entries)
 
 -- what a set lists are rows
 abbrev pub ListsRows : SetRecord → Type 0

@@ -1,27 +1,17 @@
 //! A keeper that holds the last version there may be.
 
-ghost use Rattle.std.specs.Prelude.{IfOk};
 ghost use Rattle.version_core.specs.Tables.{AreTables};
 
-use crate::sets::three_sets;
-use hub_core::{Hub, HubError, Published};
+use crate::runs::{Given, Turn, run};
+use crate::sets::moment_of;
 use keeper_memory::MemHub;
 use roster_base::Items;
-use roster_texts::Moment;
-use set_changes::PublishFault;
 use std::alloc::Global;
 use std::process::Abort;
 use std::test::Fail;
 use version_core::change::BaseVersion;
 use version_core::hub_tables::HubTables;
 use version_core::sorted_rows::SortedRows;
-
-fn moment_of(rt: &impl Abort) -> Moment {
-    match Moment::at(1_000) {
-        Some(moment) => moment,
-        None => panic!(rt; "no moment"),
-    }
-}
 
 // The last version alone, without rows.
 fn last_version(rt: &impl Abort, alloc: Global) -> HubTables
@@ -41,26 +31,33 @@ fn last_version(rt: &impl Abort, alloc: Global) -> HubTables
     }
 }
 
-fn is_refused(answer: &Result<Published, HubError>) -> bool {
-    matches!(answer, Err(HubError::Refused(PublishFault::LastVersion)))
-}
+// Each set, and each list of grants.
+static TURNS: [Turn; 11] = [
+    Turn::Set(0),
+    Turn::Set(1),
+    Turn::Set(2),
+    Turn::Grants(0),
+    Turn::Grants(1),
+    Turn::Grants(2),
+    Turn::Grants(3),
+    Turn::Grants(4),
+    Turn::Grants(5),
+    Turn::Grants(6),
+    Turn::Grants(7),
+];
+
+// The list without grants changes nothing.
+const TOLD: &str =
+    "last, last, last, same 1000000000000000, last, last, last, last, last, last, last, from 1000000000000000:  from 1000000000000000:  faults 0";
 
 #[test]
 fn no_version_follows_the_last(rt: HostRuntime) -> Result<(), Fail> {
     let alloc = rt.alloc();
+    let given = Given::new(&rt, alloc)?;
     let mut keeper = MemHub::holding(alloc, last_version(&rt, alloc))?;
-    let Ok(mut hub) = Hub::open(alloc, &mut keeper) else {
-        panic!(rt; "not opened");
-    };
-    let at = moment_of(&rt);
-    let mut are_refused = true;
-    for set in &three_sets(&rt, alloc)? {
-        let answer = hub.publish(alloc, &mut keeper, set, at);
-        are_refused = are_refused && is_refused(&answer);
-    }
-    assert_eq!(rt;
-        (are_refused, hub.table().newest()),
-        (true, 1_000_000_000_000_000)
-    );
+    let told = run(&rt, alloc, &mut keeper, &given, &TURNS);
+    drop(keeper);
+    drop(given);
+    assert_eq!(rt; told?.as_str(), TOLD);
     Ok(())
 }

@@ -12,7 +12,7 @@ pub struct Plan {
     pub load: u64,
 }
 
-/// What a publication is answered. A version is named by its number.
+/// What a call is answered. A version is named by its number.
 #[derive(Clone, Copy)]
 pub enum Answer {
     Failed,
@@ -20,28 +20,60 @@ pub enum Answer {
     Same(usize),
 }
 
-/// The versions of a hub and of its keeper from 0 on, each as the set of its rows, one bit a row.
+/// Which terms a caller has, and since which version.
+#[derive(Clone, Copy, PartialEq, Eq)]
+pub struct PlainGrant {
+    pub terms: usize,
+    pub since: usize,
+}
+
+/// The rows of a version, one bit a row, and what each of two callers has.
+#[derive(Clone, Copy, PartialEq, Eq)]
+pub struct PlainVersion {
+    pub rows: u8,
+    pub east: Option<PlainGrant>,
+    pub west: Option<PlainGrant>,
+}
+
+const EMPTY: PlainVersion = PlainVersion {
+    rows: 0,
+    east: None,
+    west: None,
+};
+
+/// The versions of a hub and of its keeper from 0 on.
 #[derive(Drop)]
 pub struct Plain {
     plan: Plan,
     commits: u64,
     loads: u64,
     faults: u64,
-    hub: Vec<u8>,
-    keeper: Vec<u8>,
+    hub: Vec<PlainVersion>,
+    keeper: Vec<PlainVersion>,
     is_open: bool,
 }
 
 // The number of the newest version.
-fn newest(versions: &[u8]) -> usize {
+fn newest(versions: &[PlainVersion]) -> usize {
     versions.len().saturating_sub(1)
 }
 
-// The rows of the newest version.
-fn newest_rows(versions: &[u8]) -> u8 {
+fn newest_version(versions: &[PlainVersion]) -> PlainVersion {
     match versions.last() {
-        Some(rows) => *rows,
-        None => 0,
+        Some(version) => *version,
+        None => EMPTY,
+    }
+}
+
+// What a caller has in the version of this number, where it had this and asks for these terms.
+fn given(had: Option<PlainGrant>, asked: Option<usize>, number: usize) -> Option<PlainGrant> {
+    match (had, asked) {
+        (_, None) => None,
+        (Some(grant), Some(terms)) if grant.terms == terms => Some(grant),
+        (_, Some(terms)) => Some(PlainGrant {
+            terms,
+            since: number,
+        }),
     }
 }
 
@@ -52,17 +84,17 @@ impl Plain {
             commits: 0,
             loads: 0,
             faults: 0,
-            hub: vec![in alloc; 0]?,
-            keeper: vec![in alloc; 0]?,
+            hub: vec![in alloc; EMPTY]?,
+            keeper: vec![in alloc; EMPTY]?,
             is_open: false,
         })
     }
 
-    pub fn hub(&self) -> &[u8] {
+    pub fn hub(&self) -> &[PlainVersion] {
         &self.hub
     }
 
-    pub fn keeper(&self) -> &[u8] {
+    pub fn keeper(&self) -> &[PlainVersion] {
         &self.keeper
     }
 
@@ -99,17 +131,25 @@ impl Plain {
         Answer::Failed
     }
 
-    fn commit(&mut self, rows: u8) -> Result<Answer, Fail> {
+    fn commit(&mut self, version: PlainVersion) -> Result<Answer, Fail> {
         self.commits = self.commits.wrapping_add(1);
         if self.commits == self.plan.before {
             return Ok(self.fail());
         }
-        self.keeper.push(rows)?;
+        self.keeper.push(version)?;
         if self.commits == self.plan.after {
             return Ok(self.fail());
         }
-        self.hub.push(rows)?;
+        self.hub.push(version)?;
         Ok(Answer::New(newest(&self.hub)))
+    }
+
+    // Adds a version that isn't the newest.
+    fn add(&mut self, version: PlainVersion) -> Result<Answer, Fail> {
+        if version == newest_version(&self.hub) {
+            return Ok(Answer::Same(newest(&self.hub)));
+        }
+        self.commit(version)
     }
 
     /// Publishes rows beside those that stand.
@@ -117,10 +157,25 @@ impl Plain {
         if !self.is_ready(alloc)? {
             return Ok(Answer::Failed);
         }
-        let before = newest_rows(&self.hub);
-        if before | rows == before {
-            return Ok(Answer::Same(newest(&self.hub)));
+        let mut version = newest_version(&self.hub);
+        version.rows |= rows;
+        self.add(version)
+    }
+
+    /// Gives the callers these terms.
+    pub fn set_grants(
+        &mut self,
+        alloc: Global,
+        east: Option<usize>,
+        west: Option<usize>,
+    ) -> Result<Answer, Fail> {
+        if !self.is_ready(alloc)? {
+            return Ok(Answer::Failed);
         }
-        self.commit(before | rows)
+        let mut version = newest_version(&self.hub);
+        let number = self.hub.len();
+        version.east = given(version.east, east, number);
+        version.west = given(version.west, west, number);
+        self.add(version)
     }
 }

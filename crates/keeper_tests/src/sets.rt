@@ -2,7 +2,7 @@
 
 use csv_sets::read_set;
 use outside_ports::MemFolder;
-use roster_texts::Name;
+use roster_texts::{Moment, Name};
 use roster_types::set::RosterSet;
 use std::alloc::Global;
 use std::process::Abort;
@@ -41,6 +41,14 @@ fn set_of(
     match read_set(alloc, &mut folder, "lake", feed) {
         Ok(set) => Ok(set),
         Err(_) => panic!(rt; "no set"),
+    }
+}
+
+/// The moment of each call.
+pub fn moment_of(rt: &impl Abort) -> Moment {
+    match Moment::at(1_000) {
+        Some(moment) => moment,
+        None => panic!(rt; "no moment"),
     }
 }
 
