@@ -1,4 +1,5 @@
 pub mod AddLemmas
+pub mod CallerLemmas
 pub mod GrantLemmas
 pub mod HistoryLemmas
 pub mod HistoryNext
