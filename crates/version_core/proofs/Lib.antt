@@ -10,8 +10,10 @@ pub mod Next
 pub mod NextLemmas
 pub mod OrderLemmas
 pub mod PartsLemmas
+pub mod Picked
 pub mod Places
 pub mod PutLemmas
+pub mod Referring
 pub mod RoomLemmas
 pub mod RowsOf
 pub mod SinceLemmas

@@ -12,6 +12,7 @@ ghost use Rattle.version_core.specs.Version.{IsVersion, row_limit};
 use crate::grant_row::{GrantRow, row_of_caller, row_of_token};
 use crate::histories::{following, found};
 use crate::history::History;
+use crate::references::{Refs, next_referring};
 use crate::row_change::RowChange;
 use crate::sorted::compare;
 use grant_scopes::Grant;
@@ -199,5 +200,13 @@ impl<'a> Rows for VersionView<'a> {
             return histories_of_kind(self.histories, kind);
         }
         count_at(self.histories, self.version, kind)
+    }
+}
+
+impl<'a> Refs for VersionView<'a> {
+    fn referring(&self, kind: Kind, name: &str, target: &Id, after: Option<&Id>) -> Option<&Row> {
+        // Read for the invariant.
+        let _ = &self.version;
+        next_referring(self, kind, name, target, after)
     }
 }
