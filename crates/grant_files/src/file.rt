@@ -5,7 +5,7 @@ ghost use Rattle.csv.specs.Reading.{default_config, records, strip_bom};
 ghost use Rattle.csv.specs.Records.{AllText, fields_of};
 ghost use Rattle.csv_sets.specs.Left.{AllRowsText};
 ghost use Rattle.roster_base.specs.Reading.{Gives};
-ghost use Rattle.grant_files.specs.Grants.{entries_after, entries_below, entries_of, entries_with, few, grants_of, is_header};
+ghost use Rattle.grant_files.specs.Grants.{entries_after, entries_below, entries_of, entries_with, grants_of, is_header};
 ghost use Rattle.grant_files.specs.Known.{Knows};
 
 use crate::entry::read_entry;
