@@ -13,7 +13,6 @@ use Rattle.std.specs.Ordering.{nat_cmp}
 use Rattle.std.specs.Str.{is_utf8}
 use Rattle.std.specs.Prelude.{IsUtf8, ◌||◌, if◌then◌else◌}
 use Rattle.csv.specs.Reading.{default_config, records, strip_bom}
-use Rattle.csv.specs.Records.{AllText}
 use Rattle.roster_base.specs.Reading.{Fails, Gives, ◌>>=◌}
 use Rattle.roster_base.specs.declared.refusal.Refusal.{Refusal}
 use Rattle.roster_base.specs.declared.refusal.Refusal.TheVariants as refusal
@@ -33,7 +32,8 @@ use Rattle.csv_sets.specs.declared.fault.SetFault.TheVariants.{NotUtf8, Repeated
 use Rattle.csv_sets.specs.declared.fault.SetFile.TheVariants.{RowsOf}
 use Rattle.csv_sets.specs.Files.{HoldsIds, file_of, has_id, in_record, largest, rows_after, rows_of}
 use Rattle.csv_sets.specs.Headers.{Header, columns_checked, columns_of, header_from, header_of, place_of, required_checked}
-use Rattle.csv_sets.specs.Left.{AllRowsText, GivesRecord}
+use Rattle.csv_sets.specs.Left.{AllRowsText}
+use Rattle.csv_sets.proofs.RecordSteps.{text_behind}
 use Rattle.csv_sets.specs.Rows.{metadata_at, row_at, set_row, values_at}
 
 -- how far the reading has come: the records that are left lead to the whole answer
@@ -44,21 +44,6 @@ pub record Leads (kind : Kind) (mode : Mode) (header : Header) (front : List Set
 
 pub leads_start : (kind : Kind) (mode : Mode) (header : Header) (whole : List (List (List ℕ))) → AllRowsText whole → Leads kind mode header [] 2 whole whole
 leads_start kind mode header whole text = record { same = refl; text = text; count = refl }
-
--- a record that was found, and those behind it
-pub found_first : (old new : List (List (List ℕ))) (found : Bool) (cells : List (List ℕ)) → GivesRecord old found cells new → found ≡ true → old ≡ cells ∷ new
-found_first old new true cells g e = g
-found_first old new false cells g e = cc e
-
-pub found_none : (old new : List (List (List ℕ))) (found : Bool) (cells : List (List ℕ)) → GivesRecord old found cells new → found ≡ false → old ≡ []
-found_none old new true cells g e = cc e
-found_none old new false cells g e = g
-
-text_first : (old : List (List (List ℕ))) (cells : List (List ℕ)) (new : List (List (List ℕ))) → old ≡ cells ∷ new → AllRowsText old → AllText cells × AllRowsText new
-text_first old cells new e t = rw e at t
-
-pub cells_text : {old : List (List (List ℕ))} {cells : List (List ℕ)} {new : List (List (List ℕ))} → old ≡ cells ∷ new → AllRowsText old → AllText cells
-cells_text {old} {cells} {new} e t = (text_first old cells new e t).0
 
 pub leads_end : {kind : Kind} {mode : Mode} {header : Header} {front : List SetRow} {number : ℕ} {left whole : List (List (List ℕ))} → Leads kind mode header front number left whole → left ≡ []
     → rows_after kind mode header [] 2 whole ≡ Ok front
@@ -83,7 +68,7 @@ pub leads_on : {kind : Kind} {mode : Mode} {header : Header} {front : List SetRo
 unfolding rows_after
 leads_on {number = number} {left} cells new row l d h r = record {
   same = rw (d, h, r) at l.same;
-  text = (text_first left cells new d l.text).1;
+  text = text_behind left cells new d l.text;
   count = omega (arith, ap length d, l.count);
 }
 

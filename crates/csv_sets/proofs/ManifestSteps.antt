@@ -13,6 +13,7 @@ use Rattle.csv_sets.specs.declared.fault.ManifestFault.{ManifestFault}
 use Rattle.csv_sets.specs.declared.manifest.ListedFile.{ListedFile}
 use Rattle.csv_sets.specs.declared.manifest.Said.{Said}
 use Rattle.csv_sets.specs.Left.{AllRowsText}
+use Rattle.csv_sets.proofs.RecordSteps.{text_behind}
 use Rattle.csv_sets.specs.Manifests.{RisingFiles, files_said, listed, mode_of, said_after, said_by}
 
 -- how far the reading has come: the records that are left lead to the whole answer
@@ -23,9 +24,6 @@ pub record Says (front : List Said) (number : ℕ) (left whole : List (List (Lis
 
 pub says_start : (whole : List (List (List ℕ))) → AllRowsText whole → Says [] 2 whole whole
 says_start whole text = record { same = refl; text = text; count = refl }
-
-text_behind : (old : List (List (List ℕ))) (cells : List (List ℕ)) (new : List (List (List ℕ))) → old ≡ cells ∷ new → AllRowsText old → AllRowsText new
-text_behind old cells new e t = (rw e at t).1
 
 pub says_end : {front : List Said} {number : ℕ} {left whole : List (List (List ℕ))} → Says front number left whole → left ≡ [] → said_after [] 2 whole ≡ Ok front
 unfolding said_after

@@ -4,7 +4,6 @@ use Rattle.std.specs.List.{list_any}
 use Rattle.std.specs.List.Sorted.{IsStrictlySortedBy}
 use Rattle.std.specs.Ordering.{nat_cmp}
 use Rattle.roster_base.specs.Reading.{◌>>=◌}
-use Rattle.roster_texts.specs.Trim.{trimmed}
 use Rattle.roster_values.specs.declared.kind.Kind.{Kind}
 use Rattle.roster_values.specs.declared.mode.Mode.{Mode}
 use Rattle.roster_values.specs.declared.mode.Mode.TheVariants.{Bulk, Delta}
@@ -15,12 +14,8 @@ use Rattle.csv_sets.specs.declared.fault.ManifestFault.{ManifestFault}
 use Rattle.csv_sets.specs.declared.fault.ManifestFault.TheVariants.{Header, Missing, Repeated, UnknownMode, Version, Width}
 use Rattle.csv_sets.specs.declared.property.Property.{Property}
 use Rattle.csv_sets.specs.declared.property.Property.TheVariants.{FileOf, ManifestVersion, OneRosterVersion}
-use Rattle.csv_sets.specs.Cells.{cell_at}
+use Rattle.csv_sets.specs.Cells.{text_at}
 use Rattle.csv_sets.specs.Properties.{property_name, property_of}
-
--- the text of a cell, without the spaces at its ends
-abbrev pub text_at : List (List ℕ) → ℕ → List ℕ
-text_at cells place = trimmed (cell_at cells (Some place))
 
 abbrev pub is_header : List (List ℕ) → Bool
 is_header cells = (length cells == 2) && bytes_eq (text_at cells 0) (codes "propertyName") && bytes_eq (text_at cells 1) (codes "value")

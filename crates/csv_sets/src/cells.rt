@@ -2,9 +2,10 @@
 
 ghost use Rattle.std.specs.Prelude.{◌≡◌};
 ghost use Rattle.csv.specs.Records.{AllText, fields_of};
-ghost use Rattle.csv_sets.specs.Cells.{cell_at};
+ghost use Rattle.csv_sets.specs.Cells.{cell_at, text_at};
 
 use csv::ByteRecord;
+use roster_texts::trim::trim_spaces;
 
 /// The text of the cell at a place, empty where there is no such column.
 pub fn cell_at(cells: &ByteRecord, place: Option<usize>) -> &str
@@ -21,4 +22,12 @@ pub fn cell_at(cells: &ByteRecord, place: Option<usize>) -> &str
         Ok(text) => text,
         Err(_) => unreachable!(),
     }
+}
+
+/// The text of the cell at a place, without the spaces at its ends.
+pub fn text_at(cells: &ByteRecord, place: usize) -> &str
+    requires { AllText (fields_of cells.now) }
+    ensures { result.now ≡ text_at (fields_of cells.now) place }
+{
+    trim_spaces(cell_at(cells, Some(place)))
 }

@@ -3,14 +3,14 @@
 #![tactic(auto)]
 
 mod cell_text;
-mod cells;
+pub mod cells;
 pub mod fault;
 pub mod file;
 mod header;
 mod keys;
 pub mod manifest;
 pub mod property;
-mod records;
+pub mod records;
 mod row;
 pub mod set;
 mod write;

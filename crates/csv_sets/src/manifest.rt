@@ -5,16 +5,15 @@ ghost use Rattle.csv.specs.Reading.{default_config, records, strip_bom};
 ghost use Rattle.csv.specs.Records.{AllText, fields_of};
 ghost use Rattle.roster_base.specs.Reading.{Gives};
 ghost use Rattle.csv_sets.specs.Left.{AllRowsText};
-ghost use Rattle.csv_sets.specs.Manifests.{RisingFiles, files_said, is_header, is_of, is_said, listed, manifest_below, manifest_of, mode_of, mode_of_word, mode_said, said_after, said_by, said_with, text_at, version_checked, versions_checked};
+ghost use Rattle.csv_sets.specs.Manifests.{RisingFiles, files_said, is_header, is_of, is_said, listed, manifest_below, manifest_of, mode_of, mode_of_word, mode_said, said_after, said_by, said_with, version_checked, versions_checked};
 ghost use Rattle.roster_values.specs.Kinds.{all_kinds};
 
-use crate::cells::cell_at;
+use crate::cells::text_at;
 use crate::fault::{ManifestError, ManifestFault};
 use crate::property::Property;
 use crate::records::RecordReader;
 use csv::ByteRecord;
 use roster_base::{Items, NoMemory, Refusal};
-use roster_texts::trim::trim_spaces;
 use roster_values::{Kind, Mode};
 use std::alloc::Global;
 
@@ -36,14 +35,6 @@ pub struct Manifest {
 pub struct Said {
     property: Property,
     mode: Option<Mode>,
-}
-
-// The text of the cell at a place, without the spaces at its ends.
-fn text_at(cells: &ByteRecord, place: usize) -> &str
-    requires { AllText (fields_of cells.now) }
-    ensures { result.now ≡ text_at (fields_of cells.now) place }
-{
-    trim_spaces(cell_at(cells, Some(place)))
 }
 
 fn is_header(cells: &ByteRecord) -> bool

@@ -1,0 +1,2 @@
+mod OpenSteps
+mod WordSteps

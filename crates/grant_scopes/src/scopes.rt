@@ -2,7 +2,10 @@
 
 ghost use Rattle.std.specs.Prelude.{◌≡◌, ◌<◌, ℕ};
 ghost use Rattle.grant_scopes.specs.Scopes.{scopes_of};
+ghost use Rattle.grant_scopes.specs.Words.{scopes_in};
 
+use crate::scope_info::ScopeInfo;
+use crate::words::{are_scopes, bits_among};
 use roster_base::{NoMemory, Same, TryCopy};
 use std::alloc::Global;
 use std::marker::Model;
@@ -35,6 +38,18 @@ impl Scopes {
         } else {
             None
         }
+    }
+
+    /// The set that a text names: its words stand between spaces, and each is a scope's last word or its whole URI. Nothing
+    /// where one is no scope; a text without words names no scope.
+    #[tactic(auto, unfolding(crate::specs::Words::scopes_in))]
+    pub fn read(text: &str) -> Option<Scopes>
+        ensures { result ≡ scopes_in text.now }
+    {
+        if !are_scopes(text) {
+            return None;
+        }
+        Scopes::from_bits(bits_among(ScopeInfo::all(), text))
     }
 
     /// The bits of the set.

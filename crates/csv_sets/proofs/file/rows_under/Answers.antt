@@ -2,7 +2,8 @@ use Rattle.std.proofs.Common.{sym, ◌∙◌}
 use Rattle.std.proofs.lemmas.Bool.{not-false, not-true}
 use Rattle.std.proofs.lemmas.Result.{err_from_is_err_and}
 use Rattle.csv.specs.Records.{fields_of}
-use Rattle.csv_sets.proofs.FileSteps.{found_first, found_none, leads_end, leads_fail, leads_on, leads_repeated}
+use Rattle.csv_sets.proofs.FileSteps.{leads_end, leads_fail, leads_on, leads_repeated}
+use Rattle.csv_sets.proofs.RecordSteps.{found_first, found_none}
 use Rattle.csv_sets.proofs.file.rows_under.Goals as goal
 
 pub returns-in_err-row : goal.returns-in_err-row

@@ -1,6 +1,6 @@
 use Rattle.csv.specs.Records.{fields_of}
 use Rattle.std.proofs.lemmas.Result.{err_from_is_err_and}
-use Rattle.csv_sets.proofs.FileSteps.{found_first, found_none}
+use Rattle.csv_sets.proofs.RecordSteps.{found_first, found_none}
 use Rattle.csv_sets.proofs.ManifestSteps.{says_end, says_fail, says_on}
 use Rattle.csv_sets.proofs.manifest.read_said.Goals as goal
 

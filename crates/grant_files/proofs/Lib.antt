@@ -1,0 +1,3 @@
+mod GrantSteps
+mod KnownLaws
+mod SchoolOrder
