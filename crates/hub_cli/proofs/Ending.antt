@@ -15,8 +15,9 @@ use Rattle.hub_cli.specs.declared.answer.Answer.{Answer}
 use Rattle.hub_cli.specs.declared.answer.End.{End}
 use Rattle.hub_cli.specs.declared.answer.End.TheVariants as ends
 use Rattle.hub_cli.specs.declared.words.Command.{Command}
-use Rattle.hub_cli.specs.declared.words.Command.TheVariants.{Publish, Show}
+use Rattle.hub_cli.specs.declared.words.Command.TheVariants.{Grant, Publish, Show}
 use Rattle.hub_cli.specs.declared.words.Parsed.{Parsed}
+use Rattle.hub_cli.proofs.Granting.{grant-says, grant-wants}
 use Rattle.hub_cli.proofs.Leading.{leads-nowhere, leads-on}
 use Rattle.hub_cli.proofs.Publishing.{Says, run-says, run-wants}
 
@@ -57,6 +58,7 @@ command-wants : (command : Command) (o : Outside) (a : Answer) (before after : K
 command-wants (Show kind) o a before after is other = inr (is.0, show-wants kind o a is.1 other)
 command-wants (Publish feeds) o a before after (inl failed) other = inr (failed.0, (failed.1.0, refl))
 command-wants (Publish feeds) o a before after (inr run) other = inl (inr (run-wants o feeds a.done a.end before after run))
+command-wants (Grant file) o a before after is other = inl (grant-wants o file a.done a.end before after is other)
 
 answer-wants : (r : Result Parsed ℕ) (o : Outside) (a : Answer) (before after : KeptState) → IsAnswer r o a before after → a.end ≢ ends.Done → IsAnswer r o (record a { end = ends.NoMemory }) before after
 answer-wants (Err place) o a before after (same, inl bad) other = (same, inr (ap (λ (x : Answer). x.done) bad.0, refl))
@@ -104,12 +106,19 @@ module _ (o : Outside) where
   command-says (Show kind) a before after is = show-says kind a is.1
   command-says (Publish feeds) a before after (inl failed) = subst (Says o) (sym failed.1.1) (record { words = λ e. cc e; folder = λ e. cc e; keeper = λ e. failed.1.2 })
   command-says (Publish feeds) a before after (inr run) = run-says o feeds a.done a.end before after run
+  command-says (Grant file) a before after is = grant-says o file a.done a.end before after is
 
 -- status 2 comes only with bad words
 pub answer-words : (r : Result Parsed ℕ) (o : Outside) (a : Answer) (before after : KeptState) → IsAnswer r o a before after → status_of a.end ≡ 2 → IsErr r
 answer-words (Err place) o a before after is e = refl
 answer-words (Ok parsed) o a before after (inl is) e = absurd ((command-says o parsed.command a before after is).words e)
 answer-words (Ok parsed) o a before after (inr wants) e = absurd ((says_memory o a.end wants.1.1).words e)
+
+-- and always with them, unless memory runs out
+answer-bad : (r : Result Parsed ℕ) (o : Outside) (a : Answer) (before after : KeptState) → IsAnswer r o a before after → IsErr r → status_of a.end ≢ 17 → status_of a.end ≡ 2
+answer-bad (Err place) o a before after (same, inl bad) err other = ap (λ (x : Answer). status_of x.end) bad.0
+answer-bad (Err place) o a before after (same, inr wants) err other = absurd (other (ap status_of wants.1))
+answer-bad (Ok parsed) o a before after is err other = cc err
 
 -- and 3 and 5 only where the count of the folder's faults, or of the keeper's, rose
 answer-says : (r : Result Parsed ℕ) (o : Outside) (a : Answer) (before after : KeptState) → IsAnswer r o a before after → (status_of a.end ≡ 3 → HaveRisen o.folder) × (status_of a.end ≡ 5 → HaveRisen o.keeper)
@@ -120,6 +129,9 @@ answer-says (Ok parsed) o a before after (inr wants) = let says = says_memory o 
 
 pub leads-words : (old new : KeptState → Type 0) (r : Result Parsed ℕ) (o : Outside) (a : Answer) → LeadsFrom old new (IsAnswer r o a) → status_of a.end ≡ 2 → IsErr r
 leads-words old new r o a from = answer-words r o a from.before from.after from.some
+
+pub leads-bad : (old new : KeptState → Type 0) (r : Result Parsed ℕ) (o : Outside) (a : Answer) → LeadsFrom old new (IsAnswer r o a) → IsErr r → status_of a.end ≢ 17 → status_of a.end ≡ 2
+leads-bad old new r o a from = answer-bad r o a from.before from.after from.some
 
 pub leads-says : (old new : KeptState → Type 0) (r : Result Parsed ℕ) (o : Outside) (a : Answer) → LeadsFrom old new (IsAnswer r o a) → (status_of a.end ≡ 3 → HaveRisen o.folder) × (status_of a.end ≡ 5 → HaveRisen o.keeper)
 leads-says old new r o a from = answer-says r o a from.before from.after from.some

@@ -1,5 +1,6 @@
 -- What leads from a state to another over a keeper.
-use Rattle.std.proofs.Common.{◌≡◌, ℕ, List, [], ◌∷◌, refl}
+use Rattle.std.proofs.Common.{◌≡◌, List, [], ◌∷◌, false, true, inl, inr, refl, sym, subst}
+use Rattle.hub_core.specs.Standing.{HeldHub, IsStanding, KeeperFits}
 use Rattle.keeper_memory.specs.Kept.{IsKept, KeptState}
 use Rattle.keeper_memory.proofs.KeptLemmas.{no_versions}
 use Rattle.version_core.proofs.MarkLemmas.{no_marks}
@@ -27,3 +28,20 @@ leads-on old between new leads more told weaker from = record {
   some = weaker from.before from.after from.some;
   told = λ now stands. let t = from.told now stands in (t.0, told t.0 t.1, weaker t.0 now t.2);
 }
+
+-- what a hub that was opened leads to
+pub leads-standing : (old new : KeptState → Type 0) (first hub : HeldHub) (leads : KeptState → KeptState → Type 0) → IsKept first.kept → first.is_open ≡ false → KeeperFits new hub
+    → ((after : KeptState) → IsStanding hub after → (before : KeptState) × IsStanding first before × (new after → old before) × leads before after) → LeadsFrom old new leads
+leads-standing old new first hub leads is shut fits led =
+    let some = led hub.kept (inl refl) in
+    record {
+      before = some.0;
+      after = hub.kept;
+      is = kept_one some.0 some.1;
+      some = some.3;
+      told = λ now stands. let l = led now (fits now stands) in (l.0, l.2 stands, l.3);
+    }
+  where
+    kept_one : (kept : KeptState) → IsStanding first kept → IsKept kept
+    kept_one kept (inl e) = subst IsKept (sym e) is
+    kept_one kept (inr last) = let left : first.is_open ≡ true = last.left_open in cc (left, shut)

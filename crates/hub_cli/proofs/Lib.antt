@@ -1,6 +1,7 @@
 mod Dating
 mod Ending
 mod FeedWords
+mod Granting
 mod Leading
 mod OptionWords
 mod Publishing

@@ -24,13 +24,13 @@ use Rattle.hub_cli.specs.Runs.{IsCommandAnswer, LeadsFrom}
 use Rattle.hub_cli.specs.Steps.{PublishesFeed, ReadsSet, end_of, end_of_error}
 use Rattle.hub_cli.specs.declared.answer.Answer.{Answer}
 use Rattle.hub_cli.specs.declared.answer.End.{End}
-use Rattle.hub_cli.specs.declared.answer.End.TheVariants.{BadWord, Done, FolderFailed, HubFailed, NoMemory, NotPublished, Refused}
+use Rattle.hub_cli.specs.declared.answer.End.TheVariants.{BadWord, Done, FileTooLarge, FolderFailed, GrantsRefused, HubFailed, MissingFile, NoMemory, NotPublished, Refused}
 use Rattle.hub_cli.specs.declared.words.Command.TheVariants.{Publish}
 use Rattle.hub_cli.specs.declared.words.Feed.{Feed}
-use Rattle.hub_cli.proofs.Leading.{leads-nowhere, leads-on}
+use Rattle.hub_cli.proofs.Leading.{leads-nowhere, leads-on, leads-standing}
 
 -- a failure that is counted makes the count rise
-rose : (before now : ℕ) → now ≡ min (before + 1) (2 ^ 64 - 1) → HaveRisen (faults_of before now)
+pub rose : (before now : ℕ) → now ≡ min (before + 1) (2 ^ 64 - 1) → HaveRisen (faults_of before now)
 rose before now counted = omega arith
 
 -- ---- how a run may end
@@ -49,6 +49,9 @@ module _ (o : Outside) where
   stop-wants feed (Refused f) before after stops = inl stops.2
   stop-wants feed (NotPublished f) before after stops = inl stops.0.4.1
   stop-wants feed NoMemory before after stops = stops
+  stop-wants feed (MissingFile name) before after stops = absurd stops
+  stop-wants feed (FileTooLarge name) before after stops = absurd stops
+  stop-wants feed (GrantsRefused f) before after stops = absurd stops
 
   pub run-wants : (feeds : List Feed) (done : List ℕ) (end : End) (before after : KeptState) → IsRunOf o feeds done end before after → IsRunOf o feeds done NoMemory before after
   run-wants [] done end before after run = (run.0, run.1, inr refl)
@@ -73,6 +76,9 @@ module _ (o : Outside) where
   stop-says feed HubFailed before after stops = record { words = λ e. cc e; folder = λ e. cc e; keeper = λ e. stops.0 }
   stop-says feed (Refused f) before after stops = record { words = λ e. cc e; folder = λ e. cc e; keeper = λ e. cc e }
   stop-says feed (NotPublished f) before after stops = record { words = λ e. cc e; folder = λ e. cc e; keeper = λ e. cc e }
+  stop-says feed (MissingFile name) before after stops = absurd stops
+  stop-says feed (FileTooLarge name) before after stops = absurd stops
+  stop-says feed (GrantsRefused f) before after stops = absurd stops
   stop-says feed NoMemory before after stops = record { words = λ e. cc e; folder = λ e. cc e; keeper = λ e. cc e }
 
   quiet-says : (end : End) → ((end ≡ Done) × NothingFailed o) ⊎ (end ≡ NoMemory) → Says end
@@ -199,23 +205,9 @@ module _ (files : Option (List Stored)) (moment : Option ℤ) (folder folder_now
   pub ran : (first hub : HeldHub) (done : List ℕ) (end : End) → IsKept first.kept → first.is_open ≡ false → Ended files moment folder keeper old first feeds [] folder_now keeper_now new hub done end → KeeperFits new hub
       → LeadsFrom old new (IsRunOf outside feeds done end)
   ran first hub done end is shut ended fits =
-      let some = comes hub.kept (inl refl) in
-      record {
-        before = some.0;
-        after = hub.kept;
-        is = kept_one some.0 some.1;
-        some = some.3;
-        told = λ now stands. let c = comes now (fits now stands) in (c.0, c.2 stands, c.3);
-      }
-    where
-      kept_one : (kept : KeptState) → IsStanding first kept → IsKept kept
-      kept_one kept (inl e) = subst IsKept (sym e) is
-      kept_one kept (inr last) = let left : first.is_open ≡ true = last.left_open in cc (left, shut)
-
-      comes : (after : KeptState) → IsStanding hub after → (before : KeptState) × IsStanding first before × (new after → old before) × IsRunOf outside feeds done end before after
-      comes after standing =
-          let c = ended.2 after standing in
-          (c.0, c.1, c.2, subst (λ t. IsRunOf outside feeds t end c.0 after) (sym ended.1) c.3)
+      leads-standing old new first hub (IsRunOf outside feeds done end) is shut fits (λ after standing.
+      let c = ended.2 after standing in
+      (c.0, c.1, c.2, subst (λ t. IsRunOf outside feeds t end c.0 after) (sym ended.1) c.3))
 
   -- the run of a command that opened its hub
   pub opened : (keeper_open : ℕ) (stands : KeptState → Type 0) (answer : Answer) → ((kept : KeptState) → stands kept → old kept) → keeper_open ≡ keeper
@@ -260,6 +252,9 @@ module _ (files : Option (List Stored)) (moment : Option ℤ) (folder keeper : F
   end_of_set HubFailed kept empty quiet = absurd empty
   end_of_set (Refused f) kept is quiet = (is.0, record { folder = is.1; keeper = quiet }, refl)
   end_of_set (NotPublished f) kept empty quiet = absurd empty
+  end_of_set (MissingFile name) kept empty quiet = absurd empty
+  end_of_set (FileTooLarge name) kept empty quiet = absurd empty
+  end_of_set (GrantsRefused f) kept empty quiet = absurd empty
   end_of_set NoMemory kept is quiet = inl refl
 
   module _ (set : SetRecord) (at : ℤ) (is : IsSetOf files feed (Ok set)) (stood : HaveStood folder) (m : IsMomentOf moment at) where

@@ -9,6 +9,8 @@ use Rattle.csv_sets.specs.declared.fault.ManifestFault.{ManifestFault}
 use Rattle.csv_sets.specs.declared.fault.ManifestFault.TheVariants as manifest
 use Rattle.csv_sets.specs.Names.{name_of}
 use Rattle.csv_sets.specs.Properties.{property_name}
+use Rattle.grant_files.specs.declared.fault.GrantFault.{GrantFault}
+use Rattle.grant_files.specs.declared.fault.GrantFault.TheVariants as grant
 use Rattle.reference_rules.specs.declared.ref_fault.Fault.{Fault}
 use Rattle.reference_rules.specs.declared.ref_fault.Fault.TheVariants as reference
 use Rattle.reference_rules.specs.declared.ref_fault.RefFault.{RefFault}
@@ -104,6 +106,28 @@ publish_fault_text (OwnedByOther kind id owner) =
 publish_fault_text (TooManyRows kind count) = codes "refused: " ++ plural_of kind ++ codes ": too many rows\n"
 publish_fault_text (Unsound faults) = flat_map reference_text faults
 publish_fault_text LastVersion = codes "refused: last version\n"
+
+-- ---- what `grant` tells
+
+-- what is wrong with a record of a file of grants
+abbrev pub grants_record_text : ℕ → List ℕ → List ℕ
+grants_record_text number why = codes "refused: grants record " ++ decimal number ++ codes ": " ++ why ++ codes "\n"
+
+unfoldable pub grants_fault_text : GrantFault → List ℕ
+grants_fault_text grant.NotUtf8 = codes "refused: grants: not UTF-8\n"
+grants_fault_text grant.Header = codes "refused: grants: header\n"
+grants_fault_text grant.TooMany = codes "refused: grants: too many\n"
+grants_fault_text (grant.Width number) = grants_record_text number (codes "width")
+grants_fault_text (grant.BadName number) = grants_record_text number (codes "bad name")
+grants_fault_text (grant.BadToken number) = grants_record_text number (codes "bad token")
+grants_fault_text (grant.BadScope number) = grants_record_text number (codes "bad scope")
+grants_fault_text (grant.BadSchools number) = grants_record_text number (codes "bad schools")
+grants_fault_text (grant.RepeatedCaller number) = grants_record_text number (codes "repeated caller")
+grants_fault_text (grant.RepeatedToken number) = grants_record_text number (codes "repeated token")
+
+-- what is wrong with a file that the words name
+abbrev pub named_file_text : List ℕ → List ℕ → List ℕ
+named_file_text name why = codes "refused: " ++ name ++ why
 
 -- the place, from 0, of the first word that no command continues
 unfoldable pub bad_word_text : ℕ → List ℕ

@@ -5,8 +5,9 @@ use Rattle.roster_values.specs.declared.kind.Kind.{Kind}
 use Rattle.hub_cli.specs.declared.answer.Answer.{Answer}
 use Rattle.hub_cli.specs.declared.answer.End.TheVariants.{BadWord, FolderFailed, HubFailed, NoMemory}
 use Rattle.hub_cli.specs.declared.words.Command.{Command}
-use Rattle.hub_cli.specs.declared.words.Command.TheVariants.{Publish, Show}
+use Rattle.hub_cli.specs.declared.words.Command.TheVariants.{Grant, Publish, Show}
 use Rattle.hub_cli.specs.declared.words.Parsed.{Parsed}
+use Rattle.hub_cli.specs.GrantAnswers.{IsGrantAnswer}
 use Rattle.hub_cli.specs.Outside.{HaveRisen, HaveStood, NothingFailed, Outside}
 use Rattle.hub_cli.specs.Publishes.{IsRunOf}
 use Rattle.hub_cli.specs.Shows.{IsShown}
@@ -33,6 +34,7 @@ IsCommandAnswer (Show kind) outside answer before after =
     (after ≡ before) × IsShowAnswer kind outside answer
 IsCommandAnswer (Publish feeds) outside answer before after =
     ((after ≡ before) × IsHubFailure outside answer) ⊎ IsRunOf outside feeds answer.done answer.end before after
+IsCommandAnswer (Grant file) outside answer before after = IsGrantAnswer outside file answer.done answer.end before after
 
 -- the answer to words
 abbrev pub IsAnswer : Result Parsed ℕ → Outside → Answer → KeptState → KeptState → Type 0

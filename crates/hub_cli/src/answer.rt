@@ -5,9 +5,11 @@ ghost use Rattle.hub_cli.specs.Answers as answers;
 ghost use Rattle.hub_cli.specs.declared.answer.End.TheVariants as ends;
 
 use crate::lines::{
-    FOLDER_FAILED, HUB_FAILED, NO_MEMORY, bad_word_line, fault_line, publish_fault_lines,
+    FOLDER_FAILED, HUB_FAILED, NO_MEMORY, bad_word_line, fault_line, grants_fault_line,
+    named_file_line, publish_fault_lines,
 };
 use csv_sets::SetFault;
+use grant_files::GrantFault;
 use roster_base::{NoMemory, Text};
 use set_changes::PublishFault;
 use std::alloc::Global;
@@ -22,7 +24,13 @@ pub enum End {
     FolderFailed,
     /// A file or a set is refused for this fault, its first.
     Refused(SetFault),
-    /// A set isn't published, for this reason, the first.
+    /// A file that the words name isn't there.
+    MissingFile(Text),
+    /// A file that the words name has too many bytes.
+    FileTooLarge(Text),
+    /// A file of grants is refused for this fault, its first.
+    GrantsRefused(GrantFault),
+    /// A set, or a list of grants, isn't published, for this reason, the first.
     NotPublished(PublishFault),
     /// The hub's keeper failed, and its count of faults rose.
     HubFailed,
@@ -60,6 +68,7 @@ impl End {
             End::BadWord(_) => 2,
             End::FolderFailed => 3,
             End::Refused(_) | End::NotPublished(_) => 4,
+            End::MissingFile(_) | End::FileTooLarge(_) | End::GrantsRefused(_) => 4,
             End::HubFailed => 5,
             End::NoMemory => 17,
         }
@@ -75,6 +84,9 @@ impl End {
             End::BadWord(place) => bad_word_line(alloc, *place),
             End::FolderFailed => Ok(String::from_str(alloc, FOLDER_FAILED)?),
             End::Refused(fault) => fault_line(alloc, fault),
+            End::MissingFile(name) => named_file_line(alloc, name.as_str(), ": missing file\n"),
+            End::FileTooLarge(name) => named_file_line(alloc, name.as_str(), ": too large\n"),
+            End::GrantsRefused(fault) => grants_fault_line(alloc, *fault),
             End::NotPublished(fault) => publish_fault_lines(alloc, fault),
             End::HubFailed => Ok(String::from_str(alloc, HUB_FAILED)?),
             End::NoMemory => Ok(String::from_str(alloc, NO_MEMORY)?),

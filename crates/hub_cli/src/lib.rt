@@ -3,6 +3,7 @@
 #![tactic(auto)]
 
 pub mod answer;
+mod grant;
 pub mod lines;
 mod moment;
 mod publish;

@@ -8,9 +8,10 @@ ghost use Rattle.roster_values.specs.Kinds.{plural_of};
 ghost use Rattle.hub_cli.specs.Lines as lines;
 
 use csv_sets::{ColumnFault, ManifestFault, Property, SetFault, SetFile};
+use grant_files::GrantFault;
 use reference_rules::{Fault, RefFault};
 use roster_base::NoMemory;
-use roster_texts::{Id, Name, ValueFault};
+use roster_texts::{Id, ValueFault};
 use roster_types::owner::Owner;
 use roster_values::Kind;
 use set_changes::PublishFault;
@@ -202,22 +203,22 @@ pub fn fault_line(alloc: Global, fault: &SetFault) -> Result<String, NoMemory>
     }
 }
 
-/// The line of a set that is published as a version.
+/// The line of what is published under a name as a version.
 #[tactic(auto, unfolding(crate::specs::Lines::published_text))]
-pub fn published_line(alloc: Global, feed: &Name, version: u64) -> Result<String, NoMemory>
-    ensures { IfOk result (λ s. string_bytes s ≡ lines.published_text feed.now version) }
+pub fn published_line(alloc: Global, name: &str, version: u64) -> Result<String, NoMemory>
+    ensures { IfOk result (λ s. string_bytes s ≡ lines.published_text name.now version) }
 {
-    let mut line = String::from_str(alloc, feed.as_str())?;
+    let mut line = String::from_str(alloc, name)?;
     line.push_str(format!(in alloc; " version {version}\n")?.as_str())?;
     Ok(line)
 }
 
 /// The line of a set that changes nothing.
 #[tactic(auto, unfolding(crate::specs::Lines::unchanged_text))]
-pub fn unchanged_line(alloc: Global, feed: &Name, version: u64) -> Result<String, NoMemory>
-    ensures { IfOk result (λ s. string_bytes s ≡ lines.unchanged_text feed.now version) }
+pub fn unchanged_line(alloc: Global, name: &str, version: u64) -> Result<String, NoMemory>
+    ensures { IfOk result (λ s. string_bytes s ≡ lines.unchanged_text name.now version) }
 {
-    let mut line = String::from_str(alloc, feed.as_str())?;
+    let mut line = String::from_str(alloc, name)?;
     line.push_str(format!(in alloc; " unchanged {version}\n")?.as_str())?;
     Ok(line)
 }
@@ -326,6 +327,51 @@ pub fn publish_fault_lines(alloc: Global, fault: &PublishFault) -> Result<String
         PublishFault::Unsound(faults) => reference_lines(alloc, faults.as_slice()),
         PublishFault::LastVersion => Ok(String::from_str(alloc, "refused: last version\n")?),
     }
+}
+
+// `refused: `, a record of a file of grants, and what is wrong with it.
+fn grants_record_line(alloc: Global, number: u64, why: &str) -> Result<String, NoMemory>
+    ensures { IfOk result (λ s. string_bytes s ≡ lines.grants_record_text number why.now) }
+{
+    let mut line = format!(in alloc; "refused: grants record {number}: ")?;
+    line.push_str(why)?;
+    line.push_str("\n")?;
+    Ok(line)
+}
+
+/// The line of the first fault of a file of grants. Status 4.
+#[tactic(auto, unfolding(crate::specs::Lines::grants_fault_text))]
+pub fn grants_fault_line(alloc: Global, fault: GrantFault) -> Result<String, NoMemory>
+    ensures { IfOk result (λ s. string_bytes s ≡ lines.grants_fault_text fault) }
+{
+    match fault {
+        GrantFault::NotUtf8 => Ok(String::from_str(alloc, "refused: grants: not UTF-8\n")?),
+        GrantFault::Header => Ok(String::from_str(alloc, "refused: grants: header\n")?),
+        GrantFault::TooMany => Ok(String::from_str(alloc, "refused: grants: too many\n")?),
+        GrantFault::Width { record_no } => grants_record_line(alloc, record_no, "width"),
+        GrantFault::BadName { record_no } => grants_record_line(alloc, record_no, "bad name"),
+        GrantFault::BadToken { record_no } => grants_record_line(alloc, record_no, "bad token"),
+        GrantFault::BadScope { record_no } => grants_record_line(alloc, record_no, "bad scope"),
+        GrantFault::BadSchools { record_no } => {
+            grants_record_line(alloc, record_no, "bad schools")
+        }
+        GrantFault::RepeatedCaller { record_no } => {
+            grants_record_line(alloc, record_no, "repeated caller")
+        }
+        GrantFault::RepeatedToken { record_no } => {
+            grants_record_line(alloc, record_no, "repeated token")
+        }
+    }
+}
+
+/// The line of a file that the words name, and what is wrong with it as a whole. Status 4.
+pub fn named_file_line(alloc: Global, name: &str, why: &str) -> Result<String, NoMemory>
+    ensures { IfOk result (λ s. string_bytes s ≡ lines.named_file_text name.now why.now) }
+{
+    let mut line = String::from_str(alloc, "refused: ")?;
+    line.push_str(name)?;
+    line.push_str(why)?;
+    Ok(line)
 }
 
 /// The line of words that are no command. Status 2.

@@ -55,8 +55,8 @@ fn set_of<F: Folder>(alloc: Global, feed: &Feed, folder: &mut F) -> Result<Roste
     }
 }
 
-// The line of what was made of a set of this name.
-fn told_line(alloc: Global, name: &Name, answer: Published) -> Result<String, NoMemory>
+/// The line of what was published under a name.
+pub fn told_line(alloc: Global, name: &str, answer: Published) -> Result<String, NoMemory>
     ensures { IfOk result (λ line. string_bytes line ≡ told_text name.now answer) }
 {
     match answer {
@@ -70,7 +70,7 @@ fn tell(alloc: Global, done: &mut String, name: &Name, answer: Published) -> Res
     ensures ok { OnOk result (string_bytes done.new ≡ string_bytes done.old ++ told_text name.now answer) }
     ensures err { OnErr result (string_bytes done.new ≡ string_bytes done.old) }
 {
-    let line = told_line(alloc, name, answer)?;
+    let line = told_line(alloc, name.as_str(), answer)?;
     done.push_str(line.as_str())?;
     Ok(())
 }

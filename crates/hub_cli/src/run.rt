@@ -11,6 +11,7 @@ ghost use Rattle.hub_cli.specs.Words.{split};
 ghost use Rattle.hub_cli.specs.declared.answer.Answer.{Answer as AnswerValue};
 
 use crate::answer::{Answer, End};
+use crate::grant::grant;
 use crate::lines::NO_MEMORY;
 use crate::publish::publish;
 use crate::show::show;
@@ -34,6 +35,7 @@ fn answer_of<F: Folder, H: HubKeeper, K: Clock>(
     match command {
         Command::Show { kind } => show(alloc, *kind, folder, clock),
         Command::Publish { feeds } => Ok(publish(alloc, feeds, folder, keeper, clock)),
+        Command::Grant { file } => Ok(grant(alloc, file, folder, keeper, clock)),
     }
 }
 

@@ -2,7 +2,7 @@
 
 ghost use Rattle.std.specs.Prelude.{◌≡◌, ◌+◌, ◌<◌, ◌^◌, IfOk, Ok, length, map, string_bytes};
 ghost use Rattle.roster_base.specs.Reading.{Gives};
-ghost use Rattle.hub_cli.specs.Words.{command_words, ended, feed_in, feed_of, feed_words, in_bounds, is_file_word, keep_in, no_options, number_in, option_of, option_words, publish_words, root_in, set_option, show_words, split, with_folder, with_keep, with_options};
+ghost use Rattle.hub_cli.specs.Words.{command_words, ended, feed_in, feed_of, feed_words, grant_words, in_bounds, is_file_word, keep_in, no_options, number_in, option_of, option_words, publish_words, root_in, set_option, show_words, split, with_folder, with_keep, with_options};
 
 use roster_base::{Items, NoMemory, Refusal, Text};
 use roster_texts::Name;
@@ -24,6 +24,8 @@ pub enum Command {
     Show { kind: Kind },
     /// Publishes the sets of these feeds, one after another.
     Publish { feeds: Items<Feed> },
+    /// Gives each caller what a file asks for, and takes all other grants away.
+    Grant { file: Text },
 }
 
 /// An option, whose value is the word behind it.
@@ -144,6 +146,20 @@ fn publish(alloc: Global, place: usize, words: &[String]) -> Result<Command, Wor
     Ok(Command::Publish { feeds })
 }
 
+fn grant(alloc: Global, place: usize, words: &[String]) -> Result<Command, WordError>
+    requires { place + length words.now < 2 ^ 63 }
+    ensures { Gives (λ c. c) result (grant_words place (map string_bytes words.now)) }
+{
+    let Some((word, words)) = words.split_first() else {
+        return Err(Refusal::Fault(place));
+    };
+    if !is_file_word(word.as_str()) {
+        return Err(Refusal::Fault(place));
+    }
+    let file = Text::new(alloc, word.as_str())?;
+    end(place + 1, Command::Grant { file }, words)
+}
+
 // The command of the words from a place on.
 fn command_at(alloc: Global, place: usize, words: &[String]) -> Result<Command, WordError>
     requires { place + length words.now < 2 ^ 63 }
@@ -152,6 +168,7 @@ fn command_at(alloc: Global, place: usize, words: &[String]) -> Result<Command, 
     match words.split_first() {
         Some((word, words)) if word.as_str() == "show" => show(place + 1, words),
         Some((word, words)) if word.as_str() == "publish" => publish(alloc, place + 1, words),
+        Some((word, words)) if word.as_str() == "grant" => grant(alloc, place + 1, words),
         _ => Err(Refusal::Fault(place)),
     }
 }

@@ -1,5 +1,5 @@
 use Rattle.std.proofs.Common.{sym, ◌∙◌, subst}
-use Rattle.hub_cli.proofs.Ending.{leads-printed, leads-says, leads-wants, leads-words, out_of_memory}
+use Rattle.hub_cli.proofs.Ending.{leads-bad, leads-printed, leads-says, leads-wants, leads-words, out_of_memory}
 use Rattle.hub_cli.proofs.run.run_hub.Goals as goal
 
 pub returns-in-Ok-clause-done : goal.returns-in-Ok-clause-done
@@ -16,6 +16,11 @@ pub returns-in-Ok-clause-words_are_bad : goal.returns-in-Ok-clause-words_are_bad
 returns-in-Ok-clause-words_are_bad g c e =
     let (a, printed, status, written, count) = c.print_answer.ensures.done (λ one. cc (e, one)) in
     leads-words _ _ _ _ a (leads-printed _ _ _ _ c.in-Ok.answer a printed c.in-Ok.ensures.answer) (sym status ∙ e)
+
+pub returns-in-Ok-clause-bad_words : goal.returns-in-Ok-clause-bad_words
+returns-in-Ok-clause-bad_words g c = λ bad one memory.
+    let (a, printed, status, written, count) = c.print_answer.ensures.done one in
+    status ∙ leads-bad _ _ _ _ a (leads-printed _ _ _ _ c.in-Ok.answer a printed c.in-Ok.ensures.answer) bad (λ e. memory (status ∙ e))
 
 pub returns-in-Ok-clause-folder_failed : goal.returns-in-Ok-clause-folder_failed
 returns-in-Ok-clause-folder_failed g c e =
