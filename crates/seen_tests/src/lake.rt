@@ -151,16 +151,22 @@ fn tell_all<R: Rows>(told: &mut String, rows: &R, kind: Kind) -> Result<(), Fail
     Ok(())
 }
 
-// The rows that a grant sees, asked one by one, and listed.
-fn both<R: Refs>(alloc: Global, rows: &R, grant: &Grant) -> Result<(String, String), Fail> {
+// The rows that a grant sees, asked one by one, listed, and asked one by one among those.
+fn thrice<R: Refs>(
+    alloc: Global,
+    rows: &R,
+    grant: &Grant,
+) -> Result<(String, String, String), Fail> {
     let seen = SeenRows::new(&grant.schools, rows);
     let mut asked = String::new(alloc);
     let mut listed = String::new(alloc);
+    let mut again = String::new(alloc);
     for kind in &Kind::ALL {
         tell_seen(&mut asked, rows, grant, *kind)?;
         tell_all(&mut listed, &seen, *kind)?;
+        tell_seen(&mut again, &seen, grant, *kind)?;
     }
-    Ok((asked, listed))
+    Ok((asked, listed, again))
 }
 
 // The schools of a grant, and the rows that it sees.
@@ -187,8 +193,11 @@ fn callers_see_the_lake(rt: HostRuntime) -> Result<(), Fail> {
     publish(&rt, alloc, &mut table, &lake(&rt, alloc)?)?;
     for (schools, want) in &SEEN {
         let grant = grant_of(&rt, alloc, *schools)?;
-        let (asked, listed) = both(alloc, &table.newest_rows(), &grant)?;
-        assert_eq!(rt; (asked.as_str(), listed.as_str()), (*want, *want));
+        let (asked, listed, again) = thrice(alloc, &table.newest_rows(), &grant)?;
+        assert_eq!(rt;
+            (asked.as_str(), listed.as_str(), again.as_str()),
+            (*want, *want, *want)
+        );
     }
     Ok(())
 }
