@@ -13,9 +13,50 @@ const SOME_ORGS: &str =
 
 const ONE_ORG: &str = "sourcedId,status,dateLastModified,name,type\n";
 
-// The files of `lake`, a set that renames one of its schools, and one of another feed with a row of it.
+const GRANTS: &str = "caller,token,scopes,schools\n\
+east,tok-e,roster.readonly gradebook.readonly gradebook.createput gradebook.delete,s1\n\
+all,tok-a,roster.readonly gradebook.readonly,*\n";
+
+const MORE_GRANTS: &str = "caller,token,scopes,schools\n\
+all,tok-a,roster.readonly gradebook.readonly,*\n\
+east,tok-e,roster.readonly gradebook.readonly gradebook.createput gradebook.delete,\"s1,s2\"\n";
+
+// Files of grants that lie in the root folder: the name and the text of each.
+static GRANT_FILES: [(&str, &str); 12] = [
+    ("g.csv", GRANTS),
+    ("g2.csv", MORE_GRANTS),
+    ("none.csv", "caller,token,scopes,schools\n"),
+    ("header.csv", "caller,scopes,token,schools\n"),
+    ("width.csv", "caller,token,scopes,schools\na,t,\n"),
+    ("name.csv", "caller,token,scopes,schools\na b,t,,*\n"),
+    ("token.csv", "caller,token,scopes,schools\na,t t,,*\n"),
+    (
+        "scope.csv",
+        "caller,token,scopes,schools\na,t,roster.write,*\n",
+    ),
+    ("schools.csv", "caller,token,scopes,schools\na,t,,\n"),
+    (
+        "caller.csv",
+        "caller,token,scopes,schools\na,t,,*\na,t,,*\n",
+    ),
+    (
+        "twice.csv",
+        "caller,token,scopes,schools\na,tok-e,,*\nb,tok-e,,*\n",
+    ),
+    ("short.csv", "caller\n"),
+];
+
+fn push_grants(alloc: Global, files: &mut Files) -> Result<(), Fail> {
+    for (name, text) in &GRANT_FILES {
+        push_file(alloc, files, "", name, text)?;
+    }
+    Ok(())
+}
+
+// The files of `lake`, a set that renames one of its schools, one of another feed with a row of it, and files of grants.
 fn all_files(alloc: Global) -> Result<Files, Fail> {
     let mut files = Vec::new(alloc);
+    push_grants(alloc, &mut files)?;
     push_lake(alloc, &mut files)?;
     push_org(alloc, &mut files, "new", "West High School")?;
     push_org(alloc, &mut files, "newer", "West")?;
@@ -34,7 +75,7 @@ fn push_org(alloc: Global, files: &mut Files, dir: &str, name: &str) -> Result<(
 type Run = (&'static str, u8, &'static str);
 
 // The commits that fail before and after they acted and the loads that fail, by their numbers from 1, and runs over one keeper.
-static RUNS: [(&[u64], &[u64], &[u64], &[Run]); 7] = [
+static RUNS: [(&[u64], &[u64], &[u64], &[Run]); 10] = [
     (
         &[],
         &[],
@@ -132,6 +173,70 @@ static RUNS: [(&[u64], &[u64], &[u64], &[Run]); 7] = [
             ),
             ("publish", 2, "bad word 1\n"),
             ("publish sis=lake", 5, "hub store failed\n"),
+        ],
+    ),
+    (
+        &[],
+        &[],
+        &[],
+        &[
+            ("publish sis=lake", 0, "sis version 1\n"),
+            ("grant g.csv", 0, "grants version 2\n"),
+            ("grant g.csv", 0, "grants unchanged 2\n"),
+            ("grant g2.csv", 0, "grants version 3\n"),
+            ("publish sis=lake", 0, "sis unchanged 3\n"),
+            ("grant none.csv", 0, "grants version 4\n"),
+            ("publish sis=new", 0, "sis version 5\n"),
+        ],
+    ),
+    (
+        &[1],
+        &[2],
+        &[3],
+        &[
+            ("grant g.csv", 5, "hub store failed\n"),
+            ("grant g.csv", 5, "hub store failed\n"),
+            ("grant absent.csv", 5, "hub store failed\n"),
+            ("grant g.csv", 0, "grants unchanged 1\n"),
+        ],
+    ),
+    (
+        &[1],
+        &[],
+        &[],
+        &[
+            ("grant absent.csv", 4, "refused: absent.csv: missing file\n"),
+            ("grant header.csv", 4, "refused: grants: header\n"),
+            ("grant short.csv", 4, "refused: grants: header\n"),
+            ("grant width.csv", 4, "refused: grants record 2: width\n"),
+            ("grant name.csv", 4, "refused: grants record 2: bad name\n"),
+            (
+                "grant token.csv",
+                4,
+                "refused: grants record 2: bad token\n",
+            ),
+            (
+                "grant scope.csv",
+                4,
+                "refused: grants record 2: bad scope\n",
+            ),
+            (
+                "grant schools.csv",
+                4,
+                "refused: grants record 2: bad schools\n",
+            ),
+            (
+                "grant caller.csv",
+                4,
+                "refused: grants record 3: repeated caller\n",
+            ),
+            (
+                "grant twice.csv",
+                4,
+                "refused: grants record 3: repeated token\n",
+            ),
+            ("grant none.csv", 0, "grants unchanged 0\n"),
+            ("grant g.csv", 5, "hub store failed\n"),
         ],
     ),
 ];

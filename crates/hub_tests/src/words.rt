@@ -6,7 +6,7 @@ use std::alloc::Global;
 use std::test::Fail;
 
 // Words, and the line that names the first bad one.
-static BAD_WORDS: [(&str, &str); 24] = [
+static BAD_WORDS: [(&str, &str); 27] = [
     ("", "bad word 0\n"),
     ("hide", "bad word 0\n"),
     ("--help", "bad word 0\n"),
@@ -22,6 +22,9 @@ static BAD_WORDS: [(&str, &str); 24] = [
     ("publish", "bad word 1\n"),
     ("publish sis=lake sis", "bad word 2\n"),
     ("publish sis=.lake", "bad word 1\n"),
+    ("grant", "bad word 1\n"),
+    ("grant .g.csv", "bad word 1\n"),
+    ("grant g.csv g.csv", "bad word 2\n"),
     ("--keep", "bad word 1\n"),
     ("--keep 0 show orgs", "bad word 1\n"),
     ("--keep 01 show orgs", "bad word 1\n"),
