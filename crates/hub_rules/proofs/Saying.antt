@@ -11,7 +11,7 @@ use Rattle.std.proofs.lemmas.Bool.Decides.{nat_tests}
 use Rattle.hub_rules.specs.Verdicts.{newest_in}
 use Rattle.hub_rules.specs.Wanted.{Wanted}
 use Rattle.hub_views.proofs.ListLemmas.{ascends_kept, list_of-whole}
-use Rattle.hub_views.specs.Cuts.{grant_of, kind_cut, list_in}
+use Rattle.hub_views.specs.Cuts.{kind_cut, list_in}
 use Rattle.hub_views.specs.Lists.{list_of}
 use Rattle.hub_views.specs.Pages.{page_of_list, slice, whole}
 use Rattle.hub_views.specs.Rules.{rule_of}
@@ -29,6 +29,7 @@ use Rattle.status_info.specs.declared.request.Echo.{Echo}
 use Rattle.row_json.specs.Json.{collection_text}
 use Rattle.version_core.proofs.RowsOf.{is_sorted-rows_of}
 use Rattle.version_core.specs.Changes.{rows_of}
+use Rattle.version_core.specs.Grants.{grant_of}
 use Rattle.version_core.specs.HubStates.{HubState, newest_number}
 use Rattle.version_core.specs.declared.grant_row.GrantRow.{GrantRow}
 

@@ -3,7 +3,7 @@ use Rattle.std.specs.Prelude.{◌≡◌, ◌<◌, ◌≤◌, ◌⊎◌, ℕ, tru
 use Rattle.hub_rules.specs.Checks.{first_open, version_at}
 use Rattle.hub_rules.specs.Verdicts.{newest_in}
 use Rattle.hub_rules.specs.Wanted.{Wanted}
-use Rattle.hub_views.specs.Cuts.{grant_of, list_in}
+use Rattle.hub_views.specs.Cuts.{list_in}
 use Rattle.hub_views.specs.Pages.{slice}
 use Rattle.grant_scopes.specs.Opens.{opens}
 use Rattle.grant_scopes.specs.declared.access.Access.TheVariants.{Read}
@@ -17,6 +17,7 @@ use Rattle.status_info.specs.declared.reply.Reply.{Reply}
 use Rattle.status_info.specs.declared.request.Echo.{Echo}
 use Rattle.status_info.specs.declared.request.MarkField.TheVariants.{Nothing}
 use Rattle.status_info.specs.declared.request.Verb.TheVariants.{Get}
+use Rattle.version_core.specs.Grants.{grant_of}
 use Rattle.version_core.specs.HubStates.{HubState, newest_number, oldest_number}
 use Rattle.version_core.specs.declared.grant_row.GrantRow.{GrantRow}
 

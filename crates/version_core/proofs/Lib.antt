@@ -1,4 +1,5 @@
 pub mod AddLemmas
+pub mod CallerLemmas
 pub mod GrantLemmas
 pub mod HistoryLemmas
 pub mod HistoryNext
@@ -9,8 +10,10 @@ pub mod Next
 pub mod NextLemmas
 pub mod OrderLemmas
 pub mod PartsLemmas
+pub mod Picked
 pub mod Places
 pub mod PutLemmas
+pub mod Referring
 pub mod RoomLemmas
 pub mod RowsOf
 pub mod SinceLemmas

@@ -10,6 +10,7 @@ pub mod hub_tables;
 pub mod mark;
 pub mod marks;
 pub mod merge;
+pub mod references;
 mod reserved;
 pub mod row_change;
 mod since;

@@ -4,16 +4,19 @@ ghost use Rattle.std.specs.Prelude.{◌≡◌, ◌+◌, ◌≤◌, ◌==◌, Som
 ghost use Rattle.roster_types.specs.Keys.{Ascends, count_of, look_up};
 ghost use Rattle.version_core.specs.Changes.{AreChanges, change_key, is_next, rows_of};
 ghost use Rattle.roster_values.specs.Kinds.{place_of_kind};
+ghost use Rattle.version_core.specs.Grants.{grant_of, grant_row_of};
 ghost use Rattle.version_core.specs.View.{earlier};
 ghost use Rattle.version_core.specs.History.{ArePasts, AreUpTo, history_key, pasts_of, rows_at};
 ghost use Rattle.version_core.specs.Version.{IsVersion, row_limit};
 
-use crate::grant_row::GrantRow;
+use crate::grant_row::{GrantRow, row_of_caller, row_of_token};
 use crate::histories::{following, found};
 use crate::history::History;
+use crate::references::{Refs, next_referring};
 use crate::row_change::RowChange;
 use crate::sorted::compare;
-use roster_texts::{Id, Moment};
+use grant_scopes::Grant;
+use roster_texts::{Id, Moment, Name};
 use roster_types::owner::Owner;
 use roster_types::row::Row;
 use roster_types::rows::Rows;
@@ -127,6 +130,26 @@ impl<'a> VersionView<'a> {
         self.grants
     }
 
+    /// The grant of this caller.
+    pub fn grant(&self, caller: &Name) -> Option<&Grant>
+        ensures { option_copied result ≡ option_map (λ row. row.grant) (grant_row_of caller.now self.now.grants) }
+    {
+        match row_of_caller(self.grants(), caller) {
+            Some(row) => Some(&row.grant),
+            None => None,
+        }
+    }
+
+    /// The caller that has this token, with its grant.
+    pub fn caller_of(&self, token: &str) -> Option<(&Name, &Grant)>
+        ensures { option_map (λ found. record { caller = found.0.now; grant = found.1.now }) result ≡ grant_of token.now self.now.grants }
+    {
+        match row_of_token(self.grants(), token) {
+            Some(row) => Some((&row.caller, &row.grant)),
+            None => None,
+        }
+    }
+
     /// The row of this kind and id, with its owner.
     pub fn change(&self, kind: Kind, id: &Id) -> Option<&RowChange>
         ensures { option_copied result ≡ look_up change_key (place_of_kind kind, id.now) self.now.rows }
@@ -177,5 +200,13 @@ impl<'a> Rows for VersionView<'a> {
             return histories_of_kind(self.histories, kind);
         }
         count_at(self.histories, self.version, kind)
+    }
+}
+
+impl<'a> Refs for VersionView<'a> {
+    fn referring(&self, kind: Kind, name: &str, target: &Id, after: Option<&Id>) -> Option<&Row> {
+        // Read for the invariant.
+        let _ = &self.version;
+        next_referring(self, kind, name, target, after)
     }
 }

@@ -1,0 +1,87 @@
+//! Rows that refer to others.
+
+ghost use Rattle.std.specs.Prelude.{◌≡◌, bytes_eq, option_copied, option_map, position};
+ghost use Rattle.roster_types.specs.Keys.{Ascends, row_key};
+ghost use Rattle.roster_types.specs.Records.{field_of, place_in};
+ghost use Rattle.roster_values.specs.Table.{info_of, table};
+ghost use Rattle.roster_values.specs.Value.{shown};
+ghost use Rattle.version_core.specs.References as spec;
+
+use roster_texts::Id;
+use roster_types::row::Row;
+use roster_types::rows::Rows;
+use roster_values::fields::fields;
+use roster_values::{FieldInfo, Kind, ValueRef};
+
+/// Rows that are found by what they refer to. No call takes memory.
+pub trait Refs: Rows {
+    ghost use Rattle.std.specs.Prelude.{◌≡◌, option_copied};
+    ghost use Rattle.roster_types.specs.Keys.{Ascends, row_key};
+    ghost use Rattle.version_core.specs.References.{next_referring};
+
+    /// The row of this kind with the least id above `after`, or with the least of all, whose field `name` names the target.
+    /// `name` is a JSON name; a field that holds no references names nothing.
+    fn referring(&self, kind: Kind, name: &str, target: &Id, after: Option<&Id>) -> Option<&Row>
+        ensures next { option_copied result ≡ next_referring kind name.now target.now (option_copied after.entry) (Self.rows self.now) }
+        ensures order { Ascends row_key (Self.rows self.now) };
+}
+
+/// The value of the field with that JSON name; nothing where it is absent or no such field is. No memory is taken.
+pub fn lent_field<'r>(row: &'r Row, name: &str) -> Option<ValueRef<'r>>
+    ensures { option_map shown result ≡ field_of row.now name.now }
+{
+    let place = place_of(row.kind(), name)?;
+    row.value(place)
+}
+
+// The place of the field with that JSON name.
+fn place_of(kind: Kind, name: &str) -> Option<usize>
+    ensures { result ≡ place_in (table kind) name.now }
+{
+    place_among(fields(kind), name)
+}
+
+fn place_among(infos: &[FieldInfo], name: &str) -> Option<usize>
+    ensures { result ≡ position (λ i. bytes_eq i.name.now name.now) infos.now }
+{
+    infos.iter().position(|info| info.name == name)
+}
+
+/// Whether an id is one of these.
+pub fn is_one_of(ids: &[Id], id: &Id) -> bool
+    ensures { result ≡ spec.is_one_of ids.now id.now }
+{
+    ids.iter().any(|other| other.as_str() == id.as_str())
+}
+
+/// Whether the field of a row names the id.
+pub fn names(row: &Row, name: &str, id: &Id) -> bool
+    ensures { result ≡ spec.names name.now id.now row.now }
+{
+    match lent_field(row, name) {
+        Some(ValueRef::Ref(other)) => other.as_str() == id.as_str(),
+        Some(ValueRef::Refs(ids)) => is_one_of(ids.as_slice(), id),
+        _ => false,
+    }
+}
+
+/// What `Refs::referring` answers, by a look at each row of the kind above `after`.
+pub fn next_referring<'r, R: Rows>(
+    rows: &'r R,
+    kind: Kind,
+    name: &str,
+    target: &Id,
+    after: Option<&Id>,
+) -> Option<&'r Row>
+    requires { Ascends row_key (R.rows rows.now) }
+    ensures { option_copied result ≡ spec.next_referring kind name.now target.now (option_copied after.entry) (R.rows rows.now) }
+{
+    let mut after = after;
+    while let Some(row) = rows.next(kind, after) {
+        if names(row, name, target) {
+            return Some(row);
+        }
+        after = Some(row.id());
+    }
+    None
+}
