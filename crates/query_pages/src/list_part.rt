@@ -1,0 +1,59 @@
+//! The part of a list that a query asks for.
+
+ghost use Rattle.std.specs.Prelude.{◌≡◌, IfOk, filter, length};
+ghost use Rattle.hub_views.specs.Pages.{slice};
+ghost use Rattle.query_pages.specs.Listed.{listed};
+ghost use Rattle.query_pages.specs.Sortings.{sorting_shown};
+ghost use Rattle.row_queries.specs.Orders.{arranged};
+
+use crate::by_id::part_by_id;
+use crate::in_order::{copied, gathered, sort};
+use crate::list_test::ListTest;
+use crate::sorting::Sorting;
+use filter_grammar::{Order, Query};
+use roster_base::{Items, NoMemory};
+use roster_types::row::Row;
+use roster_types::rows::Rows;
+use std::alloc::Global;
+
+/// Rows of a list from an offset on, at most a limit of them, and the length of the whole list.
+#[derive(Drop)]
+pub struct Part {
+    pub rows: Items<Row>,
+    pub total: u64,
+}
+
+// The part that a query asks for of a list in another order than by ascending id.
+fn part_sorted<R: Rows, T: ListTest>(
+    alloc: Global,
+    rows: &R,
+    test: &T,
+    query: &Query,
+    sorting: Sorting<'_>,
+) -> Result<Part, NoMemory>
+    ensures rows { IfOk result (λ p. p.rows ≡ slice query.now.limit query.now.offset (arranged (sorting_shown sorting.entry) (filter (T.passes test.now) (R.rows rows.now)))) }
+    ensures total { IfOk result (λ p. p.total ≡ length (arranged (sorting_shown sorting.entry) (filter (T.passes test.now) (R.rows rows.now)))) }
+{
+    let mut placed = gathered(alloc, rows, test, sorting)?;
+    sort(sorting, &mut placed)?;
+    Ok(Part {
+        rows: copied(alloc, &placed, query.offset, query.limit)?,
+        total: placed.len() as u64,
+    })
+}
+
+/// The part that a query asks for of the rows that pass a test, in the order that it asks for.
+pub fn part_of<R: Rows, T: ListTest>(
+    alloc: Global,
+    rows: &R,
+    test: &T,
+    query: &Query,
+) -> Result<Part, NoMemory>
+    ensures rows { IfOk result (λ p. p.rows ≡ slice query.now.limit query.now.offset (listed (T.kind_of test.now) query.now (T.passes test.now) (R.rows rows.now))) }
+    ensures total { IfOk result (λ p. p.total ≡ length (listed (T.kind_of test.now) query.now (T.passes test.now) (R.rows rows.now))) }
+{
+    match Sorting::of(test.kind(), query) {
+        Sorting::ById(Order::Asc) => part_by_id(alloc, rows, test, query),
+        sorting => part_sorted(alloc, rows, test, query, sorting),
+    }
+}
