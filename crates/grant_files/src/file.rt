@@ -1,12 +1,14 @@
 //! The grants of a file.
 
-ghost use Rattle.std.specs.Prelude.{◌≡◌, ◌<◌, ◌^◌, [], length, OnOk};
+ghost use Rattle.std.specs.Prelude.{◌≡◌, ◌≤◌, ◌<◌, ◌^◌, ◌++◌, ◌∷◌, [], List, length, take, IfOk, OnOk};
 ghost use Rattle.csv.specs.Reading.{default_config, records, strip_bom};
 ghost use Rattle.csv.specs.Records.{AllText, fields_of};
 ghost use Rattle.csv_sets.specs.Left.{AllRowsText};
 ghost use Rattle.roster_base.specs.Reading.{Gives};
-ghost use Rattle.grant_files.specs.Grants.{entries_after, entries_below, entries_of, entries_with, grants_of, is_header};
-ghost use Rattle.grant_files.specs.Known.{Knows};
+ghost use Rattle.grant_files.specs.Grants.{entries_below, entries_of, entries_with, grants_of, is_header};
+ghost use Rattle.grant_files.specs.Known.{Adds, Stands};
+ghost use Rattle.grant_scopes.specs.declared.entry.GrantEntry.{GrantEntry as Entry};
+ghost use Rattle.grant_scopes.specs.Entries.{AreEntries, grant_limit};
 
 use crate::entry::read_entry;
 use crate::fault::{GrantError, GrantFault};
@@ -15,11 +17,14 @@ use csv::ByteRecord;
 use csv_sets::cells::text_at;
 use csv_sets::records::RecordReader;
 use grant_scopes::{GrantEntry, GrantList};
-use roster_base::{Items, Refusal};
+use roster_base::{Items, NoMemory, Refusal};
 use std::alloc::Global;
 
 /// How many grants a file may ask for.
 pub const GRANT_LIMIT: usize = 10_000;
+
+// The number behind that of the last record of so many grants, the header being the first.
+const LAST_NUMBER: u64 = 10_002;
 
 fn is_header(cells: &ByteRecord) -> bool
     requires { AllText (fields_of cells.now) }
@@ -32,8 +37,20 @@ fn is_header(cells: &ByteRecord) -> bool
         && text_at(cells, 3) == "schools"
 }
 
-// Adds the grant of a record, whose caller and token must be new.
-#[tactic(auto, unfolding(crate::specs::Grants::entries_with))]
+// Keeps a grant behind the others, unless as many are kept as may be asked for: the file is refused then.
+fn keep(entries: &mut Vec<GrantEntry>, entry: GrantEntry) -> Result<(), NoMemory>
+    requires { length entries.old.items ≤ grant_limit }
+    ensures { OnOk result (entries.new.items ≡ take grant_limit (entries.old.items ++ entry ∷ [])) }
+{
+    if entries.len() >= GRANT_LIMIT {
+        drop(entry);
+        return Ok(());
+    }
+    entries.push(entry)?;
+    Ok(())
+}
+
+// Adds the grant of a record, whose caller and token must be new among all, whether they are kept or not.
 fn add_record(
     alloc: Global,
     entries: &mut Vec<GrantEntry>,
@@ -42,24 +59,25 @@ fn add_record(
     cells: &ByteRecord,
 ) -> Result<(), GrantError>
     requires text { AllText (fields_of cells.now) }
-    requires known { Knows known.old entries.old.items }
-    ensures entries { Gives (λ _. entries.new.items) result (entries_with entries.old.items number (fields_of cells.now)) }
-    ensures known { OnOk result (Knows known.new entries.new.items) }
+    requires few { length entries.old.items ≤ grant_limit }
+    ensures { (front : List Entry) → Stands known.old entries.old.items front
+        → Adds result (entries_with front number (fields_of cells.now)) known.new entries.new.items }
 {
     let entry = read_entry(alloc, number, cells)?;
     known.add(alloc, number, &entry)?;
-    entries.push(entry)?;
+    keep(entries, entry)?;
     Ok(())
 }
 
-// The grants of the records below the header.
-fn entries_under(
+// The grants of the records below the header, if they aren't too many.
+fn entries_below(
     alloc: Global,
     reader: &mut RecordReader<'_>,
 ) -> Result<Vec<GrantEntry>, GrantError>
     requires text { AllRowsText reader.old }
     requires few { length reader.old < 2 ^ 63 }
-    ensures { Gives (λ v. v.items) result (entries_after [] 2 reader.old) }
+    ensures entries { Gives (λ v. v.items) result (entries_below reader.old) }
+    ensures apart { IfOk result (λ v. AreEntries v.items) }
 {
     let mut entries = Vec::new(alloc);
     let mut known = Known::new(alloc);
@@ -69,21 +87,10 @@ fn entries_under(
         add_record(alloc, &mut entries, &mut known, number, &cells)?;
         number += 1;
     }
-    Ok(entries)
-}
-
-// The grants of the records below the header, if they aren't too many.
-#[tactic(auto, unfolding(crate::specs::Grants::entries_below))]
-fn entries_below(alloc: Global, reader: &mut RecordReader<'_>) -> Result<GrantList, GrantError>
-    requires text { AllRowsText reader.old }
-    requires few { length reader.old < 2 ^ 63 }
-    ensures { Gives (λ list. list) result (entries_below reader.old) }
-{
-    let entries = entries_under(alloc, reader)?;
-    if entries.len() > GRANT_LIMIT {
+    if number > LAST_NUMBER {
         return Err(Refusal::Fault(GrantFault::TooMany));
     }
-    Ok(GrantList::new(Items::from_vec(entries)))
+    Ok(entries)
 }
 
 // The grants of all records, of which the first is the header.
@@ -99,7 +106,8 @@ fn grants_in(alloc: Global, text: &str) -> Result<GrantList, GrantError>
     if !is_header(&cells) {
         return Err(Refusal::Fault(GrantFault::Header));
     }
-    entries_below(alloc, &mut reader)
+    let entries = entries_below(alloc, &mut reader)?;
+    Ok(GrantList::new(Items::from_vec(entries)))
 }
 
 /// The grants that a file asks for, in the order of its records, or its first fault: that it is no UTF-8; its header; then record
