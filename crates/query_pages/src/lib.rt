@@ -1,11 +1,15 @@
-//! Parts of lists of rows, in the order that a query asks for.
+//! Pages of the rows that paths list, in the order that a query asks for.
 #![tactic(auto)]
 
+pub mod belonging;
 mod by_id;
 mod in_order;
 pub mod list_part;
 pub mod list_test;
+pub mod page;
+mod row_tests;
 mod sorting;
 
 pub use list_part::{Part, part_of};
 pub use list_test::ListTest;
+pub use page::{one, part, seen_part};

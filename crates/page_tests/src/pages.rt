@@ -1,0 +1,233 @@
+//! The pages of a small district, as paths and queries ask for them.
+
+use crate::district::district;
+use filter_grammar::{Query, read_query};
+use grant_scopes::{SchoolList, Schools};
+use hub_paths::{Path, PathRouter, Route};
+use query_pages::{Part, one, part, seen_part};
+use roster_base::{Items, NoMemory};
+use roster_texts::Id;
+use roster_types::row::Row;
+use std::alloc::Global;
+use std::process::Abort;
+use std::test::Fail;
+use version_core::references::Refs;
+
+fn path_of(rt: &impl Abort, alloc: Global, router: &PathRouter, text: &str) -> Result<Path, Fail> {
+    let whole = format!(in alloc; "/ims/oneroster/v1p1/{text}")?;
+    match Path::read(alloc, router, whole.as_str())? {
+        Some(path) => Ok(path),
+        None => panic!(rt; "no path"),
+    }
+}
+
+fn query_of(rt: &impl Abort, alloc: Global, path: &Path, text: &str) -> Result<Query, Fail> {
+    match read_query(alloc, path.route().lists().kind(), text) {
+        Ok(query) => Ok(query),
+        Err(_) => panic!(rt; "no query"),
+    }
+}
+
+fn push_ids(line: &mut String, rows: &[Row]) -> Result<(), Fail> {
+    for row in rows {
+        line.push(' ')?;
+        line.push_str(row.id().as_str())?;
+    }
+    Ok(())
+}
+
+// The length of a list and the ids of its part, in one line.
+fn line_of(alloc: Global, part: Option<Part>) -> Result<String, Fail> {
+    let Some(part) = part else {
+        return Ok(String::from_str(alloc, "no object")?);
+    };
+    let total = part.total;
+    let mut line = format!(in alloc; "{total}:")?;
+    push_ids(&mut line, part.rows.as_slice())?;
+    Ok(line)
+}
+
+// What is shown of a path and a query.
+fn shown<R: Refs>(
+    rt: &impl Abort,
+    alloc: Global,
+    router: &PathRouter,
+    rows: &R,
+    path: &str,
+    query: &str,
+) -> Result<String, Fail> {
+    let path = path_of(rt, alloc, router, path)?;
+    let query = query_of(rt, alloc, &path, query)?;
+    line_of(alloc, part(alloc, rows, &path, &query)?)
+}
+
+// Paths, and the rows that they list.
+static LISTS: [(&str, &str); 42] = [
+    ("orgs", "3: d1 s1 s2"),
+    ("schools", "2: s1 s2"),
+    ("terms", "1: t1"),
+    ("gradingPeriods", "1: g1"),
+    ("students", "2: u1 u2"),
+    ("teachers", "1: u3"),
+    ("demographics", "1: u1"),
+    ("schools/s1/courses", "1: bio"),
+    ("schools/s1/classes", "1: k1"),
+    ("schools/s1/enrollments", "2: e1 e4"),
+    ("schools/s1/students", "2: u1 u2"),
+    // Enrolled at the school, though not of it.
+    ("schools/s1/teachers", "1: u3"),
+    ("schools/s2/students", "1: u2"),
+    ("schools/s2/teachers", "1: u3"),
+    ("schools/s2/terms", "1: t1"),
+    ("schools/s1/classes/k1/enrollments", "2: e1 e4"),
+    ("schools/s1/classes/k1/students", "1: u1"),
+    ("schools/s1/classes/k1/teachers", "1: u3"),
+    // A class of another school.
+    ("schools/s1/classes/k2/students", "0:"),
+    ("schools/s1/classes/k2/enrollments", "0:"),
+    ("classes/k2/students", "1: u2"),
+    ("classes/k2/teachers", "1: u3"),
+    ("terms/t1/classes", "2: k1 k2"),
+    ("terms/t1/gradingPeriods", "1: g1"),
+    ("courses/bio/classes", "1: k2"),
+    ("students/u1/classes", "1: k1"),
+    ("teachers/u3/classes", "2: k1 k2"),
+    ("users/u3/classes", "2: k1 k2"),
+    ("users/u4/classes", "0:"),
+    ("classes/k1/lineItems", "1: l1"),
+    ("classes/k1/results", "1: r1"),
+    ("classes/k1/lineItems/l1/results", "1: r1"),
+    ("classes/k2/lineItems/l1/results", "0:"),
+    ("classes/k1/students/u1/results", "1: r1"),
+    ("classes/k1/students/u2/results", "0:"),
+    ("schools/d1/classes", "no object"),
+    ("schools/x/classes", "no object"),
+    ("terms/g1/classes", "no object"),
+    ("students/u3/classes", "no object"),
+    ("teachers/u1/classes", "no object"),
+    ("schools/s1/classes/x/students", "no object"),
+    ("schools/x/classes/k1/students", "no object"),
+];
+
+#[test]
+fn paths_list_their_rows(rt: HostRuntime) -> Result<(), Fail> {
+    let alloc = rt.alloc();
+    let router = PathRouter::new(alloc)?;
+    let rows = district(&rt, alloc)?;
+    for (path, want) in &LISTS {
+        let line = shown(&rt, alloc, &router, &rows, path, "")?;
+        assert_eq!(rt; line.as_str(), *want);
+    }
+    Ok(())
+}
+
+// Queries on users, and what is shown.
+static QUERIES: [(&str, &str); 14] = [
+    ("limit=2", "4: u1 u2"),
+    ("limit=2&offset=2", "4: u3 u4"),
+    ("limit=1&offset=3", "4: u4"),
+    ("offset=4", "4:"),
+    ("orderBy=desc", "4: u4 u3 u2 u1"),
+    ("orderBy=desc&limit=2&offset=1", "4: u3 u2"),
+    ("sort=familyName", "4: u4 u3 u1 u2"),
+    // Equal keys stand by ascending id in either direction.
+    ("sort=familyName&orderBy=desc", "4: u1 u2 u3 u4"),
+    ("sort=familyName&orderBy=desc&limit=2&offset=1", "4: u2 u3"),
+    // What is absent comes first.
+    ("sort=grades", "4: u3 u4 u1 u2"),
+    ("sort=shoe&orderBy=desc", "4: u1 u2 u3 u4"),
+    ("filter=role='student'", "2: u1 u2"),
+    ("filter=role='student'&limit=1&offset=1", "2: u2"),
+    (
+        "filter=familyName~'o'&sort=givenName&orderBy=desc",
+        "3: u3 u2 u1",
+    ),
+];
+
+#[test]
+fn queries_choose_and_order(rt: HostRuntime) -> Result<(), Fail> {
+    let alloc = rt.alloc();
+    let router = PathRouter::new(alloc)?;
+    let rows = district(&rt, alloc)?;
+    for (query, want) in &QUERIES {
+        let line = shown(&rt, alloc, &router, &rows, "users", query)?;
+        assert_eq!(rt; line.as_str(), *want);
+    }
+    Ok(())
+}
+
+// The row that a path names.
+fn single_line<R: Refs>(alloc: Global, rows: &R, path: &Path) -> Result<String, NoMemory> {
+    let row = match path.route() {
+        Route::One(_) => one(rows, path),
+        _ => None,
+    };
+    match row {
+        Some(row) => Ok(String::from_str(alloc, row.id().as_str())?),
+        None => Ok(String::from_str(alloc, "no object")?),
+    }
+}
+
+// Paths of one object, and what they name.
+static OBJECTS: [(&str, &str); 9] = [
+    ("orgs/d1", "d1"),
+    ("schools/s2", "s2"),
+    ("schools/d1", "no object"),
+    ("students/u1", "u1"),
+    ("teachers/u1", "no object"),
+    ("gradingPeriods/g1", "g1"),
+    ("terms/g1", "no object"),
+    ("results/r2", "r2"),
+    ("results/x", "no object"),
+];
+
+#[test]
+fn paths_name_their_objects(rt: HostRuntime) -> Result<(), Fail> {
+    let alloc = rt.alloc();
+    let router = PathRouter::new(alloc)?;
+    let rows = district(&rt, alloc)?;
+    for (text, want) in &OBJECTS {
+        let path = path_of(&rt, alloc, &router, text)?;
+        assert_eq!(rt; single_line(alloc, &rows, &path)?.as_str(), *want);
+    }
+    Ok(())
+}
+
+// The one school of that id.
+fn only(alloc: Global, id: Id) -> Result<Schools, NoMemory> {
+    let mut ids = Vec::new(alloc);
+    ids.push(id)?;
+    Ok(Schools::Listed(SchoolList::new(Items::from_vec(ids))))
+}
+
+fn school(rt: &impl Abort, alloc: Global, text: &str) -> Result<Schools, Fail> {
+    match Id::read(alloc, text)? {
+        Some(id) => Ok(only(alloc, id)?),
+        None => panic!(rt; "no id"),
+    }
+}
+
+// Paths, and what they list of the rows that a grant at the school s1 sees.
+static SEEN: [(&str, &str); 6] = [
+    ("orgs", "2: d1 s1"),
+    ("users", "4: u1 u2 u3 u4"),
+    ("enrollments", "2: e1 e4"),
+    ("schools/s1/students", "2: u1 u2"),
+    ("schools/s2/classes", "no object"),
+    ("classes/k2/results", "no object"),
+];
+
+#[test]
+fn seen_rows_are_listed(rt: HostRuntime) -> Result<(), Fail> {
+    let alloc = rt.alloc();
+    let router = PathRouter::new(alloc)?;
+    let rows = district(&rt, alloc)?;
+    let schools = school(&rt, alloc, "s1")?;
+    for (text, want) in &SEEN {
+        let path = path_of(&rt, alloc, &router, text)?;
+        let query = query_of(&rt, alloc, &path, "")?;
+        let line = line_of(alloc, seen_part(alloc, &rows, &schools, &path, &query)?)?;
+        assert_eq!(rt; line.as_str(), *want);
+    }
+    Ok(())
+}

@@ -1,0 +1,91 @@
+//! What paths list.
+
+ghost use Rattle.std.specs.Prelude.{◌≡◌, true, IfOk, option_copied, option_map};
+ghost use Rattle.hub_views.specs.Lists as spec;
+ghost use Rattle.hub_views.specs.Seen.{seen};
+ghost use Rattle.query_pages.specs.Listed.{part_of_list};
+
+use crate::belonging::{belongs, has_objects, id_at};
+use crate::list_part::{Part, part_of};
+use crate::list_test::ListTest;
+use filter_grammar::Query;
+use grant_scopes::Schools;
+use hub_paths::Path;
+use roster_base::NoMemory;
+use roster_types::row::Row;
+use roster_values::Kind;
+use row_queries::passes;
+use seen_rows::SeenRows;
+use std::alloc::Global;
+use version_core::references::Refs;
+
+/// The rows that belong to a path and pass the filter of a query.
+#[derive(Drop)]
+pub struct Listed<'a, R: Refs> {
+    rows: &'a R,
+    path: &'a Path,
+    query: &'a Query,
+}
+
+impl<'a, R: Refs> ListTest for Listed<'a, R> {
+    ghost use Rattle.query_pages.specs.Kinds.{listed_kind};
+
+    ghost passes = { λ t row. spec.is_listed (R.rows t.rows.now) t.path.now t.query.now row };
+
+    ghost kind_of = { λ t. spec.kind_of_path t.path.now };
+
+    ghost of_kind = { λ t row e. listed_kind (R.rows t.rows.now) t.path.now t.query.now row e };
+
+    fn kind(&self) -> Kind {
+        self.path.route().lists().kind()
+    }
+
+    fn passes(&self, alloc: Global, row: &Row) -> Result<bool, NoMemory> {
+        if !belongs(self.rows, self.path, row) {
+            return Ok(false);
+        }
+        passes(alloc, row, &self.query.test)
+    }
+}
+
+/// The part that a query asks for of the list of a path; nothing where an object that the path names isn't among the rows.
+#[tactic(auto, unfolding(hub_views::specs::Lists::list_of))]
+pub fn part<R: Refs>(
+    alloc: Global,
+    rows: &R,
+    path: &Path,
+    query: &Query,
+) -> Result<Option<Part>, NoMemory>
+    ensures { IfOk result (λ o. o ≡ option_map (part_of_list query.now) (spec.list_of (R.rows rows.now) path.now query.now)) }
+{
+    if !has_objects(rows, path) {
+        return Ok(None);
+    }
+    let part = part_of(alloc, rows, &Listed { rows, path, query }, query)?;
+    Ok(Some(part))
+}
+
+/// The row that a path of one object names. No memory is taken.
+#[tactic(auto, unfolding(hub_views::specs::Lists::object_of))]
+pub fn one<'r, R: Refs>(rows: &'r R, path: &Path) -> Option<&'r Row>
+    requires { spec.is_single path.now.route ≡ true }
+    ensures { option_copied result ≡ spec.object_of (R.rows rows.now) path.now }
+{
+    if !has_objects(rows, path) {
+        return None;
+    }
+    rows.row(path.route().lists().kind(), id_at(path, 0))
+}
+
+/// The same part of the rows that a grant at these schools sees among all.
+pub fn seen_part<R: Refs>(
+    alloc: Global,
+    rows: &R,
+    schools: &Schools,
+    path: &Path,
+    query: &Query,
+) -> Result<Option<Part>, NoMemory>
+    ensures { IfOk result (λ o. o ≡ option_map (part_of_list query.now) (spec.list_of (seen schools.now (R.rows rows.now)) path.now query.now)) }
+{
+    part(alloc, &SeenRows::new(schools, rows), path, query)
+}
