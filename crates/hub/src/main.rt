@@ -13,6 +13,8 @@ use std::rt::Env;
 const HELP: &str = "\
 hub [--folder DIR] [--keep N] COMMAND
 
+grant FILE    gives each caller what FILE asks for, in place of all grants, and prints the version
+              that this leads to
 publish FEED=DIR ..
               publishes the set in each folder DIR as the feed FEED, one after another, and
               prints the version that each leads to
