@@ -1,5 +1,5 @@
 -- What an answer's status says, and answers for want of memory.
-use Rattle.std.proofs.Common.{◌≡◌, ◌≢◌, ◌⊎◌, ℕ, ℤ, List, [], Option, Some, None, Result, Ok, Err, IsErr, refl, sym, ap, subst, ◌∙◌, inl, inr}
+use Rattle.std.proofs.Common.{◌≡◌, ◌≢◌, ℕ, ℤ, List, [], Option, Some, None, Result, Ok, Err, IsErr, refl, sym, ap, subst, ◌∙◌, inl, inr}
 use Rattle.csv_sets.specs.declared.fault.SetFault.{SetFault}
 use Rattle.csv_sets.specs.Files as files
 use Rattle.keeper_memory.specs.Kept.{KeptState}
@@ -9,7 +9,7 @@ use Rattle.roster_values.specs.declared.mode.Mode.TheVariants.{Bulk}
 use Rattle.hub_cli.specs.Answers.{IsPrinted, status_of}
 use Rattle.outside_ports.specs.Files.{Stored}
 use Rattle.hub_cli.specs.Outside.{HaveRisen, Outside, faults_of, outside_of}
-use Rattle.hub_cli.specs.Runs.{IsAnswer, IsCommandAnswer, IsHubFailure, IsShowAnswer, LeadsFrom, WantsMemory}
+use Rattle.hub_cli.specs.Runs.{IsAnswer, IsCommandAnswer, IsShowAnswer, LeadsFrom, WantsMemory}
 use Rattle.hub_cli.specs.Shows.{IsShown, answer_of_file, answer_of_rows}
 use Rattle.hub_cli.specs.declared.answer.Answer.{Answer}
 use Rattle.hub_cli.specs.declared.answer.End.{End}

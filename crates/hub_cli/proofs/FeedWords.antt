@@ -1,5 +1,5 @@
 -- The feeds of words, one after another.
-use Rattle.std.proofs.Common.{◌≡◌, ◌<◌, ◌+◌, ℕ, suc, List, [], ◌∷◌, ◌++◌, None, Some, Ok, Err, String, Global, drop, get_or, length, map, string_bytes, refl, sym, ap, ◌∙◌, append_assoc, add-one, drop-cons, arith}
+use Rattle.std.proofs.Common.{◌≡◌, ◌+◌, ℕ, List, [], ◌∷◌, ◌++◌, None, Some, Ok, Err, String, Global, drop, length, map, string_bytes, refl, ap, ◌∙◌, append_assoc, arith}
 use Rattle.std.proofs.lemmas.List.{append-nil, drop_all}
 use Rattle.hub_cli.specs.Words.{feed_of, feed_words}
 use Rattle.hub_cli.specs.declared.words.Feed.{Feed}

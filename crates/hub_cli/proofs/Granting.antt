@@ -24,7 +24,7 @@ use Rattle.hub_cli.specs.declared.answer.End.{End}
 use Rattle.hub_cli.specs.declared.answer.End.TheVariants.{BadWord, Done, FileTooLarge, FolderFailed, GrantsRefused, HubFailed, MissingFile, NoMemory, NotPublished, Refused}
 use Rattle.hub_cli.specs.declared.words.Command.TheVariants.{Grant}
 use Rattle.hub_cli.specs.GrantAnswers.{GivesGrants, GrantsFile, IsGrantAnswer, IsGrantsOf, IsTold, ReadsGrants, SetsGrants, StopsGrant, grants_in, or_refused}
-use Rattle.hub_cli.specs.Outside.{Faults, HaveRisen, HaveStood, IsMomentOf, NothingFailed, Outside, faults_of, outside_of}
+use Rattle.hub_cli.specs.Outside.{Faults, HaveStood, IsMomentOf, Outside, faults_of, outside_of}
 use Rattle.hub_cli.specs.Runs.{IsCommandAnswer, LeadsFrom}
 use Rattle.hub_cli.specs.Steps.{end_of_error}
 

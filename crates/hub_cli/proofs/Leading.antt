@@ -1,5 +1,5 @@
 -- What leads from a state to another over a keeper.
-use Rattle.std.proofs.Common.{◌≡◌, List, [], ◌∷◌, false, true, inl, inr, refl, sym, subst}
+use Rattle.std.proofs.Common.{◌≡◌, [], ◌∷◌, false, true, inl, inr, refl, sym, subst}
 use Rattle.hub_core.specs.Standing.{HeldHub, IsStanding, KeeperFits}
 use Rattle.keeper_memory.specs.Kept.{IsKept, KeptState}
 use Rattle.keeper_memory.proofs.KeptLemmas.{no_versions}

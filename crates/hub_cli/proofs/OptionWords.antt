@@ -1,5 +1,5 @@
 -- The options of words, one after another.
-use Rattle.std.proofs.Common.{◌≡◌, ◌+◌, ℕ, suc, List, [], ◌∷◌, Option, None, Some, Result, Ok, Err, String, Global, length, map, string_bytes, refl, sym, subst, arith}
+use Rattle.std.proofs.Common.{◌≡◌, ◌+◌, ℕ, List, [], ◌∷◌, None, Some, Err, String, Global, length, map, string_bytes, refl, sym, subst, arith}
 use Rattle.roster_base.specs.Reading.{◌>>=◌}
 use Rattle.hub_cli.specs.Words.{command_words, option_of, option_words, set_option, with_options}
 use Rattle.hub_cli.specs.declared.words.OptionWord.{OptionWord}

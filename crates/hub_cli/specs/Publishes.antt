@@ -16,7 +16,7 @@ use Rattle.hub_cli.specs.declared.answer.End.{End}
 use Rattle.hub_cli.specs.declared.answer.End.TheVariants.{Done, FolderFailed, HubFailed, NoMemory, NotPublished, Refused}
 use Rattle.hub_cli.specs.declared.words.Feed.{Feed}
 use Rattle.hub_cli.specs.Lines.{published_text, unchanged_text}
-use Rattle.hub_cli.specs.Outside.{HaveRisen, HaveStood, IsMomentOf, NothingFailed, Outside}
+use Rattle.hub_cli.specs.Outside.{HaveRisen, IsMomentOf, NothingFailed, Outside}
 
 -- the set that a feed's files mean, or its first fault; whatever the folder tells, some files mean it
 abbrev pub IsSetOf : Option (List Stored) → Feed → Result SetRecord SetFault → Type 0

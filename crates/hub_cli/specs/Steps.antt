@@ -1,5 +1,5 @@
 -- What the steps of `publish` give.
-use Rattle.std.specs.Prelude.{◌≡◌, ⊤, ℕ, List, Option, Result, Ok, Err}
+use Rattle.std.specs.Prelude.{⊤, List, Option, Result, Ok, Err}
 use Rattle.csv_sets.specs.declared.fault.SetFault.{SetFault}
 use Rattle.csv_sets.specs.declared.fault.SetFault.TheVariants.{Folder}
 use Rattle.hub_core.specs.declared.hub_error.HubError.{HubError}

@@ -1,4 +1,4 @@
-use Rattle.std.proofs.Common.{◌<◌, ◌+◌, arith, drop, length, refl, string_bytes}
+use Rattle.std.proofs.Common.{◌<◌, ◌+◌, arith, drop, length, string_bytes}
 use Rattle.std.proofs.lemmas.List.{drop_all}
 use Rattle.roster_base.proofs.ListSteps.{next_item}
 use Rattle.hub_cli.proofs.Publishing.{left-next, left-none, left-start, left-stops, left-wants}

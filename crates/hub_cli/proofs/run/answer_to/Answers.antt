@@ -1,4 +1,4 @@
-use Rattle.std.proofs.Common.{◌≡◌, inl, map, Err, Ok, refl, string_bytes}
+use Rattle.std.proofs.Common.{◌≡◌, inl, map, Err, Ok, string_bytes}
 use Rattle.std.proofs.lemmas.Result.{IfOk-weaker}
 use Rattle.hub_cli.specs.Outside.{faults_of, outside_of}
 use Rattle.hub_cli.specs.Runs.{IsAnswer, IsCommandAnswer}

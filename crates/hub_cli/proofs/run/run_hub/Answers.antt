@@ -1,4 +1,4 @@
-use Rattle.std.proofs.Common.{sym, ◌∙◌, subst}
+use Rattle.std.proofs.Common.{sym, ◌∙◌}
 use Rattle.hub_cli.proofs.Ending.{leads-bad, leads-printed, leads-says, leads-wants, leads-words, out_of_memory}
 use Rattle.hub_cli.proofs.run.run_hub.Goals as goal
 

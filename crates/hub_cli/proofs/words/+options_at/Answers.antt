@@ -1,4 +1,4 @@
-use Rattle.std.proofs.Common.{◌≡◌, rules, sym, ◌∙◌, None, Some, string_bytes}
+use Rattle.std.proofs.Common.{◌≡◌, rules, None, Some, string_bytes}
 use Rattle.hub_cli.proofs.OptionWords.{options-command, options-missing, options-next, options-none}
 use Rattle.hub_cli.specs.Words.{option_of}
 use Rattle.hub_cli.proofs.words.+options_at.Goals as goal
