@@ -1,17 +1,24 @@
 //! The pages of a small district, as paths and queries ask for them.
 
+ghost use Rattle.std.specs.Prelude.{◌≤◌, IfOk};
+
 use crate::district::district;
 use filter_grammar::{Query, read_query};
 use grant_scopes::{SchoolList, Schools};
 use hub_paths::{Path, PathRouter, Route};
-use query_pages::{Part, one, part, seen_part};
+use hub_views::Page;
+use query_pages::{one, page, seen_page};
 use roster_base::{Items, NoMemory};
 use roster_texts::Id;
 use roster_types::row::Row;
+use status_info::{LinkItem, Rel};
 use std::alloc::Global;
 use std::process::Abort;
 use std::test::Fail;
 use version_core::references::Refs;
+
+// The version that is read.
+const VERSION: u64 = 7;
 
 fn path_of(rt: &impl Abort, alloc: Global, router: &PathRouter, text: &str) -> Result<Path, Fail> {
     let whole = format!(in alloc; "/ims/oneroster/v1p1/{text}")?;
@@ -21,7 +28,9 @@ fn path_of(rt: &impl Abort, alloc: Global, router: &PathRouter, text: &str) -> R
     }
 }
 
-fn query_of(rt: &impl Abort, alloc: Global, path: &Path, text: &str) -> Result<Query, Fail> {
+fn query_of(rt: &impl Abort, alloc: Global, path: &Path, text: &str) -> Result<Query, Fail>
+    ensures { IfOk result (λ q. 1 ≤ q.limit) }
+{
     match read_query(alloc, path.route().lists().kind(), text) {
         Ok(query) => Ok(query),
         Err(_) => panic!(rt; "no query"),
@@ -36,14 +45,14 @@ fn push_ids(line: &mut String, rows: &[Row]) -> Result<(), Fail> {
     Ok(())
 }
 
-// The length of a list and the ids of its part, in one line.
-fn line_of(alloc: Global, part: Option<Part>) -> Result<String, Fail> {
-    let Some(part) = part else {
+// The length of a list and the ids of its page, in one line.
+fn line_of(alloc: Global, page: Option<Page>) -> Result<String, Fail> {
+    let Some(page) = page else {
         return Ok(String::from_str(alloc, "no object")?);
     };
-    let total = part.total;
+    let total = page.total;
     let mut line = format!(in alloc; "{total}:")?;
-    push_ids(&mut line, part.rows.as_slice())?;
+    push_ids(&mut line, page.rows.as_slice())?;
     Ok(line)
 }
 
@@ -58,7 +67,7 @@ fn shown<R: Refs>(
 ) -> Result<String, Fail> {
     let path = path_of(rt, alloc, router, path)?;
     let query = query_of(rt, alloc, &path, query)?;
-    line_of(alloc, part(alloc, rows, &path, &query)?)
+    line_of(alloc, page(alloc, rows, VERSION, &path, &query)?)
 }
 
 // Paths, and the rows that they list.
@@ -226,8 +235,100 @@ fn seen_rows_are_listed(rt: HostRuntime) -> Result<(), Fail> {
     for (text, want) in &SEEN {
         let path = path_of(&rt, alloc, &router, text)?;
         let query = query_of(&rt, alloc, &path, "")?;
-        let line = line_of(alloc, seen_part(alloc, &rows, &schools, &path, &query)?)?;
+        let line = line_of(alloc, seen_page(alloc, &rows, &schools, VERSION, &path, &query)?)?;
         assert_eq!(rt; line.as_str(), *want);
+    }
+    Ok(())
+}
+
+fn word(rel: Rel) -> &'static str {
+    match rel {
+        Rel::Next => "next",
+        Rel::Prev => "prev",
+        Rel::First => "first",
+        Rel::Last => "last",
+    }
+}
+
+// Adds links, each with what is behind the address of the hub's collections.
+fn push_links(line: &mut String, links: &[LinkItem]) -> Result<(), Fail> {
+    for link in links {
+        line.push_str(word(link.rel))?;
+        line.push(' ')?;
+        line.push_str(link.target.as_str().trim_start_matches("/ims/oneroster/v1p1/"))?;
+        line.push('\n')?;
+    }
+    Ok(())
+}
+
+// The links of a page.
+fn linked<R: Refs>(
+    rt: &impl Abort,
+    alloc: Global,
+    router: &PathRouter,
+    rows: &R,
+    path: &str,
+    query: &str,
+) -> Result<String, Fail> {
+    let path = path_of(rt, alloc, router, path)?;
+    let query = query_of(rt, alloc, &path, query)?;
+    let mut lines = String::new(alloc);
+    if let Some(page) = page(alloc, rows, VERSION, &path, &query)? {
+        push_links(&mut lines, page.links.as_slice())?;
+    }
+    Ok(lines)
+}
+
+// Paths and queries, and the links of their pages.
+static LINKS: [(&str, &str, &str); 6] = [
+    (
+        "users",
+        "limit=2",
+        "next users?limit=2&offset=2&hubVersion=7\n\
+first users?limit=2&offset=0&hubVersion=7\n\
+last users?limit=2&offset=2&hubVersion=7\n",
+    ),
+    // The list ends with the page.
+    (
+        "users",
+        "limit=2&offset=2",
+        "prev users?limit=2&offset=0&hubVersion=7\n\
+first users?limit=2&offset=0&hubVersion=7\n\
+last users?limit=2&offset=2&hubVersion=7\n",
+    ),
+    // Pages that aren't those from the front on.
+    (
+        "users",
+        "limit=2&offset=1&sort=familyName&orderBy=desc",
+        "next users?limit=2&offset=3&sort=familyName&orderBy=desc&hubVersion=7\n\
+prev users?limit=2&offset=0&sort=familyName&orderBy=desc&hubVersion=7\n\
+first users?limit=2&offset=0&sort=familyName&orderBy=desc&hubVersion=7\n\
+last users?limit=2&offset=2&sort=familyName&orderBy=desc&hubVersion=7\n",
+    ),
+    // An empty list.
+    (
+        "users/u4/classes",
+        "",
+        "first users/u4/classes?limit=100&offset=0&hubVersion=7\n\
+last users/u4/classes?limit=100&offset=0&hubVersion=7\n",
+    ),
+    (
+        "schools/s1/classes/k1/enrollments",
+        "limit=2000&filter=role%3d'student'&fields=role",
+        "first schools/s1/classes/k1/enrollments?limit=1000&offset=0&filter=role%3D%27student%27&fields=role&hubVersion=7\n\
+last schools/s1/classes/k1/enrollments?limit=1000&offset=0&filter=role%3D%27student%27&fields=role&hubVersion=7\n",
+    ),
+    ("schools/x/classes", "", ""),
+];
+
+#[test]
+fn pages_name_the_others(rt: HostRuntime) -> Result<(), Fail> {
+    let alloc = rt.alloc();
+    let router = PathRouter::new(alloc)?;
+    let rows = district(&rt, alloc)?;
+    for (path, query, want) in &LINKS {
+        let lines = linked(&rt, alloc, &router, &rows, path, query)?;
+        assert_eq!(rt; lines.as_str(), *want);
     }
     Ok(())
 }

@@ -1,7 +1,10 @@
 -- Lists of rows.
-use Rattle.std.specs.Prelude.{Bool, List, filter, length}
+use Rattle.std.specs.Prelude.{ℕ, Bool, List, filter, length}
 use Rattle.filter_grammar.specs.declared.query.Query.{Query}
+use Rattle.hub_paths.specs.Paths.{PathParts}
+use Rattle.hub_views.specs.Links.{links_of}
 use Rattle.hub_views.specs.Pages.{slice}
+use Rattle.hub_views.specs.declared.page.Page.{Page}
 use Rattle.query_pages.specs.declared.list_part.Part.{Part}
 use Rattle.roster_types.specs.Records.{Record}
 use Rattle.roster_values.specs.declared.kind.Kind.{Kind}
@@ -14,3 +17,7 @@ listed kind query test rows = arranged (sorting_of kind query) (filter test rows
 -- the part that a query asks for of a list, and the list's length
 abbrev pub part_of_list : Query → List Record → Part
 part_of_list query rows = record { rows = slice query.limit query.offset rows; total = length rows }
+
+-- the part with the links to the other pages
+abbrev pub linked : Part → ℕ → PathParts → Query → Page
+linked part version path query = record { rows = part.rows; total = part.total; links = links_of path query version part.total }

@@ -1,11 +1,10 @@
 //! Which rows belong to a path.
 
-ghost use Rattle.std.specs.Prelude.{◌≡◌, ◌<◌, ◌&&◌, ◌∷◌, [], codes, length};
+ghost use Rattle.std.specs.Prelude.{◌≡◌, ◌<◌, ◌&&◌, ◌||◌, codes, length};
 ghost use Rattle.hub_views.specs.Lists as spec;
 ghost use Rattle.hub_views.specs.Rules.{has_role, rule_of};
 ghost use Rattle.hub_views.specs.References.{is_named_by, leads_to, stands_where};
 ghost use Rattle.version_core.specs.References.{names};
-ghost use Rattle.hub_paths.specs.Routes.{objects_in};
 
 use crate::row_tests::{IsIn, IsInClass, Names, is_in};
 use hub_paths::{Collection, Path, Route};
@@ -69,64 +68,11 @@ fn is_named_under<R: Refs>(
     is_named_by(rows, &test, kind, field, row)
 }
 
-// The collections whose objects a path names.
-fn objects_of(route: Route) -> &'static [Collection]
-    ensures { result.now ≡ objects_in route }
-{
-    match route {
-        Route::All(_) => &[],
-        Route::One(Collection::Of(kind)) => objects_of_kind(kind),
-        Route::One(Collection::Schools)
-        | Route::SchoolCourses
-        | Route::SchoolClasses
-        | Route::SchoolEnrollments
-        | Route::SchoolStudents
-        | Route::SchoolTeachers
-        | Route::SchoolTerms => &[Collection::Schools],
-        Route::One(Collection::Terms) | Route::TermClasses | Route::TermGradingPeriods => {
-            &[Collection::Terms]
-        }
-        Route::One(Collection::GradingPeriods) => &[Collection::GradingPeriods],
-        Route::One(Collection::Students) | Route::StudentClasses => &[Collection::Students],
-        Route::One(Collection::Teachers) | Route::TeacherClasses => &[Collection::Teachers],
-        Route::SchoolClassEnrollments | Route::SchoolClassStudents | Route::SchoolClassTeachers =>
-            &[Collection::Schools, Collection::Of(Kind::Classes)],
-        Route::ClassStudents | Route::ClassTeachers | Route::ClassLineItems | Route::ClassResults =>
-            &[Collection::Of(Kind::Classes)],
-        Route::CourseClasses => &[Collection::Of(Kind::Courses)],
-        Route::UserClasses => &[Collection::Of(Kind::Users)],
-        Route::ClassLineItemResults => {
-            &[
-                Collection::Of(Kind::Classes),
-                Collection::Of(Kind::LineItems),
-            ]
-        }
-        Route::ClassStudentResults => &[Collection::Of(Kind::Classes), Collection::Students],
-    }
-}
-
-fn objects_of_kind(kind: Kind) -> &'static [Collection]
-    ensures { result.now ≡ Collection.Of kind ∷ [] }
-{
-    match kind {
-        Kind::Orgs => &[Collection::Of(Kind::Orgs)],
-        Kind::AcademicSessions => &[Collection::Of(Kind::AcademicSessions)],
-        Kind::Courses => &[Collection::Of(Kind::Courses)],
-        Kind::Classes => &[Collection::Of(Kind::Classes)],
-        Kind::Users => &[Collection::Of(Kind::Users)],
-        Kind::Enrollments => &[Collection::Of(Kind::Enrollments)],
-        Kind::Demographics => &[Collection::Of(Kind::Demographics)],
-        Kind::Categories => &[Collection::Of(Kind::Categories)],
-        Kind::LineItems => &[Collection::Of(Kind::LineItems)],
-        Kind::Results => &[Collection::Of(Kind::Results)],
-    }
-}
-
 /// Whether each object that a path names is among the rows.
 pub fn has_objects<R: Refs>(rows: &R, path: &Path) -> bool
     ensures { result ≡ spec.has_objects (R.rows rows.now) path.now }
 {
-    objects_stand(rows, objects_of(path.route()), path.ids())
+    objects_stand(rows, path.route().objects(), path.ids())
 }
 
 // Whether the second object, of a kind, names the first by a field.
@@ -152,6 +98,40 @@ fn is_enrolled_at_school<R: Refs>(rows: &R, path: &Path, role: &str, user: &Row)
         && is_enrolled(rows, id_at(path, 1), role, user)
 }
 
+// Whether the user is of the school: named by it, or enrolled there.
+fn is_at_school<R: Refs>(rows: &R, school: &Id, user: &Row) -> bool
+    ensures { result
+        ≡ (names (codes "orgs") school.now user.now
+        || is_named_by (names (codes "school") school.now) (R.rows rows.now) Kind.Enrollments (codes "user") user.now) }
+{
+    names(user, "orgs", school)
+        || is_named_under(rows, Kind::Enrollments, "user", "school", school, user)
+}
+
+// Whether a class of the school is in the term.
+fn is_term_at_school<R: Refs>(rows: &R, school: &Id, term: &Row) -> bool
+    ensures { result ≡ is_named_by (names (codes "school") school.now) (R.rows rows.now) Kind.Classes (codes "terms") term.now }
+{
+    is_named_under(rows, Kind::Classes, "terms", "school", school, term)
+}
+
+// Whether the user is enrolled in the class.
+fn is_class_of_user<R: Refs>(rows: &R, user: &Id, class: &Row) -> bool
+    ensures { result ≡ is_named_by (names (codes "user") user.now) (R.rows rows.now) Kind.Enrollments (codes "class") class.now }
+{
+    is_named_under(rows, Kind::Enrollments, "class", "user", user, class)
+}
+
+// Whether the second object, of a kind, names the first by a field, and the row the second by another.
+fn both_name<R: Refs>(rows: &R, path: &Path, kind: Kind, field: &str, by: &str, row: &Row) -> bool
+    requires { length path.now.ids ≡ 2 }
+    ensures { result
+        ≡ (stands_where (names field.now (spec.id_at path.now 0)) (R.rows rows.now) kind (spec.id_at path.now 1)
+        && names by.now (spec.id_at path.now 1) row.now) }
+{
+    second_names(rows, path, kind, field) && names(row, by, id_at(path, 1))
+}
+
 // Whether the rule of the path's route holds for the row.
 #[tactic(auto, unfolding(hub_views::specs::Rules::rule_of))]
 fn rule_holds<R: Refs>(rows: &R, path: &Path, row: &Row) -> bool
@@ -161,50 +141,26 @@ fn rule_holds<R: Refs>(rows: &R, path: &Path, row: &Row) -> bool
         Route::All(_) | Route::One(_) => true,
         Route::SchoolCourses => names(row, "org", id_at(path, 0)),
         Route::SchoolClasses | Route::SchoolEnrollments => names(row, "school", id_at(path, 0)),
-        Route::SchoolStudents | Route::SchoolTeachers => {
-            names(row, "orgs", id_at(path, 0))
-                || is_named_under(
-                    rows,
-                    Kind::Enrollments,
-                    "user",
-                    "school",
-                    id_at(path, 0),
-                    row,
-                )
-        }
-        Route::SchoolTerms => is_named_under(
-            rows,
-            Kind::Classes,
-            "terms",
-            "school",
-            id_at(path, 0),
-            row,
-        ),
+        Route::SchoolStudents => is_at_school(rows, id_at(path, 0), row),
+        Route::SchoolTeachers => is_at_school(rows, id_at(path, 0), row),
+        Route::SchoolTerms => is_term_at_school(rows, id_at(path, 0), row),
         Route::SchoolClassEnrollments => {
-            second_names(rows, path, Kind::Classes, "school") && names(row, "class", id_at(path, 1))
+            both_name(rows, path, Kind::Classes, "school", "class", row)
         }
-        Route::SchoolClassStudents => { is_enrolled_at_school(rows, path, "student", row) }
-        Route::SchoolClassTeachers => { is_enrolled_at_school(rows, path, "teacher", row) }
+        Route::SchoolClassStudents => is_enrolled_at_school(rows, path, "student", row),
+        Route::SchoolClassTeachers => is_enrolled_at_school(rows, path, "teacher", row),
         Route::ClassStudents => is_enrolled(rows, id_at(path, 0), "student", row),
         Route::ClassTeachers => is_enrolled(rows, id_at(path, 0), "teacher", row),
         Route::TermClasses => names(row, "terms", id_at(path, 0)),
         Route::TermGradingPeriods => names(row, "parent", id_at(path, 0)),
         Route::CourseClasses => names(row, "course", id_at(path, 0)),
         Route::StudentClasses | Route::TeacherClasses | Route::UserClasses => {
-            is_named_under(
-                rows,
-                Kind::Enrollments,
-                "class",
-                "user",
-                id_at(path, 0),
-                row,
-            )
+            is_class_of_user(rows, id_at(path, 0), row)
         }
         Route::ClassLineItems => names(row, "class", id_at(path, 0)),
         Route::ClassResults => is_of_class(rows, id_at(path, 0), row),
         Route::ClassLineItemResults => {
-            second_names(rows, path, Kind::LineItems, "class")
-                && names(row, "lineItem", id_at(path, 1))
+            both_name(rows, path, Kind::LineItems, "class", "lineItem", row)
         }
         Route::ClassStudentResults => {
             is_of_class(rows, id_at(path, 0), row) && names(row, "student", id_at(path, 1))

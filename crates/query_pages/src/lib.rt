@@ -6,10 +6,10 @@ mod by_id;
 mod in_order;
 pub mod list_part;
 pub mod list_test;
-pub mod page;
+mod pages;
 mod row_tests;
 mod sorting;
 
 pub use list_part::{Part, part_of};
 pub use list_test::ListTest;
-pub use page::{one, part, seen_part};
+pub use pages::{one, page, seen_page};

@@ -1,9 +1,10 @@
 //! What paths list.
 
-ghost use Rattle.std.specs.Prelude.{◌≡◌, true, IfOk, option_copied, option_map};
+ghost use Rattle.std.specs.Prelude.{◌≡◌, ◌≤◌, true, IfOk, option_copied, option_map};
 ghost use Rattle.hub_views.specs.Lists as spec;
+ghost use Rattle.hub_views.specs.Pages.{page_of};
 ghost use Rattle.hub_views.specs.Seen.{seen};
-ghost use Rattle.query_pages.specs.Listed.{part_of_list};
+ghost use Rattle.query_pages.specs.Listed.{linked, part_of_list};
 
 use crate::belonging::{belongs, has_objects, id_at};
 use crate::list_part::{Part, part_of};
@@ -11,6 +12,8 @@ use crate::list_test::ListTest;
 use filter_grammar::Query;
 use grant_scopes::Schools;
 use hub_paths::Path;
+use hub_views::Page;
+use page_links::links_of;
 use roster_base::NoMemory;
 use roster_types::row::Row;
 use roster_values::Kind;
@@ -48,9 +51,9 @@ impl<'a, R: Refs> ListTest for Listed<'a, R> {
     }
 }
 
-/// The part that a query asks for of the list of a path; nothing where an object that the path names isn't among the rows.
+// The part that a query asks for of the list of a path; nothing where an object that the path names isn't among the rows.
 #[tactic(auto, unfolding(hub_views::specs::Lists::list_of))]
-pub fn part<R: Refs>(
+fn part<R: Refs>(
     alloc: Global,
     rows: &R,
     path: &Path,
@@ -77,15 +80,54 @@ pub fn one<'r, R: Refs>(rows: &'r R, path: &Path) -> Option<&'r Row>
     rows.row(path.route().lists().kind(), id_at(path, 0))
 }
 
-/// The same part of the rows that a grant at these schools sees among all.
-pub fn seen_part<R: Refs>(
+// The page of a part, with its links.
+fn linked(
+    alloc: Global,
+    part: Part,
+    version: u64,
+    path: &Path,
+    query: &Query,
+) -> Result<Page, NoMemory>
+    requires { 1 ≤ query.now.limit }
+    ensures { IfOk result (λ p. p ≡ linked part version path.now query.now) }
+{
+    let links = links_of(alloc, path, query, version, part.total)?;
+    Ok(Page {
+        rows: part.rows,
+        total: part.total,
+        links,
+    })
+}
+
+/// The page that a query asks for of the list of a path among the rows of a version, which the links name; nothing where an
+/// object that the path names isn't among the rows.
+pub fn page<R: Refs>(
+    alloc: Global,
+    rows: &R,
+    version: u64,
+    path: &Path,
+    query: &Query,
+) -> Result<Option<Page>, NoMemory>
+    requires { 1 ≤ query.now.limit }
+    ensures { IfOk result (λ o. o ≡ page_of (R.rows rows.now) version path.now query.now) }
+{
+    match part(alloc, rows, path, query)? {
+        Some(part) => Ok(Some(linked(alloc, part, version, path, query)?)),
+        None => Ok(None),
+    }
+}
+
+/// The same page of the rows that a grant at these schools sees among all.
+pub fn seen_page<R: Refs>(
     alloc: Global,
     rows: &R,
     schools: &Schools,
+    version: u64,
     path: &Path,
     query: &Query,
-) -> Result<Option<Part>, NoMemory>
-    ensures { IfOk result (λ o. o ≡ option_map (part_of_list query.now) (spec.list_of (seen schools.now (R.rows rows.now)) path.now query.now)) }
+) -> Result<Option<Page>, NoMemory>
+    requires { 1 ≤ query.now.limit }
+    ensures { IfOk result (λ o. o ≡ page_of (seen schools.now (R.rows rows.now)) version path.now query.now) }
 {
-    part(alloc, &SeenRows::new(schools, rows), path, query)
+    page(alloc, &SeenRows::new(schools, rows), version, path, query)
 }
