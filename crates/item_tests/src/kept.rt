@@ -81,16 +81,36 @@ fn new_folder(rt: HostRuntime) -> Result<PathBuf, Fail> {
     Ok(folder)
 }
 
-// Opens the file, commits the edits where it is new, and looks at what it holds.
-fn visit(rt: &HostRuntime, end: &impl Abort, path: &str, is_new: bool) -> Result<(), Fail> {
-    let mut store = ItemStore::adopt(Connection::open(rt, path)?);
-    let found = if is_new {
-        commit_both(end, rt.alloc(), &mut store)
+// Commits the edits to a store that is new, and looks at what it holds.
+fn visit_store<S: Alter + Drop>(
+    end: &impl Abort,
+    alloc: Global,
+    store: &mut ItemStore<S>,
+    is_new: bool,
+) -> Result<(), Fail> {
+    if is_new {
+        commit_both(end, alloc, store)
     } else {
-        assert_ranges(end, rt.alloc(), &mut store, &SECOND_RANGES)
-    };
+        assert_ranges(end, alloc, store, &SECOND_RANGES)
+    }
+}
+
+// Visits the store over a connection.
+fn visit_open<S: Alter + Drop>(
+    end: &impl Abort,
+    alloc: Global,
+    conn: Connection<S>,
+    is_new: bool,
+) -> Result<(), Fail> {
+    let mut store = ItemStore::adopt(conn);
+    let found = visit_store(end, alloc, &mut store, is_new);
     drop(store);
     found
+}
+
+// Opens the file, commits the edits where it is new, and looks at what it holds.
+fn visit(rt: &HostRuntime, end: &impl Abort, path: &str, is_new: bool) -> Result<(), Fail> {
+    visit_open(end, rt.alloc(), Connection::open(rt, path)?, is_new)
 }
 
 #[test]

@@ -1,8 +1,9 @@
 //! The laws of the store, as they run.
 
-use crate::samples::{area_1, first_edits, items_line};
+use crate::samples::{first_edits, found_over, items_line};
 use item_laws::{fresh, opened, read_back, reopen};
-use item_store::ItemStore;
+use item_store::{Edit, ItemStore};
+use roster_base::KeeperError;
 use sqlite::{Connection, FileStore, Files, Options};
 use sqlite_disk::Memory;
 use std::alloc::Global;
@@ -27,24 +28,35 @@ fn items_are_read_back(rt: HostRuntime) -> Result<(), Fail> {
 
 // The items of area 1 once a connection is closed and opened again.
 fn found_again(alloc: Global, conn: Connection<FileStore<Memory>>) -> Option<Vec<u8>> {
-    let mut store = ItemStore::adopt(reopen(alloc, conn, Options::new(7))?);
-    let found = area_1(alloc, &mut store).ok();
-    drop(store);
-    found
+    found_over(alloc, reopen(alloc, conn, Options::new(7))?)
+}
+
+// Commits over a connection, closes it and opens it again.
+fn committed(
+    alloc: Global,
+    conn: Connection<FileStore<Memory>>,
+    edits: &[Edit],
+) -> Result<Option<Vec<u8>>, KeeperError> {
+    let mut store = ItemStore::adopt(conn);
+    let committed = store.commit(edits);
+    let found = found_again(alloc, store.release());
+    committed?;
+    Ok(found)
+}
+
+// A connection over empty files.
+fn over_empty(alloc: Global) -> Result<Connection<FileStore<Memory>>, Fail> {
+    let files = Files {
+        log: Memory::new(alloc),
+        db: Memory::new(alloc),
+    };
+    Ok(opened(alloc, files, Options::new(7)).ok().ok_or("opened")?)
 }
 
 // The first edits in area 1, committed to empty files that are closed and opened again.
 fn reopened(alloc: Global) -> Result<Vec<u8>, Fail> {
     let edits = first_edits(alloc)?;
-    let files = Files {
-        log: Memory::new(alloc),
-        db: Memory::new(alloc),
-    };
-    let conn = opened(alloc, files, Options::new(7)).ok().ok_or("opened")?;
-    let mut store = ItemStore::adopt(conn);
-    let committed = store.commit(edits.as_slice());
-    let found = found_again(alloc, store.release());
-    committed?;
+    let found = committed(alloc, over_empty(alloc)?, edits.as_slice())?;
     Ok(found.ok_or("opened again")?)
 }
 

@@ -2,7 +2,7 @@
 
 use item_store::{Edit, Item, ItemStore};
 use roster_base::{Bytes, KeeperError};
-use sqlite::Alter;
+use sqlite::{Alter, Connection};
 use std::alloc::{AllocError, Global};
 
 // An edit in words.
@@ -121,4 +121,12 @@ pub fn area_1<S: Alter + Drop>(
     store: &mut ItemStore<S>,
 ) -> Result<Vec<u8>, KeeperError> {
     listed(alloc, store, &(1, "", "z", 10, ""))
+}
+
+/// All items of area 1 over a connection; nothing where they can't be read.
+pub fn found_over<S: Alter + Drop>(alloc: Global, conn: Connection<S>) -> Option<Vec<u8>> {
+    let mut store = ItemStore::adopt(conn);
+    let found = area_1(alloc, &mut store).ok();
+    drop(store);
+    found
 }

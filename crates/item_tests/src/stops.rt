@@ -1,41 +1,40 @@
 //! Commits over disks that stop.
 
-use crate::samples::{area_1, first_edits, second_edits};
+use crate::samples::{first_edits, found_over, second_edits};
 use item_laws::opened;
 use item_store::{Edit, ItemStore};
-use sqlite::{Alter, Files, Options};
+use sqlite::{Connection, FileStore, Files, Options};
 use sqlite_disk::{Crash, Disk, Fuse, Memory};
 use std::alloc::Global;
 use std::process::Abort;
 use std::test::Fail;
 
+// Commits over a connection, and gives its files back.
+fn commit_over<D: Disk + Drop>(conn: Connection<FileStore<D>>, edits: &[Edit]) -> (bool, Files<D>) {
+    let mut store = ItemStore::adopt(conn);
+    let committed = store.commit(edits).is_ok();
+    (committed, store.release().into_store().close())
+}
+
 // Opens the files and commits, and gives the files back.
 fn commit_to<D: Disk + Drop>(alloc: Global, files: Files<D>, edits: &[Edit]) -> (bool, Files<D>) {
     match opened(alloc, files, Options::new(7)) {
-        Ok(conn) => {
-            let mut store = ItemStore::adopt(conn);
-            let committed = store.commit(edits).is_ok();
-            (committed, store.release().into_store().close())
-        }
+        Ok(conn) => commit_over(conn, edits),
         Err(files) => (false, files),
     }
 }
 
-fn read_area<S: Alter + Drop>(alloc: Global, store: ItemStore<S>) -> Option<Vec<u8>> {
-    let mut store = store;
-    let found = area_1(alloc, &mut store).ok();
-    drop(store);
-    found
+// Lets files go in which nothing was found.
+fn nothing_in<D: Disk + Drop>(files: Files<D>) -> Option<Vec<u8>> {
+    drop(files);
+    None
 }
 
 // The items of area 1 in these files; nothing where they can't be opened or read.
 fn found_in<D: Disk + Drop>(alloc: Global, files: Files<D>) -> Option<Vec<u8>> {
     match opened(alloc, files, Options::new(7)) {
-        Ok(conn) => read_area(alloc, ItemStore::adopt(conn)),
-        Err(files) => {
-            drop(files);
-            None
-        }
+        Ok(conn) => found_over(alloc, conn),
+        Err(files) => nothing_in(files),
     }
 }
 
