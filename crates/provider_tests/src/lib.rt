@@ -1,0 +1,7 @@
+//! Tests of the hub's answers, byte by byte.
+#![tactic(auto)]
+
+#[cfg(test)]
+mod reads;
+#[cfg(test)]
+mod tables;

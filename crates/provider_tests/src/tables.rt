@@ -1,0 +1,106 @@
+//! A table with a district of two schools, and the grants of two callers in the version behind it.
+
+use csv_sets::read_set;
+use grant_changes::granting::grants_change;
+use grant_files::read_grants;
+use grant_scopes::GrantList;
+use outside_ports::MemFolder;
+use roster_base::Refusal;
+use roster_texts::{Moment, Name};
+use roster_types::set::RosterSet;
+use set_changes::publish::set_change;
+use std::alloc::Global;
+use std::process::Abort;
+use std::test::Fail;
+use version_core::table::Table;
+
+static FILES: [(&str, &str); 2] = [
+    (
+        "manifest.csv",
+        "propertyName,value\nmanifest.version,1.0\noneroster.version,1.1\nfile.orgs,bulk\nfile.academicSessions,absent\n\
+file.courses,absent\nfile.classes,absent\nfile.users,absent\nfile.enrollments,absent\nfile.demographics,absent\n\
+file.categories,absent\nfile.lineItems,absent\nfile.results,absent\nfile.resources,absent\nfile.classResources,absent\n\
+file.courseResources,absent\nsource.systemName,Lake SIS\nsource.systemCode,LSIS\n",
+    ),
+    (
+        "orgs.csv",
+        "sourcedId,status,dateLastModified,name,type,identifier,parentSourcedId\n\
+d1,,,Lake,district,,\ns1,,,East,school,,d1\ns2,,,West,school,,d1\n",
+    ),
+];
+
+static GRANTS: &str =
+    "caller,token,scopes,schools\neast,tok-e,roster-core.readonly,s1\nall,tok-a,roster.readonly,*\n";
+
+fn file(alloc: Global, name: &str, text: &str) -> Result<(String, String, Vec<u8>), Fail> {
+    let dir = String::from_str(alloc, "lake")?;
+    let name = String::from_str(alloc, name)?;
+    Ok((dir, name, text.as_bytes().to_vec(alloc)?))
+}
+
+fn folder(alloc: Global) -> Result<MemFolder, Fail> {
+    let mut files = Vec::new(alloc);
+    for (name, text) in &FILES {
+        files.push(file(alloc, name, text)?)?;
+    }
+    Ok(MemFolder::new(files, Vec::new(alloc)))
+}
+
+fn set(rt: &impl Abort, alloc: Global) -> Result<RosterSet, Fail> {
+    let Some(feed) = Name::read(alloc, "sis")? else {
+        panic!(rt; "no name");
+    };
+    let mut folder = folder(alloc)?;
+    match read_set(alloc, &mut folder, "lake", &feed) {
+        Ok(set) => Ok(set),
+        Err(_) => panic!(rt; "no set"),
+    }
+}
+
+fn moment(rt: &impl Abort) -> Moment {
+    match Moment::at(1_000) {
+        Some(at) => at,
+        None => panic!(rt; "no moment"),
+    }
+}
+
+// The version that a set leads to.
+fn publish(rt: &impl Abort, alloc: Global, table: &mut Table, set: &RosterSet) -> Result<(), Fail> {
+    match set_change(alloc, table, set, moment(rt)) {
+        Ok(Some(change)) => {
+            table.reserve(&change)?;
+            table.add(change);
+            Ok(())
+        }
+        Ok(None) | Err(Refusal::Fault(_)) => panic!(rt; "no version"),
+        Err(Refusal::NoMemory) => panic!(rt; "no memory"),
+    }
+}
+
+// The version that grants lead to.
+fn grant(rt: &impl Abort, alloc: Global, table: &mut Table, list: &GrantList) -> Result<(), Fail> {
+    match grants_change(alloc, table, list, moment(rt)) {
+        Ok(Some(change)) => {
+            table.reserve(&change)?;
+            table.add(change);
+            Ok(())
+        }
+        Ok(None) | Err(Refusal::Fault(_)) => panic!(rt; "no version"),
+        Err(Refusal::NoMemory) => panic!(rt; "no memory"),
+    }
+}
+
+fn grants(rt: &impl Abort, alloc: Global) -> Result<GrantList, Fail> {
+    match read_grants(alloc, GRANTS.as_bytes()) {
+        Ok(list) => Ok(list),
+        Err(_) => panic!(rt; "no grants"),
+    }
+}
+
+/// The table: rows in version 1, grants in version 2.
+pub fn table(rt: &impl Abort, alloc: Global) -> Result<Table, Fail> {
+    let mut table = Table::new(alloc, 1);
+    publish(rt, alloc, &mut table, &set(rt, alloc)?)?;
+    grant(rt, alloc, &mut table, &grants(rt, alloc)?)?;
+    Ok(table)
+}

@@ -1,0 +1,62 @@
+//! What a 200 has, beside what every reply has.
+
+ghost use Rattle.std.specs.Prelude.{◌≡◌, IfOk, option_map};
+ghost use Rattle.hub_rules.specs.Reads.{object_shown, page_shown};
+ghost use Rattle.rest_provider.specs.Shown.{contents_shown};
+ghost use Rattle.roster_values.specs.declared.kind.Kind as kinds;
+
+use filter_grammar::Query;
+use hub_views::Page;
+use roster_base::{Bytes, Items, NoMemory, Text};
+use roster_types::row::Row;
+use roster_values::Kind;
+use row_json::{collection_text, single_text};
+use status_info::LinkItem;
+use std::alloc::Global;
+
+/// The body of a 200, the number of rows of the whole collection, and the links of the page.
+#[derive(Drop)]
+pub struct Contents {
+    pub body: Bytes,
+    pub total: Option<u64>,
+    pub links: Items<LinkItem>,
+}
+
+// The members that a query chooses, if it chooses.
+fn chosen(query: &Query) -> Option<&[Text]>
+    ensures { option_map (λ names. names.now) result ≡ query.now.only }
+{
+    match &query.only {
+        Some(names) => Some(names.as_slice()),
+        None => None,
+    }
+}
+
+/// One object.
+pub fn object_contents(alloc: Global, query: &Query, row: &Row) -> Result<Contents, NoMemory>
+    ensures { (kind : kinds.Kind) → IfOk result (λ c. contents_shown c ≡ object_shown kind query.now row.now) }
+{
+    let text = single_text(alloc, row, chosen(query))?;
+    Ok(Contents {
+        body: Bytes::from_vec(text.into_bytes()),
+        total: None,
+        links: Items::new(alloc),
+    })
+}
+
+/// A page of rows of a kind.
+pub fn page_contents(
+    alloc: Global,
+    kind: Kind,
+    query: &Query,
+    page: Page,
+) -> Result<Contents, NoMemory>
+    ensures { IfOk result (λ c. contents_shown c ≡ page_shown kind query.now page) }
+{
+    let text = collection_text(alloc, kind, page.rows.as_slice(), chosen(query))?;
+    Ok(Contents {
+        body: Bytes::from_vec(text.into_bytes()),
+        total: Some(page.total),
+        links: page.links,
+    })
+}

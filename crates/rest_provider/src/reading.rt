@@ -1,0 +1,209 @@
+//! A read of one version, by a caller who is known.
+
+ghost use Rattle.std.specs.Prelude.{◌≡◌, ◌≤◌, true, false, IfOk, Ok, Err, Some, option_map};
+ghost use Rattle.filter_grammar.specs.Queries.{query_of};
+ghost use Rattle.hub_requests.specs.Requests.{query_or_cause, wanted_by};
+ghost use Rattle.hub_rules.specs.Checks as spec;
+ghost use Rattle.hub_rules.specs.Reads as reads;
+ghost use Rattle.hub_rules.specs.Wanted.{access_of, is_good_mark};
+ghost use Rattle.grant_scopes.specs.Opens as opening;
+ghost use Rattle.hub_views.specs.Lists.{is_single, kind_of_path};
+ghost use Rattle.hub_views.specs.Seen.{seen};
+ghost use Rattle.rest_provider.specs.Replies.{entry, query_read};
+ghost use Rattle.rest_provider.specs.Shown.{contents_shown};
+ghost use Rattle.roster_base.specs.Reading.{Gives};
+ghost use Rattle.roster_base.specs.declared.refusal.Refusal.TheVariants as refusal;
+ghost use Rattle.roster_texts.specs.Results.{found_or};
+ghost use Rattle.status_info.specs.declared.cause.Cause.TheVariants as cause;
+ghost use Rattle.version_core.specs.Changes.{rows_of};
+ghost use Rattle.version_core.specs.HubStates.{HubState};
+ghost use Rattle.version_core.specs.declared.grant_row.GrantRow.{GrantRow};
+
+use crate::checks::{access_of, is_good_mark};
+use crate::contents::{Contents, object_contents, page_contents};
+use crate::refusals::{Stop, refused_at};
+use filter_grammar::{Query, read_query};
+use grant_scopes::{Grant, opens};
+use hub_paths::{Path, Route};
+use query_pages::{one, seen_page};
+use roster_base::{NoMemory, Refusal};
+use roster_values::Kind;
+use seen_rows::SeenRows;
+use status_info::{Cause, Reply, Request};
+use std::alloc::Global;
+use version_core::view::VersionView;
+
+/// A request for a path, who makes it, and the number of the version that it reads.
+#[derive(Clone, Copy)]
+pub struct Reading<'a> {
+    pub request: &'a Request,
+    pub path: &'a Path,
+    pub grant: &'a Grant,
+    pub version: u64,
+}
+
+impl<'a> Reading<'a> {
+    fn kind(self) -> Kind
+        ensures { result ≡ kind_of_path self.entry.path.now }
+    {
+        self.path.route().lists().kind()
+    }
+
+    fn refused<T: Drop>(self, alloc: Global, cause: Cause) -> Result<T, Stop>
+        ensures { result ≡ Err (refusal.Fault (spec.refused_at (wanted_by self.entry.request.now) self.entry.version cause)) }
+    {
+        Err(Refusal::Fault(refused_at(alloc, self.request, self.version, cause)))
+    }
+
+    // The check of the scopes.
+    fn opened(self, alloc: Global) -> Result<(), Stop>
+        ensures { Gives (λ _. true) result
+            (spec.check (opening.opens self.entry.grant.now.scopes (kind_of_path self.entry.path.now) (access_of (wanted_by self.entry.request.now).verb))
+            (spec.refused_at (wanted_by self.entry.request.now) self.entry.version cause.ScopeMissing)) }
+    {
+        if opens(self.grant.scopes, self.kind(), access_of(self.request.verb)) {
+            Ok(())
+        } else {
+            self.refused(alloc, Cause::ScopeMissing)
+        }
+    }
+
+    // The query.
+    fn query(self, alloc: Global) -> Result<Query, Stop>
+        ensures query { Gives (λ q. q) result
+            (spec.query_or (wanted_by self.entry.request.now) self.entry.version (query_or_cause (query_of (kind_of_path self.entry.path.now) self.entry.request.now.query))) }
+        ensures limit { IfOk result (λ q. 1 ≤ q.limit) }
+    {
+        match read_query(alloc, self.kind(), self.request.query.as_str()) {
+            Ok(query) => Ok(query),
+            Err(Refusal::Fault(fault)) => self.refused(alloc, fault.cause()),
+            Err(Refusal::NoMemory) => Err(Refusal::NoMemory),
+        }
+    }
+
+    // The check of the mark.
+    fn marked(self, alloc: Global) -> Result<(), Stop>
+        ensures { Gives (λ _. true) result
+            (spec.check (is_good_mark (wanted_by self.entry.request.now).mark) (spec.refused_at (wanted_by self.entry.request.now) self.entry.version cause.BadMark)) }
+    {
+        if is_good_mark(self.request.mark) {
+            Ok(())
+        } else {
+            self.refused(alloc, Cause::BadMark)
+        }
+    }
+
+    // The seen object that the path names.
+    fn object(
+        self,
+        alloc: Global,
+        view: &VersionView<'_>,
+        query: &Query,
+    ) -> Result<Option<Contents>, NoMemory>
+        requires { is_single self.path.now.route ≡ true }
+        ensures { IfOk result (λ c. option_map contents_shown c
+            ≡ reads.contents_of (seen self.entry.grant.now.schools (rows_of view.now.rows)) self.entry.version self.entry.path.now query.now) }
+    {
+        let seen = SeenRows::new(&self.grant.schools, view);
+        match one(&seen, self.path) {
+            Some(row) => Ok(Some(object_contents(alloc, query, row)?)),
+            None => Ok(None),
+        }
+    }
+
+    // The page of what is seen of the path's list.
+    fn page(
+        self,
+        alloc: Global,
+        view: &VersionView<'_>,
+        query: &Query,
+    ) -> Result<Option<Contents>, NoMemory>
+        requires limit { 1 ≤ query.now.limit }
+        requires list { is_single self.path.now.route ≡ false }
+        ensures { IfOk result (λ c. option_map contents_shown c
+            ≡ reads.contents_of (seen self.entry.grant.now.schools (rows_of view.now.rows)) self.entry.version self.entry.path.now query.now) }
+    {
+        match seen_page(
+            alloc,
+            view,
+            &self.grant.schools,
+            self.version,
+            self.path,
+            query,
+        )? {
+            Some(page) => Ok(Some(page_contents(alloc, self.kind(), query, page)?)),
+            None => Ok(None),
+        }
+    }
+
+    // What the path shows of the seen rows.
+    fn contents(
+        self,
+        alloc: Global,
+        view: &VersionView<'_>,
+        query: &Query,
+    ) -> Result<Option<Contents>, NoMemory>
+        requires { 1 ≤ query.now.limit }
+        ensures { IfOk result (λ c. option_map contents_shown c
+            ≡ reads.contents_of (seen self.entry.grant.now.schools (rows_of view.now.rows)) self.entry.version self.entry.path.now query.now) }
+    {
+        match self.path.route() {
+            Route::One(_) => self.object(alloc, view, query),
+            _ => self.page(alloc, view, query),
+        }
+    }
+
+    // It, where each object that the path names is seen.
+    fn found(self, alloc: Global, view: &VersionView<'_>, query: &Query) -> Result<Contents, Stop>
+        requires { 1 ≤ query.now.limit }
+        ensures { Gives contents_shown result (found_or (spec.refused_at (wanted_by self.entry.request.now) self.entry.version cause.NoSuchObject)
+            (reads.contents_of (seen self.entry.grant.now.schools (rows_of view.now.rows)) self.entry.version self.entry.path.now query.now)) }
+    {
+        match self.contents(alloc, view, query)? {
+            Some(contents) => Ok(contents),
+            None => self.refused(alloc, Cause::NoSuchObject),
+        }
+    }
+
+    // The 200.
+    fn shown(self, alloc: Global, query: &Query, contents: Contents) -> Reply
+        ensures { result ≡ reads.shown (wanted_by self.entry.request.now) self.entry.version query.now (contents_shown contents) }
+    {
+        let mut reply = refused_at(alloc, self.request, self.version, Cause::Done);
+        reply.body = contents.body;
+        reply.total = contents.total;
+        reply.links = contents.links;
+        reply.warnings = query.warnings;
+        reply
+    }
+
+    // The checks behind the query's.
+    fn answer_query(
+        self,
+        alloc: Global,
+        view: &VersionView<'_>,
+        query: &Query,
+    ) -> Result<Reply, Stop>
+        requires { 1 ≤ query.now.limit }
+        ensures { Gives (λ r. r) result (query_read (wanted_by self.entry.request.now) self.entry.version self.entry.path.now
+            (seen self.entry.grant.now.schools (rows_of view.now.rows)) query.now) }
+    {
+        self.marked(alloc)?;
+        let contents = self.found(alloc, view, query)?;
+        Ok(self.shown(alloc, query, contents))
+    }
+
+    /// The reply that answers the read of the version, or the first check that it fails: scope, query, mark, object.
+    #[tactic(auto, unfolding(hub_rules::specs::Reads::read_at))]
+    pub fn answer(self, alloc: Global, view: &VersionView<'_>) -> Result<Reply, Stop>
+        ensures { (state : HubState) (by : GrantRow) → spec.version_at state self.entry.version ≡ view.now → by.grant ≡ self.entry.grant.now
+            → (wanted_by self.entry.request.now).path ≡ Some self.entry.path.now
+            → Gives (λ r. r) result (reads.read_at state (wanted_by self.entry.request.now) (entry self.entry.path.now by) self.entry.version) }
+    {
+        self.opened(alloc)?;
+        let query = self.query(alloc)?;
+        let answered = self.answer_query(alloc, view, &query);
+        drop(query);
+        answered
+    }
+}
