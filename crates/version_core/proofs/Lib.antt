@@ -3,9 +3,13 @@ pub mod CallerLemmas
 pub mod GrantLemmas
 pub mod HistoryLemmas
 pub mod HistoryNext
+pub mod IndexLemmas
+pub mod IndexedVersions
 pub mod KindCounts
 pub mod MarkLemmas
 pub mod MergeLemmas
+pub mod NamingLemmas
+pub mod NamingRows
 pub mod Next
 pub mod NextLemmas
 pub mod OrderLemmas
@@ -16,6 +20,8 @@ pub mod PutLemmas
 pub mod Referring
 pub mod RoomLemmas
 pub mod RowsOf
+pub mod RunLemmas
+pub mod SayingLemmas
 pub mod SinceLemmas
 pub mod TableLemmas
 pub mod TrimLemmas

@@ -7,6 +7,7 @@ pub mod Marks
 pub mod MarksInside
 pub mod Merge
 pub mod Order
+pub mod RefIndex
 pub mod References
 pub mod Room
 pub mod Since

@@ -1,13 +1,16 @@
 -- What a log of versions keeps of its fields.
-use Rattle.std.specs.Prelude.{◌≡◌, ℕ, ℤ, ◌+◌, ◌<◌, ◌≤◌, List, [], ◌∷◌, Option, length, map, option_map, unwrap_or, vec_len, vec_capacity}
+use Rattle.std.specs.Prelude.{◌≡◌, true, ℕ, ℤ, ◌+◌, ◌<◌, ◌≤◌, List, [], ◌∷◌, Option, length, map, option_map, unwrap_or, vec_len, vec_capacity}
 use Rattle.std.specs.Option.{ForSome}
 use Rattle.std.specs.List.{AllByRecursion}
 use Rattle.roster_types.specs.Keys.{Key}
 use Rattle.version_core.specs.History.{AreFresh, ArePasts, AreUpTo, Past, history_key, pasts_of, rows_at}
+use Rattle.version_core.specs.RefIndex.{AreIndexed}
 use Rattle.version_core.specs.Room.{key_of}
+use Rattle.version_core.specs.Changes.{rows_of}
 use Rattle.version_core.specs.Since.{standing}
 use Rattle.version_core.specs.declared.change.BaseVersion.{BaseVersion}
 use Rattle.version_core.specs.declared.grant_row.GrantRow.{GrantRow}
+use Rattle.version_core.specs.declared.ref_index.RefEntry.{RefEntry}
 use Rattle.version_core.specs.declared.since.Since.{Since}
 use Rattle.version_core.specs.declared.version_log.VersionLog.TheInside.{Inside}
 use Rattle.version_core.specs.Version.{Log, IsVersion}
@@ -43,7 +46,11 @@ pub record HasRoom (log : Inside) (keys : List Key) : Type 0 where
   pub fresh : length keys ≤ vec_len log.fresh
   pub grown : AllByRecursion (λ key. AllByRecursion (λ history. history_key history ≡ key → vec_len history.entries < vec_capacity history.entries) log.histories.items) keys
 
--- versions that are sound, read from histories in their order, with room as was told
+-- the index has all that the version's rows name
+abbrev pub IsVersionIndexed : List (List RefEntry) → BaseVersion → Type 0
+IsVersionIndexed runs version = AreIndexed runs (rows_of version.rows)
+
+-- versions that are sound, read from histories in their order, with room as was told, and where it is said so, an index of all that their rows name
 pub record IsLog (log : Inside) : Type 0 where
   pub versions : AllByRecursion IsVersion (kept_of log)
   pub pasts : ArePasts (pasts_of log.histories.items)
@@ -52,3 +59,4 @@ pub record IsLog (log : Inside) : Type 0 where
   pub spare : log.spare.items ≡ []
   pub fresh : AreFresh log.fresh.items
   pub room : ForSome (room_of log) (HasRoom log)
+  pub index : log.is_indexed ≡ true → AllByRecursion (IsVersionIndexed log.refs.items) (kept_of log)

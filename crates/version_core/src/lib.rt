@@ -10,6 +10,8 @@ pub mod hub_tables;
 pub mod mark;
 pub mod marks;
 pub mod merge;
+mod ref_index;
+mod ref_runs;
 pub mod references;
 mod reserved;
 pub mod row_change;

@@ -34,8 +34,8 @@ pub fn lent_field<'r>(row: &'r Row, name: &str) -> Option<ValueRef<'r>>
     row.value(place)
 }
 
-// The place of the field with that JSON name.
-fn place_of(kind: Kind, name: &str) -> Option<usize>
+/// The place of the field with that JSON name.
+pub fn place_of(kind: Kind, name: &str) -> Option<usize>
     ensures { result ≡ place_in (table kind) name.now }
 {
     place_among(fields(kind), name)

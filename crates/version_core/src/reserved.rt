@@ -3,11 +3,14 @@
 ghost use Rattle.std.specs.Prelude.{◌≡◌, ◌<◌, ◌≤◌, [], ◌+◌, IfOk, OnOk, OnErr, length, map, vec_capacity, vec_len};
 ghost use Rattle.version_core.specs.Changes.{change_key};
 ghost use Rattle.version_core.specs.History.{AllHaveRoom, AreFresh, ArePasts, HaveRoom, pasts_of};
+ghost use Rattle.version_core.specs.RefIndex.{Keeps};
 ghost use Rattle.version_core.specs.Room.{key_of};
 ghost use Rattle.version_core.specs.declared.row_change.RowChange.{RowChange as RowChangeValue};
 
 use crate::grant_row::GrantRow;
 use crate::history::{History, Place};
+use crate::ref_index::RefRun;
+use crate::ref_runs::add_run;
 use crate::row_change::RowChange;
 use crate::since::Since;
 use roster_base::{Items, NoMemory, TryCopy};
@@ -91,7 +94,7 @@ fn reserve_entry(histories: &mut Vec<History>, change: &RowChange) -> Result<(),
     }
 }
 
-/// Makes room for one version more, with these rows.
+/// Makes room for one version more, with these rows, and notes what they name.
 pub fn make_room(
     alloc: Global,
     moments: &mut Vec<Moment>,
@@ -99,6 +102,7 @@ pub fn make_room(
     histories: &mut Vec<History>,
     spare: &mut Vec<History>,
     fresh: &mut Vec<Place>,
+    refs: &mut Vec<RefRun>,
     changes: &[RowChange],
 ) -> Result<(), NoMemory>
     requires pasts { ArePasts (pasts_of histories.old.items) }
@@ -115,8 +119,10 @@ pub fn make_room(
     ensures spare_room { OnOk result (vec_len histories.new + length changes.now ≤ vec_capacity spare.new) }
     ensures fresh { AreFresh fresh.new.items }
     ensures fresh_len { OnOk result (length changes.now ≤ vec_len fresh.new) }
+    ensures refs { Keeps refs.old.items refs.new.items }
 {
     let count = changes.len();
+    add_run(alloc, refs, changes)?;
     moments.reserve(1)?;
     grants.reserve(1)?;
     reserve_places(alloc, fresh, count)?;

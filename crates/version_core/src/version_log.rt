@@ -12,6 +12,8 @@ use crate::copies::copied;
 use crate::grant_row::GrantRow;
 use crate::histories::{put_rows, trim_all};
 use crate::history::{History, Place};
+use crate::ref_index::{RefRun, are_said, stay_said};
+use crate::ref_runs::runs_of;
 use crate::reserved::{RowKey, keys_of, make_room, reserve_places};
 use crate::row_change::RowChange;
 use crate::since::{Since, standing, trim};
@@ -39,6 +41,10 @@ pub struct VersionLog {
     fresh: Vec<Place>,
     // For the rows of which kinds and ids there is room.
     room: Option<Vec<RowKey>>,
+    // What rows name, in runs of which each but the first has less than half as many entries as the one before.
+    refs: Vec<RefRun>,
+    // Whether `refs` has all that the rows of the versions name.
+    is_indexed: bool,
 }
 
 impl Model for VersionLog {
@@ -68,6 +74,8 @@ impl VersionLog {
             spare: Vec::new(alloc),
             fresh: Vec::new(alloc),
             room: None,
+            refs: Vec::new(alloc),
+            is_indexed: true,
         }
     }
 
@@ -78,6 +86,8 @@ impl VersionLog {
     {
         let grants = first_grants(alloc, base)?;
         let histories = histories_of(alloc, base.number, base.rows.as_slice())?;
+        let refs = runs_of(alloc, base.rows.as_slice())?;
+        let is_indexed = are_said(&refs, base.rows.as_slice());
         Ok(VersionLog {
             alloc,
             number: base.number,
@@ -88,6 +98,8 @@ impl VersionLog {
             spare: Vec::new(alloc),
             fresh: Vec::new(alloc),
             room: None,
+            refs,
+            is_indexed,
         })
     }
 
@@ -123,7 +135,15 @@ impl VersionLog {
         let moment = moment_at(self.moment, &self.moments, (version - self.number) as usize);
         let grants = grants_at(&self.grants, version);
         let newest = version == self.number + self.moments.len() as u64;
-        VersionView::new(version, moment, newest, &self.histories, grants)
+        VersionView::new(
+            version,
+            moment,
+            newest,
+            &self.histories,
+            grants,
+            &self.refs,
+            self.is_indexed,
+        )
     }
 
     /// The newest version.
@@ -151,6 +171,7 @@ impl VersionLog {
             &mut self.histories,
             &mut self.spare,
             &mut self.fresh,
+            &mut self.refs,
             changes,
         )?;
         self.room = Some(keys);
@@ -172,6 +193,7 @@ impl VersionLog {
             rows,
             grants,
         } = change;
+        self.is_indexed = stay_said(self.is_indexed, &self.refs, rows.as_slice());
         put_rows(
             &mut self.histories,
             &mut self.spare,

@@ -5,6 +5,7 @@ ghost use Rattle.roster_types.specs.Keys.{Ascends, count_of, look_up};
 ghost use Rattle.version_core.specs.Changes.{AreChanges, change_key, is_next, rows_of};
 ghost use Rattle.roster_values.specs.Kinds.{place_of_kind};
 ghost use Rattle.version_core.specs.Grants.{grant_of, grant_row_of};
+ghost use Rattle.version_core.specs.RefIndex.{AreIndexed};
 ghost use Rattle.version_core.specs.View.{earlier};
 ghost use Rattle.version_core.specs.History.{ArePasts, AreUpTo, history_key, pasts_of, rows_at};
 ghost use Rattle.version_core.specs.Version.{IsVersion, row_limit};
@@ -12,6 +13,7 @@ ghost use Rattle.version_core.specs.Version.{IsVersion, row_limit};
 use crate::grant_row::{GrantRow, row_of_caller, row_of_token};
 use crate::histories::{following, found};
 use crate::history::History;
+use crate::ref_index::{RefRun, indexed};
 use crate::references::{Refs, next_referring};
 use crate::row_change::RowChange;
 use crate::sorted::compare;
@@ -33,6 +35,9 @@ pub struct VersionView<'a> {
     newest: bool,
     histories: &'a [History],
     grants: &'a [GrantRow],
+    // What the rows name, and whether it is all there.
+    refs: &'a [RefRun],
+    is_indexed: bool,
 }
 
 impl<'a> Model for VersionView<'a> {
@@ -100,10 +105,13 @@ impl<'a> VersionView<'a> {
         newest: bool,
         histories: &'a [History],
         grants: &'a [GrantRow],
+        refs: &'a [RefRun],
+        is_indexed: bool,
     ) -> VersionView<'a>
         requires pasts { ArePasts (pasts_of histories.now) }
         requires newest { newest ≡ true → AreUpTo version (pasts_of histories.now) }
         requires version { IsVersion (record { number = version; moment = moment; rows = rows_at version (pasts_of histories.now); grants = grants.now }) }
+        requires index { is_indexed ≡ true → AreIndexed refs.now (rows_of (rows_at version (pasts_of histories.now))) }
         ensures { result ≡ record { number = version; moment = moment; rows = rows_at version (pasts_of histories.now); grants = grants.now } }
     {
         VersionView {
@@ -112,6 +120,8 @@ impl<'a> VersionView<'a> {
             newest,
             histories,
             grants,
+            refs,
+            is_indexed,
         }
     }
 
@@ -205,8 +215,17 @@ impl<'a> Rows for VersionView<'a> {
 
 impl<'a> Refs for VersionView<'a> {
     fn referring(&self, kind: Kind, name: &str, target: &Id, after: Option<&Id>) -> Option<&Row> {
-        // Read for the invariant.
-        let _ = &self.version;
+        if self.is_indexed {
+            return indexed(
+                self.histories,
+                self.version,
+                self.refs,
+                kind,
+                name,
+                target,
+                after,
+            );
+        }
         next_referring(self, kind, name, target, after)
     }
 }

@@ -6,6 +6,8 @@ mod publications;
 #[cfg(test)]
 mod references;
 #[cfg(test)]
+mod referring;
+#[cfg(test)]
 mod samples;
 #[cfg(test)]
 mod tables;

@@ -21,8 +21,13 @@ use std::test::Fail;
 use version_core::table::Table;
 use version_core::view::VersionView;
 
-// The row of a line, in a `Vec` at once, since a function that drops a lone row is long to prove.
-fn one_row(rt: &impl Abort, alloc: Global, kind: Kind, cells: &[&str]) -> Result<Vec<SetRow>, Fail>
+/// The row of a line, in a `Vec` at once, since a function that drops a lone row is long to prove.
+pub fn one_row(
+    rt: &impl Abort,
+    alloc: Global,
+    kind: Kind,
+    cells: &[&str],
+) -> Result<Vec<SetRow>, Fail>
     ensures kinds { IfOk result (λ v. All (λ (r : SetRows). r.row.kind ≡ kind) v.items) }
     ensures dates { IfOk result (λ v. All IsDatedOrZero v.items) }
     ensures one { IfOk result (λ v. length v.items ≤ 1) }
@@ -34,8 +39,8 @@ fn one_row(rt: &impl Abort, alloc: Global, kind: Kind, cells: &[&str]) -> Result
     Ok(rows)
 }
 
-// The set of a feed with one part, of one row at most.
-fn set_of(
+/// The set of a feed with one part, of one row at most.
+pub fn set_of(
     alloc: Global,
     feed: Name,
     kind: Kind,
@@ -308,8 +313,8 @@ static CASES: [Case; 14] = [
     (1, 3, true, None, "new"),
 ];
 
-// Applies a set, and tells what it made.
-fn publish(
+/// Applies a set, and tells what it made.
+pub fn publish(
     rt: &impl Abort,
     alloc: Global,
     table: &mut Table,
@@ -426,15 +431,15 @@ fn publications(rt: HostRuntime) -> Result<(), Fail> {
     Ok(())
 }
 
-// Draws numbers one after another, by a linear congruence.
+/// Draws numbers one after another, by a linear congruence.
 #[derive(Drop)]
-struct Dice {
-    seed: u64,
+pub struct Dice {
+    pub seed: u64,
 }
 
 impl Dice {
-    // A number below so many.
-    fn draw(&mut self, sides: u8) -> u8
+    /// A number below so many.
+    pub fn draw(&mut self, sides: u8) -> u8
         requires { 0 < sides }
         ensures { result < sides }
     {

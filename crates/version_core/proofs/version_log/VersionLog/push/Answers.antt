@@ -1,21 +1,24 @@
 use Rattle.std.proofs.Common.{◌≡◌, ◌+◌, ◌<◌, ◌≤◌, ℕ, ℤ, List, [], ◌∷◌, ◌++◌, None, length, map, unwrap_or, vec_capacity, vec_len, sym, ap, subst, ◌∙◌, arith, rules}
-use Rattle.std.specs.List.{AllByRecursion}
+use Rattle.std.specs.List.{AllByRecursion, AllWithin}
 use Rattle.version_core.specs.Changes.{change_key}
 use Rattle.version_core.specs.History.{AllHaveRoom, AreUpTo, Past, PutsRows, history_key, pasts_of}
+use Rattle.version_core.specs.RefIndex.{IsIndexed}
 use Rattle.version_core.specs.Since.{standing}
-use Rattle.version_core.specs.VersionLog.{IsLog, kept_of, last_number, versions_at}
+use Rattle.version_core.specs.VersionLog.{IsLog, IsVersionIndexed, kept_of, last_number, version_at, versions_at}
 use Rattle.version_core.specs.Version.{IsVersion, after, empty_version, last_or}
 use Rattle.version_core.specs.declared.change.BaseVersion.{BaseVersion}
 use Rattle.version_core.specs.declared.change.Change.{Change}
 use Rattle.version_core.specs.declared.grant_row.GrantRow.{GrantRow}
 use Rattle.version_core.specs.declared.history.History.{History}
+use Rattle.version_core.specs.declared.ref_index.RefEntry.{RefEntry}
 use Rattle.version_core.specs.declared.row_change.RowChange.{RowChange}
 use Rattle.version_core.specs.declared.since.Since.{Since}
 use Rattle.version_core.specs.declared.version_log.VersionLog.TheInside.{Inside}
 use Rattle.version_core.proofs.AddLemmas.{length_map, versions_grown}
 use Rattle.version_core.proofs.HistoryLemmas.{all_unmap}
+use Rattle.version_core.proofs.IndexedVersions.{overlaid_indexed}
 use Rattle.version_core.proofs.PutLemmas.{all_append}
-use Rattle.version_core.proofs.ViewLemmas.{entries_later, last_version_at, up_to_later}
+use Rattle.version_core.proofs.ViewLemmas.{all_last, entries_later, last_version_at, up_to_later}
 use Rattle.version_core.proofs.version_log.VersionLog.push.Goals as goal
 
 pub put_rows-requires-clause-grown : goal.put_rows-requires-clause-grown
@@ -65,6 +68,11 @@ module _ (table : Inside) (is : IsLog table) (change : Change) (next : change.ve
   pub grown_are : IsVersion (after (last_or empty_version (kept_of table)) change) → AllByRecursion IsVersion (versions_at table.number (table.moment ∷ (table.moments.items ++ change.moment ∷ [])) pasts' grants')
   grown_are version = subst (AllByRecursion IsVersion) (sym grown) (all_append IsVersion (kept_of table) (after (last_or empty_version (kept_of table)) change ∷ []) is.versions (version, tt))
 
+  pub grown_indexed : (runs : List (List RefEntry)) → AllByRecursion (IsVersionIndexed runs) (kept_of table) → AllWithin (λ row. IsIndexed runs row.row) change.rows 0 (length change.rows) → AllByRecursion (IsVersionIndexed runs) (versions_at table.number (table.moment ∷ (table.moments.items ++ change.moment ∷ [])) pasts' grants')
+  grown_indexed runs before said =
+      let last = all_last (IsVersionIndexed runs) (version_at table.number table.moment (pasts_of table.histories.items) table.grants.items) (versions_at (table.number + 1) table.moments.items (pasts_of table.histories.items) table.grants.items) before in
+      subst (AllByRecursion (IsVersionIndexed runs)) (sym grown) (all_append (IsVersionIndexed runs) (kept_of table) (after (last_or empty_version (kept_of table)) change ∷ []) before (overlaid_indexed runs (last_or empty_version (kept_of table)).rows change.rows last said, tt))
+
   pub grown_up_to : AreUpTo change.version pasts'
   grown_up_to = put.up_to (up_to_later (last_number table) change.version (pasts_of table.histories.items) (omega (arith, next)) is.up_to)
 
@@ -86,6 +94,10 @@ invariant_of-self c =
       spare = c.put_rows.ensures.spare;
       fresh = c.put_rows.ensures.fresh;
       room = λ keys none. cc;
+      index = λ on.
+          let said = subst (λ (rows : List RowChange). AllWithin (λ change. IsIndexed log.refs.items change.row) rows 0 (length rows)) c.as_slice.ensures.changes (rw c.deref.ensures.value at c.stay_said-self-inside.ensures.now on) in
+          let before = c.self.invariant.index (c.stay_said-self-inside.ensures.before on) in
+          subst (λ (ms : List ℤ). AllByRecursion (IsVersionIndexed log.refs.items) (versions_at log.number (log.moment ∷ ms) pasts' grants')) (sym items) (grown_indexed log c.self.invariant change next pasts' grants' put c.put_grants.ensures.now c.put_grants.ensures.earlier log.refs.items before said);
     }
 
 pub returns : goal.returns

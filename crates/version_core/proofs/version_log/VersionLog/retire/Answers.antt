@@ -1,7 +1,7 @@
 use Rattle.std.proofs.Common.{◌≡◌, ◌+◌, ◌<◌, ◌≤◌, ℕ, ℤ, List, ◌∷◌, None, length, get_or, vec_len, sym, ap, subst, ◌∙◌, arith, rules}
 use Rattle.std.specs.List.{AllByRecursion, remove}
 use Rattle.version_core.specs.History.{AreUpTo, pasts_of}
-use Rattle.version_core.specs.VersionLog.{kept_of, last_number, versions_at}
+use Rattle.version_core.specs.VersionLog.{IsVersionIndexed, kept_of, last_number, versions_at}
 use Rattle.version_core.specs.Version.{IsVersion}
 use Rattle.version_core.specs.declared.change.BaseVersion.{BaseVersion}
 use Rattle.version_core.specs.declared.grant_row.GrantRow.{GrantRow}
@@ -51,6 +51,10 @@ invariant_of-self c =
       spare = c.self.invariant.spare;
       fresh = c.self.invariant.fresh;
       room = λ keys none. cc;
+      index = λ on.
+          let P = IsVersionIndexed log.refs.items in
+          subst (λ (gs : List (Since (List GrantRow))). AllByRecursion P (versions_at n (first ∷ rest) pasts' gs)) (sym c.trim.ensures.entries)
+          (subst (AllByRecursion P) (sym (versions_trimmed n (first ∷ rest) pasts pasts' log.grants.items c.trim_all.ensures)) (subst (λ (ms : List ℤ). AllByRecursion P (versions_at n ms pasts log.grants.items)) parts (c.self.invariant.index on).1));
     }
 
 pub returns : goal.returns

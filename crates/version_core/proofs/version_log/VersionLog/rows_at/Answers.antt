@@ -1,6 +1,6 @@
 use Rattle.std.proofs.Common.{◌≡◌, ◌+◌, ◌-◌, ◌≤◌, ◌∷◌, ℕ, ℤ, Some, length, slice_get, ap, ◌∙◌, arith}
 use Rattle.version_core.specs.History.{pasts_of}
-use Rattle.version_core.specs.VersionLog.{kept_of, version_at}
+use Rattle.version_core.specs.VersionLog.{IsVersionIndexed, kept_of, version_at}
 use Rattle.version_core.specs.Version.{IsVersion, empty_version, last_or}
 use Rattle.version_core.specs.declared.change.BaseVersion.{BaseVersion}
 use Rattle.version_core.specs.declared.version_log.VersionLog.TheInside.{Inside}
@@ -35,3 +35,9 @@ returns-clause-at c =
     let table = c.self.inside in
     let at = stands table c.args.version (rw (← c.self.view_is) at c.requires.oldest) (rw (← c.self.view_is) at c.requires.newest) c.moment_at-moment.result (rw c.deref.ensures.value at c.moment_at-moment.ensures) in
     rw (← c.self.view_is, c.new.ensures, c.grants_at-grants.ensures, c.deref-2.ensures.value, c.deref-3.ensures.value) at
+
+pub new-requires-clause-index : goal.new-requires-clause-index
+new-requires-clause-index c = λ on.
+    let table = c.self.inside in
+    let at = stands table c.args.version (rw (← c.self.view_is) at c.requires.oldest) (rw (← c.self.view_is) at c.requires.newest) c.moment_at-moment.result (rw c.deref.ensures.value at c.moment_at-moment.ensures) in
+    rw (c.deref-3.ensures.value, c.deref-4.ensures.value) (held_at (IsVersionIndexed table.refs.items) (kept_of table) (c.args.version - table.number) _ (c.self.invariant.index on) at)

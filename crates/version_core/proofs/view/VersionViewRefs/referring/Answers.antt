@@ -8,3 +8,12 @@ next_referring-requires c = rw (← c.self.view_is) (is_sorted-rows_of (rows_at 
 
 pub returns-clause-order : goal.returns-clause-order
 returns-clause-order c = rw (← c.self.view_is) (is_sorted-rows_of (rows_at c.self.inside.version (pasts_of c.self.inside.histories.now)) ∙ c.self.invariant.version.rows)
+
+pub indexed-requires-clause-indexed : goal.indexed-requires-clause-indexed
+indexed-requires-clause-indexed c = c.self.invariant.index c.if-self.true
+
+pub returns-then-self-clause-next : goal.returns-then-self-clause-next
+returns-then-self-clause-next c = rw (← c.self.view_is) c.indexed.ensures
+
+pub returns-then-self-clause-order : goal.returns-then-self-clause-order
+returns-then-self-clause-order c = rw (← c.self.view_is) (is_sorted-rows_of (rows_at c.self.inside.version (pasts_of c.self.inside.histories.now)) ∙ c.self.invariant.version.rows)

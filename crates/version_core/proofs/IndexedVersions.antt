@@ -1,0 +1,73 @@
+-- Versions whose rows are indexed.
+use Rattle.std.proofs.Common.{◌≡◌, suc, Bool, true, false, ◌||◌, cond, List, [], ◌∷◌, ◌++◌, None, Some, length, option_map, refl, sym, ap, subst, ◌∙◌, arith}
+use Rattle.std.proofs.lemmas.List.Folds.{list_any-append}
+use Rattle.std.proofs.lemmas.List.Sorted.{list_any-IsPermutation}
+use Rattle.std.specs.List.{AllByRecursion, AllWithin, list_any}
+use Rattle.std.specs.List.Sorted.{IsPermutation}
+use Rattle.std.specs.Option.{option_or}
+use Rattle.std.specs.Ordering.{is_eq}
+use Rattle.roster_types.specs.Keys.{Key, key_cmp, look_up, row_key}
+use Rattle.roster_types.specs.Records.{Record}
+use Rattle.roster_values.specs.Kinds.{place_of_kind}
+use Rattle.version_core.specs.Changes.{change_key, rows_of}
+use Rattle.version_core.specs.Order.{overlaid}
+use Rattle.version_core.specs.RefIndex.{AreIndexed, IsIndexed, Keeps, says}
+use Rattle.version_core.specs.VersionLog.{IsVersionIndexed}
+use Rattle.version_core.specs.declared.change.BaseVersion.{BaseVersion}
+use Rattle.version_core.specs.declared.ref_index.RefEntry.{RefEntry}
+use Rattle.version_core.specs.declared.row_change.RowChange.{RowChange}
+use Rattle.version_core.proofs.OrderLemmas.{look_up-overlaid}
+use Rattle.version_core.proofs.RoomLemmas.{all_weaken}
+use Rattle.version_core.proofs.RowsOf.{look_up-rows_of}
+
+-- what holds of the rows of changes holds of the one that is looked up
+found_row : (P : Record → Type 0) (k : Key) (changes : List RowChange) (row : Record) → AllWithin (λ change. P change.row) changes 0 (length changes) → look_up row_key k (rows_of changes) ≡ Some row → P row
+found_row P k [] row all at = cc
+found_row P k (x ∷ changes) row all at =
+    elim (is_eq (key_cmp k (change_key x))) as (λ b. cond b (Some x.row) (look_up row_key k (rows_of changes)) ≡ Some row → P row) [
+      | true ↦ λ same. let is : x.row ≡ row = cc in subst P is (all 0 x (omega arith) (omega arith))
+      | false ↦ λ later. found_row P k changes row (λ i d low lt. all (suc i) d (omega arith) (omega arith)) later
+    ] at
+
+-- a row of an overlaid list is one of the changes or of the base
+overlaid_row : (P : Record → Type 0) (k : Key) (base changes : List RowChange) (row : Record) → (look_up row_key k (rows_of base) ≡ Some row → P row) → AllWithin (λ change. P change.row) changes 0 (length changes) → look_up row_key k (rows_of (overlaid change_key base changes)) ≡ Some row → P row
+overlaid_row P k base changes row from_base all at =
+    elim (look_up change_key k changes) as (λ o. look_up change_key k changes ≡ o → option_map (λ (c : RowChange). c.row) (option_or o (look_up change_key k base)) ≡ Some row → P row) [
+      | None ↦ λ _ later. from_base (look_up-rows_of k base ∙ later)
+      | Some change ↦ λ found same. found_row P k changes row all (look_up-rows_of k changes ∙ ap (option_map (λ (c : RowChange). c.row)) found ∙ same)
+    ] refl (sym (look_up-rows_of k (overlaid change_key base changes) ∙ ap (option_map (λ (c : RowChange). c.row)) (look_up-overlaid change_key k base changes)) ∙ at)
+
+module _ (runs : List (List RefEntry)) where
+  pub rows_indexed : (changes : List RowChange) → AllWithin (λ change. IsIndexed runs change.row) changes 0 (length changes) → AreIndexed runs (rows_of changes)
+  rows_indexed changes all = λ row stands. found_row (IsIndexed runs) (row_key row) changes row all stands
+
+  pub none_indexed : AreIndexed runs []
+  none_indexed = rows_indexed [] (λ k d low lt. absurd (omega arith))
+
+  pub overlaid_indexed : (base changes : List RowChange) → AreIndexed runs (rows_of base) → AllWithin (λ change. IsIndexed runs change.row) changes 0 (length changes) → AreIndexed runs (rows_of (overlaid change_key base changes))
+  overlaid_indexed base changes are all = λ row stands. overlaid_row (IsIndexed runs) (row_key row) base changes row (are row) all stands
+
+module _ (old new : List (List RefEntry)) (keeps : Keeps old new) where
+  rows_stay : (rows : List Record) → AreIndexed old rows → AreIndexed new rows
+  rows_stay rows are = λ row stands name target place at named. keeps (says (place_of_kind row.kind, place, target) row.id) (are row stands name target place at named)
+
+  pub versions_stay : (versions : List BaseVersion) → AllByRecursion (IsVersionIndexed old) versions → AllByRecursion (IsVersionIndexed new) versions
+  versions_stay versions all = all_weaken (IsVersionIndexed old) (IsVersionIndexed new) versions (λ v. rows_stay (rows_of v.rows)) all
+
+-- one run more
+pub keeps_push : (runs : List (List RefEntry)) (run : List RefEntry) → Keeps runs (runs ++ run ∷ [])
+keeps_push runs run = λ p any. list_any-append (list_any p) runs (run ∷ []) ∙ ap (λ b. b || list_any (list_any p) (run ∷ [])) any
+
+or_none : (b : Bool) → (b || (false || false)) ≡ b
+or_none true = refl
+or_none false = refl
+
+or_end : (b c : Bool) → (b || (c || false)) ≡ (b || c)
+or_end true c = refl
+or_end false true = refl
+or_end false false = refl
+
+-- one run of the entries of two, in another order
+pub keeps_all : (one other all new : List RefEntry) → all ≡ one ++ other → IsPermutation all new → Keeps (one ∷ other ∷ []) (new ∷ [] ∷ [])
+keeps_all one other all new is moved = λ p any.
+    or_none (list_any p new) ∙ sym (list_any-IsPermutation p all new moved) ∙ ap (list_any p) is ∙ list_any-append p one other ∙ sym (or_end (list_any p one) (list_any p other)) ∙ any

@@ -1,0 +1,155 @@
+//! The runs of an index of references.
+
+ghost use Rattle.std.specs.Prelude.{◌≡◌, ◌+◌, ◌≤◌, true, OnOk, length, vec_len};
+ghost use Rattle.version_core.specs.RefIndex.{Keeps};
+
+use crate::ref_index::{RefEntry, RefRun, in_order, one_says};
+use crate::references::{lent_field, place_of};
+use crate::row_change::RowChange;
+use roster_base::{NoMemory, TryCopy};
+use roster_texts::Id;
+use roster_types::row::Row;
+use roster_values::ValueRef;
+use roster_values::fields::fields;
+use std::alloc::Global;
+
+// Adds an entry, where no run has it.
+fn push_entry(
+    alloc: Global,
+    runs: &[RefRun],
+    entries: &mut Vec<RefEntry>,
+    row: &Row,
+    place: u64,
+    target: &Id,
+) -> Result<(), NoMemory> {
+    if one_says(runs, row.kind(), place, target, row.id()) {
+        return Ok(());
+    }
+    entries.push(RefEntry {
+        kind: row.kind(),
+        place,
+        target: target.copy(alloc)?,
+        id: row.id().copy(alloc)?,
+    })?;
+    Ok(())
+}
+
+// Adds the entries of a row's field.
+fn push_field(
+    alloc: Global,
+    runs: &[RefRun],
+    entries: &mut Vec<RefEntry>,
+    row: &Row,
+    name: &str,
+) -> Result<(), NoMemory> {
+    let Some(place) = place_of(row.kind(), name) else {
+        return Ok(());
+    };
+    match lent_field(row, name) {
+        Some(ValueRef::Ref(target)) => {
+            push_entry(alloc, runs, entries, row, place as u64, target)
+        }
+        Some(ValueRef::Refs(targets)) => push_targets(
+            alloc,
+            runs,
+            entries,
+            row,
+            place as u64,
+            targets.as_slice(),
+        ),
+        _ => Ok(()),
+    }
+}
+
+fn push_targets(
+    alloc: Global,
+    runs: &[RefRun],
+    entries: &mut Vec<RefEntry>,
+    row: &Row,
+    place: u64,
+    targets: &[Id],
+) -> Result<(), NoMemory> {
+    for target in targets {
+        push_entry(alloc, runs, entries, row, place, target)?;
+    }
+    Ok(())
+}
+
+// Adds the entries of a row.
+fn push_row(
+    alloc: Global,
+    runs: &[RefRun],
+    entries: &mut Vec<RefEntry>,
+    row: &Row,
+) -> Result<(), NoMemory> {
+    for info in fields(row.kind()) {
+        push_field(alloc, runs, entries, row, info.name)?;
+    }
+    Ok(())
+}
+
+// What these rows name and no run has yet, in a run of its own.
+fn run_of(alloc: Global, runs: &[RefRun], changes: &[RowChange]) -> Result<RefRun, NoMemory> {
+    let mut entries = Vec::new(alloc);
+    for change in changes {
+        push_row(alloc, runs, &mut entries, &change.row)?;
+    }
+    Ok(in_order(entries))
+}
+
+/// What these rows name, in one run.
+pub fn runs_of(alloc: Global, changes: &[RowChange]) -> Result<Vec<RefRun>, NoMemory> {
+    let mut runs = Vec::new(alloc);
+    let run = run_of(alloc, &runs, changes)?;
+    runs.push(run)?;
+    Ok(runs)
+}
+
+// Puts the last two runs into one. Where memory is wanting they stay.
+fn join_last(runs: &mut Vec<RefRun>) -> Result<(), NoMemory>
+    requires { 2 ≤ vec_len runs.old }
+    ensures keeps { Keeps runs.old.items runs.new.items }
+    ensures len { OnOk result (vec_len runs.new + 1 ≡ vec_len runs.old) }
+{
+    let mut last = runs.take_last();
+    let mut joined = runs.take_last();
+    let taken = joined.take(&mut last);
+    runs.push_reserved(joined);
+    if taken.is_err() {
+        runs.push_reserved(last);
+    }
+    taken
+}
+
+// Whether the last run has at least half as many entries as the one before.
+fn is_long(runs: &[RefRun]) -> bool
+    ensures { result ≡ true → 2 ≤ length runs.now }
+{
+    if runs.len() < 2 {
+        return false;
+    }
+    let last = runs.len() - 1;
+    runs[last - 1].entries().len() / 2 <= runs[last].entries().len()
+}
+
+// Puts runs into one while the last is long, so that their number is at most logarithmic in that of the entries.
+fn join_long(runs: &mut Vec<RefRun>) -> Result<(), NoMemory>
+    ensures { Keeps runs.old.items runs.new.items }
+{
+    while is_long(runs) {
+        join_last(runs)?;
+    }
+    Ok(())
+}
+
+/// Adds what these rows name. Where memory is wanting, what runs say stays.
+pub fn add_run(alloc: Global, runs: &mut Vec<RefRun>, changes: &[RowChange]) -> Result<(), NoMemory>
+    ensures { Keeps runs.old.items runs.new.items }
+{
+    let run = run_of(alloc, runs, changes)?;
+    if run.entries().is_empty() {
+        return Ok(());
+    }
+    runs.push(run)?;
+    join_long(runs)
+}

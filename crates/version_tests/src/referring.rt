@@ -1,0 +1,209 @@
+//! What refers to what at each version that is kept, beside a plain scan of its rows.
+
+use crate::publications::{Dice, one_row, publish, set_of};
+use crate::samples::name_of;
+use roster_texts::Id;
+use roster_types::row::Row;
+use roster_types::rows::Rows;
+use roster_values::fields::fields;
+use roster_values::{Kind, Mode, Value};
+use std::alloc::Global;
+use std::process::Abort;
+use std::test::Fail;
+use version_core::references::Refs;
+use version_core::table::Table;
+use version_core::view::VersionView;
+
+// The ids of rows, of each kind.
+static IDS: [&str; 4] = ["a", "b", "c", "d"];
+
+// The orgs that a user has.
+static ORGS: [&str; 6] = ["a", "b", "a,b", "b,c", "d", "c,d"];
+
+// The agents that a user has.
+static AGENTS: [&str; 4] = ["", "a", "b,c", "d"];
+
+// Publishes a row, where the version stays sound by it.
+fn publish_row(
+    rt: &impl Abort,
+    alloc: Global,
+    table: &mut Table,
+    kind: Kind,
+    cells: &[&str],
+) -> Result<(), Fail> {
+    let feed = name_of(rt, alloc, "sis")?;
+    let rows = one_row(rt, alloc, kind, cells)?;
+    let set = set_of(alloc, feed, kind, Mode::Delta, rows)?;
+    let _made = publish(rt, alloc, table, &set, 1)?;
+    drop(set);
+    Ok(())
+}
+
+// Publishes an org, whose parent is of a lesser id, so that there are no cycles.
+fn publish_org(
+    rt: &impl Abort,
+    alloc: Global,
+    table: &mut Table,
+    dice: &mut Dice,
+) -> Result<(), Fail> {
+    let id = dice.draw(4);
+    let parent = dice.draw(id + 1);
+    let parent = if parent == id {
+        ""
+    } else {
+        IDS[parent as usize]
+    };
+    let cells: &[&str] = &[IDS[id as usize], "", "", "West", "district", "", parent];
+    publish_row(rt, alloc, table, Kind::Orgs, cells)
+}
+
+fn publish_user(
+    rt: &impl Abort,
+    alloc: Global,
+    table: &mut Table,
+    dice: &mut Dice,
+) -> Result<(), Fail> {
+    let id = IDS[dice.draw(4) as usize];
+    let orgs = ORGS[dice.draw(6) as usize];
+    let agents = AGENTS[dice.draw(4) as usize];
+    let cells: &[&str] = &[
+        id, "", "", "true", orgs, "student", id, "", "Ann", "Oak", "", "", "", "", "", agents, "",
+    ];
+    publish_row(rt, alloc, table, Kind::Users, cells)
+}
+
+// Whether the field of that name names the target.
+fn is_named(alloc: Global, row: &Row, name: &str, target: &Id) -> Result<bool, Fail> {
+    let value = row.field(alloc, name)?;
+    let named = match &value {
+        Some(Value::Ref(id)) => id.as_str() == target.as_str(),
+        Some(Value::Refs(ids)) => ids
+            .as_slice()
+            .iter()
+            .any(|id| id.as_str() == target.as_str()),
+        _ => false,
+    };
+    drop(value);
+    Ok(named)
+}
+
+// The ids of the rows that name the target, as they are found.
+fn told_found(
+    alloc: Global,
+    version: &VersionView,
+    kind: Kind,
+    name: &str,
+    target: &Id,
+) -> Result<String, Fail> {
+    let mut told = String::new(alloc);
+    let mut after = None;
+    for _ in 0..version.count(kind) {
+        if let Some(row) = version.referring(kind, name, target, after) {
+            told.push_str(row.id().as_str())?;
+            told.push(' ')?;
+            after = Some(row.id());
+        }
+    }
+    Ok(told)
+}
+
+// The same by a look at each row.
+fn told_scanned(
+    alloc: Global,
+    version: &VersionView,
+    kind: Kind,
+    name: &str,
+    target: &Id,
+) -> Result<String, Fail> {
+    let mut told = String::new(alloc);
+    let mut after = None;
+    for _ in 0..version.count(kind) {
+        if let Some(row) = version.next(kind, after) {
+            if is_named(alloc, row, name, target)? {
+                told.push_str(row.id().as_str())?;
+                told.push(' ')?;
+            }
+            after = Some(row.id());
+        }
+    }
+    Ok(told)
+}
+
+fn compare_field(
+    rt: &impl Abort,
+    alloc: Global,
+    version: &VersionView,
+    kind: Kind,
+    name: &str,
+    target: &Id,
+) -> Result<(), Fail> {
+    let found = told_found(alloc, version, kind, name, target)?;
+    let scanned = told_scanned(alloc, version, kind, name, target)?;
+    assert_eq!(rt; found.as_str(), scanned.as_str());
+    Ok(())
+}
+
+fn compare_kind(
+    rt: &impl Abort,
+    alloc: Global,
+    version: &VersionView,
+    kind: Kind,
+    target: &Id,
+) -> Result<(), Fail> {
+    for info in fields(kind) {
+        compare_field(rt, alloc, version, kind, info.name, target)?;
+    }
+    Ok(())
+}
+
+// Compares what names the target, in every field of every kind.
+fn compare_target(
+    rt: &impl Abort,
+    alloc: Global,
+    version: &VersionView,
+    target: &str,
+) -> Result<(), Fail> {
+    let Some(target) = Id::read(alloc, target)? else {
+        panic!(rt; "no id");
+    };
+    for kind in &Kind::ALL {
+        compare_kind(rt, alloc, version, *kind, &target)?;
+    }
+    Ok(())
+}
+
+fn compare_version(rt: &impl Abort, alloc: Global, version: &VersionView) -> Result<(), Fail> {
+    for target in &IDS {
+        compare_target(rt, alloc, version, target)?;
+    }
+    Ok(())
+}
+
+// Compares every version that is kept.
+fn compare_kept(rt: &impl Abort, alloc: Global, table: &Table) -> Result<(), Fail> {
+    for number in table.oldest()..table.newest() {
+        compare_version(rt, alloc, &table.rows_at(number))?;
+    }
+    compare_version(rt, alloc, &table.newest_rows())
+}
+
+// Publishes at random in a table that keeps so many versions beside the newest.
+fn publish_at_random(rt: &impl Abort, alloc: Global, keep: u64) -> Result<(), Fail> {
+    let mut table = Table::new(alloc, keep);
+    let mut dice = Dice { seed: keep };
+    for _ in 0..30 {
+        publish_org(rt, alloc, &mut table, &mut dice)?;
+        publish_user(rt, alloc, &mut table, &mut dice)?;
+        compare_kept(rt, alloc, &table)?;
+    }
+    Ok(())
+}
+
+#[test]
+fn references_of_kept_versions(rt: HostRuntime) -> Result<(), Fail> {
+    let alloc = rt.alloc();
+    for keep in &[1, 2, 5] {
+        publish_at_random(&rt, alloc, *keep)?;
+    }
+    Ok(())
+}
