@@ -1,3 +1,4 @@
+pub mod Found
 pub mod Moving
 pub mod Names
 pub mod Steps

@@ -10,6 +10,7 @@ ghost use Rattle.hub_items.specs.Pieces.{change_body, number};
 ghost use Rattle.hub_codec.specs.Moves.{all_moved, grants_moved, moved_to};
 
 use crate::edits::{clear_version, number_bytes, put_state};
+use crate::reading::behind;
 use crate::writing::{change_body, put_rows};
 use item_maps::{Edit, Item};
 use roster_base::{Bytes, NoMemory};
@@ -17,21 +18,11 @@ use std::alloc::Global;
 use version_core::change::Change;
 use version_core::row_change::RowChange;
 
-// What stands behind a version's number.
-fn behind(label: &[u8]) -> &[u8]
-    ensures { result.now ≡ drop 8 label.now }
-{
-    if label.len() < 8 {
-        return &[];
-    }
-    &label[8..]
-}
-
 fn put_moved(alloc: Global, area: u32, prefix: &[u8], item: &Item) -> Result<Edit, NoMemory>
     ensures { IfOk result (λ edit. edit ≡ put_at area (moved_to prefix.now (entry_of item.now))) }
 {
     let mut label = Vec::from_slice(alloc, prefix)?;
-    label.extend_from_slice(behind(item.label.as_slice()))?;
+    label.extend_from_slice(behind(item.label.as_slice(), 8))?;
     let body = Vec::from_slice(alloc, item.body.as_slice())?;
     Ok(Edit::Put {
         area,
