@@ -37,7 +37,7 @@ number_back m n x y fits_m fits_n same =
     let parts = same_ends (number m) (number n) x y refl same in
     (same_number m n fits_m fits_n parts.0, parts.1)
 
-cast_fits : (z : ℤ) → FitsSigned w64 z → cast_unsigned w64 z < 2 ^ 64
+pub cast_fits : (z : ℤ) → FitsSigned w64 z → cast_unsigned w64 z < 2 ^ 64
 cast_fits (pos n) fits = let small = fits.sfits in omega arith
 cast_fits (negsuc n) fits = let small = fits.sfits in omega arith
 

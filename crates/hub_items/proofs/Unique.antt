@@ -82,7 +82,7 @@ same_flag true false same = absurd cc
 same_flag false true same = absurd cc
 same_flag false false same = refl
 
-same_mark_row : (x y : MarkRow) → FitsMark x → FitsMark y → mark_entry x ≡ mark_entry y → x ≡ y
+pub same_mark_row : (x y : MarkRow) → FitsMark x → FitsMark y → mark_entry x ≡ mark_entry y → x ≡ y
 same_mark_row x y fits_x fits_y same =
     let labels : mark_label (mark_key x) ≡ mark_label (mark_key y) = ap (λ (e : Entry). e.0) same in
     let parts = same_parts x.caller y.caller (0 ∷ number x.number) (0 ∷ number y.number) refl labels in
