@@ -5,6 +5,9 @@ use Rattle.std.specs.List.{AllByRecursion}
 use Rattle.std.specs.Option.{ForSome}
 use Rattle.item_maps.specs.Items.{Items, bytes_cmp, is_between, listed}
 use Rattle.roster_base.specs.Order.{RiseBy}
+use Rattle.roster_values.specs.Kinds.{place_of_kind}
+use Rattle.roster_values.specs.declared.kind.Kind.{Kind}
+use Rattle.roster_values.specs.declared.kind.Kind.TheVariants.{Orgs, AcademicSessions, Courses, Classes, Users, Enrollments, Demographics, Categories, LineItems, Results}
 use Rattle.version_core.specs.Changes.{AreChanges}
 use Rattle.version_core.specs.Grants.{caller_of}
 use Rattle.version_core.specs.Table.{LeadOn}
@@ -13,10 +16,11 @@ use Rattle.version_core.specs.Version.{IsVersion, after, last_version, versions_
 use Rattle.version_core.specs.declared.change.BaseVersion.{BaseVersion}
 use Rattle.version_core.specs.declared.change.Change.{Change}
 use Rattle.version_core.specs.declared.grant_row.GrantRow.{GrantRow}
+use Rattle.version_core.specs.declared.row_change.RowChange.{RowChange}
 use Rattle.version_core.specs.declared.hub_tables.HubTables.{HubTables}
 use Rattle.version_core.proofs.TableLemmas.{base_meets}
 use Rattle.version_core.proofs.VersionLemmas.{AllByRecursion-push}
-use Rattle.hub_items.specs.Format.{Entry, Fit, FitsChange, FitsGrant, grants_under, items_of, of_changes, own_grants, own_rows, own_version, some_grants}
+use Rattle.hub_items.specs.Format.{Entry, Fit, FitsChange, FitsGrant, format_entry, grants_under, items_of, of_changes, own_grants, own_rows, own_version, rows_under, some_grants, state_entry}
 use Rattle.hub_items.specs.Pieces.{HasNoZero, number}
 use Rattle.hub_items.proofs.Encodes.{rise_of}
 use Rattle.hub_items.proofs.Endings.{grants_rise}
@@ -180,3 +184,32 @@ module _ (t : HubTables) (are : AreTables t) (fit : Fit t) where
       let le = small_newest t.base.number t.changes base_small small in
       listed_where (is_between (number (newest + 1)) (number (newest + 1 + 1))) (of_changes own_version t.changes) []
       (none_there own_version (λ change. (([], refl), tt)) (newest + 1) (omega (arith, le)) t.changes (earlier_others (newest + 1) newest t.changes (omega arith) le (all_up_to t.base.number t.changes are.lead).1)) refl
+
+-- the format and the state stand alone in their areas
+pub format_told : (t : HubTables) → listed 0 [] (0 ∷ []) (items_of t) ≡ format_entry ∷ []
+format_told t = listed_where (is_between [] (0 ∷ [])) (format_entry ∷ []) (format_entry ∷ []) refl refl
+
+pub state_told : (t : HubTables) → listed 1 [] (0 ∷ []) (items_of t) ≡ state_entry t.keep t.base ∷ []
+state_told t = listed_where (is_between [] (0 ∷ [])) (state_entry t.keep t.base ∷ []) (state_entry t.keep t.base ∷ []) refl refl
+
+-- the rows of the base lie below 255, where no kind has its place
+row_below : (kind : Kind) (id : List ℕ) → is_between [] (255 ∷ []) (place_of_kind kind ∷ id) ≡ true
+row_below Orgs id = refl
+row_below AcademicSessions id = refl
+row_below Courses id = refl
+row_below Classes id = refl
+row_below Users id = refl
+row_below Enrollments id = refl
+row_below Demographics id = refl
+row_below Categories id = refl
+row_below LineItems id = refl
+row_below Results id = refl
+
+rows_below : (rows : List RowChange) → AllByRecursion (λ e. is_between [] (255 ∷ []) e.0 ≡ true) (rows_under [] rows)
+rows_below [] = tt
+rows_below (row ∷ rows) = (row_below row.row.kind row.row.id, rows_below rows)
+
+pub base_rows_told : (t : HubTables) → AreTables t → listed 2 [] (255 ∷ []) (items_of t) ≡ rows_under [] t.base.rows
+base_rows_told t are =
+    listed_where (is_between [] (255 ∷ [])) (rows_under [] t.base.rows) (rows_under [] t.base.rows) (where_all (is_between [] (255 ∷ [])) (rows_under [] t.base.rows) (rows_below t.base.rows))
+    (rows_rise [] t.base.rows (base_meets IsVersion t.base t.changes are.versions).rows)
