@@ -24,7 +24,8 @@ use Rattle.sqlite_rules.specs.Lists.{Has}
 use Rattle.sqlite_catalog.specs.Listing.{IsSound}
 use Rattle.sqlite_catalog.specs.Listing.{IsTableRow, IsIndexRow, IsViewRow, IsDefined, automatic}
 use Rattle.sqlite_resolve.specs.declared.error.CompileError.{CompileError}
-use Rattle.item_sql.specs.Items.{Items, Holds}
+use Rattle.item_maps.specs.Items.{Items}
+use Rattle.item_sql.specs.Items.{Holds}
 use Rattle.item_sql.specs.Stands.{IsTold}
 use Rattle.item_sql.specs.Table.{no_schema, item_schema, item_table}
 

@@ -6,9 +6,9 @@ ghost use Rattle.sqlite.specs.Files.{file_state, Finds, IsOpened};
 ghost use Rattle.sqlite.specs.Held.{state};
 ghost use Rattle.sqlite.specs.State.{HasCleanDisk};
 ghost use Rattle.sqlite.specs.Steps.{over_memory};
-ghost use Rattle.item_sql.specs.Items.{Items, no_items, listed};
+ghost use Rattle.item_maps.specs.Items.{Items, no_items, listed};
 ghost use Rattle.item_sql.specs.Stands.{StandsFor};
-ghost use Rattle.item_store.specs.Edits.{after, entry_of};
+ghost use Rattle.item_maps.specs.Edits.{after, entry_of};
 
 use item_store::{Edit, Item, ItemStore};
 use roster_base::KeeperError;

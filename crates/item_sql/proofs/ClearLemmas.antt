@@ -18,9 +18,10 @@ use Rattle.sqlite_rules.proofs.TableLemmas.{without_all_has}
 use Rattle.sqlite_rules.proofs.PlaceLemmas.{left_or_taken, row_at_is}
 use Rattle.sqlite_trees.proofs.ListLemmas.{map-map}
 use Rattle.sqlite_value.proofs.OrderLemmas.{value_cmp_total}
-use Rattle.item_sql.specs.Items.{params_of, Items, Holds, row_of, is_between, cleared}
+use Rattle.item_maps.specs.Items.{Items, is_between, cleared}
+use Rattle.item_sql.specs.Items.{params_of, Holds, row_of}
 use Rattle.item_sql.proofs.Texts.{delete_query}
-use Rattle.item_sql.proofs.Orders.{same_bytes}
+use Rattle.item_maps.proofs.ItemLemmas.{same_bytes}
 use Rattle.item_sql.proofs.Range.{is_hit, hits, has_mapped, mapped_has, filtered_table, RowHit, row_hit, hit_from, same_number, own_number, passed}
 
 -- the rowids are those of the rows that pass

@@ -19,7 +19,8 @@ use Rattle.sqlite_schema.specs.declared.command.Command.{Command}
 use Rattle.sqlite_schema.specs.declared.command.Returning.{Returning}
 use Rattle.sqlite_schema.specs.declared.command.Conflict.TheVariants.{Abort}
 use Rattle.item_sql.specs.Table.{no_schema, item_schema, make_text, begin_text, commit_text, rollback_text, delete_text, upsert_text, select_text}
-use Rattle.item_sql.specs.Items.{Items, Holds, no_items, params_of, put_params}
+use Rattle.item_maps.specs.Items.{Items, no_items}
+use Rattle.item_sql.specs.Items.{Holds, params_of, put_params}
 use Rattle.item_sql.specs.Left.{IsLeft, Leaves, WasOpen}
 use Rattle.item_sql.specs.Stands.{IsTold, StandsFor, IsReady, IsWithin, GoesBackTo, Earlier}
 use Rattle.item_sql.proofs.Texts.{begin_is, begin_plain, commit_is, commit_plain, delete_is, delete_query, make_first, make_first_plain, make_again, put_terms, rollback_is, select_plain, upsert, upsert_is}

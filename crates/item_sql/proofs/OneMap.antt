@@ -6,10 +6,12 @@ use Rattle.sqlite.specs.Schema.{Schema}
 use Rattle.sqlite.specs.Order.{Row}
 use Rattle.sqlite.specs.Effect.{Database}
 use Rattle.sqlite.specs.State.{State, HasCleanDisk}
-use Rattle.item_sql.specs.Items.{Items, Holds, row_of}
+use Rattle.item_maps.specs.Items.{Items}
+use Rattle.item_sql.specs.Items.{Holds, row_of}
 use Rattle.item_sql.specs.Stands.{IsTold, StandsFor}
 use Rattle.item_sql.specs.Table.{item_schema, no_schema}
-use Rattle.item_sql.proofs.Orders.{same_bytes, same_option}
+use Rattle.item_maps.proofs.ItemLemmas.{same_bytes}
+use Rattle.item_sql.proofs.Orders.{same_option}
 
 -- what one map has, another of the same rows has
 has_too : (rows : List Row) (m n : Items) → Holds rows m → Holds rows n → (area : ℕ) (label body : List ℕ) → get (m area) label ≡ Some body → get (n area) label ≡ Some body

@@ -24,9 +24,10 @@ use Rattle.sqlite_rules.specs.Lists.{Has}
 use Rattle.sqlite_value.specs.Keys.{first_key}
 use Rattle.sqlite_value.proofs.OrderLemmas.{value_cmp-Int, value_cmp-Blob}
 use Rattle.item_sql.specs.Table.{item_schema, item_table}
-use Rattle.item_sql.specs.Items.{Items, Holds, IsItem, row_of, bytes_cmp, put}
+use Rattle.item_maps.specs.Items.{Items, bytes_cmp, put}
+use Rattle.item_sql.specs.Items.{Holds, IsItem, row_of}
 use Rattle.item_sql.proofs.Tests.{truth_is, same_area}
-use Rattle.item_sql.proofs.Orders.{same_bytes, equal_is}
+use Rattle.item_maps.proofs.ItemLemmas.{same_bytes, equal_is}
 use Rattle.item_sql.proofs.Range.{same_number, own_number, has_mapped}
 
 -- the row is no item of that area with that label

@@ -26,10 +26,12 @@ use Rattle.sqlite_rules.proofs.ListLemmas.{all_has, all_from, has_contained, con
 use Rattle.sqlite_trees.proofs.ListLemmas.{map-map}
 use Rattle.sqlite_value.proofs.OrderLemmas.{value_cmp-Blob, value_cmp_total}
 use Rattle.item_sql.specs.Table.{item_schema, select_text}
-use Rattle.item_sql.specs.Items.{params_of, Items, Holds, row_of, bytes_cmp, is_between, listed, shown}
+use Rattle.item_maps.specs.Items.{Items, bytes_cmp, is_between, listed}
+use Rattle.item_sql.specs.Items.{params_of, Holds, row_of, shown}
 use Rattle.item_sql.proofs.Texts.{in_range_terms, select_query, select_is, select_plain, select_unlisted}
 use Rattle.item_sql.proofs.Tests.{passes}
-use Rattle.item_sql.proofs.Orders.{same_bytes, equal_is, rises, entries_are, between_get, Late}
+use Rattle.item_maps.proofs.ItemLemmas.{same_bytes, equal_is}
+use Rattle.item_sql.proofs.Orders.{rises, entries_are, between_get, Late}
 
 abbrev pub is_hit : Row → Row → Bool
 is_hit params row = list_all (holds (params ∷ row ∷ [])) in_range_terms

@@ -24,7 +24,8 @@ use Rattle.sqlite.specs.Does.{lacks_sequence}
 use Rattle.sqlite.specs.State.{IsUnchanged}
 use Rattle.std.specs.FinMap.{get-empty}
 use Rattle.item_sql.specs.Table.{no_schema, item_schema, item_table, upsert_text, delete_text, make_text}
-use Rattle.item_sql.specs.Items.{params_of, put_params, Items, Holds, row_of, put, cleared, no_items, bytes_cmp}
+use Rattle.item_maps.specs.Items.{Items, put, cleared, no_items, bytes_cmp}
+use Rattle.item_sql.specs.Items.{params_of, put_params, Holds, row_of}
 use Rattle.item_sql.proofs.Texts.{upsert, put_terms, upsert_is, upsert_plain, delete_query, delete_is, delete_plain, make_first, make_first_plain, make_again, make_again_plain}
 use Rattle.item_sql.proofs.ClearLemmas.{hits_of, clears}
 use Rattle.item_sql.proofs.PutLemmas.{new_row, source_row}

@@ -5,7 +5,7 @@ use Rattle.sqlite.specs.Effect.{IsDatabase}
 use Rattle.sqlite.specs.Schema.{Schema}
 use Rattle.sqlite.specs.State.{State, HasCleanDisk}
 use Rattle.sqlite.specs.Tree.{Trees}
-use Rattle.item_sql.specs.Items.{Items}
+use Rattle.item_maps.specs.Items.{Items}
 use Rattle.item_sql.specs.Stands.{IsTold}
 
 -- these trees, as an open finds them, are a database of the items

@@ -5,7 +5,7 @@ ghost use Rattle.sqlite.specs.Held.{state};
 ghost use Rattle.sqlite.specs.State.{HasCleanDisk};
 ghost use Rattle.sqlite.specs.Tree.{Trees};
 ghost use Rattle.item_sql.specs.Asked.{Asks};
-ghost use Rattle.item_sql.specs.Items.{Items};
+ghost use Rattle.item_maps.specs.Items.{Items};
 ghost use Rattle.item_sql.specs.Left.{IsLeft, Leaves, WasOpen};
 ghost use Rattle.item_sql.specs.Stands.{StandsFor, IsReady, IsWithin, GoesBackTo, Earlier};
 

@@ -9,11 +9,13 @@ use Rattle.std.proofs.Common.{Result, Ok, Err, OnOk, OnErr, ◌≡◌, ◌≢◌
 use Rattle.sqlite.specs.Order.{Row}
 use Rattle.std.proofs.lemmas.List.{drop_all, length-map, map-append, take_more}
 use Rattle.item_sql.proofs.Range.{got_mapped}
-use Rattle.item_sql.specs.Items.{Items, shown}
-use Rattle.item_store.specs.declared.item.Item.{Item}
-use Rattle.item_store.specs.Edits.{entry_of, no_memory, IsFailed, IsCaused}
-use Rattle.item_store.specs.declared.item.Edit.{Edit}
-use Rattle.item_store.specs.Edits.{after, after_edit}
+use Rattle.item_maps.specs.Items.{Items}
+use Rattle.item_sql.specs.Items.{shown}
+use Rattle.item_maps.specs.declared.item.Item.{Item}
+use Rattle.item_maps.specs.Edits.{entry_of}
+use Rattle.item_store.specs.Causes.{no_memory, IsFailed, IsCaused}
+use Rattle.item_maps.specs.declared.item.Edit.{Edit}
+use Rattle.item_maps.specs.Edits.{after, after_edit}
 
 pub step_after : (es : List Edit) (i : ℕ) (e : Edit) (n : Items) → i < length es → e ≡ get_or es i e → after (drop (i + 1) es) (after_edit e n) ≡ after (drop i es) n
 step_after es i e n h is =

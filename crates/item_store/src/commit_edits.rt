@@ -5,12 +5,13 @@ ghost use Rattle.sqlite.specs.Held.{state};
 ghost use Rattle.sqlite.specs.State.{HasCleanDisk};
 ghost use Rattle.sqlite.specs.Tree.{Trees};
 ghost use Rattle.item_sql.specs.Asked.{AsksInTurn, IsRefused};
-ghost use Rattle.item_sql.specs.Items.{Items};
+ghost use Rattle.item_maps.specs.Items.{Items};
 ghost use Rattle.item_sql.specs.Left.{IsLeft, Leaves, WasOpen};
 ghost use Rattle.item_sql.specs.Stands.{StandsFor, IsWithin, GoesBackTo, Earlier};
-ghost use Rattle.item_store.specs.Edits.{after, after_edit, no_memory};
+ghost use Rattle.item_maps.specs.Edits.{after, after_edit};
+ghost use Rattle.item_store.specs.Causes.{no_memory};
 
-use crate::item::Edit;
+use item_maps::Edit;
 use sqlite::{Alter, Connection, Error, ErrorCode};
 
 // Makes an edit inside a transaction.

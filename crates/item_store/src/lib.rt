@@ -2,9 +2,8 @@
 #![tactic(auto)]
 
 mod commit_edits;
-mod item;
 mod read_items;
 mod store;
 
-pub use item::{Edit, Item};
+pub use item_maps::{Edit, Item};
 pub use store::ItemStore;

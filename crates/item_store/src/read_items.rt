@@ -5,12 +5,14 @@ ghost use Rattle.sqlite.specs.Held.{state};
 ghost use Rattle.sqlite.specs.State.{HasCleanDisk};
 ghost use Rattle.sqlite.specs.Tree.{Trees};
 ghost use Rattle.item_sql.specs.Asked.{IsRefused};
-ghost use Rattle.item_sql.specs.Items.{Items, listed, shown};
+ghost use Rattle.item_maps.specs.Items.{Items, listed};
+ghost use Rattle.item_sql.specs.Items.{shown};
 ghost use Rattle.item_sql.specs.Left.{IsLeft, WasOpen};
 ghost use Rattle.item_sql.specs.Stands.{StandsFor, Earlier};
-ghost use Rattle.item_store.specs.Edits.{entry_of, no_memory};
+ghost use Rattle.item_maps.specs.Edits.{entry_of};
+ghost use Rattle.item_store.specs.Causes.{no_memory};
 
-use crate::item::Item;
+use item_maps::Item;
 use roster_base::Bytes;
 use sqlite::{Alter, Connection, Error, ErrorCode, Row};
 use std::alloc::Global;

@@ -4,14 +4,16 @@ ghost use Rattle.std.specs.Prelude.{◌≡◌, ◌≤◌, ◌∷◌, [], IsTrue,
 ghost use Rattle.sqlite.specs.Held.{state};
 ghost use Rattle.sqlite.specs.State.{HasCleanDisk};
 ghost use Rattle.roster_base.specs.Faults.{CountsError, CountsFailure};
-ghost use Rattle.item_sql.specs.Items.{Items, listed};
+ghost use Rattle.roster_base.specs.declared.keeper.KeeperError.TheVariants as keeper;
+ghost use Rattle.item_maps.specs.Items.{Items, listed};
 ghost use Rattle.item_sql.specs.Left.{MayHold, WasOpen};
 ghost use Rattle.item_sql.specs.Stands.{StandsFor, Earlier};
-ghost use Rattle.item_store.specs.Edits.{after, entry_of, IsFailed, IsCaused};
+ghost use Rattle.item_maps.specs.Edits.{after, entry_of};
+ghost use Rattle.item_store.specs.Causes.{IsFailed, IsCaused};
 
 use crate::commit_edits::commit_edits;
-use crate::item::{Edit, Item};
 use crate::read_items::read_items;
+use item_maps::{Edit, Item};
 use roster_base::KeeperError;
 use sqlite::{Alter, Connection, Error, ErrorCode};
 use std::alloc::Global;
@@ -66,6 +68,15 @@ impl<S: Alter> ItemStore<S> {
         if error == Error::SqliteFailure(ErrorCode::OutOfMemory) {
             return KeeperError::NoMemory;
         }
+        self.refuse_items()
+    }
+
+    /// Counts a failure that the caller met in the items: they are none that it stores. The items stay as they are.
+    pub fn refuse_items(&mut self) -> KeeperError
+        ensures same { self.new.connection ≡ self.old.connection }
+        ensures counted { CountsError self.old.faults self.new.faults result }
+        ensures failed { result ≡ keeper.Failed }
+    {
         self.faults = self.faults.saturating_add(1);
         KeeperError::Failed
     }

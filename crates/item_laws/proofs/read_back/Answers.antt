@@ -1,6 +1,6 @@
 use Rattle.sqlite.proofs.Callers.{memory_is_clean}
-use Rattle.item_sql.specs.Items.{no_items}
-use Rattle.item_store.specs.Edits.{after}
+use Rattle.item_maps.specs.Items.{no_items}
+use Rattle.item_maps.specs.Edits.{after}
 use Rattle.item_laws.proofs.read_back.Goals as goal
 
 pub returns : goal.returns

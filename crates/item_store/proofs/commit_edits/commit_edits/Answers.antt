@@ -3,7 +3,7 @@ use Rattle.sqlite.specs.Held.{state}
 use Rattle.item_sql.specs.Stands.{StandsFor, GoesBackTo}
 use Rattle.item_sql.proofs.Asking.{one, joined, late, at_once, in_turn, rolled}
 use Rattle.item_sql.proofs.States.{on_err}
-use Rattle.item_store.specs.Edits.{after}
+use Rattle.item_maps.specs.Edits.{after}
 use Rattle.item_store.proofs.EditLemmas.{ok_then, err_then, stands_back}
 use Rattle.std.proofs.Common.{inl, inr}
 use Rattle.item_store.proofs.LeftLemmas.{ended_or_live, goes_back}

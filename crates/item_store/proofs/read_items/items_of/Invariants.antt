@@ -1,6 +1,6 @@
 use Rattle.std.proofs.Common.{◌≡◌, ℕ, List, map, take}
 use Rattle.item_sql.specs.Items.{shown}
-use Rattle.item_store.specs.Edits.{entry_of}
+use Rattle.item_maps.specs.Edits.{entry_of}
 use Rattle.item_store.proofs.read_items.items_of.Given as goal
 
 abbrev pub invariant-loop-row : goal.invariant-loop-row

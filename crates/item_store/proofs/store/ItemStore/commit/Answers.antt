@@ -4,7 +4,7 @@ use Rattle.item_sql.specs.Stands.{StandsFor}
 use Rattle.std.proofs.Common.{[], ◌∷◌}
 use Rattle.item_sql.specs.Left.{MayHold, WasOpen}
 use Rattle.sqlite.specs.State.{HasCleanDisk}
-use Rattle.item_store.specs.Edits.{after}
+use Rattle.item_maps.specs.Edits.{after}
 use Rattle.item_store.proofs.LeftLemmas.{held_either, held_open}
 use Rattle.item_store.proofs.store.ItemStore.commit.Goals as goal
 

@@ -1,5 +1,5 @@
--- What edits make of items, and why a call fails.
-use Rattle.std.specs.Prelude.{◌≡◌, ◌≢◌, ℕ, List, [], ◌∷◌, ⊤}
+-- Why a call fails.
+use Rattle.std.specs.Prelude.{◌≡◌, ◌≢◌, ⊤}
 use Rattle.sqlite.specs.declared.error.Error.{Error}
 use Rattle.sqlite.specs.declared.error.Error.TheVariants.{SqliteFailure}
 use Rattle.sqlite.specs.declared.error.ErrorCode.TheVariants.{OutOfMemory}
@@ -7,22 +7,6 @@ use Rattle.sqlite.specs.State.{State}
 use Rattle.roster_base.specs.declared.keeper.KeeperError.{KeeperError}
 use Rattle.roster_base.specs.declared.keeper.KeeperError.TheVariants.{Failed, NoMemory}
 use Rattle.item_sql.specs.Asked.{IsRefused}
-use Rattle.item_sql.specs.Items.{Items, put, cleared}
-use Rattle.item_store.specs.declared.item.Item.{Item}
-use Rattle.item_store.specs.declared.item.Edit.{Edit}
-use Rattle.item_store.specs.declared.item.Edit.TheVariants as edit
-
-abbrev pub after_edit : Edit → Items → Items
-after_edit (edit.Put area label body) m = put area label body m
-after_edit (edit.Clear area from to) m = cleared area from to m
-
--- the edits, the first of them first
-abbrev pub after : List Edit → Items → Items
-after [] m = m
-after (e ∷ es) m = after es (after_edit e m)
-
-abbrev pub entry_of : Item → List ℕ × List ℕ
-entry_of item = (item.label, item.body)
 
 abbrev pub no_memory : Error
 no_memory = SqliteFailure OutOfMemory

@@ -1,0 +1,7 @@
+pub mod Found
+pub mod MarkReading
+pub mod Moving
+pub mod Names
+pub mod Planning
+pub mod Stating
+pub mod Steps

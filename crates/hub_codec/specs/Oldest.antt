@@ -1,0 +1,13 @@
+-- What is known of the oldest version and the change behind it.
+use Rattle.std.specs.Prelude.{◌≡◌, List, ◌∷◌, map}
+use Rattle.item_maps.specs.Edits.{entry_of}
+use Rattle.item_maps.specs.declared.item.Item.{Item}
+use Rattle.version_core.specs.declared.change.Change.{Change}
+use Rattle.version_core.specs.declared.hub_tables.HubTables.{HubTables}
+use Rattle.hub_items.specs.Format.{grants_under, own_rows, own_version}
+
+-- these items are those of the base's grants, and of the version and the rows of the first change where there is one
+pub record AreOldest (t : HubTables) (base first laid : List Item) : Type 0 where
+  pub grants : map entry_of base ≡ grants_under t.base.number t.base.grants
+  pub version : (oldest : Change) (changes : List Change) → t.changes ≡ oldest ∷ changes → map entry_of first ≡ own_version oldest
+  pub rows : (oldest : Change) (changes : List Change) → t.changes ≡ oldest ∷ changes → map entry_of laid ≡ own_rows oldest

@@ -1,0 +1,19 @@
+//! Labels and bodies of a hub's items, written and read, and the edits of a commit.
+#![tactic(auto)]
+
+mod edits;
+mod fold;
+mod pieces;
+mod plan;
+mod read_marks;
+mod read_rows;
+mod read_state;
+mod reading;
+mod writing;
+
+pub use edits::first_edits;
+pub use plan::{Oldest, commit_edits, lets_go};
+pub use read_marks::marks_of;
+pub use read_rows::rows_of;
+pub use read_state::{state_of, version_of};
+pub use reading::{Format, format_of, only_body, state_parts};

@@ -1,0 +1,52 @@
+//! The state and the versions of changes, read back from their items.
+
+ghost use Rattle.std.specs.Prelude.{◌≡◌, ◌∷◌, [], ◌<◌, ◌^◌, ℕ, ℤ, IfSome, map};
+ghost use Rattle.std.specs.Int.{w64, cast_unsigned};
+ghost use Rattle.std.specs.Int.RustNames.{FitsSigned};
+ghost use Rattle.item_maps.specs.Edits.{entry_of};
+ghost use Rattle.version_core.specs.declared.change.BaseVersion.{BaseVersion};
+ghost use Rattle.version_core.specs.declared.change.Change.{Change};
+ghost use Rattle.hub_items.specs.Format.{own_version, state_entry};
+ghost use Rattle.hub_items.specs.Pieces.{has_grants};
+
+use crate::reading::{number_at, only_body, state_parts};
+use item_maps::Item;
+use roster_texts::Moment;
+
+// The moment of a number.
+fn moment_of(n: u64) -> Option<Moment>
+    ensures { (at : ℤ) → FitsSigned w64 at → n ≡ cast_unsigned w64 at → IfSome result (λ m. m ≡ at) }
+{
+    Moment::at(n.cast_signed())
+}
+
+/// How many versions are kept beside the newest, and the number and the moment of the base, from the items of the state. None
+/// where they are no state's.
+pub fn state_of(items: &[Item]) -> Option<(u64, u64, Moment)>
+    ensures { (keep : ℕ) (base : BaseVersion) → keep < 2 ^ 64 → base.number < 2 ^ 64 → FitsSigned w64 base.moment → map entry_of items.now ≡ state_entry keep base ∷ []
+        → IfSome result (λ s. (s.0 ≡ keep) × (s.1 ≡ base.number) × (s.2 ≡ base.moment)) }
+{
+    let (keep, base, rest) = state_parts(only_body(items)?)?;
+    let (at, _) = number_at(rest)?;
+    Some((keep, base, moment_of(at)?))
+}
+
+// The only byte.
+fn only_byte(bytes: &[u8]) -> Option<u8>
+    ensures { IfSome result (λ b. bytes.now ≡ b ∷ []) }
+{
+    match bytes {
+        [b] => Some(*b),
+        _ => None,
+    }
+}
+
+/// The moment of a change, and 1 where it has grants, from the items of its version. None where they are no version's.
+pub fn version_of(items: &[Item]) -> Option<(Moment, u8)>
+    ensures { (change : Change) → FitsSigned w64 change.moment → map entry_of items.now ≡ own_version change
+        → IfSome result (λ v. (v.0 ≡ change.moment) × (v.1 ≡ has_grants change.grants)) }
+{
+    let (at, rest) = number_at(only_body(items)?)?;
+    let flag = only_byte(rest)?;
+    Some((moment_of(at)?, flag))
+}

@@ -1,0 +1,13 @@
+pub mod Acts
+pub mod Adding
+pub mod Back
+pub mod Encodes
+pub mod Endings
+pub mod Finds
+pub mod Folding
+pub mod Labels
+pub mod Listing
+pub mod Marking
+pub mod Orders
+pub mod Told
+pub mod Unique

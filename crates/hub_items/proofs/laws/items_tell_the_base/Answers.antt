@@ -1,0 +1,14 @@
+use Rattle.hub_items.proofs.Told.{base_grants_told, base_rows_told, format_told, state_told}
+use Rattle.hub_items.proofs.laws.items_tell_the_base.Goals as goal
+
+pub returns-clause-format : goal.returns-clause-format
+returns-clause-format c = format_told
+
+pub returns-clause-state : goal.returns-clause-state
+returns-clause-state c = state_told
+
+pub returns-clause-rows : goal.returns-clause-rows
+returns-clause-rows c = base_rows_told
+
+pub returns-clause-grants : goal.returns-clause-grants
+returns-clause-grants c = base_grants_told
