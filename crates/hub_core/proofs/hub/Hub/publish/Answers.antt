@@ -1,5 +1,5 @@
-use Rattle.std.proofs.Common.{◌≡◌, ◌∙◌, inl, refl, subst, sym, true}
-use Rattle.std.specs.Prelude.{IfOk, is_ok}
+use Rattle.std.proofs.Common.{◌∙◌, inl, refl, subst, sym}
+use Rattle.std.specs.Prelude.{IfOk}
 use Rattle.keeper_memory.specs.Kept.{newest_kept}
 use Rattle.set_changes.specs.Applying.{Answers, Applies}
 use Rattle.set_changes.specs.Steps.{IsSound, led_to}
