@@ -212,17 +212,17 @@ impl Hub {
         }
     }
 
-    /// Publishes a set at a moment: the next version, where the set changes a row of the newest.
+    /// Publishes a set at a moment: the next version, where the set changes a row of the newest. Its rows move into the version.
     pub fn publish<H: HubKeeper>(
         &mut self,
         alloc: Global,
         keeper: &mut H,
-        set: &RosterSet,
+        set: RosterSet,
         at: Moment,
     ) -> Result<Published, HubError>
         requires { KeeperFits (H.stands_for keeper.old) self.old }
         ensures fits { KeeperFits (H.stands_for keeper.new) self.new }
-        ensures told { (after : KeptState) → IsStanding self.new after → (before : KeptState) × IsStanding self.old before × (H.stands_for keeper.new after → H.stands_for keeper.old before) × MakesNext (λ version. Applies version set.now at) result before after }
+        ensures told { (after : KeptState) → IsStanding self.new after → (before : KeptState) × IsStanding self.old before × (H.stands_for keeper.new after → H.stands_for keeper.old before) × MakesNext (λ version. Applies version set at) result before after }
         ensures settled { LeavesOpen result self.new.is_open }
         ensures cause { CountsFault (H.fault_count keeper.old) (H.fault_count keeper.new) result }
     {
