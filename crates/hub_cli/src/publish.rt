@@ -91,8 +91,7 @@ fn publish_feed<F: Folder, H: HubKeeper, K: Clock>(
     ensures files { F.files folder.new ≡ F.files folder.old }
 {
     let set = set_of(alloc, feed, folder)?;
-    let answer = hub.publish(alloc, keeper, &set, moment_of(clock));
-    drop(set);
+    let answer = hub.publish(alloc, keeper, set, moment_of(clock));
     match answer {
         Ok(published) => Ok(published),
         Err(error) => Err(end_of_error(error)),

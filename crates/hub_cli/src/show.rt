@@ -13,7 +13,7 @@ use crate::moment::moment_of;
 use csv_sets::file::LARGEST;
 use csv_sets::{SetFault, SetFile, read_file};
 use outside_ports::{Clock, FileRead, Folder, IoError};
-use roster_base::{NoMemory, Refusal, Text, sorted};
+use roster_base::{Bytes, NoMemory, Refusal, Text, sorted};
 use roster_texts::Moment;
 use roster_types::row::Row;
 use roster_types::set_row::SetRow;
@@ -64,11 +64,13 @@ fn refused(alloc: Global, fault: SetFault) -> Answer
     Answer::nothing_done(alloc, End::Refused(fault))
 }
 
-// The answer over a file's bytes.
-fn answer_over(alloc: Global, kind: Kind, at: Moment, bytes: &[u8]) -> Result<Answer, NoMemory>
-    ensures { IfOk result (λ a. a ≡ answer_of_rows kind at (files.file_of kind Mode.Bulk bytes.now)) }
+// The answer over a file's bytes. They are let go before the output is made.
+fn answer_over(alloc: Global, kind: Kind, at: Moment, bytes: Bytes) -> Result<Answer, NoMemory>
+    ensures { IfOk result (λ a. a ≡ answer_of_rows kind at (files.file_of kind Mode.Bulk bytes)) }
 {
-    match read_file(alloc, kind, Mode::Bulk, bytes) {
+    let read = read_file(alloc, kind, Mode::Bulk, bytes.as_slice());
+    drop(bytes);
+    match read {
         Ok(rows) => Ok(done(output(alloc, kind, at, rows)?)),
         Err(Refusal::Fault(fault)) => Ok(refused(alloc, fault)),
         Err(Refusal::NoMemory) => Err(NoMemory),
@@ -83,7 +85,7 @@ fn answer_to(alloc: Global, kind: Kind, at: Moment, read: FileRead) -> Result<An
     match read {
         FileRead::Absent => Ok(refused(alloc, SetFault::MissingFile { file })),
         FileRead::TooLong => Ok(refused(alloc, SetFault::TooLarge { file })),
-        FileRead::Bytes(bytes) => answer_over(alloc, kind, at, bytes.as_slice()),
+        FileRead::Bytes(bytes) => answer_over(alloc, kind, at, bytes),
     }
 }
 

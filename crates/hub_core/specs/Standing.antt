@@ -4,7 +4,7 @@ use Rattle.keeper_memory.specs.Commits.{with_commit}
 use Rattle.keeper_memory.specs.Kept.{KeptState}
 use Rattle.keeper_memory.specs.declared.hub_commit.HubCommit.{HubCommit}
 
--- a state, the last commit that was handed to a keeper, and whether the keeper failed at it, so that it may have been made
+-- a state, the last commit at which the keeper failed, and whether it may have been made, since the keeper hasn't been asked
 pub record HeldHub : Type 0 where
   pub kept : KeptState
   pub last : Option HubCommit

@@ -1,5 +1,5 @@
 -- What the calls of a hub answer, and where they lead.
-use Rattle.std.specs.Prelude.{◌≡◌, ◌⊎◌, ⊤, ℕ, ◌+◌, ◌-◌, ◌^◌, min, Bool, false, true, Option, Some, Result, Ok, Err}
+use Rattle.std.specs.Prelude.{◌≡◌, ◌⊎◌, ⊤, ℕ, ◌+◌, ◌-◌, ◌^◌, min, Bool, false, true, Option, None, Some, Result, Ok, Err}
 use Rattle.keeper_memory.specs.Commits.{followed_by, with_commit}
 use Rattle.keeper_memory.specs.Kept.{KeptState, newest_kept}
 use Rattle.keeper_memory.specs.declared.hub_commit.HubCommit.{HubCommit}
@@ -36,9 +36,9 @@ Installs commit (Err error.Keeper) before after = (after ≡ before) ⊎ (after 
 Installs commit (Err error.NoMemory) before after = after ≡ before
 Installs commit (Err (error.Refused fault)) before after = ⊥
 
--- a commit that is made or left open is the last that was handed to the keeper
+-- a commit is kept where it is left open, and none is where it is made
 abbrev pub IsLast : {T : Type 0} → HubCommit → Result T HubError → Option HubCommit → Type 0
-IsLast commit (Ok x) last = last ≡ Some commit
+IsLast commit (Ok x) last = last ≡ None
 IsLast commit (Err error.Keeper) last = last ≡ Some commit
 IsLast commit (Err error.NoMemory) last = ⊤
 IsLast commit (Err (error.Refused fault)) last = ⊤

@@ -17,7 +17,7 @@ use crate::room::{make_room, take_in, take_in_made};
 use grant_changes::grants_change;
 use grant_scopes::GrantList;
 use keeper_memory::{HubCommit, HubKeeper};
-use roster_base::{KeeperError, NoMemory, Refusal, TryCopy};
+use roster_base::{KeeperError, NoMemory, Refusal};
 use roster_texts::Moment;
 use roster_types::set::RosterSet;
 use set_changes::{PublishFault, set_change_over};
@@ -27,8 +27,8 @@ use version_core::change::Change;
 use version_core::marks::Marks;
 use version_core::table::Table;
 
-/// A hub's state in memory. The keeper goes in with each call. A clause sees the state, the last commit that was handed to a keeper since
-/// the hub was opened, and whether the keeper failed at that commit and hasn't been asked since what it made of it.
+/// A hub's state in memory. The keeper goes in with each call. A clause sees the state, the last commit at which the keeper failed, where
+/// none was made since, and whether the keeper hasn't been asked yet what it made of that one.
 #[derive(Drop)]
 pub struct Hub {
     table: Table,
@@ -113,7 +113,8 @@ impl Hub {
         Ok(())
     }
 
-    // Hands a commit to the keeper, and takes it in where it was made. All memory is taken before.
+    // Hands a commit to the keeper, and takes it in where it was made. All memory is taken before. A copy is kept nowhere: the commit moves
+    // into the table, or stays beside it where the keeper failed.
     fn install<H: HubKeeper>(
         &mut self,
         alloc: Global,
@@ -130,18 +131,16 @@ impl Hub {
         ensures cause { CountsFault (H.fault_count keeper.old) (H.fault_count keeper.new) result }
         ensures refused { RefusesNothing result }
     {
-        let copy = commit.copy(alloc)?;
         make_room(&mut self.table, &mut self.marks, &commit)?;
-        let answer = keeper.commit(alloc, &commit);
-        drop(self.last.replace(copy));
-        match answer {
+        match keeper.commit(alloc, &commit) {
             Ok(()) => {
+                drop(self.last.take());
                 take_in(&mut self.table, &mut self.marks, commit);
                 self.is_sound = false;
                 Ok(())
             }
             Err(KeeperError::Failed) => {
-                drop(commit);
+                drop(self.last.replace(commit));
                 self.is_open = true;
                 Err(HubError::Keeper)
             }
@@ -213,17 +212,17 @@ impl Hub {
         }
     }
 
-    /// Publishes a set at a moment: the next version, where the set changes a row of the newest.
+    /// Publishes a set at a moment: the next version, where the set changes a row of the newest. Its rows move into the version.
     pub fn publish<H: HubKeeper>(
         &mut self,
         alloc: Global,
         keeper: &mut H,
-        set: &RosterSet,
+        set: RosterSet,
         at: Moment,
     ) -> Result<Published, HubError>
         requires { KeeperFits (H.stands_for keeper.old) self.old }
         ensures fits { KeeperFits (H.stands_for keeper.new) self.new }
-        ensures told { (after : KeptState) → IsStanding self.new after → (before : KeptState) × IsStanding self.old before × (H.stands_for keeper.new after → H.stands_for keeper.old before) × MakesNext (λ version. Applies version set.now at) result before after }
+        ensures told { (after : KeptState) → IsStanding self.new after → (before : KeptState) × IsStanding self.old before × (H.stands_for keeper.new after → H.stands_for keeper.old before) × MakesNext (λ version. Applies version set at) result before after }
         ensures settled { LeavesOpen result self.new.is_open }
         ensures cause { CountsFault (H.fault_count keeper.old) (H.fault_count keeper.new) result }
     {

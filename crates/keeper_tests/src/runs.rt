@@ -4,12 +4,11 @@ ghost use Rattle.hub_core.specs.Standing.{KeeperFits};
 
 use crate::lists::{LISTS, lists};
 use crate::plain::{Answer, Plain, Plan};
-use crate::sets::{moment_of, three_sets};
+use crate::sets::{moment_of, set_at};
 use crate::told::{push_answer, push_keeper, push_plain, push_plain_answer, push_table};
 use grant_scopes::GrantList;
 use hub_core::Hub;
 use keeper_memory::{HubKeeper, MemHub};
-use roster_types::set::RosterSet;
 use std::alloc::Global;
 use std::process::Abort;
 use std::test::Fail;
@@ -21,18 +20,16 @@ pub enum Turn {
     Grants(usize),
 }
 
-/// The sets, and the lists of grants.
+/// The lists of grants.
 #[derive(Drop)]
 pub struct Given {
-    sets: Vec<RosterSet>,
     lists: Vec<GrantList>,
 }
 
 impl Given {
     pub fn new(rt: &impl Abort, alloc: Global) -> Result<Given, Fail> {
-        let sets = three_sets(rt, alloc)?;
         let lists = lists(rt, alloc)?;
-        Ok(Given { sets, lists })
+        Ok(Given { lists })
     }
 }
 
@@ -52,19 +49,23 @@ fn keeper_of(alloc: Global, keep: u32, plan: Plan) -> Result<MemHub, Fail> {
     Ok(MemHub::new(alloc, keep).with_failures(before, after, loads))
 }
 
-// Publishes one of the sets, and tells the answer.
+// Publishes the set at a place, where there is one, and tells the answer.
 fn publish<H: HubKeeper>(
     rt: &impl Abort,
     alloc: Global,
     hub: &mut Hub,
     keeper: &mut H,
-    set: &RosterSet,
+    place: usize,
     told: &mut String,
 ) -> Result<(), Fail>
     requires { KeeperFits (H.stands_for keeper.old) hub.old }
     ensures { KeeperFits (H.stands_for keeper.new) hub.new }
 {
-    let answer = hub.publish(alloc, keeper, set, moment_of(rt));
+    let at = moment_of(rt);
+    let Some(set) = set_at(rt, alloc, place)? else {
+        return Ok(());
+    };
+    let answer = hub.publish(alloc, keeper, set, at);
     push_answer(rt, alloc, told, &answer)
 }
 
@@ -97,10 +98,7 @@ fn take<H: HubKeeper>(
     ensures { KeeperFits (H.stands_for keeper.new) hub.new }
 {
     match turn {
-        Turn::Set(place) => match given.sets.get(place) {
-            Some(set) => publish(rt, alloc, hub, keeper, set, told),
-            None => Ok(()),
-        },
+        Turn::Set(place) => publish(rt, alloc, hub, keeper, place, told),
         Turn::Grants(place) => match given.lists.get(place) {
             Some(list) => set_grants(rt, alloc, hub, keeper, list, told),
             None => Ok(()),

@@ -52,14 +52,13 @@ pub fn moment_of(rt: &impl Abort) -> Moment {
     }
 }
 
-/// The sets of a feed with the categories a, b and c.
-pub fn three_sets(rt: &impl Abort, alloc: Global) -> Result<Vec<RosterSet>, Fail> {
+/// The set of a feed with the category a, b or c, by its place.
+pub fn set_at(rt: &impl Abort, alloc: Global, place: usize) -> Result<Option<RosterSet>, Fail> {
     let Some(feed) = Name::read(alloc, "sis")? else {
         panic!(rt; "no name");
     };
-    let mut sets = Vec::new(alloc);
-    for categories in &CATEGORIES {
-        sets.push(set_of(rt, alloc, &feed, categories)?)?;
+    match CATEGORIES.get(place) {
+        Some(categories) => Ok(Some(set_of(rt, alloc, &feed, categories)?)),
+        None => Ok(None),
     }
-    Ok(sets)
 }

@@ -65,7 +65,7 @@ fn moment(rt: &impl Abort) -> Moment {
 }
 
 // The version that a set leads to.
-fn publish(rt: &impl Abort, alloc: Global, table: &mut Table, set: &RosterSet) -> Result<(), Fail> {
+fn publish(rt: &impl Abort, alloc: Global, table: &mut Table, set: RosterSet) -> Result<(), Fail> {
     match set_change(alloc, table, set, moment(rt)) {
         Ok(Some(change)) => {
             table.reserve(&change)?;
@@ -100,7 +100,7 @@ fn grants(rt: &impl Abort, alloc: Global) -> Result<GrantList, Fail> {
 /// The table: rows in version 1, grants in version 2.
 pub fn table(rt: &impl Abort, alloc: Global) -> Result<Table, Fail> {
     let mut table = Table::new(alloc, 1);
-    publish(rt, alloc, &mut table, &set(rt, alloc)?)?;
+    publish(rt, alloc, &mut table, set(rt, alloc)?)?;
     grant(rt, alloc, &mut table, &grants(rt, alloc)?)?;
     Ok(table)
 }

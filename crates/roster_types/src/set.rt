@@ -52,6 +52,16 @@ impl RosterSet {
         &self.feed
     }
 
+    /// The feed and the parts as they lie in the set; no memory is taken.
+    pub fn into_parts(self) -> (Name, Items<SetPart>)
+        ensures feed { result.0 ≡ self.feed }
+        ensures parts { result.1 ≡ self.parts }
+        ensures good { AreParts self.parts }
+    {
+        let RosterSet { feed, parts } = self;
+        (feed, parts)
+    }
+
     /// The parts in the order of kinds.
     pub fn parts(&self) -> &[SetPart]
         ensures parts { result.now ≡ self.now.parts }

@@ -1,12 +1,12 @@
 pub mod CellBack
 pub mod Collecting
 pub mod FieldSteps
-pub mod Floats
 pub mod ItemSteps
 pub mod MetadataSteps
 pub mod Puts
 pub mod ReadBack
 pub mod RowBack
 pub mod RowLengths
+pub mod Slots
 pub mod TextLengths
-pub mod Walks
+pub mod TokenLaws

@@ -192,7 +192,8 @@ values-back place (i ∷ is) (v ∷ vs) ms h f = rw (h.0, field-back (info_in De
 
 -- ---- the metadata is read back
 
-members_of : List Entry → Members
+-- entries as members, in their order
+unfoldable pub members_of : List Entry → Members
 members_of [] = no_members
 members_of (e ∷ es) = member e.key (string e.text) (members_of es)
 
@@ -213,6 +214,10 @@ entries-rise : (es : List Entry) → RiseBy key_of es → Rising (members_of es)
 unfolding IsStrictlySortedBy members_of
 entries-rise [] h = tt
 entries-rise (e ∷ es) h = (below-all e.key es h.0, entries-rise es h.1)
+
+-- metadata's members stand in the order of its entries
+pub entries-in-turn : (es : List Entry) → RiseBy key_of es → with_entries es no_members ≡ members_of es
+entries-in-turn es h = in-turn es no_members (entries-rise es h)
 
 not-blank : (t : List ℕ) → is_filled t ≡ true → nat_eq (length t) 0 ≡ false
 not-blank t h = grind (arith, nat_tests)

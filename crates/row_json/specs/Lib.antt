@@ -1,3 +1,4 @@
 pub mod CellTexts
 pub mod Json
 pub mod Reading
+pub mod Tokens

@@ -4,6 +4,7 @@
 mod cell_texts;
 mod fault;
 mod members;
+mod order;
 mod read;
 mod text;
 mod values;

@@ -1,94 +1,143 @@
-//! The members of a row's object.
+//! The members of a row's object, written as tokens in the order of their names.
 
-ghost use Rattle.std.specs.Prelude.{◌≡◌, ◌<◌, None, Some, true, IfOk, OnOk, length, option_map, slice_get, slice_index_or};
-ghost use Rattle.serde_json.specs.Data.{no_members, put, string};
-ghost use Rattle.serde_json.specs.View.{members_view};
+ghost use Rattle.std.specs.Prelude.{◌≡◌, ◌++◌, Some, None, OnOk, flat_map, map, option_map, slice_get, slice_index_or};
 ghost use Rattle.roster_types.specs.Records.{all_values};
 ghost use Rattle.roster_values.specs.Table.{info_of, table};
-ghost use Rattle.row_json.specs.Json.{with_entries, with_field, with_fields, with_metadata};
-ghost use Rattle.row_json.specs.Reading.{has_good_keys};
+ghost use Rattle.row_json.specs.Json.{is_named, row_data};
+ghost use Rattle.row_json.specs.Tokens.{data_tokens, entry_tokens, is_chosen, order_of, slot_at, slot_of, slot_tokens};
 
-use crate::values::{text_value, value_of};
-use roster_base::NoMemory;
-use roster_types::metadata::Entry;
+use crate::order::name_order;
+use crate::values::{write_member, write_value};
+use json::Writer;
+use roster_base::{NoMemory, Text};
+use roster_types::metadata::{Entry, Metadata};
 use roster_types::row::Row;
 use roster_values::FieldInfo;
 use roster_values::fields::fields;
-use serde_json::{Map, Value};
-use std::alloc::Global;
 
-/// Puts a member with a text.
-pub fn put_text(
-    alloc: Global,
-    members: &mut Map<String, Value>,
-    name: &str,
-    text: &str,
-) -> Result<(), NoMemory>
-    ensures { OnOk result (members_view members.new.entries ≡ put name.now (string text.now) (members_view members.old.entries)) }
+fn is_named(names: &[Text], name: &str) -> bool
+    ensures { result ≡ is_named names.now name.now }
 {
-    serde_json::put(members, alloc, name, text_value(alloc, text)?)?;
-    Ok(())
+    names.iter().any(|other| other.as_str() == name)
 }
 
-// Puts the member of a field, where the row has a value there.
-fn put_field(
-    alloc: Global,
-    members: &mut Map<String, Value>,
+// Whether a choice of names leaves a name.
+fn is_chosen(only: Option<&[Text]>, name: &str) -> bool
+    ensures { result ≡ is_chosen (option_map (λ s. s.now) only.entry) name.now }
+{
+    match only {
+        Some(names) => is_named(names, name),
+        None => true,
+    }
+}
+
+// The member of a field, where the row has a value there.
+#[tactic(auto, unfolding(crate::specs::Tokens::slot_tokens))]
+fn write_field(
+    out: &mut Writer,
+    buffer: &mut String,
     row: &Row,
     place: usize,
     info: &FieldInfo,
+    only: Option<&[Text]>,
 ) -> Result<(), NoMemory>
     requires { slice_get (table row.now.kind) place ≡ Some (info_of info.now) }
-    ensures { OnOk result (members_view members.new.entries ≡ with_field (info_of info.now) (slice_index_or (all_values row.now) place None) (members_view members.old.entries)) }
+    ensures before { OnOk result (out.new.before ≡ out.old.before) }
+    ensures tokens { OnOk result (out.new.tokens ≡ out.old.tokens ++ slot_tokens (option_map (λ s. s.now) only.entry) (slot_of row.now.metadata (slice_index_or (all_values row.now) place None) (Some (info_of info.now)))) }
 {
+    if !is_chosen(only, info.name) {
+        return Ok(());
+    }
     let _ = row.kind();
     match row.value(place) {
         Some(value) => {
-            let value = value_of(alloc, info.form, value)?;
-            serde_json::put(members, alloc, info.name, value)?;
+            out.key(info.name)?;
+            write_value(out, buffer, info.form, value)
         }
-        None => {}
+        None => Ok(()),
+    }
+}
+
+// The members of entries.
+fn push_entries(out: &mut Writer, entries: &[Entry]) -> Result<(), NoMemory>
+    ensures before { OnOk result (out.new.before ≡ out.old.before) }
+    ensures tokens { OnOk result (out.new.tokens ≡ out.old.tokens ++ flat_map entry_tokens entries.now) }
+{
+    for entry in entries {
+        write_member(out, entry.key.as_str(), entry.text.as_str())?;
     }
     Ok(())
 }
 
-/// The members of a row's fields.
-pub fn field_members(alloc: Global, row: &Row) -> Result<Map<String, Value>, NoMemory>
-    ensures { IfOk result (λ m. members_view m.entries ≡ with_fields (table row.now.kind) (all_values row.now) no_members) }
-{
-    let infos = fields(row.kind());
-    let mut members = Map::new(alloc);
-    for place in 0..infos.len() {
-        put_field(alloc, &mut members, row, place, &infos[place])?;
-    }
-    Ok(members)
-}
-
-fn entry_members(alloc: Global, entries: &[Entry]) -> Result<Map<String, Value>, NoMemory>
-    ensures members { IfOk result (λ m. members_view m.entries ≡ with_entries entries.now no_members) }
-    ensures keys { OnOk result (has_good_keys entries.now ≡ true) }
-{
-    let mut members = Map::new(alloc);
-    for entry in entries {
-        put_text(alloc, &mut members, entry.key.as_str(), entry.text.as_str())?;
-    }
-    Ok(members)
-}
-
-/// Puts the member of the metadata, where there is any.
-#[tactic(auto, unfolding(crate::specs::Json::with_metadata))]
-pub fn put_metadata(
-    alloc: Global,
-    members: &mut Map<String, Value>,
-    entries: &[Entry],
+// The member of the metadata, where there is any.
+fn write_metadata(
+    out: &mut Writer,
+    metadata: &Metadata,
+    only: Option<&[Text]>,
 ) -> Result<(), NoMemory>
-    ensures members { OnOk result (members_view members.new.entries ≡ with_metadata entries.now (members_view members.old.entries)) }
-    ensures keys { OnOk result (has_good_keys entries.now ≡ true) }
+    ensures before { OnOk result (out.new.before ≡ out.old.before) }
+    ensures tokens { OnOk result (out.new.tokens ≡ out.old.tokens ++ slot_tokens (option_map (λ s. s.now) only.entry) (slot_of metadata.now None None)) }
 {
+    let entries = metadata.entries();
     if entries.is_empty() {
         return Ok(());
     }
-    let metadata = Value::Object(entry_members(alloc, entries)?);
-    serde_json::put(members, alloc, "metadata", metadata)?;
+    if !is_chosen(only, "metadata") {
+        return Ok(());
+    }
+    out.key("metadata")?;
+    out.begin_object()?;
+    push_entries(out, entries)?;
+    out.end_object()?;
+    Ok(())
+}
+
+// The member at a place of the row's fields, or past them that of the metadata.
+fn write_slot(
+    out: &mut Writer,
+    buffer: &mut String,
+    row: &Row,
+    place: usize,
+    only: Option<&[Text]>,
+) -> Result<(), NoMemory>
+    ensures before { OnOk result (out.new.before ≡ out.old.before) }
+    ensures tokens { OnOk result (out.new.tokens ≡ out.old.tokens ++ slot_tokens (option_map (λ s. s.now) only.entry) (slot_at row.now place)) }
+{
+    match fields(row.kind()).get(place) {
+        Some(info) => write_field(out, buffer, row, place, info, only),
+        None => write_metadata(out, row.metadata(), only),
+    }
+}
+
+// The members in the order of their names.
+fn write_slots(
+    out: &mut Writer,
+    buffer: &mut String,
+    row: &Row,
+    only: Option<&[Text]>,
+) -> Result<(), NoMemory>
+    ensures before { OnOk result (out.new.before ≡ out.old.before) }
+    ensures tokens { OnOk result (out.new.tokens ≡ out.old.tokens ++ flat_map (λ place. slot_tokens (option_map (λ s. s.now) only.entry) (slot_at row.now place)) (order_of row.now.kind)) }
+{
+    for place in name_order(row.kind()) {
+        write_slot(out, buffer, row, *place, only)?;
+    }
+    Ok(())
+}
+
+/// Writes the object of a row: of the members that it has those that the choice leaves. The buffer is for parts of values.
+#[tactic(auto, using(crate::proofs::Slots::row_tokens))]
+pub fn write_row(
+    out: &mut Writer,
+    buffer: &mut String,
+    row: &Row,
+    only: Option<&[Text]>,
+) -> Result<(), NoMemory>
+    ensures before { OnOk result (out.new.before ≡ out.old.before) }
+    ensures tokens { OnOk result (out.new.tokens ≡ out.old.tokens ++ data_tokens (row_data (option_map (λ s. s.now) only.entry) row.now)) }
+{
+    out.begin_object()?;
+    write_slots(out, buffer, row, only)?;
+    out.end_object()?;
     Ok(())
 }

@@ -1,46 +1,38 @@
 //! The texts of rows.
 
-ghost use Rattle.std.specs.Prelude.{◌≡◌, ◌≤◌, ◌++◌, None, Ok, true, IfOk, OnOk, bytes_eq, length, map, option_map, string_bytes};
+ghost use Rattle.std.specs.Prelude.{◌≡◌, ◌≤◌, ◌++◌, None, Ok, IfOk, OnOk, length, option_map, string_bytes};
 ghost use Rattle.std.specs.List.{All};
-ghost use Rattle.serde_json.specs.View.{members_view, view};
 ghost use Rattle.serde_json.specs.Written.{comma_if};
 ghost use Rattle.roster_types.specs.Lengths.{object_length};
 ghost use Rattle.roster_types.specs.Rows.{longest};
-ghost use Rattle.row_json.specs.Json.{collection_text, is_named, named, row_data, row_text, single_text};
-ghost use Rattle.row_json.specs.Reading.{IsHeld, has_good_keys, row_of, rows_of};
+ghost use Rattle.row_json.specs.Json.{collection_text, row_text, single_text};
+ghost use Rattle.row_json.specs.Reading.{IsHeld, row_of, rows_of};
 
-use crate::members::{field_members, put_metadata};
+use crate::members::write_row;
+use json::Writer;
 use roster_base::{NoMemory, Text};
 use roster_types::row::Row;
 use roster_values::Kind;
-use serde_json::{Map, Value};
 use std::alloc::Global;
+use std::mem::replace;
 
-fn is_named(names: &[Text], name: &str) -> bool
-    ensures { result ≡ is_named names.now name.now }
+// Adds the object of a row to a text. Where memory runs out, the text is lost.
+fn push_object(
+    alloc: Global,
+    text: &mut String,
+    buffer: &mut String,
+    row: &Row,
+    only: Option<&[Text]>,
+) -> Result<(), NoMemory>
+    ensures text { OnOk result (string_bytes text.new ≡ string_bytes text.old ++ row_text (option_map (λ s. s.now) only.entry) row.now) }
+    ensures held { OnOk result (IsHeld row.now) }
 {
-    names.iter().any(|other| other.as_str() == name)
-}
-
-// Leaves the members whose names are among these.
-fn keep_named(members: &mut Map<String, Value>, names: &[Text])
-    ensures { members_view members.new.entries ≡ named names.now (members_view members.old.entries) }
-{
-    members.retain(|name, _| is_named(names, name.as_str()));
-}
-
-#[tactic(auto, unfolding(crate::specs::Json::row_data, crate::specs::Json::row_members))]
-fn row_value(alloc: Global, row: &Row, only: Option<&[Text]>) -> Result<Value, NoMemory>
-    ensures value { IfOk result (λ v. view v ≡ row_data (option_map (λ s. s.now) only.entry) row.now) }
-    ensures keys { OnOk result (has_good_keys row.now.metadata ≡ true) }
-{
-    let mut members = field_members(alloc, row)?;
-    put_metadata(alloc, &mut members, row.metadata().entries())?;
-    match only {
-        Some(names) => keep_named(&mut members, names),
-        None => {}
-    }
-    Ok(Value::Object(members))
+    // Read for its clause `row`: a row is fitting and within the bound.
+    let _ = row.kind();
+    let mut out = Writer::new(replace(text, String::new(alloc)).into_bytes());
+    write_row(&mut out, buffer, row, only)?;
+    *text = unsafe { String::from_utf8_unchecked(out.into_inner()) };
+    Ok(())
 }
 
 /// The object of a row: compact, its members in ascending order of their names. Absent fields and empty metadata are
@@ -52,10 +44,10 @@ pub fn row_text(alloc: Global, row: &Row, only: Option<&[Text]>) -> Result<Strin
     ensures bound { IfOk result (λ t. only.entry ≡ None → length (string_bytes t) ≤ longest) }
     ensures held { OnOk result (IsHeld row.now) }
 {
-    // Read for its clause `row`: a row is fitting and within the bound.
-    let _ = row.kind();
-    let value = row_value(alloc, row, only)?;
-    Ok(value.to_string(alloc)?)
+    let mut text = String::new(alloc);
+    let mut buffer = String::new(alloc);
+    push_object(alloc, &mut text, &mut buffer, row, only)?;
+    Ok(text)
 }
 
 /// The object with a row under its kind's single key. The text of the whole row is read back as the row.
@@ -89,6 +81,7 @@ pub fn push_part(text: &mut String, is_later: bool, part: &str) -> Result<(), No
 fn push_row(
     alloc: Global,
     text: &mut String,
+    buffer: &mut String,
     is_later: bool,
     row: &Row,
     only: Option<&[Text]>,
@@ -96,7 +89,8 @@ fn push_row(
     ensures text { OnOk result (string_bytes text.new ≡ string_bytes text.old ++ (comma_if is_later ++ row_text (option_map (λ s. s.now) only.entry) row.now)) }
     ensures held { OnOk result (IsHeld row.now) }
 {
-    push_part(text, is_later, row_text(alloc, row, only)?.as_str())
+    push_part(text, is_later, "")?;
+    push_object(alloc, text, buffer, row, only)
 }
 
 /// The object with the rows of a kind under the kind's plural key. The text of the whole rows is read back as the rows.
@@ -112,9 +106,10 @@ pub fn collection_text(
     let mut text = String::from_str(alloc, "{\"")?;
     text.push_str(kind.plural())?;
     text.push_str("\":[")?;
+    let mut buffer = String::new(alloc);
     let mut is_later = false;
     for row in rows {
-        push_row(alloc, &mut text, is_later, row, only)?;
+        push_row(alloc, &mut text, &mut buffer, is_later, row, only)?;
         is_later = true;
     }
     text.push_str("]}")?;

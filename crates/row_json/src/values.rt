@@ -1,102 +1,223 @@
-//! The JSON values of a row's values.
+//! The JSON values of a row's values, written as tokens.
 
-ghost use Rattle.std.specs.Prelude.{◌≡◌, true, IfOk, map};
-ghost use Rattle.serde_json.specs.Data.{string};
-ghost use Rattle.serde_json.specs.View.{view};
+ghost use Rattle.std.specs.Prelude.{◌≡◌, ◌≤◌, ◌∷◌, ◌++◌, [], flat_map, map, true, OnOk, string_bytes};
+ghost use Rattle.json.specs.Token.{key, string};
+ghost use Rattle.serde_json.specs.Data as json;
+ghost use Rattle.serde_json.specs.Find.{of_integer};
+ghost use Rattle.serde_json.specs.View.{items_of};
+ghost use Rattle.roster_texts.specs.Days.{day_text};
+ghost use Rattle.roster_texts.specs.Digits.{four};
+ghost use Rattle.roster_texts.specs.Moments.{moment_text};
+ghost use Rattle.roster_types.specs.Hrefs as hrefs;
 ghost use Rattle.roster_values.specs.Fit.{fits_form};
 ghost use Rattle.roster_values.specs.Table.{form_of};
 ghost use Rattle.roster_values.specs.Value.{shown};
 ghost use Rattle.row_json.specs.Json.{reference_data, user_id_data, value_data};
+ghost use Rattle.row_json.specs.Tokens.{data_tokens};
 
-use crate::members::put_text;
+use json::Writer;
+use percent_encoding::utf8_percent_encode;
 use roster_base::{NoMemory, Text};
-use roster_texts::Id;
-use roster_types::cells::{flag_text, href, year_text};
+use roster_texts::digits::push_four;
+use roster_texts::{Day, Id, Moment};
+use roster_types::cells::{ESCAPED_IN_HREF, flag_text};
 use roster_values::{FieldForm, Kind, UserId, ValueRef};
-use serde_json::{Map, Value};
-use std::alloc::Global;
 
-/// A string.
-pub fn text_value(alloc: Global, text: &str) -> Result<Value, NoMemory>
-    ensures { IfOk result (λ v. view v ≡ string text.now) }
+/// A member with a text.
+pub fn write_member(out: &mut Writer, name: &str, text: &str) -> Result<(), NoMemory>
+    ensures before { OnOk result (out.new.before ≡ out.old.before) }
+    ensures tokens { OnOk result (out.new.tokens ≡ out.old.tokens ++ key name.now ∷ string text.now ∷ []) }
 {
-    Ok(Value::String(String::from_str(alloc, text)?))
+    out.key(name)?;
+    out.string(text)?;
+    Ok(())
 }
 
-fn reference_value(alloc: Global, kind: Kind, id: &Id) -> Result<Value, NoMemory>
-    ensures { IfOk result (λ v. view v ≡ reference_data kind id.now) }
+// The path of a row, in place of what the buffer holds.
+fn put_href(path: &mut String, kind: Kind, id: &Id) -> Result<(), NoMemory>
+    ensures { OnOk result (string_bytes path.new ≡ hrefs.href kind id.now) }
 {
-    let mut members = Map::new(alloc);
-    put_text(alloc, &mut members, "href", href(alloc, kind, id)?.as_str())?;
-    put_text(alloc, &mut members, "sourcedId", id.as_str())?;
-    put_text(alloc, &mut members, "type", kind.single())?;
-    Ok(Value::Object(members))
+    path.clear();
+    path.push_str("/ims/oneroster/v1p1/")?;
+    path.push_str(kind.plural())?;
+    path.push('/')?;
+    utf8_percent_encode(id.as_str(), ESCAPED_IN_HREF).append_to(path)?;
+    Ok(())
 }
 
-fn user_id_value(alloc: Global, id: &UserId) -> Result<Value, NoMemory>
-    ensures { IfOk result (λ v. view v ≡ user_id_data id.now) }
+fn write_reference(
+    out: &mut Writer,
+    buffer: &mut String,
+    kind: Kind,
+    id: &Id,
+) -> Result<(), NoMemory>
+    ensures before { OnOk result (out.new.before ≡ out.old.before) }
+    ensures tokens { OnOk result (out.new.tokens ≡ out.old.tokens ++ data_tokens (reference_data kind id.now)) }
 {
-    let mut members = Map::new(alloc);
-    put_text(alloc, &mut members, "identifier", id.identifier())?;
-    put_text(alloc, &mut members, "type", id.form())?;
-    Ok(Value::Object(members))
+    put_href(buffer, kind, id)?;
+    out.begin_object()?;
+    write_member(out, "href", buffer.as_str())?;
+    write_member(out, "sourcedId", id.as_str())?;
+    write_member(out, "type", kind.single())?;
+    out.end_object()?;
+    Ok(())
 }
 
-fn text_values(alloc: Global, texts: &[Text]) -> Result<Vec<Value>, NoMemory>
-    ensures { IfOk result (λ v. map view v.items ≡ map string texts.now) }
+fn write_user_id(out: &mut Writer, id: &UserId) -> Result<(), NoMemory>
+    ensures before { OnOk result (out.new.before ≡ out.old.before) }
+    ensures tokens { OnOk result (out.new.tokens ≡ out.old.tokens ++ data_tokens (user_id_data id.now)) }
 {
-    let mut values = Vec::new(alloc);
+    out.begin_object()?;
+    write_member(out, "identifier", id.identifier())?;
+    write_member(out, "type", id.form())?;
+    out.end_object()?;
+    Ok(())
+}
+
+// The items of an array of texts.
+fn push_texts(out: &mut Writer, texts: &[Text]) -> Result<(), NoMemory>
+    ensures before { OnOk result (out.new.before ≡ out.old.before) }
+    ensures tokens { OnOk result (out.new.tokens ≡ out.old.tokens ++ flat_map (λ text. data_tokens (json.string text)) texts.now) }
+{
     for text in texts {
-        values.push(text_value(alloc, text.as_str())?)?;
+        out.string(text.as_str())?;
     }
-    Ok(values)
+    Ok(())
 }
 
-fn user_id_values(alloc: Global, ids: &[UserId]) -> Result<Vec<Value>, NoMemory>
-    ensures { IfOk result (λ v. map view v.items ≡ map user_id_data ids.now) }
+// The items of an array of user ids.
+fn push_user_ids(out: &mut Writer, ids: &[UserId]) -> Result<(), NoMemory>
+    ensures before { OnOk result (out.new.before ≡ out.old.before) }
+    ensures tokens { OnOk result (out.new.tokens ≡ out.old.tokens ++ flat_map (λ id. data_tokens (user_id_data id)) ids.now) }
 {
-    let mut values = Vec::new(alloc);
     for id in ids {
-        values.push(user_id_value(alloc, id)?)?;
+        write_user_id(out, id)?;
     }
-    Ok(values)
+    Ok(())
 }
 
-fn reference_values(alloc: Global, kind: Kind, ids: &[Id]) -> Result<Vec<Value>, NoMemory>
-    ensures { IfOk result (λ v. map view v.items ≡ map (reference_data kind) ids.now) }
+// The items of an array of references.
+fn push_references(
+    out: &mut Writer,
+    buffer: &mut String,
+    kind: Kind,
+    ids: &[Id],
+) -> Result<(), NoMemory>
+    ensures before { OnOk result (out.new.before ≡ out.old.before) }
+    ensures tokens { OnOk result (out.new.tokens ≡ out.old.tokens ++ flat_map (λ id. data_tokens (reference_data kind id)) ids.now) }
 {
-    let mut values = Vec::new(alloc);
     for id in ids {
-        values.push(reference_value(alloc, kind, id)?)?;
+        write_reference(out, buffer, kind, id)?;
     }
-    Ok(values)
+    Ok(())
 }
 
-/// The value of a field.
+fn write_texts(out: &mut Writer, texts: &[Text]) -> Result<(), NoMemory>
+    ensures before { OnOk result (out.new.before ≡ out.old.before) }
+    ensures tokens { OnOk result (out.new.tokens ≡ out.old.tokens ++ data_tokens (json.array (items_of (map json.string texts.now)))) }
+{
+    out.begin_array()?;
+    push_texts(out, texts)?;
+    out.end_array()?;
+    Ok(())
+}
+
+fn write_user_ids(out: &mut Writer, ids: &[UserId]) -> Result<(), NoMemory>
+    ensures before { OnOk result (out.new.before ≡ out.old.before) }
+    ensures tokens { OnOk result (out.new.tokens ≡ out.old.tokens ++ data_tokens (json.array (items_of (map user_id_data ids.now)))) }
+{
+    out.begin_array()?;
+    push_user_ids(out, ids)?;
+    out.end_array()?;
+    Ok(())
+}
+
+fn write_references(
+    out: &mut Writer,
+    buffer: &mut String,
+    kind: Kind,
+    ids: &[Id],
+) -> Result<(), NoMemory>
+    ensures before { OnOk result (out.new.before ≡ out.old.before) }
+    ensures tokens { OnOk result (out.new.tokens ≡ out.old.tokens ++ data_tokens (json.array (items_of (map (reference_data kind) ids.now)))) }
+{
+    out.begin_array()?;
+    push_references(out, buffer, kind, ids)?;
+    out.end_array()?;
+    Ok(())
+}
+
+fn write_text(out: &mut Writer, text: &str) -> Result<(), NoMemory>
+    ensures before { OnOk result (out.new.before ≡ out.old.before) }
+    ensures tokens { OnOk result (out.new.tokens ≡ out.old.tokens ++ string text.now ∷ []) }
+{
+    Ok(out.string(text)?)
+}
+
+fn write_day(out: &mut Writer, buffer: &mut String, day: Day) -> Result<(), NoMemory>
+    ensures before { OnOk result (out.new.before ≡ out.old.before) }
+    ensures tokens { OnOk result (out.new.tokens ≡ out.old.tokens ++ string (day_text day) ∷ []) }
+{
+    buffer.clear();
+    day.push_to(buffer)?;
+    write_text(out, buffer.as_str())
+}
+
+fn write_moment(out: &mut Writer, buffer: &mut String, moment: Moment) -> Result<(), NoMemory>
+    ensures before { OnOk result (out.new.before ≡ out.old.before) }
+    ensures tokens { OnOk result (out.new.tokens ≡ out.old.tokens ++ string (moment_text moment) ∷ []) }
+{
+    buffer.clear();
+    moment.push_to(buffer)?;
+    write_text(out, buffer.as_str())
+}
+
+fn write_year(out: &mut Writer, buffer: &mut String, year: u16) -> Result<(), NoMemory>
+    requires { year ≤ 9999 }
+    ensures before { OnOk result (out.new.before ≡ out.old.before) }
+    ensures tokens { OnOk result (out.new.tokens ≡ out.old.tokens ++ string (four year) ∷ []) }
+{
+    buffer.clear();
+    push_four(buffer, year)?;
+    write_text(out, buffer.as_str())
+}
+
+fn write_number(out: &mut Writer, number: i64) -> Result<(), NoMemory>
+    ensures before { OnOk result (out.new.before ≡ out.old.before) }
+    ensures tokens { OnOk result (out.new.tokens ≡ out.old.tokens ++ data_tokens (json.number (of_integer number))) }
+{
+    Ok(out.i64(number)?)
+}
+
+/// Writes the value of a field. The buffer is for its parts.
 #[tactic(auto, unfolding(crate::specs::Json::value_data, roster_values::specs::CellText::cell_text))]
-pub fn value_of(alloc: Global, form: FieldForm, value: ValueRef<'_>) -> Result<Value, NoMemory>
+pub fn write_value(
+    out: &mut Writer,
+    buffer: &mut String,
+    form: FieldForm,
+    value: ValueRef<'_>,
+) -> Result<(), NoMemory>
     requires { fits_form (form_of form) (shown value) ≡ true }
-    ensures { IfOk result (λ v. view v ≡ value_data (form_of form) (shown value.entry)) }
+    ensures before { OnOk result (out.new.before ≡ out.old.before) }
+    ensures tokens { OnOk result (out.new.tokens ≡ out.old.tokens ++ data_tokens (value_data (form_of form) (shown value.entry))) }
 {
     match value {
-        ValueRef::Text(text) => text_value(alloc, text.as_str()),
-        ValueRef::Id(id) => text_value(alloc, id.as_str()),
-        ValueRef::Day(day) => text_value(alloc, day.text(alloc)?.as_str()),
-        ValueRef::Moment(moment) => text_value(alloc, moment.text(alloc)?.as_str()),
-        ValueRef::Number(number) => Ok(Value::from(*number)),
-        ValueRef::Year(year) => text_value(alloc, year_text(alloc, *year)?.as_str()),
-        ValueRef::Flag(flag) => text_value(alloc, flag_text(*flag)),
-        ValueRef::Word(word) => text_value(alloc, word),
-        ValueRef::Texts(texts) => Ok(Value::Array(text_values(alloc, texts.as_slice())?)),
-        ValueRef::UserIds(ids) => Ok(Value::Array(user_id_values(alloc, ids.as_slice())?)),
+        ValueRef::Text(text) => write_text(out, text.as_str()),
+        ValueRef::Id(id) => write_text(out, id.as_str()),
+        ValueRef::Day(day) => write_day(out, buffer, *day),
+        ValueRef::Moment(moment) => write_moment(out, buffer, *moment),
+        ValueRef::Number(number) => write_number(out, *number),
+        ValueRef::Year(year) => write_year(out, buffer, *year),
+        ValueRef::Flag(flag) => write_text(out, flag_text(*flag)),
+        ValueRef::Word(word) => write_text(out, word),
+        ValueRef::Texts(texts) => write_texts(out, texts.as_slice()),
+        ValueRef::UserIds(ids) => write_user_ids(out, ids.as_slice()),
         ValueRef::Ref(id) => match form {
-            FieldForm::Ref(kind) => reference_value(alloc, kind, id),
+            FieldForm::Ref(kind) => write_reference(out, buffer, kind, id),
             _ => unreachable!(),
         },
         ValueRef::Refs(ids) => match form {
-            FieldForm::Refs(kind) => {
-                Ok(Value::Array(reference_values(alloc, kind, ids.as_slice())?))
-            }
+            FieldForm::Refs(kind) => write_references(out, buffer, kind, ids.as_slice()),
             _ => unreachable!(),
         },
     }

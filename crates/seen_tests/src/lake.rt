@@ -108,7 +108,7 @@ fn lake(rt: &impl Abort, alloc: Global) -> Result<RosterSet, Fail> {
 }
 
 // Publishes a set in a table.
-fn publish(rt: &impl Abort, alloc: Global, table: &mut Table, set: &RosterSet) -> Result<(), Fail> {
+fn publish(rt: &impl Abort, alloc: Global, table: &mut Table, set: RosterSet) -> Result<(), Fail> {
     let Some(at) = Moment::at(1_000) else {
         panic!(rt; "no moment");
     };
@@ -190,7 +190,7 @@ static SEEN: [(Option<&[&str]>, &str); 4] = [
 fn callers_see_the_lake(rt: HostRuntime) -> Result<(), Fail> {
     let alloc = rt.alloc();
     let mut table = Table::new(alloc, 2);
-    publish(&rt, alloc, &mut table, &lake(&rt, alloc)?)?;
+    publish(&rt, alloc, &mut table, lake(&rt, alloc)?)?;
     for (schools, want) in &SEEN {
         let grant = grant_of(&rt, alloc, *schools)?;
         let (asked, listed, again) = thrice(alloc, &table.newest_rows(), &grant)?;

@@ -1,8 +1,8 @@
 -- What listed rows change, one row after another.
-use Rattle.std.proofs.Common.{◌≡◌, ℕ, ℤ, ◌+◌, ◌<◌, List, [], ◌∷◌, ◌++◌, length, get_or, take, true, false, cond, Option, Some, None, refl, sym, ap, subst, ◌∙◌}
+use Rattle.std.proofs.Common.{◌≡◌, ℕ, ℤ, ◌+◌, ◌<◌, List, [], ◌∷◌, ◌++◌, length, length-append, get_or, take, arith, true, false, cond, Option, Some, None, refl, sym, ap, subst, ◌∙◌}
 use Rattle.std.specs.Option.{option_or}
 use Rattle.std.specs.Ordering.{is_eq}
-use Rattle.std.proofs.lemmas.List.{take_more}
+use Rattle.std.proofs.lemmas.List.{take_all, take_more}
 use Rattle.reference_rules.proofs.KeyOrder.{equal_from_is_eq, key_exact}
 use Rattle.roster_types.specs.Keys.{Ascends, Key, key_cmp, look_up}
 use Rattle.roster_types.specs.declared.set_row.SetRow.{SetRow}
@@ -12,6 +12,14 @@ use Rattle.set_changes.specs.Steps.{IsListedChange, ListedChangeAt, stored_as, w
 use Rattle.version_core.proofs.OrderLemmas.{look_up-put}
 use Rattle.version_core.specs.Changes.{change_key}
 use Rattle.version_core.specs.declared.row_change.RowChange.{RowChange}
+
+behind_front : (front rest : List SetRow) (listed : SetRow) → get_or (front ++ listed ∷ rest) (length front) listed ≡ listed
+behind_front [] rest listed = refl
+behind_front (x ∷ front) rest listed = behind_front front rest listed
+
+pub nothing_left : {X : Type 0} (xs : List X) → length xs ≡ 0 → xs ≡ []
+nothing_left [] none = refl
+nothing_left (x ∷ xs) none = absurd (omega arith)
 
 module _ (feed : List ℕ) (at : ℤ) where
   stored_key : (listed : SetRow) → change_key (stored_as feed at listed) ≡ set_key listed
@@ -58,3 +66,17 @@ module _ (feed : List ℕ) (at : ℤ) where
         or_none : (l : Option SetRow) → option_or l None ≡ l
         or_none None = refl
         or_none (Some x) = refl
+
+    -- with one row more behind those so far
+    pub changed_next : (front rest : List SetRow) (listed : SetRow) (o : Option RowChange) (changes : List RowChange) → Ascends set_key index → front ++ listed ∷ rest ≡ index → IsListedChange feed at listed (look_up change_key (set_key listed) rows) o → Changed (length front) changes → Changed (length (front ++ listed ∷ [])) (with_change o changes)
+    changed_next front rest listed o changes up whole is so =
+        let long = length-append front (listed ∷ rest) in
+        let same = ap length whole in
+        subst (λ n. Changed n (with_change o changes)) (sym (length-append front (listed ∷ []))) (
+        changed_on (length front) listed o changes up (omega (arith, long, same)) (sym (behind_front front rest listed) ∙ ap (λ l. get_or l (length front) listed) whole) is so)
+
+    -- all rows
+    pub changed_all : (front : List SetRow) (changes : List RowChange) → front ≡ index → Changed (length front) changes → (k : Key) → ListedChangeAt feed at (look_up set_key k index) (look_up change_key k rows) (look_up change_key k changes)
+    changed_all front changes whole so k =
+        let same = ap length whole in
+        subst (λ l. ListedChangeAt feed at (look_up set_key k l) (look_up change_key k rows) (look_up change_key k changes)) (take_all (length front) index (omega (arith, same))) (so k)

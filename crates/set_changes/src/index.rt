@@ -1,13 +1,14 @@
 //! The rows of a set in the order of kinds and ids, so that one is found without going through all.
 
-ghost use Rattle.std.specs.Prelude.{◌≡◌, IfOk, is_some};
+ghost use Rattle.std.specs.Prelude.{◌≡◌, IfOk, flat_map, is_some};
 ghost use Rattle.roster_types.specs.Keys.{Ascends, Key, look_up};
+ghost use Rattle.roster_types.specs.Sets.{AreParts};
 ghost use Rattle.roster_values.specs.Kinds.{place_of_kind};
 ghost use Rattle.set_changes.specs.Applying.{rows_in, set_key};
 ghost use Rattle.set_changes.specs.Steps.{part_indexed};
 
 use reference_rules::order;
-use roster_base::{Keyed, NoMemory, sorted};
+use roster_base::{Items, Keyed, NoMemory, sorted};
 use roster_texts::Id;
 use roster_types::set::{RosterSet, SetPart};
 use roster_types::set_row::SetRow;
@@ -66,6 +67,20 @@ pub fn index_of<'a>(alloc: Global, set: &'a RosterSet) -> Result<Vec<Listed<'a>>
         index.append(&mut rows)?;
     }
     Ok(index)
+}
+
+/// The rows of the parts of a set in the same order, as they lie in them. No row is copied.
+pub fn ordered_rows(alloc: Global, parts: Items<SetPart>) -> Result<Vec<SetRow>, NoMemory>
+    requires { AreParts parts }
+    ensures order { IfOk result (λ v. Ascends set_key v.items) }
+    ensures rows { IfOk result (λ v. (k : Key) → look_up set_key k v.items ≡ look_up set_key k (flat_map (λ part. part.rows) parts)) }
+{
+    let mut all = Vec::new(alloc);
+    for part in parts.into_vec() {
+        let mut rows = sorted(alloc, part.rows.into_vec())?;
+        all.append(&mut rows)?;
+    }
+    Ok(all)
 }
 
 /// Whether a row of this kind and id is listed.

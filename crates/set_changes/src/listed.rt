@@ -7,7 +7,6 @@ ghost use Rattle.set_changes.specs.Applying.{is_own, set_key};
 ghost use Rattle.set_changes.specs.Steps.{IsListedChange, Leaves, ListedChangeAt, stored_as, with_change};
 ghost use Rattle.version_core.specs.Changes.{change_key};
 
-use crate::index::Listed;
 use roster_base::{NoMemory, Same, TryCopy};
 use roster_texts::{Moment, Name};
 use roster_types::owner::Owner;
@@ -38,36 +37,42 @@ fn leaves(feed: &Name, listed: &SetRow, stored: &RowChange) -> bool
 }
 
 // A listed row as it is stored where it doesn't leave what stands.
-fn stored_as(alloc: Global, feed: &Name, listed: &SetRow, at: Moment) -> Result<RowChange, NoMemory>
-    ensures { IfOk result (λ change. change ≡ stored_as feed.now at listed.now) }
+fn stored_as(feed: Name, listed: SetRow, at: Moment) -> RowChange
+    ensures { result ≡ stored_as feed at listed }
 {
-    // The owner first, so that no row is dropped where memory runs out.
-    let owner = Owner::Feed(feed.copy(alloc)?);
-    let row = listed.row.copy(alloc)?;
-    if listed.dated {
-        return Ok(RowChange { row, owner });
+    let owner = Owner::Feed(feed);
+    let SetRow { row, dated } = listed;
+    if dated {
+        return RowChange { row, owner };
     }
     let row = row.dated(at);
-    Ok(RowChange { row, owner })
+    RowChange { row, owner }
 }
 
 // The change that a listed row is, or nothing where it leaves what stands.
 fn listed_change(
     alloc: Global,
     feed: &Name,
-    listed: &SetRow,
+    listed: SetRow,
     stored: Option<&RowChange>,
     at: Moment,
 ) -> Result<Option<RowChange>, NoMemory>
-    ensures { IfOk result (IsListedChange feed.now at listed.now (option_copied stored.entry)) }
+    ensures { IfOk result (IsListedChange feed.now at listed (option_copied stored.entry)) }
 {
     if let Some(stored) = stored {
-        if leaves(feed, listed, stored) {
+        if leaves(feed, &listed, stored) {
+            drop(listed);
             return Ok(None);
         }
     }
-    let change = stored_as(alloc, feed, listed, at)?;
-    Ok(Some(change))
+    match feed.copy(alloc) {
+        Ok(feed) => Ok(Some(stored_as(feed, listed, at))),
+        Err(error) => {
+            // By name, since the check goes through all ten structs where a row is dropped unnamed.
+            drop(listed);
+            Err(error)
+        }
+    }
 }
 
 // Puts a change in its place, where there is one.
@@ -80,22 +85,21 @@ fn add_change(changes: &mut SortedRows, change: Option<RowChange>) -> Result<(),
     }
 }
 
-/// What the rows of a set change, in the order of kinds and ids.
+/// What the rows of a set change, in the order of kinds and ids. The rows move into the changes.
 pub fn listed_changes(
     alloc: Global,
     view: &VersionView,
     feed: &Name,
-    index: &[Listed],
+    rows: Vec<SetRow>,
     at: Moment,
 ) -> Result<SortedRows, NoMemory>
-    requires { Ascends set_key index.now }
-    ensures { IfOk result (λ changes. (k : Key) → ListedChangeAt feed.now at (look_up set_key k index.now) (look_up change_key k view.now.rows) (look_up change_key k changes)) }
+    requires { Ascends set_key rows.items }
+    ensures { IfOk result (λ changes. (k : Key) → ListedChangeAt feed.now at (look_up set_key k rows.items) (look_up change_key k view.now.rows) (look_up change_key k changes)) }
 {
     let mut changes = SortedRows::new(alloc);
-    for listed in index {
-        let row = &listed.get().row;
-        let stored = view.change(row.kind(), row.id());
-        let change = listed_change(alloc, feed, listed.get(), stored, at)?;
+    for listed in rows {
+        let stored = view.change(listed.row.kind(), listed.row.id());
+        let change = listed_change(alloc, feed, listed, stored, at)?;
         add_change(&mut changes, change)?;
     }
     Ok(changes)

@@ -4,13 +4,13 @@ ghost use Rattle.std.specs.Prelude.{IfOk, ◌≡◌, ◌≤◌, None, true};
 ghost use Rattle.std.specs.Option.{ForSome};
 ghost use Rattle.roster_types.specs.Keys.{Key, look_up};
 ghost use Rattle.set_changes.specs.Applying.{Answers, LeadsOn, rows_in, set_key};
-ghost use Rattle.set_changes.specs.Steps.{ChangesAt, IsSound, led_to};
+ghost use Rattle.set_changes.specs.Steps.{ChangesAt, IsSound, ListedChangeAt, led_to, mark_at};
 ghost use Rattle.version_core.specs.Changes.{AreChanges, change_key};
 ghost use Rattle.version_core.specs.Order.{overlaid};
 ghost use Rattle.version_core.specs.Version.{newest_of};
 
 use crate::draft::Draft;
-use crate::index::index_of;
+use crate::index::{index_of, ordered_rows};
 use crate::listed::listed_changes;
 use crate::marks::marks_of;
 use crate::publish_fault::PublishFault;
@@ -43,18 +43,45 @@ fn merged(alloc: Global, marks: Vec<RowChange>, listed: SortedRows) -> Result<So
     Ok(SortedRows::from_vec(changes))
 }
 
-// The rows that a set changes, each as it becomes.
-fn changed_rows(
+// The marks of the rows that a set leaves out.
+fn set_marks(
     alloc: Global,
     view: &VersionView,
     set: &RosterSet,
     at: Moment,
-) -> Result<SortedRows, NoMemory>
-    ensures { IfOk result (λ changes. (k : Key) → ChangesAt set.now at (look_up set_key k (rows_in set.now)) (look_up change_key k view.now.rows) (look_up change_key k changes)) }
+) -> Result<Vec<RowChange>, NoMemory>
+    ensures order { IfOk result (λ v. AreChanges v.items) }
+    ensures marks { IfOk result (λ v. (k : Key) → look_up change_key k v.items ≡ mark_at set.now at (rows_in set.now) view.now.rows k) }
 {
     let index = index_of(alloc, set)?;
-    let marks = marks_of(alloc, view, set, &index, at)?;
-    let listed = listed_changes(alloc, view, set.feed(), &index, at)?;
+    marks_of(alloc, view, set, &index, at)
+}
+
+// What the listed rows of a set change. They move into the changes.
+fn set_rows(
+    alloc: Global,
+    view: &VersionView,
+    set: RosterSet,
+    at: Moment,
+) -> Result<SortedRows, NoMemory>
+    ensures { IfOk result (λ changes. (k : Key) → ListedChangeAt set.feed at (look_up set_key k (rows_in set)) (look_up change_key k view.now.rows) (look_up change_key k changes)) }
+{
+    let (feed, parts) = set.into_parts();
+    let rows = ordered_rows(alloc, parts)?;
+    listed_changes(alloc, view, &feed, rows, at)
+}
+
+// The rows that a set changes, each as it becomes.
+fn changed_rows(
+    alloc: Global,
+    view: &VersionView,
+    set: RosterSet,
+    at: Moment,
+) -> Result<SortedRows, NoMemory>
+    ensures { IfOk result (λ changes. (k : Key) → ChangesAt set at (look_up set_key k (rows_in set)) (look_up change_key k view.now.rows) (look_up change_key k changes)) }
+{
+    let marks = set_marks(alloc, view, &set, at)?;
+    let listed = set_rows(alloc, view, set, at)?;
     merged(alloc, marks, listed)
 }
 
@@ -63,10 +90,10 @@ fn changed_rows(
 pub fn set_change(
     alloc: Global,
     table: &Table,
-    set: &RosterSet,
+    set: RosterSet,
     at: Moment,
 ) -> Result<Option<Change>, Refusal<PublishFault>>
-    ensures change { Answers (newest_of table.now) set.now at result }
+    ensures change { Answers (newest_of table.now) set at result }
     ensures next { IfOk result (λ change. ForSome change (LeadsOn (newest_of table.now))) }
     ensures sound { IfOk result (λ change. IsSound (led_to (newest_of table.now) change)) }
 {
@@ -79,21 +106,23 @@ pub fn set_change_over(
     alloc: Global,
     table: &Table,
     is_sound: bool,
-    set: &RosterSet,
+    set: RosterSet,
     at: Moment,
 ) -> Result<Option<Change>, Refusal<PublishFault>>
     requires { is_sound ≡ true → IsSound (newest_of table.now) }
-    ensures change { Answers (newest_of table.now) set.now at result }
+    ensures change { Answers (newest_of table.now) set at result }
     ensures next { IfOk result (λ change. ForSome change (LeadsOn (newest_of table.now))) }
     ensures sound { IfOk result (λ change. IsSound (led_to (newest_of table.now) change)) }
 {
     let view = table.newest_rows();
+    // Asked while the set has its rows: they move into the change.
+    let owned = owned_by_other(alloc, &view, &set)?;
     let rows = changed_rows(alloc, &view, set, at)?;
     let draft = Draft {
         view: &view,
         changes: &rows,
     };
-    if let Some(fault) = owned_by_other(alloc, &view, set)? {
+    if let Some(fault) = owned {
         return Err(Refusal::Fault(fault));
     }
     if let Some(fault) = refusal_of(alloc, &draft, is_sound)? {

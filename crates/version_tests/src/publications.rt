@@ -318,7 +318,7 @@ pub fn publish(
     rt: &impl Abort,
     alloc: Global,
     table: &mut Table,
-    set: &RosterSet,
+    set: RosterSet,
     at: u8,
 ) -> Result<&'static str, Fail> {
     let Some(at) = Moment::read(date_text(at).as_bytes()) else {
@@ -358,8 +358,7 @@ fn publish_both(
     publication: Publication,
 ) -> Result<&'static str, Fail> {
     let set = set_for(rt, alloc, publication)?;
-    let made = publish(rt, alloc, table, &set, publication.at)?;
-    drop(set);
+    let made = publish(rt, alloc, table, set, publication.at)?;
     if made == "new" {
         let new = match versions.last() {
             Some(entries) => plain(alloc, entries, publication)?,
@@ -512,8 +511,7 @@ fn broken_references(rt: HostRuntime) -> Result<(), Fail> {
         &["s", "", "", "West", "school", "", "d"],
     )?;
     let set = set_of(alloc, feed, Kind::Orgs, Mode::Delta, rows)?;
-    let made = publish(&rt, alloc, &mut table, &set, 1)?;
-    drop(set);
+    let made = publish(&rt, alloc, &mut table, set, 1)?;
     assert_eq!(rt; made, "unsound");
     Ok(())
 }

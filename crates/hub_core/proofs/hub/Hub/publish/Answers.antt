@@ -1,5 +1,5 @@
-use Rattle.std.proofs.Common.{◌≡◌, ◌∙◌, inl, refl, subst, sym, true}
-use Rattle.std.specs.Prelude.{IfOk, is_ok}
+use Rattle.std.proofs.Common.{◌∙◌, inl, refl, subst, sym}
+use Rattle.std.specs.Prelude.{IfOk}
 use Rattle.keeper_memory.specs.Kept.{newest_kept}
 use Rattle.set_changes.specs.Applying.{Answers, Applies}
 use Rattle.set_changes.specs.Steps.{IsSound, led_to}
@@ -11,7 +11,7 @@ use Rattle.hub_core.proofs.hub.Hub.publish.Goals as goal
 pub adopt-answer-requires-clause-can : goal.adopt-answer-requires-clause-can
 adopt-answer-requires-clause-can g c =
     let hub = c.self.inside in
-    rw (← c.self.view_is) (set_can (kept_in hub.table hub.marks.marks) c.self.invariant.kept c.args.set.now c.args.at c.set_change_over-due.result c.set_change_over-due.ensures.change c.set_change_over-due.ensures.next)
+    rw (← c.self.view_is) (set_can (kept_in hub.table hub.marks.marks) c.self.invariant.kept c.args.set c.args.at c.set_change_over-due.result c.set_change_over-due.ensures.change c.set_change_over-due.ensures.next)
 
 pub note_sound-requires : goal.note_sound-requires
 note_sound-requires g c = λ ok.
@@ -22,7 +22,7 @@ note_sound-requires g c = λ ok.
 
 pub returns-clause-told : goal.returns-clause-told
 returns-clause-told g c = λ after standing.
-    let set = c.args.set.now in
+    let set = c.args.set in
     let at = c.args.at in
     let due = c.set_change_over-due.result in
     let between = c.ready.new.self.kept in

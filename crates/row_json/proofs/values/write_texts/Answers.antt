@@ -1,0 +1,11 @@
+use Rattle.std.proofs.Common.{rules, ◌≡◌, ◌++◌, ◌∷◌, [], ap, sym, ◌∙◌}
+use Rattle.json.specs.Token.{begin_array, end_array}
+use Rattle.serde_json.specs.Data.{string}
+use Rattle.row_json.proofs.TokenLaws.{array_tokens, three_parts}
+use Rattle.row_json.proofs.values.write_texts.Goals as goal
+
+pub returns-clause-tokens : goal.returns-clause-tokens
+returns-clause-tokens c =
+    let opened : c.begin_array.new.self.tokens ≡ c.args.out.now.tokens ++ begin_array ∷ [] = search rules in
+    let closed : c.end_array.new.self.tokens ≡ c.push_texts.new.out.tokens ++ end_array ∷ [] = search rules in
+    three_parts _ _ _ _ _ _ _ opened c.in_ok-push_texts.ensures.tokens closed ∙ ap (λ ts. c.args.out.now.tokens ++ ts) (sym (array_tokens string c.args.texts.now))
