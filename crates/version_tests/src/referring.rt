@@ -34,8 +34,7 @@ fn publish_row(
     let feed = name_of(rt, alloc, "sis")?;
     let rows = one_row(rt, alloc, kind, cells)?;
     let set = set_of(alloc, feed, kind, Mode::Delta, rows)?;
-    let _made = publish(rt, alloc, table, &set, 1)?;
-    drop(set);
+    let _made = publish(rt, alloc, table, set, 1)?;
     Ok(())
 }
 
