@@ -235,7 +235,10 @@ fn seen_rows_are_listed(rt: HostRuntime) -> Result<(), Fail> {
     for (text, want) in &SEEN {
         let path = path_of(&rt, alloc, &router, text)?;
         let query = query_of(&rt, alloc, &path, "")?;
-        let line = line_of(alloc, seen_page(alloc, &rows, &schools, VERSION, &path, &query)?)?;
+        let line = line_of(
+            alloc,
+            seen_page(alloc, &rows, &schools, VERSION, &path, &query)?,
+        )?;
         assert_eq!(rt; line.as_str(), *want);
     }
     Ok(())
@@ -255,7 +258,11 @@ fn push_links(line: &mut String, links: &[LinkItem]) -> Result<(), Fail> {
     for link in links {
         line.push_str(word(link.rel))?;
         line.push(' ')?;
-        line.push_str(link.target.as_str().trim_start_matches("/ims/oneroster/v1p1/"))?;
+        line.push_str(
+            link.target
+                .as_str()
+                .trim_start_matches("/ims/oneroster/v1p1/"),
+        )?;
         line.push('\n')?;
     }
     Ok(())
