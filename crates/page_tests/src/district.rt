@@ -59,7 +59,8 @@ fn put_row(rows: &mut SortedRows, row: Row, owner: Owner) -> Result<(), Fail> {
     Ok(rows.put(RowChange { row, owner })?)
 }
 
-fn put_line(
+/// Puts the row of a line.
+pub fn put_line(
     rt: &impl Abort,
     alloc: Global,
     rows: &mut SortedRows,

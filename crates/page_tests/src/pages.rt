@@ -17,10 +17,16 @@ use std::process::Abort;
 use std::test::Fail;
 use version_core::references::Refs;
 
-// The version that is read.
-const VERSION: u64 = 7;
+/// The version that is read.
+pub const VERSION: u64 = 7;
 
-fn path_of(rt: &impl Abort, alloc: Global, router: &PathRouter, text: &str) -> Result<Path, Fail> {
+/// The path behind the address of the hub's collections.
+pub fn path_of(
+    rt: &impl Abort,
+    alloc: Global,
+    router: &PathRouter,
+    text: &str,
+) -> Result<Path, Fail> {
     let whole = format!(in alloc; "/ims/oneroster/v1p1/{text}")?;
     match Path::read(alloc, router, whole.as_str())? {
         Some(path) => Ok(path),
@@ -28,7 +34,8 @@ fn path_of(rt: &impl Abort, alloc: Global, router: &PathRouter, text: &str) -> R
     }
 }
 
-fn query_of(rt: &impl Abort, alloc: Global, path: &Path, text: &str) -> Result<Query, Fail>
+/// The query of a path.
+pub fn query_of(rt: &impl Abort, alloc: Global, path: &Path, text: &str) -> Result<Query, Fail>
     ensures { IfOk result (λ q. 1 ≤ q.limit) }
 {
     match read_query(alloc, path.route().lists().kind(), text) {
@@ -37,7 +44,8 @@ fn query_of(rt: &impl Abort, alloc: Global, path: &Path, text: &str) -> Result<Q
     }
 }
 
-fn push_ids(line: &mut String, rows: &[Row]) -> Result<(), Fail> {
+/// Adds the ids of rows.
+pub fn push_ids(line: &mut String, rows: &[Row]) -> Result<(), Fail> {
     for row in rows {
         line.push(' ')?;
         line.push_str(row.id().as_str())?;

@@ -1,0 +1,170 @@
+//! Pages of small rosters, joined, beside a slow plain program.
+
+use crate::district::put_line;
+use crate::pages::{VERSION, path_of, push_ids, query_of};
+use hub_paths::{Path, PathRouter};
+use query_pages::page;
+use roster_values::Kind;
+use std::alloc::Global;
+use std::process::Abort;
+use std::test::Fail;
+use version_core::references::Refs;
+use version_core::sorted_rows::SortedRows;
+
+// A user's id, given name, family name and role.
+type Person = (&'static str, &'static str, &'static str, &'static str);
+
+const ANN: Person = ("u1", "ann", "oak", "student");
+
+const BEN: Person = ("u2", "ben", "oak", "student");
+
+const CY: Person = ("u3", "cy", "dow", "teacher");
+
+const DEE: Person = ("u4", "dee", "ash", "student");
+
+const ELI: Person = ("u5", "ann", "dow", "student");
+
+const FAY: Person = ("u6", "ben", "oak", "guardian");
+
+// Users in ascending order of their ids.
+static ROSTERS: [&[Person]; 7] = [
+    &[],
+    &[DEE],
+    &[ANN, BEN],
+    &[BEN, CY, ELI],
+    &[ANN, CY, DEE, FAY],
+    &[ANN, BEN, CY, DEE, ELI],
+    &[ANN, BEN, CY, DEE, ELI, FAY],
+];
+
+// Queries, and what they mean: the role that passes, the column of the key, and whether keys descend.
+static QUERIES: [(&str, &str, usize, bool); 8] = [
+    ("", "", 0, false),
+    ("orderBy=desc", "", 0, true),
+    ("sort=familyName", "", 2, false),
+    ("sort=familyName&orderBy=desc", "", 2, true),
+    (
+        "sort=givenName&orderBy=desc&filter=role='student'",
+        "student",
+        1,
+        true,
+    ),
+    ("filter=role='student'", "student", 0, false),
+    ("sort=givenName&filter=familyName='oak'", "oak", 1, false),
+    ("sort=shoe&orderBy=desc", "", 0, false),
+];
+
+fn key_of(person: &Person, column: usize) -> &'static str {
+    match column {
+        1 => person.1,
+        2 => person.2,
+        _ => person.0,
+    }
+}
+
+fn comes_before(one: &Person, other: &Person, column: usize, descends: bool) -> bool {
+    let order = key_of(one, column).cmp(key_of(other, column));
+    if descends {
+        order.is_gt()
+    } else {
+        order.is_lt()
+    }
+}
+
+// Puts a user in front of the first that it comes before.
+fn put(list: &mut Vec<Person>, person: &Person, column: usize, descends: bool) -> Result<(), Fail> {
+    let behind = list.len();
+    let place = list
+        .iter()
+        .position(|other| comes_before(person, other, column, descends))
+        .unwrap_or(behind);
+    Ok(list.insert(place, *person)?)
+}
+
+// The ids of the list, by the plain program.
+fn plain_line(
+    alloc: Global,
+    roster: &[Person],
+    word: &str,
+    column: usize,
+    descends: bool,
+) -> Result<String, Fail> {
+    let mut list = Vec::new(alloc);
+    for person in roster {
+        if word.is_empty() || person.3 == word || person.2 == word {
+            put(&mut list, person, column, descends)?;
+        }
+    }
+    let mut line = String::new(alloc);
+    for person in &list {
+        line.push(' ')?;
+        line.push_str(person.0)?;
+    }
+    Ok(line)
+}
+
+fn rows_of(rt: &impl Abort, alloc: Global, roster: &[Person]) -> Result<SortedRows, Fail> {
+    let mut rows = SortedRows::new(alloc);
+    for (id, given, family, role) in roster {
+        let line = format!(in alloc; "{id};;;true;s1;{role};{id};;{given};{family};;;;;;;")?;
+        put_line(rt, alloc, &mut rows, Kind::Users, line.as_str())?;
+    }
+    Ok(rows)
+}
+
+// Adds the ids of a page.
+fn push_page<R: Refs>(
+    rt: &impl Abort,
+    alloc: Global,
+    line: &mut String,
+    rows: &R,
+    path: &Path,
+    query: &str,
+) -> Result<(), Fail> {
+    let query = query_of(rt, alloc, path, query)?;
+    match page(alloc, rows, VERSION, path, &query)? {
+        Some(page) => push_ids(line, page.rows.as_slice()),
+        None => Ok(()),
+    }
+}
+
+// The offsets of pages of two that have six users.
+static OFFSETS: [u8; 4] = [0, 2, 4, 6];
+
+// The ids of all pages, joined.
+fn joined_line<R: Refs>(
+    rt: &impl Abort,
+    alloc: Global,
+    rows: &R,
+    path: &Path,
+    text: &str,
+) -> Result<String, Fail> {
+    let mut line = String::new(alloc);
+    for offset in &OFFSETS {
+        let query = format!(in alloc; "limit=2&offset={offset}&{text}")?;
+        push_page(rt, alloc, &mut line, rows, path, query.as_str())?;
+    }
+    Ok(line)
+}
+
+// The pages of one roster, for every query.
+fn compare(rt: &impl Abort, alloc: Global, path: &Path, roster: &[Person]) -> Result<(), Fail> {
+    let rows = rows_of(rt, alloc, roster)?;
+    for (text, word, column, descends) in &QUERIES {
+        let joined = joined_line(rt, alloc, &rows, path, text)?;
+        let plain = plain_line(alloc, roster, word, *column, *descends)?;
+        assert_eq!(rt; joined.as_str(), plain.as_str(), "{text}");
+    }
+    Ok(())
+}
+
+#[test]
+fn joined_pages_are_the_list(rt: HostRuntime) -> Result<(), Fail> {
+    let alloc = rt.alloc();
+    let router = PathRouter::new(alloc)?;
+    let path = path_of(&rt, alloc, &router, "users")?;
+    for roster in &ROSTERS {
+        compare(&rt, alloc, &path, roster)?;
+    }
+    Ok(())
+}
