@@ -1,10 +1,12 @@
 //! The hub's answers to requests.
 #![tactic(auto)]
 
+pub mod answering;
 mod checks;
 mod contents;
 mod reading;
 pub mod reads;
 mod refusals;
 
+pub use answering::answer;
 pub use reads::answer_read;

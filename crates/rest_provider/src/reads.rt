@@ -82,8 +82,8 @@ fn is_head(verb: Verb) -> bool
     }
 }
 
-// The reply as it is sent.
-fn sent(request: &Request, reply: Reply) -> Reply
+/// The reply as it is sent.
+pub fn sent(request: &Request, reply: Reply) -> Reply
     ensures { result ≡ sent (wanted_by request.now) reply }
 {
     let mut reply = reply;

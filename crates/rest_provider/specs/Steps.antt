@@ -1,0 +1,28 @@
+-- A request as a step of a hub, told by what is kept of the hub's state.
+use Rattle.std.specs.Prelude.{◌≡◌, ◌⊎◌, ◌+◌, ◌-◌, ◌^◌, ℕ, ℤ, min}
+use Rattle.hub_core.specs.declared.hub_error.HubError.{HubError}
+use Rattle.hub_core.specs.declared.hub_error.HubError.TheVariants as error
+use Rattle.hub_requests.specs.Requests.{wanted_by}
+use Rattle.hub_rules.specs.Answers.{sent}
+use Rattle.hub_rules.specs.Checks.{refused}
+use Rattle.hub_rules.specs.Runs.{Replied, Steps, Take}
+use Rattle.hub_rules.specs.Wanted.{Wanted}
+use Rattle.keeper_memory.specs.Kept.{KeptState}
+use Rattle.keeper_memory.specs.Parts.{IsPartOf}
+use Rattle.status_info.specs.declared.cause.Cause.TheVariants as cause
+use Rattle.status_info.specs.declared.reply.Reply.{Reply}
+use Rattle.status_info.specs.declared.request.Request.{Request}
+use Rattle.version_core.specs.HubStates.{HubState, IsHubState}
+
+-- the count rises once where a step failed, and else stands
+abbrev pub CountsFailed : ℕ → ℕ → ℕ → Type 0
+CountsFailed before now failed = ((failed ≡ 0) × (now ≡ before)) ⊎ ((failed ≡ 1) × (now ≡ min (before + 1) (2 ^ 64 - 1)))
+
+-- at each state of which this is kept, the reply is that of a step which takes the request and leaves the state
+abbrev pub IsStepOf : Request → Reply → KeptState → ℕ → Type 0
+IsStepOf request reply kept failed = (state : HubState) → IsHubState state → IsPartOf kept state → (at : ℤ) → Steps (Take (wanted_by request) at) state (Replied reply) state failed
+
+-- the reply where a hub's call failed
+abbrev pub error_reply : Wanted → HubError → Reply
+error_reply wanted error.Keeper = sent wanted (refused wanted cause.StoreFailed)
+error_reply wanted _ = sent wanted (refused wanted cause.NoMemory)
