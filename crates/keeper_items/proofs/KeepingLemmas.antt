@@ -1,5 +1,5 @@
 -- Stores whose items keep a state, before and after a call.
-use Rattle.std.proofs.Common.{◌≡◌, ◌+◌, ◌<◌, ◌^◌, ◌⊎◌, ℕ, List, [], ◌∷◌, Result, Ok, Err, IfOk, OnOk, OnErr, inl, inr, map, refl, sym, ap, subst, ◌∙◌}
+use Rattle.std.proofs.Common.{◌≡◌, ◌+◌, ◌<◌, ◌^◌, ℕ, List, [], ◌∷◌, Result, Ok, Err, IfOk, OnOk, OnErr, inl, inr, map, refl, sym, ap, subst, ◌∙◌}
 use Rattle.std.specs.List.{AllByRecursion}
 use Rattle.item_maps.specs.Edits.{after, entry_of}
 use Rattle.item_maps.specs.Items.{Items, is_between, listed, no_items}

@@ -1,2 +1,3 @@
 pub mod KeepingLemmas
+pub mod LoadLemmas
 pub mod TellingLemmas

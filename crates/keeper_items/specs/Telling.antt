@@ -1,5 +1,4 @@
 -- What a keeper over a store of items tells. The store says nothing once it can't be trusted.
-use Rattle.std.specs.Prelude.{ℕ}
 use Rattle.item_maps.specs.Items.{Items}
 use Rattle.keeper_memory.specs.Kept.{KeptState}
 use Rattle.keeper_items.specs.Keeping.{Keeps}

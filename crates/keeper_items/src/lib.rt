@@ -3,6 +3,7 @@
 
 mod commit;
 pub mod item_hub;
+mod load;
 mod oldest;
 mod prepare;
 mod state;

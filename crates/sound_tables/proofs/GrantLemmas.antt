@@ -21,10 +21,10 @@ pub callers_rise : (grants : List GrantRow) → ((k : ℕ) (d : GrantRow) → k 
 callers_rise [] each = (no_grants 0).rise
 callers_rise (row ∷ grants) each =
     sorted_from_all_adjacent nat_list_cmp_total (map caller_of (row ∷ grants)) (caller_of row) (λ k lt.
-      let long = length-map (row ∷ grants) caller_of in
-      let low = get_map caller_of (row ∷ grants) k row in
-      let high = get_map caller_of (row ∷ grants) (k + 1) row in
-      (λ i. slice_cmp nat_cmp (low i) (high i)) ∙ each k row (omega (arith, lt, long)))
+    let long = length-map (row ∷ grants) caller_of in
+    let low = get_map caller_of (row ∷ grants) k row in
+    let high = get_map caller_of (row ∷ grants) (k + 1) row in
+    (λ i. slice_cmp nat_cmp (low i) (high i)) ∙ each k row (omega (arith, lt, long)))
 
 swapped : (a b : List ℕ) → bytes_eq a b ≡ false → bytes_eq b a ≡ false
 swapped a b differ = false_from_ne_true _ (λ same. let again = (bytes_eq-Decides a b).1 (sym ((bytes_eq-Decides b a).0 same)) in cc)

@@ -21,6 +21,6 @@ changes_ascend (row ∷ []) each = refl
 changes_ascend (row ∷ next ∷ rows) each =
     let less : key_cmp (change_key row) (change_key next) ≡ Less = each 0 row (omega arith) in
     let later = changes_ascend (next ∷ rows) (λ k d lt.
-      let more : suc k + 1 ≡ suc (k + 1) = omega arith in
-      subst (λ n. key_cmp (change_key (get_or (row ∷ next ∷ rows) (suc k) d)) (change_key (get_or (row ∷ next ∷ rows) n d)) ≡ Less) more (each (suc k) d (omega (arith, lt)))) in
+    let more : suc k + 1 ≡ suc (k + 1) = omega arith in
+    subst (λ n. key_cmp (change_key (get_or (row ∷ next ∷ rows) (suc k) d)) (change_key (get_or (row ∷ next ∷ rows) n d)) ≡ Less) more (each (suc k) d (omega (arith, lt)))) in
     and_from _ _ (and_from _ _ (ap is_lt less) (below_later (change_key row) (change_key next) rows less (and_first _ _ later))) later

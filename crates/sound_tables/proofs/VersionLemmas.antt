@@ -1,5 +1,5 @@
 -- Tables whose parts were tested.
-use Rattle.std.proofs.Common.{◌+◌, ◌-◌, ◌≤◌, ℕ, suc, List, [], ◌∷◌, Option, None, Some, length, unwrap_or, refl, arith}
+use Rattle.std.proofs.Common.{◌+◌, ◌≤◌, ℕ, suc, List, [], ◌∷◌, Option, None, Some, length, unwrap_or, refl, arith}
 use Rattle.std.specs.List.{AllByRecursion}
 use Rattle.std.specs.Option.{ForSome}
 use Rattle.roster_values.specs.declared.kind.Kind.{Kind}
@@ -22,9 +22,8 @@ pub versions_sound : (base : BaseVersion) (changes : List Change) → base.numbe
     → LeadOn base.number changes → AllByRecursion (λ change. ForSome change.grants (AreGrants change.version)) changes → AllByRecursion IsVersion (versions_from base changes)
 versions_sound base [] fits rows few grants lead own = (record { number = omega (arith, fits); rows = rows; few = λ kind. few kind 0 (omega arith); grants = grants }, tt)
 versions_sound base (change ∷ changes) fits rows few grants lead own =
-    let next = lead.0 in
-    (
+    let next = lead.0 in (
       record { number = omega (arith, fits); rows = rows; few = λ kind. few kind 0 (omega arith); grants = grants },
       versions_sound (after base change) changes (omega (arith, fits, next)) (Ascends-overlaid change_key base.rows change.rows rows) (λ kind n le. few kind (suc n) (omega (arith, le)))
-      (grants_next base.number change.version base.grants change.grants (omega (arith, next)) grants own.0) lead.1 own.1,
+          (grants_next base.number change.version base.grants change.grants (omega (arith, next)) grants own.0) lead.1 own.1,
     )

@@ -112,12 +112,7 @@ fn count_after(
     ensures few { IfSome result (λ n. n ≤ row_limit) }
 {
     let change = &changes[place];
-    let more = added(
-        kind,
-        base,
-        earlier(changes, place),
-        change.rows.as_slice(),
-    );
+    let more = added(kind, base, earlier(changes, place), change.rows.as_slice());
     sum_of(count, more)
 }
 

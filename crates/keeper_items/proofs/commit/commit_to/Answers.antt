@@ -1,5 +1,4 @@
-use Rattle.keeper_items.proofs.KeepingLemmas.{keeps_on, keeps_or_new, on_any, on_err, on_ok}
-use Rattle.hub_items.specs.Format.{Keep}
+use Rattle.keeper_items.proofs.KeepingLemmas.{keeps_or_new, on_any, on_err, on_ok}
 use Rattle.keeper_memory.specs.Commits.{with_commit}
 use Rattle.keeper_items.proofs.commit.commit_to.Goals as goal
 

@@ -1,4 +1,4 @@
-use Rattle.std.proofs.Common.{rules, ◌<◌, ◌^◌, map, ap, sym, ◌∙◌, arith}
+use Rattle.std.proofs.Common.{rules, ◌<◌, ◌^◌, map, ap, ◌∙◌, arith}
 use Rattle.item_maps.specs.Edits.{entry_of}
 use Rattle.keeper_items.specs.Keeping.{KeepOrNew}
 use Rattle.keeper_items.proofs.KeepingLemmas.{is_kept, is_new, keeps_on, made_new, on_any, on_err, on_ok}
