@@ -1,3 +1,4 @@
+pub mod ChangesLemmas
 pub mod KeepingLemmas
 pub mod LoadLemmas
 pub mod TellingLemmas

@@ -1,11 +1,12 @@
 //! What a store keeps, read back.
 
-ghost use Rattle.std.specs.Prelude.{◌≡◌, ◌∷◌, ◌+◌, ◌<◌, ◌^◌, [], ℕ, List, Option, None, Some, IfOk, IfSome, false, length, map, true};
+ghost use Rattle.std.specs.Prelude.{◌≡◌, ◌∷◌, ◌++◌, ◌+◌, ◌<◌, ◌≤◌, ◌^◌, [], ℕ, List, Option, None, Some, IfOk, IfSome, OnOk, false, length, map, true};
 ghost use Rattle.std.specs.List.{AllByRecursion};
 ghost use Rattle.std.specs.Option.{ForSome};
 ghost use Rattle.roster_base.specs.Faults.{CountsFailure};
 ghost use Rattle.item_maps.specs.Edits.{entry_of};
 ghost use Rattle.item_maps.specs.Items.{Items as Kept, listed};
+ghost use Rattle.version_core.specs.Version.{last_version};
 ghost use Rattle.version_core.specs.declared.change.Change.{Change as ChangeValue};
 ghost use Rattle.version_core.specs.declared.grant_row.GrantRow.{GrantRow as GrantValue};
 ghost use Rattle.version_core.specs.declared.hub_tables.HubTables.{HubTables as Tables};
@@ -183,4 +184,36 @@ fn change_at<S: StoredItems>(
     }
     let change = change_of(alloc, store, version, items.as_slice())?;
     Ok(Some(change))
+}
+
+fn push_change(found: &mut Vec<Change>, change: Change) -> Result<(), NoMemory>
+    ensures { OnOk result (found.new.items ≡ found.old.items ++ change ∷ []) }
+{
+    found.push(change)?;
+    Ok(())
+}
+
+// The changes behind the base, up to the first that isn't stored: no more than are kept.
+fn changes_in<S: StoredItems>(
+    alloc: Global,
+    store: &mut S,
+    base: u64,
+    keep: u32,
+) -> Result<Items<Change>, KeeperError>
+    requires { base ≤ last_version }
+    ensures changes { (t : Tables) → HasTables (S.stands_for store.old) t → base ≡ t.base.number → keep ≡ t.keep → S.is_trusted store.new
+        → IfOk result (λ changes. changes ≡ t.changes) }
+    ensures same { Stay (S.stands_for store.old) (S.stands_for store.new) }
+    ensures cause { CountsFailure (S.fault_count store.old) (S.fault_count store.new) result }
+    ensures trust { S.is_trusted store.new → S.is_trusted store.old }
+{
+    let mut found = Vec::new(alloc);
+    for place in 0..keep {
+        let change = match change_at(alloc, store, base + 1 + place as u64)? {
+            Some(change) => change,
+            None => return Ok(Items::from_vec(found)),
+        };
+        push_change(&mut found, change)?;
+    }
+    Ok(Items::from_vec(found))
 }

@@ -15,11 +15,7 @@ use std::alloc::Global;
 use version_core::change::Change;
 
 // The grants of the base, and the version and the rows of the change behind it.
-fn oldest_of<S: StoredItems>(
-    alloc: Global,
-    store: &mut S,
-    base: u64,
-) -> Result<Oldest, KeeperError>
+fn oldest_of<S: StoredItems>(alloc: Global, store: &mut S, base: u64) -> Result<Oldest, KeeperError>
     requires { base + 2 < 2 ^ 64 }
     ensures oldest { (t : HubTables) → HasTables (S.stands_for store.old) t → base ≡ t.base.number → S.is_trusted store.new
         → IfOk result (λ o. AreOldest t o.grants.items o.version.items o.rows.items) }

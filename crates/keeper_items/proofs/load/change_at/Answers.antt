@@ -1,4 +1,4 @@
-use Rattle.std.proofs.Common.{Some, map, ap, true, ◌∙◌}
+use Rattle.std.proofs.Common.{Some, map, ap, ◌∙◌}
 use Rattle.item_maps.specs.Edits.{entry_of}
 use Rattle.hub_items.specs.Format.{version_entry}
 use Rattle.keeper_items.proofs.load.change_at.Goals as goal
