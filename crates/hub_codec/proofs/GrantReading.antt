@@ -1,8 +1,8 @@
 -- A grant whose entry is another's is that grant.
-use Rattle.std.proofs.Common.{◌≡◌, ◌+◌, ◌<◌, ◌^◌, ℕ, List, [], ◌∷◌, ◌++◌, append_assoc, length, sym, ap, subst, ◌∙◌}
+use Rattle.std.proofs.Common.{◌≡◌, ◌<◌, ◌^◌, ℕ, List, [], ◌∷◌, ◌++◌, append_assoc, length, sym, ap, subst, ◌∙◌}
 use Rattle.grant_scopes.specs.declared.schools.Schools.TheVariants as schools
 use Rattle.version_core.specs.declared.grant_row.GrantRow.{GrantRow}
-use Rattle.hub_items.specs.Format.{FitsGrant, grant_entry}
+use Rattle.hub_items.specs.Format.{FitsGrant}
 use Rattle.hub_items.specs.Pieces.{AreSized, HasNoZero, IsSized, all_sized, caller_label, grant_body, number, schools_bytes, sized}
 use Rattle.hub_items.proofs.Labels.{same_caller}
 use Rattle.hub_items.proofs.Unique.{same_grant}

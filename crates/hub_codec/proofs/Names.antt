@@ -39,10 +39,10 @@ small : (b : ℕ) → is_name_byte b ≡ true → b < 255
 small b good = elim (cases_lt b 255) [
   | inl lt ↦ lt
   | inr ge ↦ absurd (
-    let none : is_name_byte b ≡ false =
-    rw (no_range 48 57 b (omega (arith, ge)), no_range 65 90 b (omega (arith, ge)), no_range 97 122 b (omega (arith, ge)), no_same dot b (omega (arith, ge)), no_same underscore b (omega (arith, ge)), no_same hyphen b (omega (arith, ge))) refl in
-    cc
-  )
+      let none : is_name_byte b ≡ false =
+      rw (no_range 48 57 b (omega (arith, ge)), no_range 65 90 b (omega (arith, ge)), no_range 97 122 b (omega (arith, ge)), no_same dot b (omega (arith, ge)), no_same underscore b (omega (arith, ge)), no_same hyphen b (omega (arith, ge))) refl in
+      cc
+      )
 ]
 
 all_small : (bytes : List ℕ) → list_all is_name_byte bytes ≡ true → AllByRecursion (λ b. b < 255) bytes

@@ -24,11 +24,7 @@ fn caller_in(label: &[u8]) -> Option<&[u8]>
     ensures { IfSome result (λ caller. label.now ≡ caller_label caller.now) }
 {
     let (zero, caller) = label.split_last()?;
-    if *zero == 0 {
-        Some(caller)
-    } else {
-        None
-    }
+    if *zero == 0 { Some(caller) } else { None }
 }
 
 // The id in front, without its length, and what stands behind it.
@@ -47,11 +43,7 @@ fn id_at(alloc: Global, bytes: &[u8]) -> Result<Option<(Id, &[u8])>, NoMemory>
 }
 
 // So many ids in front, each behind its length, and what stands behind them.
-fn ids_at(
-    alloc: Global,
-    count: u64,
-    bytes: &[u8],
-) -> Result<Option<(Vec<Id>, &[u8])>, NoMemory>
+fn ids_at(alloc: Global, count: u64, bytes: &[u8]) -> Result<Option<(Vec<Id>, &[u8])>, NoMemory>
     ensures ids { IfOk result (λ o. IfSome o (λ p. bytes.now ≡ all_sized p.0.items ++ p.1.now)) }
     ensures count { IfOk result (λ o. IfSome o (λ p. length p.0.items ≡ count)) }
     ensures small { IfOk result (λ o. IfSome o (λ p. AllByRecursion IsSized p.0.items)) }
@@ -173,11 +165,7 @@ fn only_number(bytes: &[u8]) -> Option<u64>
     ensures { IfSome result (λ n. bytes.now ≡ number n) }
 {
     let (n, rest) = number_at(bytes)?;
-    if rest.is_empty() {
-        Some(n)
-    } else {
-        None
-    }
+    if rest.is_empty() { Some(n) } else { None }
 }
 
 // What a body grants.

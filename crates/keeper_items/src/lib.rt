@@ -8,6 +8,7 @@ mod oldest;
 mod prepare;
 mod state;
 pub mod stored_items;
+pub mod tables;
 
 pub use item_hub::ItemHub;
 pub use stored_items::StoredItems;

@@ -51,7 +51,7 @@ fn rows_in(alloc: Global, skip: usize, items: &[Item]) -> Result<Option<SortedRo
 }
 
 // The rows of the base.
-fn base_rows<S: StoredItems>(alloc: Global, store: &mut S) -> Result<SortedRows, KeeperError>
+pub(crate) fn base_rows<S: StoredItems>(alloc: Global, store: &mut S) -> Result<SortedRows, KeeperError>
     ensures rows { (t : Tables) → HasTables (S.stands_for store.old) t → S.is_trusted store.new → IfOk result (λ rows. rows ≡ t.base.rows) }
     ensures same { Stay (S.stands_for store.old) (S.stands_for store.new) }
     ensures cause { CountsFailure (S.fault_count store.old) (S.fault_count store.new) result }
@@ -65,7 +65,7 @@ fn base_rows<S: StoredItems>(alloc: Global, store: &mut S) -> Result<SortedRows,
 }
 
 // The grants behind a version's number.
-fn grants_at<S: StoredItems>(
+pub(crate) fn grants_at<S: StoredItems>(
     alloc: Global,
     store: &mut S,
     version: u64,
@@ -85,7 +85,7 @@ fn grants_at<S: StoredItems>(
 }
 
 // The marks.
-fn marks_in<S: StoredItems>(alloc: Global, store: &mut S) -> Result<Items<MarkRow>, KeeperError>
+pub(crate) fn marks_in<S: StoredItems>(alloc: Global, store: &mut S) -> Result<Items<MarkRow>, KeeperError>
     ensures marks { (t : Tables) → HasTables (S.stands_for store.old) t → S.is_trusted store.new → IfOk result (λ marks. marks ≡ t.marks) }
     ensures same { Stay (S.stands_for store.old) (S.stands_for store.new) }
     ensures cause { CountsFailure (S.fault_count store.old) (S.fault_count store.new) result }
@@ -194,7 +194,7 @@ fn push_change(found: &mut Vec<Change>, change: Change) -> Result<(), NoMemory>
 }
 
 // The changes behind the base, up to the first that isn't stored: no more than are kept.
-fn changes_in<S: StoredItems>(
+pub(crate) fn changes_in<S: StoredItems>(
     alloc: Global,
     store: &mut S,
     base: u64,

@@ -1,11 +1,12 @@
 //! The state of a store, and what stands behind a version's number.
 
-ghost use Rattle.std.specs.Prelude.{◌≡◌, ◌∷◌, [], ◌+◌, ◌<◌, ◌^◌, ℕ, IfOk, IfSome, map};
+ghost use Rattle.std.specs.Prelude.{◌≡◌, ◌∷◌, [], ◌+◌, ◌<◌, ◌≤◌, ◌^◌, ℕ, IfOk, IfSome, map};
 ghost use Rattle.std.specs.Int.{w64};
 ghost use Rattle.std.specs.Int.RustNames.{FitsSigned};
 ghost use Rattle.roster_base.specs.Faults.{CountsFailure};
 ghost use Rattle.item_maps.specs.Edits.{entry_of};
 ghost use Rattle.item_maps.specs.Items.{Items, listed};
+ghost use Rattle.version_core.specs.Version.{last_version};
 ghost use Rattle.version_core.specs.declared.change.BaseVersion.{BaseVersion};
 ghost use Rattle.version_core.specs.declared.hub_tables.HubTables.{HubTables};
 ghost use Rattle.hub_items.specs.Format.{state_entry};
@@ -27,6 +28,7 @@ fn state_in(items: &[Item]) -> Option<(u64, u64, Moment)>
     ensures state { (keep : ℕ) (base : BaseVersion) → keep < 2 ^ 64 → base.number < 2 ^ 64 → FitsSigned w64 base.moment → map entry_of items.now ≡ state_entry keep base ∷ []
         → IfSome result (λ s. (s.0 ≡ keep) × (s.1 ≡ base.number) × (s.2 ≡ base.moment)) }
     ensures small { IfSome result (λ s. s.1 + 2 < 2 ^ 64) }
+    ensures low { IfSome result (λ s. s.1 ≤ last_version) }
 {
     let (keep, base, at) = state_of(items)?;
     if base <= LAST_VERSION {
@@ -44,6 +46,7 @@ pub(crate) fn state_of_store<S: StoredItems>(
     ensures state { (t : HubTables) → HasTables (S.stands_for store.old) t → S.is_trusted store.new
         → IfOk result (λ s. (s.0 ≡ t.keep) × (s.1 ≡ t.base.number) × (s.2 ≡ t.base.moment)) }
     ensures small { IfOk result (λ s. s.1 + 2 < 2 ^ 64) }
+    ensures low { IfOk result (λ s. s.1 ≤ last_version) }
     ensures same { Stay (S.stands_for store.old) (S.stands_for store.new) }
     ensures cause { CountsFailure (S.fault_count store.old) (S.fault_count store.new) result }
     ensures trust { S.is_trusted store.new → S.is_trusted store.old }

@@ -1,4 +1,4 @@
-use Rattle.std.proofs.Common.{rules, ◌≡◌, ◌<◌, ◌^◌, length, sym, subst, ap, ◌∙◌}
+use Rattle.std.proofs.Common.{rules, ◌<◌, ◌^◌, sym, subst}
 use Rattle.grant_scopes.specs.declared.schools.Schools.TheVariants as schools
 use Rattle.hub_items.specs.Pieces.{AreSized}
 use Rattle.hub_codec.proofs.GrantReading.{listed_parts}
