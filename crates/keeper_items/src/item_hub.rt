@@ -1,19 +1,19 @@
 //! A keeper of a hub's state over a store of items.
 
 ghost use Rattle.std.specs.Prelude.{◌≡◌};
-ghost use Rattle.roster_base.specs.Faults.{CountsFailure};
-ghost use Rattle.keeper_memory.specs.Commits.{CanCommit, Commits};
 ghost use Rattle.keeper_memory.specs.Kept.{KeptState};
 ghost use Rattle.keeper_items.specs.Keeping.{KeepOrNew, Keeps};
 ghost use Rattle.keeper_items.specs.Telling.{Tells};
 
 use crate::commit::commit_to;
 use crate::stored_items::StoredItems;
-use keeper_memory::HubCommit;
+use crate::tables::load_from;
+use keeper_memory::{HubCommit, HubKeeper};
 use roster_base::KeeperError;
 use std::alloc::Global;
 use std::marker::Model;
 use std::snapshot::Snapshot;
+use version_core::hub_tables::HubTables;
 
 /// A hub's state over a store of items. A clause sees the store, the store that was handed in at first, and how many versions a new
 /// one keeps beside the newest.
@@ -63,22 +63,22 @@ impl<S: StoredItems> ItemHub<S> {
         } = self;
         store
     }
+}
 
-    /// Adds a change and a mark together. The oldest versions that are kept no longer go.
-    pub fn commit(&mut self, alloc: Global, commit: &HubCommit) -> Result<(), KeeperError>
-        requires { (state : KeptState) → Tells (KeepOrNew self.old.2) (S.stands_for self.old.1) (S.stands_for self.old.0) (S.is_trusted self.old.0) state → CanCommit state commit.now }
-        ensures told { (after : KeptState) → Tells (KeepOrNew self.new.2) (S.stands_for self.new.1) (S.stands_for self.new.0) (S.is_trusted self.new.0) after
-            → (before : KeptState) × Tells (KeepOrNew self.old.2) (S.stands_for self.old.1) (S.stands_for self.old.0) (S.is_trusted self.old.0) before
-            × Commits commit.now result before after }
-        ensures cause { CountsFailure (S.fault_count self.old.0) (S.fault_count self.new.0) result }
-    {
+impl<S: StoredItems> HubKeeper for ItemHub<S> {
+    ghost stands_for = { λ hub state. Tells (KeepOrNew hub.2) (S.stands_for hub.1) (S.stands_for hub.0) (S.is_trusted hub.0) state };
+
+    ghost fault_count = { λ hub. S.fault_count hub.0 };
+
+    fn load(&mut self, alloc: Global) -> Result<HubTables, KeeperError> {
+        load_from(alloc, &mut self.store, self.keep)
+    }
+
+    fn commit(&mut self, alloc: Global, commit: &HubCommit) -> Result<(), KeeperError> {
         commit_to(alloc, &mut self.store, self.keep, commit)
     }
 
-    /// The number of calls that answered `Failed`.
-    pub fn faults(&self) -> u64
-        ensures { result ≡ S.fault_count self.now.0 }
-    {
+    fn faults(&self) -> u64 {
         self.store.faults()
     }
 }

@@ -1,4 +1,3 @@
-use Rattle.keeper_items.specs.Keeping.{KeepOrNew}
 use Rattle.hub_items.specs.Format.{Keep}
 use Rattle.keeper_items.proofs.KeepingLemmas.{keeps_on, keeps_or_new}
 use Rattle.keeper_items.proofs.tables.load_from.Goals as goal

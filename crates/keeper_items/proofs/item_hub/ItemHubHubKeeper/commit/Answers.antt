@@ -1,6 +1,6 @@
 use Rattle.keeper_items.specs.Keeping.{KeepOrNew}
 use Rattle.keeper_items.proofs.TellingLemmas.{one_state, still_keep, told_back}
-use Rattle.keeper_items.proofs.item_hub.ItemHub.commit.Goals as goal
+use Rattle.keeper_items.proofs.item_hub.ItemHubHubKeeper.commit.Goals as goal
 
 pub invariant_of-self : goal.invariant_of-self
 invariant_of-self g c =
