@@ -51,7 +51,10 @@ fn rows_in(alloc: Global, skip: usize, items: &[Item]) -> Result<Option<SortedRo
 }
 
 // The rows of the base.
-pub(crate) fn base_rows<S: StoredItems>(alloc: Global, store: &mut S) -> Result<SortedRows, KeeperError>
+pub(crate) fn base_rows<S: StoredItems>(
+    alloc: Global,
+    store: &mut S,
+) -> Result<SortedRows, KeeperError>
     ensures rows { (t : Tables) → HasTables (S.stands_for store.old) t → S.is_trusted store.new → IfOk result (λ rows. rows ≡ t.base.rows) }
     ensures same { Stay (S.stands_for store.old) (S.stands_for store.new) }
     ensures cause { CountsFailure (S.fault_count store.old) (S.fault_count store.new) result }
@@ -85,7 +88,10 @@ pub(crate) fn grants_at<S: StoredItems>(
 }
 
 // The marks.
-pub(crate) fn marks_in<S: StoredItems>(alloc: Global, store: &mut S) -> Result<Items<MarkRow>, KeeperError>
+pub(crate) fn marks_in<S: StoredItems>(
+    alloc: Global,
+    store: &mut S,
+) -> Result<Items<MarkRow>, KeeperError>
     ensures marks { (t : Tables) → HasTables (S.stands_for store.old) t → S.is_trusted store.new → IfOk result (λ marks. marks ≡ t.marks) }
     ensures same { Stay (S.stands_for store.old) (S.stands_for store.new) }
     ensures cause { CountsFailure (S.fault_count store.old) (S.fault_count store.new) result }
