@@ -1,4 +1,5 @@
 pub mod Found
+pub mod GrantReading
 pub mod MarkReading
 pub mod Moving
 pub mod Names

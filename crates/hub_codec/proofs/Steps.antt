@@ -17,7 +17,7 @@ more_puts area f front edits xs i x edit so_far within is here =
 pub more_all : {X : Type 0} (P : X → Type 0) (xs : List X) (i : ℕ) (x : X) → AllByRecursion P (take i xs) → i < length xs → x ≡ get_or xs i x → P x → AllByRecursion P (take (i + 1) xs)
 more_all P xs i x all within is here = rw (take_more xs i x within, ← is) (AllByRecursion-push P (take i xs) x all here)
 
-all_sized-push : (texts : List (List ℕ)) (text : List ℕ) → all_sized (texts ++ text ∷ []) ≡ all_sized texts ++ sized text
+pub all_sized-push : (texts : List (List ℕ)) (text : List ℕ) → all_sized (texts ++ text ∷ []) ≡ all_sized texts ++ sized text
 all_sized-push [] text = append-nil (sized text)
 all_sized-push (first ∷ texts) text = ap (λ bytes. sized first ++ bytes) (all_sized-push texts text) ∙ sym (append_assoc (sized first) (all_sized texts) (sized text))
 

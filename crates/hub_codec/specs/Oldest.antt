@@ -1,5 +1,6 @@
 -- What is known of the oldest version and the change behind it.
-use Rattle.std.specs.Prelude.{◌≡◌, List, ◌∷◌, map}
+use Rattle.std.specs.Prelude.{◌≡◌, ◌-◌, ℕ, List, ◌∷◌, Option, map, nat_lt, true}
+use Rattle.std.specs.Option.{ForSome}
 use Rattle.item_maps.specs.Edits.{entry_of}
 use Rattle.item_maps.specs.declared.item.Item.{Item}
 use Rattle.version_core.specs.declared.change.Change.{Change}
@@ -11,3 +12,7 @@ pub record AreOldest (t : HubTables) (base first laid : List Item) : Type 0 wher
   pub grants : map entry_of base ≡ grants_under t.base.number t.base.grants
   pub version : (oldest : Change) (changes : List Change) → t.changes ≡ oldest ∷ changes → map entry_of first ≡ own_version oldest
   pub rows : (oldest : Change) (changes : List Change) → t.changes ≡ oldest ∷ changes → map entry_of laid ≡ own_rows oldest
+
+-- they are, where a change would let the oldest go
+abbrev pub AreOldestFor : HubTables → ℕ → ℕ → Option Change → List Item → List Item → List Item → Type 0
+AreOldestFor t keep base change grants first laid = ForSome change (λ change. nat_lt keep (change.version - base) ≡ true → AreOldest t grants first laid)

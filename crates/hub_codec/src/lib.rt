@@ -5,6 +5,7 @@ mod edits;
 mod fold;
 mod pieces;
 mod plan;
+mod read_grants;
 mod read_marks;
 mod read_rows;
 mod read_state;
@@ -13,6 +14,7 @@ mod writing;
 
 pub use edits::first_edits;
 pub use plan::{Oldest, commit_edits, lets_go};
+pub use read_grants::grants_of;
 pub use read_marks::marks_of;
 pub use read_rows::rows_of;
 pub use read_state::{state_of, version_of};

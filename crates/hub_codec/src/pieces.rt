@@ -1,6 +1,6 @@
 //! What labels and bodies are made of, written at the end of bytes.
 
-ghost use Rattle.std.specs.Prelude.{◌≡◌, ◌++◌, ◌∷◌, [], OnOk};
+ghost use Rattle.std.specs.Prelude.{◌≡◌, ◌++◌, ◌∷◌, ◌<◌, [], OnOk};
 ghost use Rattle.hub_items.specs.Pieces.{AreSized, IsSized, all_sized, caller_label, moment, number, owner_bytes, owner_name, schools_bytes, sized, HasNoZero};
 ghost use Rattle.std.specs.Int.{w64};
 ghost use Rattle.std.specs.Int.RustNames.{FitsSigned};
@@ -76,10 +76,11 @@ pub(crate) fn kind_byte(kind: Kind) -> u8
 }
 
 /// A caller, and the 0 that ends it.
-#[tactic(auto, using(crate::proofs::Names::name_has_no_zero))]
+#[tactic(auto, using(crate::proofs::Names::name_has_no_zero, crate::proofs::Names::name_is_below))]
 pub(crate) fn push_caller(to: &mut Vec<u8>, caller: &Name) -> Result<(), NoMemory>
     ensures bytes { OnOk result (to.new.items ≡ to.old.items ++ caller_label caller.now) }
     ensures good { HasNoZero caller.now }
+    ensures below { AllByRecursion (λ b. b < 255) caller.now }
 {
     to.extend_from_slice(caller.as_str().as_bytes())?;
     to.push(0)?;

@@ -10,7 +10,7 @@ ghost use Rattle.version_core.specs.declared.change.Change.{Change as ChangeValu
 ghost use Rattle.version_core.specs.declared.hub_tables.HubTables.{HubTables};
 ghost use Rattle.hub_items.specs.Edits.{change_edits, edits as edits_of, folded, let_go};
 ghost use Rattle.hub_items.specs.Format.{FitsChange, FitsCommit};
-ghost use Rattle.hub_codec.specs.Oldest.{AreOldest};
+ghost use Rattle.hub_codec.specs.Oldest.{AreOldest, AreOldestFor};
 
 use crate::edits::{added_edits, push_mark};
 use crate::fold::{push_folded, push_folded_change};
@@ -95,7 +95,7 @@ fn change_edits(
 ) -> Result<Option<Vec<Edit>>, NoMemory>
     requires { base + 2 < 2 ^ 64 }
     ensures edits { (t : HubTables) → AreTables t → keep ≡ t.keep → base ≡ t.base.number → CanLead (versions_from t.base t.changes) change.now
-        → AreOldest t oldest.now.grants.items oldest.now.version.items oldest.now.rows.items
+        → (nat_lt keep (change.now.version - base) ≡ true → AreOldest t oldest.now.grants.items oldest.now.version.items oldest.now.rows.items)
         → IfOk result (λ o. IfSome o (λ edits. edits.items ≡ change_edits t (Some change.now))) }
     ensures fits { OnOk result (FitsChange change.now) }
 {
@@ -119,7 +119,7 @@ fn some_change_edits(
 ) -> Result<Option<Vec<Edit>>, NoMemory>
     requires { base + 2 < 2 ^ 64 }
     ensures edits { (t : HubTables) → AreTables t → keep ≡ t.keep → base ≡ t.base.number → ForSome change.now (CanLead (versions_from t.base t.changes))
-        → AreOldest t oldest.now.grants.items oldest.now.version.items oldest.now.rows.items
+        → AreOldestFor t keep base change.now oldest.now.grants.items oldest.now.version.items oldest.now.rows.items
         → IfOk result (λ o. IfSome o (λ edits. edits.items ≡ change_edits t change.now)) }
     ensures fits { OnOk result (ForSome change.now FitsChange) }
 {
@@ -129,8 +129,8 @@ fn some_change_edits(
     }
 }
 
-/// The edits of a commit, by which the items of a state become those of the state after it. None where the items are none of a
-/// state.
+/// The edits of a commit, by which the items of a state become those of the state after it. What a store has of its oldest
+/// versions is asked only where the change lets the oldest go. None where the items are none of a state.
 pub fn commit_edits(
     alloc: Global,
     keep: u64,
@@ -140,7 +140,7 @@ pub fn commit_edits(
 ) -> Result<Option<Vec<Edit>>, NoMemory>
     requires { base + 2 < 2 ^ 64 }
     ensures edits { (t : HubTables) → AreTables t → keep ≡ t.keep → base ≡ t.base.number → CanCommit (kept_by t) commit.now
-        → AreOldest t oldest.now.grants.items oldest.now.version.items oldest.now.rows.items
+        → AreOldestFor t keep base commit.now.change oldest.now.grants.items oldest.now.version.items oldest.now.rows.items
         → IfOk result (λ o. IfSome o (λ edits. edits.items ≡ edits_of t commit.now)) }
     ensures fits { IfOk result (λ o. IfSome o (λ _. FitsCommit commit.now)) }
 {

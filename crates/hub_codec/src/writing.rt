@@ -158,6 +158,7 @@ pub(crate) fn put_grants(
 fn mark_label(alloc: Global, caller: &Name, number: u64) -> Result<Bytes, NoMemory>
     ensures label { IfOk result (λ label. label ≡ mark_label (caller.now, number)) }
     ensures good { OnOk result (HasNoZero caller.now) }
+    ensures below { OnOk result (AllByRecursion (λ b. b < 255) caller.now) }
     ensures small { OnOk result (number < 2 ^ 64) }
 {
     let mut label = Vec::new(alloc);

@@ -1,5 +1,5 @@
 -- What the items of tables tell, version by version.
-use Rattle.std.proofs.Common.{◌≡◌, ◌+◌, ◌≤◌, ◌<◌, ◌^◌, ℕ, List, [], ◌∷◌, ◌++◌, true, Option, None, Some, refl, ap, ◌∙◌, subst, append-nil, append_assoc, arith}
+use Rattle.std.proofs.Common.{◌≡◌, ◌+◌, ◌≤◌, ◌<◌, ◌^◌, ℕ, List, [], ◌∷◌, ◌++◌, map, true, Option, None, Some, refl, ap, ◌∙◌, subst, append-nil, append_assoc, arith}
 use Rattle.std.specs.FinMap.{is_sorted}
 use Rattle.std.specs.List.{AllByRecursion}
 use Rattle.std.specs.Option.{ForSome}
@@ -18,15 +18,17 @@ use Rattle.version_core.specs.declared.change.Change.{Change}
 use Rattle.version_core.specs.declared.grant_row.GrantRow.{GrantRow}
 use Rattle.version_core.specs.declared.row_change.RowChange.{RowChange}
 use Rattle.version_core.specs.declared.hub_tables.HubTables.{HubTables}
+use Rattle.version_core.specs.declared.mark.MarkRow.{MarkRow}
 use Rattle.version_core.proofs.TableLemmas.{base_meets}
 use Rattle.version_core.proofs.VersionLemmas.{AllByRecursion-push}
-use Rattle.hub_items.specs.Format.{Entry, Fit, FitsChange, FitsGrant, format_entry, grants_under, items_of, of_changes, own_grants, own_rows, own_version, rows_under, some_grants, state_entry}
-use Rattle.hub_items.specs.Pieces.{HasNoZero, number}
+use Rattle.hub_items.specs.Format.{Entry, Fit, FitsChange, FitsGrant, FitsMark, format_entry, grants_under, items_of, mark_entry, of_changes, own_grants, own_rows, own_version, rows_under, some_grants, state_entry}
+use Rattle.hub_items.specs.Pieces.{HasNoZero, mark_label, number}
 use Rattle.hub_items.proofs.Encodes.{rise_of}
-use Rattle.hub_items.proofs.Endings.{grants_rise}
+use Rattle.hub_items.proofs.Endings.{grants_rise, marks_rise}
 use Rattle.hub_items.proofs.Finds.{where-append, where_all, where_label, where_none}
 use Rattle.hub_items.proofs.Folding.{IsOf, grants_are_of, own_are_of, rows_are_of}
 use Rattle.hub_items.proofs.Listing.{all_of, listed_where, none_of, none_there, one_there, rows_rise}
+use Rattle.hub_items.proofs.Orders.{less_is}
 
 -- what passes behind a version's number
 abbrev pub behind_version : ℕ → List Entry → List Entry
@@ -213,3 +215,17 @@ pub base_rows_told : (t : HubTables) → AreTables t → listed 2 [] (255 ∷ []
 base_rows_told t are =
     listed_where (is_between [] (255 ∷ [])) (rows_under [] t.base.rows) (rows_under [] t.base.rows) (where_all (is_between [] (255 ∷ [])) (rows_under [] t.base.rows) (rows_below t.base.rows))
     (rows_rise [] t.base.rows (base_meets IsVersion t.base t.changes are.versions).rows)
+
+-- the marks lie below 255, where no caller begins
+mark_below : (caller : List ℕ) (n : ℕ) → AllByRecursion (λ b. b < 255) caller → is_between [] (255 ∷ []) (mark_label (caller, n)) ≡ true
+mark_below [] n below = refl
+mark_below (b ∷ caller) n below = rw (less_is b 255 below.0) refl
+
+marks_below : (marks : List MarkRow) → AllByRecursion FitsMark marks → AllByRecursion (λ e. is_between [] (255 ∷ []) e.0 ≡ true) (map mark_entry marks)
+marks_below [] fits = tt
+marks_below (mark ∷ marks) fits = (mark_below mark.caller mark.number fits.0.below, marks_below marks fits.1)
+
+pub marks_told : (t : HubTables) → AreTables t → Fit t → listed 6 [] (255 ∷ []) (items_of t) ≡ map mark_entry t.marks
+marks_told t are fit =
+    listed_where (is_between [] (255 ∷ [])) (map mark_entry t.marks) (map mark_entry t.marks) (where_all (is_between [] (255 ∷ [])) (map mark_entry t.marks) (marks_below t.marks fit.marks))
+    (marks_rise t.marks fit.marks are.marks.rise)

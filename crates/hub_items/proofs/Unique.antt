@@ -62,7 +62,7 @@ same_row prefix x y back_x back_y same =
 same_rows : (prefix : List ℕ) (xs ys : List RowChange) → AllByRecursion IsReadBack xs → AllByRecursion IsReadBack ys → rows_under prefix xs ≡ rows_under prefix ys → xs ≡ ys
 same_rows prefix = same_list (row_entry prefix) IsReadBack (same_row prefix)
 
-same_grant : (version : ℕ) (x y : GrantRow) → FitsGrant x → FitsGrant y → grant_entry version x ≡ grant_entry version y → x ≡ y
+pub same_grant : (version : ℕ) (x y : GrantRow) → FitsGrant x → FitsGrant y → grant_entry version x ≡ grant_entry version y → x ≡ y
 same_grant version x y fits_x fits_y same =
     let labels : number version ++ caller_label x.caller ≡ number version ++ caller_label y.caller = ap (λ (e : Entry). e.0) same in
     let callers = same_caller x.caller y.caller (same_ends (number version) (number version) (caller_label x.caller) (caller_label y.caller) refl labels).1 in

@@ -102,6 +102,7 @@ pub record FitsChange (change : Change) : Type 0 where
 
 pub record FitsMark (mark : MarkRow) : Type 0 where
   pub caller : HasNoZero mark.caller
+  pub below : AllByRecursion (λ b. b < 255) mark.caller
   pub number : mark.number < 2 ^ 64
   pub id : IsSized mark.write.id
   pub body : IsSized mark.write.body

@@ -4,4 +4,4 @@ pub returns-clause-fits : goal.returns-clause-fits
 returns-clause-fits c =
     let label = c.in_ok-mark_label.ensures in
     let body = c.in_ok-mark_body.ensures in
-    record { caller = label.good; number = label.small; id = body.id; body = body.text; version = body.version }
+    record { caller = label.good; below = label.below; number = label.small; id = body.id; body = body.text; version = body.version }

@@ -1,4 +1,4 @@
-use Rattle.hub_items.proofs.Told.{base_grants_told, base_rows_told, format_told, state_told}
+use Rattle.hub_items.proofs.Told.{base_grants_told, base_rows_told, format_told, marks_told, state_told}
 use Rattle.hub_items.proofs.laws.items_tell_the_base.Goals as goal
 
 pub returns-clause-format : goal.returns-clause-format
@@ -12,3 +12,6 @@ returns-clause-rows c = base_rows_told
 
 pub returns-clause-grants : goal.returns-clause-grants
 returns-clause-grants c = base_grants_told
+
+pub returns-clause-marks : goal.returns-clause-marks
+returns-clause-marks c = marks_told

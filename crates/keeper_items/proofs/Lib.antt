@@ -1,0 +1,5 @@
+pub mod ChangesLemmas
+pub mod KeepingLemmas
+pub mod LoadLemmas
+pub mod ReadLemmas
+pub mod TellingLemmas

@@ -1,0 +1,14 @@
+//! The keeper of a hub's state over a store of items.
+#![tactic(auto)]
+
+mod commit;
+pub mod item_hub;
+mod load;
+mod oldest;
+mod prepare;
+mod state;
+pub mod stored_items;
+pub mod tables;
+
+pub use item_hub::ItemHub;
+pub use stored_items::StoredItems;

@@ -1,0 +1,13 @@
+//! Whether a keeper's tables stand for a state of a hub.
+#![tactic(auto)]
+
+mod changes;
+mod counts;
+mod grants;
+mod keeping;
+mod marks;
+mod order;
+mod tables;
+
+pub use order::are_changes;
+pub use tables::are_tables;
