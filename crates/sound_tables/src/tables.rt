@@ -91,7 +91,7 @@ fn are_parts(keep: u32, base: &BaseVersion, changes: &[Change], marks: &[MarkRow
     are_marks(newest_number(base.number, changes.len()), marks)
 }
 
-/// Whether these tables stand for a state of a hub.
+/// Tests whether these tables stand for a state of a hub: where it answers true, they do. No memory is taken.
 pub fn are_tables(tables: &HubTables) -> bool
     ensures { result ≡ true → AreTables tables.now }
 {
