@@ -1,0 +1,118 @@
+-- Requests for pages may be sent.
+use Rattle.std.proofs.Common.{◌≡◌, ◌^◌, ◌<◌, ◌≤◌, ℕ, Bool, true, false, List, [], ◌∷◌, ◌++◌, length, Option, Some, None, refl, ◌∙◌, arith, length-append}
+use Rattle.std.specs.Prelude.{◌&&◌, ◌||◌, codes, decimal, IfSome}
+use Rattle.std.specs.Char.{is_ascii_alphanumeric}
+use Rattle.std.specs.List.{list_all}
+use Rattle.std.specs.Str.Parse.{AllDigits}
+use Rattle.std.proofs.lemmas.Bool.Decides.{nat_tests}
+use Rattle.std.proofs.lemmas.Fmt.{decimal_is_IsNumeral, length-decimal-le}
+use Rattle.std.proofs.lemmas.List.Folds.{list_all-append}
+use Rattle.std.proofs.lemmas.Str.Parse.{digit_from_value}
+use Rattle.exchange_link.specs.Pages.{Page}
+use Rattle.hub_requests.specs.PageRequests.{page_path, page_query, pin_text}
+use Rattle.http_wire.specs.Sending.{CanSend, IsSentEcho, is_sent_byte}
+use Rattle.roster_texts.specs.Texts.{is_token}
+use Rattle.roster_values.specs.Kinds.{plural_of}
+use Rattle.roster_values.specs.declared.kind.Kind.{Kind}
+use Rattle.roster_values.specs.declared.kind.Kind.TheVariants.{Orgs, AcademicSessions, Courses, Classes, Users, Enrollments, Demographics, Categories, LineItems, Results}
+use Rattle.status_info.specs.declared.request.Echo.{Echo}
+use Rattle.consumer_sync.specs.Requests.{numbered, unnumbered}
+
+or_left : (a b : Bool) → a ≡ true → (a || b) ≡ true
+or_left true b e = refl
+or_left false b e = cc
+
+sent_digit : (c : ℕ) → 48 ≤ c → c ≤ 57 → is_ascii_alphanumeric c ≡ true
+sent_digit c low high = grind (arith, nat_tests)
+
+all_true : (a b : Bool) → a ≡ true → b ≡ true → (a && b) ≡ true
+all_true true b e f = f
+all_true false b e f = cc
+
+digits_sent : (ds : List ℕ) → AllDigits 10 ds → list_all is_sent_byte ds ≡ true
+digits_sent [] x = refl
+digits_sent (c ∷ ds) x =
+    let (low, high) = digit_from_value c x.0 in
+    all_true (is_sent_byte c) (list_all is_sent_byte ds) (or_left (is_ascii_alphanumeric c) _ (sent_digit c low high)) (digits_sent ds x.1)
+
+decimal_sent : (n : ℕ) → n < 2 ^ 64 → list_all is_sent_byte (decimal n) ≡ true
+decimal_sent n small = let (numeral, value) = decimal_is_IsNumeral n small in digits_sent (decimal n) numeral.1
+
+both : (xs ys : List ℕ) → list_all is_sent_byte xs ≡ true → list_all is_sent_byte ys ≡ true → list_all is_sent_byte (xs ++ ys) ≡ true
+both xs ys e f = list_all-append is_sent_byte xs ys ∙ and_true (list_all is_sent_byte xs) (list_all is_sent_byte ys) e f
+  where
+    and_true : (a b : Bool) → a ≡ true → b ≡ true → (a && b) ≡ true
+    and_true true b e f = f
+    and_true false b e f = cc
+
+word_sent : (kind : Kind) → list_all is_sent_byte (plural_of kind) ≡ true
+word_sent Orgs = refl
+word_sent AcademicSessions = refl
+word_sent Courses = refl
+word_sent Classes = refl
+word_sent Users = refl
+word_sent Enrollments = refl
+word_sent Demographics = refl
+word_sent Categories = refl
+word_sent LineItems = refl
+word_sent Results = refl
+
+word_short : (kind : Kind) → length (plural_of kind) ≤ 20
+word_short Orgs = omega arith
+word_short AcademicSessions = omega arith
+word_short Courses = omega arith
+word_short Classes = omega arith
+word_short Users = omega arith
+word_short Enrollments = omega arith
+word_short Demographics = omega arith
+word_short Categories = omega arith
+word_short LineItems = omega arith
+word_short Results = omega arith
+
+decimal_short : (n : ℕ) → n < 2 ^ 64 → length (decimal n) ≤ 20
+decimal_short n small = length-decimal-le 20 n (omega arith) (omega (arith, small)) small
+
+pin_sent : (pin : Option ℕ) → IfSome pin (λ n. n < 2 ^ 64) → list_all is_sent_byte (pin_text pin) ≡ true
+pin_sent None x = refl
+pin_sent (Some n) x = both (codes "&hubVersion=") (decimal n) refl (decimal_sent n x)
+
+pin_short : (pin : Option ℕ) → IfSome pin (λ n. n < 2 ^ 64) → length (pin_text pin) ≤ 40
+pin_short None x = omega arith
+pin_short (Some n) x = omega (arith, length-append (codes "&hubVersion=") (decimal n), decimal_short n x)
+
+path_sent : (kind : Kind) → list_all is_sent_byte (page_path kind) ≡ true
+unfolding page_path
+path_sent kind = both (codes "/ims/oneroster/v1p1/") (plural_of kind) refl (word_sent kind)
+
+path_short : (kind : Kind) → (0 < length (page_path kind)) × (length (page_path kind) ≤ 40)
+unfolding page_path
+path_short kind = let e = length-append (codes "/ims/oneroster/v1p1/") (plural_of kind) in (omega (arith, e), omega (arith, e, word_short kind))
+
+query_sent : (limit offset : ℕ) (pin : Option ℕ) → limit < 2 ^ 64 → offset < 2 ^ 64 → IfSome pin (λ n. n < 2 ^ 64) → list_all is_sent_byte (page_query limit offset pin) ≡ true
+unfolding page_query
+query_sent limit offset pin l o p =
+    both (codes "limit=") (decimal limit ++ (codes "&offset=" ++ (decimal offset ++ pin_text pin))) refl
+    (both (decimal limit) (codes "&offset=" ++ (decimal offset ++ pin_text pin)) (decimal_sent limit l)
+    (both (codes "&offset=") (decimal offset ++ pin_text pin) refl (both (decimal offset) (pin_text pin) (decimal_sent offset o) (pin_sent pin p))))
+
+query_short : (limit offset : ℕ) (pin : Option ℕ) → limit < 2 ^ 64 → offset < 2 ^ 64 → IfSome pin (λ n. n < 2 ^ 64) → length (page_query limit offset pin) ≤ 200
+unfolding page_query
+query_short limit offset pin l o p =
+    let a = length-append (decimal offset) (pin_text pin) in
+    let b = length-append (codes "&offset=") (decimal offset ++ pin_text pin) in
+    let d = length-append (decimal limit) (codes "&offset=" ++ (decimal offset ++ pin_text pin)) in
+    let e = length-append (codes "limit=") (decimal limit ++ (codes "&offset=" ++ (decimal offset ++ pin_text pin))) in
+    omega (arith, a, b, d, e, decimal_short limit l, decimal_short offset o, pin_short pin p)
+
+-- a request for a page may be sent under each number
+pub can_page : (p : Page) → is_token p.token ≡ true → p.limit < 2 ^ 64 → p.offset < 2 ^ 64 → IfSome p.pin (λ n. n < 2 ^ 64) → (n : Echo) → IsSentEcho n → CanSend (numbered (unnumbered p) n)
+can_page p good l o pin n echo = record {
+  verb = refl;
+  path = (path_short p.kind).0;
+  target = both (page_path p.kind) (page_query p.limit p.offset p.pin) (path_sent p.kind) (query_sent p.limit p.offset p.pin l o pin);
+  short = omega (arith, (path_short p.kind).1, query_short p.limit p.offset p.pin l o pin);
+  token = good;
+  mark = tt;
+  echo = echo;
+  close = refl;
+}

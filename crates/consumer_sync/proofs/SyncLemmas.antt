@@ -1,0 +1,420 @@
+-- The parts of a synchronisation make the whole.
+use Rattle.std.proofs.Common.{◌≡◌, ◌≢◌, ◌+◌, ◌<◌, ◌≤◌, ◌⊎◌, inl, inr, ⊎_elim, ℕ, Bool, true, false, List, [], ◌∷◌, length, Option, Some, None, Ok, Err, refl, sym, ◌∙◌, ap, subst, arith}
+use Rattle.std.specs.Prelude.{if◌then◌else◌, option_map, Result, bytes_eq}
+use Rattle.std.proofs.lemmas.List.{take_all}
+use Rattle.std.proofs.lemmas.Slice.Eq.{bytes_eq-Decides}
+use Rattle.copy_keeper.specs.Changes.{copy_after, held_of, swapped}
+use Rattle.copy_keeper.specs.Copies.{Copy, Held, Stage}
+use Rattle.copy_keeper.specs.Lists.{kind_count}
+use Rattle.copy_keeper.specs.States.{stage_of, state_of}
+use Rattle.copy_keeper.specs.declared.change.CopyChange.TheVariants.{Run, Drop, Swap}
+use Rattle.copy_keeper.specs.declared.state.CopyState.{CopyState}
+use Rattle.copy_keeper.specs.declared.state.StageState.{StageState}
+use Rattle.copy_keeper.specs.declared.state.TheConstants.{LAST}
+use Rattle.exchange_link.specs.Agreement.{Differ, NoneAbove, StageAgrees, StageFits, StageFitsIf}
+use Rattle.exchange_link.specs.Causes.{AsksOn, CauseOf, LastLaw, IsAside}
+use Rattle.exchange_link.specs.Completeness.{IsDone}
+use Rattle.exchange_link.specs.Exchanges.{Told}
+use Rattle.hub_views.specs.Cuts.{cut}
+use Rattle.exchange_link.specs.Sayings.{knows}
+use Rattle.hub_rules.specs.Checks.{version_at}
+use Rattle.exchange_link.specs.Places.{kinds_of}
+use Rattle.exchange_link.specs.Synchronised.{CompleteAt, HeldLaw, HeldTold, IsPinOf, Leaves, MayStay, StageLaw, StageOn, Synchronised, own_stage, own_state}
+use Rattle.exchange_link.specs.declared.answer.SyncAnswer.{SyncAnswer}
+use Rattle.exchange_link.specs.declared.answer.SyncAnswer.TheVariants as answer
+use Rattle.exchange_link.proofs.CutLemmas.{cut_whole}
+use Rattle.roster_types.specs.Records.{Record}
+use Rattle.status_info.specs.declared.request.Request.{Request}
+use Rattle.version_core.specs.HubStates.{HubState}
+use Rattle.consumer_sync.specs.Filling.{CauseIf, Ends, HasToken, IsEnd, IsEndIf, PinLaw}
+use Rattle.consumer_sync.specs.Requests.{AllSpent, Asks, IsReady}
+use Rattle.consumer_sync.specs.Staging.{MayEnd}
+use Rattle.consumer_sync.specs.Starting.{Aborts, Drops, Enters, EntersRun, StartCause, SwapsIn, without_other}
+
+above_more : (a b : ℕ) (sent : List Request) → a ≤ b → NoneAbove a sent → NoneAbove b sent
+above_more a b [] le h = tt
+above_more a b (q ∷ qs) le h = (λ n e. let x = h.0 n e in omega (arith, le, x), above_more a b qs le h.1)
+
+spent_from : (r run : ℕ) (sent : List Request) → run ≡ r + 1 → NoneAbove r sent → AllSpent run 0 sent
+spent_from r run [] e h = tt
+spent_from r run (q ∷ qs) e h = (λ n f. let x = h.0 n f in inl (omega (arith, e, x)), spent_from r run qs e h.1)
+
+below_from : (run n : ℕ) (sent : List Request) → AllSpent run n sent → NoneAbove run sent
+below_from run n [] h = tt
+below_from run n (q ∷ qs) h = (λ k f. ⊎_elim (λ (x : k.run < run). omega (arith, x)) (λ (x : (k.run ≡ run) × (k.count ≤ n)). omega (arith, x.0)) (h.0 k f), below_from run n qs h.1)
+
+-- before the first exchange of a run each number of it is new
+pub ready_from : (r run : ℕ) (sent : List Request) → run ≡ r + 1 → Differ sent → NoneAbove r sent → IsReady run 0 sent
+ready_from r run sent e d h = record { differ = d; spent = spent_from r run sent e h }
+
+-- a beginning that failed
+fail_agree : (token : List ℕ) (b a : Copy) (t : Told) → Aborts token b a → StageAgrees b t → StageAgrees a t
+fail_agree token b a t f h = record {
+  differ = h.differ;
+  below = ⊎_elim (λ (e : a.run ≡ b.run). above_more b.run a.run t.sent (omega (arith, e)) h.below) (λ (e : a.run ≡ b.run + 1). above_more b.run a.run t.sent (omega (arith, e)) h.below) f.run;
+  stage = ⊎_elim (λ (e : a.stage ≡ b.stage). subst (λ o. StageFitsIf o t.hub) (sym e) h.stage) (λ e. subst (λ o. StageFitsIf o t.hub) (sym e.1) tt) f.stage;
+}
+
+fail_stage : (token : List ℕ) (b a : Copy) → Aborts token b a → (StageOn token (own_stage token b.stage) a.stage) ⊎ (a.stage ≡ b.stage)
+fail_stage token b a f = ⊎_elim (λ (e : a.stage ≡ b.stage). inr e)
+    (λ e. inl (subst (λ o. StageOn token o a.stage) (sym e.0) (subst (λ o. StageOn token None o) (sym e.1) tt))) f.stage
+
+fail_leaves : (token : List ℕ) (e : SyncAnswer) (b a : Copy) → MayStay e → Aborts token b a → Leaves token e b a
+fail_leaves token answer.KeeperFault b a m f = record { run = f.run; entries = f.entries; last_number = f.last_number; held = inl f.held; stage = ⊎_elim (λ x. inl x) (λ x. inr (inr (tt, x))) (fail_stage token b a f) }
+fail_leaves token answer.NoMemory b a m f = record { run = f.run; entries = f.entries; last_number = f.last_number; held = f.held; stage = ⊎_elim (λ x. inl x) (λ x. inr (inr (tt, x))) (fail_stage token b a f) }
+fail_leaves token e b a m f = absurd m
+
+fail_held : (token : List ℕ) (e : SyncAnswer) (b a : Copy) (t : Told) → MayStay e → Aborts token b a → HeldTold token e b t a t
+fail_held token answer.KeeperFault b a t m f = inl f.held
+fail_held token answer.NoMemory b a t m f = f.held
+fail_held token e b a t m f = absurd m
+
+fail_sync : (token : List ℕ) (e : SyncAnswer) (b a : Copy) (t : Told) → MayStay e → Aborts token b a → StageAgrees b t → Synchronised token e b t a t
+fail_sync token e b a t m f h = record { leaves = fail_leaves token e b a m f; agree = fail_agree token b a t f h; held = fail_held token e b a t m f }
+
+enter_fails : (token : List ℕ) (b a : Copy) → EntersRun b a → Aborts token b a
+enter_fails token b a x = ⊎_elim
+    (λ (e : a ≡ b). subst (λ (d : Copy). Aborts token b d) (sym e) (record { run = inl refl; held = refl; entries = refl; last_number = refl; stage = inl refl }))
+    (λ (e : a ≡ copy_after (Run (b.run + 1)) b). subst (λ (d : Copy). Aborts token b d) (sym e) (record { run = inr refl; held = refl; entries = refl; last_number = refl; stage = inl refl })) x
+
+last_sync : (token : List ℕ) (b a : Copy) (t : Told) → a ≡ b → StageAgrees b t → Synchronised token answer.LastRun b t a t
+last_sync token b a t e h = subst (λ (d : Copy). Synchronised token answer.LastRun b t d t) (sym e)
+    (record { leaves = record { run = inl refl; entries = refl; last_number = refl; held = refl; stage = refl }; agree = h; held = refl })
+
+-- the run isn't entered
+pub enter_sync : (token : List ℕ) (e : SyncAnswer) (b a : Copy) (t : Told) (K : Type 0) → StartCause K e → Enters (Err e) b a → StageAgrees b t → Synchronised token e b t a t
+enter_sync token answer.LastRun b a t K k x h = last_sync token b a t x.1 h
+enter_sync token answer.KeeperFault b a t K k x h = fail_sync token answer.KeeperFault b a t tt (enter_fails token b a x) h
+enter_sync token answer.NoMemory b a t K k x h = fail_sync token answer.NoMemory b a t tt (enter_fails token b a x) h
+enter_sync token e b a t K k x h = absurd k
+
+stay_from : (K : Type 0) (e : SyncAnswer) → e ≢ answer.LastRun → StartCause K e → MayStay e
+stay_from K answer.LastRun n k = absurd (n refl)
+stay_from K answer.KeeperFault n k = tt
+stay_from K answer.NoMemory n k = tt
+stay_from K e n k = absurd k
+
+drop_fails : (token : List ℕ) (b m a : Copy) (e : SyncAnswer) → m ≡ copy_after (Run (b.run + 1)) b → Drops token (Err e) m a → Aborts token b a
+drop_fails token b m a e em x = ⊎_elim
+    (λ (h : a ≡ m). subst (λ (d : Copy). Aborts token b d) (sym (h ∙ em)) (record { run = inr refl; held = refl; entries = refl; last_number = refl; stage = inl refl }))
+    (λ h. subst (λ (d : Copy). Aborts token b d) (sym (h.1 ∙ ap (copy_after Drop) em))
+    (record { run = inr refl; held = refl; entries = refl; last_number = refl; stage = inr (ap (λ (d : Copy). own_stage token d.stage) (sym em) ∙ h.0, refl) })) x
+
+-- the stage under another token isn't dropped
+pub drop_sync : (token : List ℕ) (run : ℕ) (e : SyncAnswer) (b m a : Copy) (s : CopyState) (t : Told) (K : Type 0) → (e ≢ answer.LastRun) × StartCause K e → Enters (Ok s) b m → Drops token (Err e) m a → StageAgrees b t → Synchronised token e b t a t
+drop_sync token run e b m a s t K k x y h = fail_sync token e b a t (stay_from K e k.0 k.1) (drop_fails token b m a e x.1 y) h
+
+own_if : (b : Bool) (s : Stage) (h : HubState) → StageFits s h → StageFitsIf (if b then Some s else None) h
+own_if true s h x = x
+own_if false s h x = tt
+
+own_agrees : (token : List ℕ) (o : Option Stage) (h : HubState) → StageFitsIf o h → StageFitsIf (own_stage token o) h
+own_agrees token None h x = tt
+own_agrees token (Some s) h x = own_if (bytes_eq s.token token) s h x
+
+-- the copy with which the loop begins
+pub begun_is : (token : List ℕ) (b m a : Copy) (s : CopyState) (o : Option StageState) → Enters (Ok s) b m → Drops token (Ok o) m a → a ≡ without_other token (copy_after (Run (b.run + 1)) b)
+begun_is token b m a s o x y = y ∙ ap (without_other token) x.1
+
+-- what the loop is given
+pub entry : (token : List ℕ) (run : ℕ) (b a : Copy) (t : Told) → a ≡ without_other token (copy_after (Run (b.run + 1)) b) → run ≡ b.run + 1 → StageAgrees b t → StageFitsIf a.stage t.hub × IsReady run 0 t.sent
+entry token run b a t e er h = (subst (λ (d : Copy). StageFitsIf d.stage t.hub) (sym e) (own_agrees token b.stage t.hub h.stage), ready_from b.run run t.sent er h.differ h.below)
+
+fill_stage : (token : List ℕ) (e : SyncAnswer) (old new : Option Stage) → IsEnd e → StageOn token (own_stage token old) new ⊎ (MayEnd (Some e) × (new ≡ None)) → StageLaw token e old new
+fill_stage token (answer.Complete v) old new c x = absurd c
+fill_stage token answer.LastRun old new c x = absurd c
+fill_stage token (answer.PinGone p o) old new c x = ⊎_elim (λ y. inl y) (λ y. inr (inl (tt, y.1))) x
+fill_stage token answer.KeeperFault old new c x = ⊎_elim (λ y. inl y) (λ y. inr (inl (tt, y.1))) x
+fill_stage token e old new c x = ⊎_elim (λ y. inl y) (λ y. absurd y.0) x
+
+fill_held : (e : SyncAnswer) (b a : Copy) → IsEnd e → a.held ≡ b.held → HeldLaw e b a
+fill_held (answer.Complete v) b a c x = absurd c
+fill_held answer.KeeperFault b a c x = inl x
+fill_held e b a c x = x
+
+fill_told : (token : List ℕ) (e : SyncAnswer) (b a : Copy) (t u : Told) → IsEnd e → a.held ≡ b.held → HeldTold token e b t a u
+fill_told token (answer.Complete v) b a t u c x = absurd c
+fill_told token answer.KeeperFault b a t u c x = inl x
+fill_told token e b a t u c x = x
+
+-- the loop ended with an answer: over any link
+pub fill_leaves : (token : List ℕ) (e : SyncAnswer) (b d a : Copy) → d ≡ without_other token (copy_after (Run (b.run + 1)) b) → IsEnd e → Ends token (Some e) d a → Leaves token e b a
+fill_leaves token e b d a ed c x =
+    let y : Ends token (Some e) (without_other token (copy_after (Run (b.run + 1)) b)) a = subst (λ (d : Copy). Ends token (Some e) d a) ed x in
+    record { run = inr y.run; entries = y.entries; last_number = y.last_number; held = fill_held e b a c y.held; stage = fill_stage token e b.stage a.stage c y.stage }
+
+agree_after : (token : List ℕ) (run n : ℕ) (r : Option SyncAnswer) (b a : Copy) (t u : Told) → Ends token r (without_other token (copy_after (Run (b.run + 1)) b)) a → run ≡ b.run + 1 → Asks run 0 n t u → StageAgrees b t → StageFitsIf a.stage u.hub → StageAgrees a u
+agree_after token run n r b a t u y er asks h s =
+    let ready = asks.ready (ready_from b.run run t.sent er h.differ h.below) in
+    record { differ = ready.differ; below = subst (λ x. NoneAbove x u.sent) (er ∙ sym y.run) (below_from run n u.sent ready.spent); stage = s }
+
+-- and over one that tells
+pub fill_sync : (token : List ℕ) (run n : ℕ) (e : SyncAnswer) (b d a : Copy) (t u : Told) → d ≡ without_other token (copy_after (Run (b.run + 1)) b) → IsEnd e → Ends token (Some e) d a → run ≡ b.run + 1
+    → Asks run 0 n t u → StageAgrees b t → StageFitsIf a.stage u.hub → Synchronised token e b t a u
+fill_sync token run n e b d a t u ed c x er asks h s =
+    let y : Ends token (Some e) (without_other token (copy_after (Run (b.run + 1)) b)) a = subst (λ (d : Copy). Ends token (Some e) d a) ed x in
+    record { leaves = fill_leaves token e b d a ed c x; agree = agree_after token run n (Some e) b a t u y er asks h s; held = fill_told token e b a t u c y.held }
+
+pin_if : (b : Bool) (f : Stage) (h : HubState) (s : StageState) → PinLaw (if b then Some (state_of f) else None) h (Some s) → IsPinOf (if b then Some f else None) h s.pin
+pin_if true f h s x = x
+pin_if false f h s x = x
+
+-- the law of the pin, as the whole call has it
+pub pin_law : (token : List ℕ) (o : Option Stage) (h : HubState) (s : StageState) → PinLaw (own_state token (option_map state_of o)) h (Some s) → IsPinOf (own_stage token o) h s.pin
+pin_law token None h s x = x
+pin_law token (Some f) h s x = pin_if (bytes_eq f.token token) f h s x
+
+some_stage : {a b : StageState} → Some a ≡ Some b → a ≡ b
+some_stage e = cc
+
+stage_some : (o : Option Stage) (st : StageState) → option_map state_of o ≡ Some st → (s : Stage) × (o ≡ Some s) × (state_of s ≡ st)
+stage_some None st e = cc
+stage_some (Some s) st e = (s, refl, some_stage e)
+
+token_if : (b : Bool) (f s : Stage) (token : List ℕ) → (b ≡ true → f.token ≡ token) → StageOn token (if b then Some f else None) (Some s) → s.token ≡ token
+token_if true f s token e x = x.token ∙ e refl
+token_if false f s token e x = x
+
+token_of : (token : List ℕ) (o : Option Stage) (s : Stage) → StageOn token (own_stage token o) (Some s) → s.token ≡ token
+token_of token None s x = x
+token_of token (Some f) s x = token_if (bytes_eq f.token token) f s token (λ h. (bytes_eq-Decides f.token token).0 h) x
+
+-- all kinds of a stage are the version's
+whole : (s : Stage) (h : HubState) → StageFits s h → length s.done ≡ kind_count → s.done ≡ cut (version_at h s.pin) s.token
+whole s h x all =
+    let V = version_at h s.pin in
+    sym x.fits.done ∙ take_all (length s.done) (cut V s.token) (omega (arith, cut_whole V s.token, all))
+
+-- the swapped copy
+abbrev pub swapped_in : Copy → Stage → Copy
+swapped_in c s = record c { held = Some (held_of s); stage = None }
+
+complete_at : (token : List ℕ) (b c : Copy) (s : Stage) (t u : Told) → StageFits s u.hub → length s.done ≡ kind_count → s.token ≡ token → IsPinOf (own_stage token b.stage) t.hub s.pin → CompleteAt s.pin token b t (swapped_in c s) u
+complete_at token b c s t u x all et p = record {
+  held = ap (λ (l : List (List Record)). let h : Option Held = Some (record { version = s.pin; lists = l }) in h) (whole s u.hub x all ∙ ap (cut (version_at u.hub s.pin)) et);
+  stage = refl;
+  standing = x.standing;
+  known = subst (λ t. knows (version_at u.hub s.pin) t ≡ true) et x.fits.known;
+  pin = p;
+}
+
+-- what is known when all kinds are staged
+pub record Ready (token : List ℕ) (run n : ℕ) (b c : Copy) (st : StageState) (t u : Told) : Type 0 where
+  pub ends : Ends token None (without_other token (copy_after (Run (b.run + 1)) b)) c
+  pub state : stage_of c ≡ Some st
+  pub all : st.kinds_done ≡ kind_count
+  pub run_is : run ≡ b.run + 1
+  pub asks : Asks run 0 n t u
+  pub agree : StageAgrees b t
+  pub stage : StageFitsIf c.stage u.hub
+  pub law : PinLaw (own_state token (stage_of b)) t.hub (Some st)
+
+on_of : (token : List ℕ) (o n : Option Stage) → StageOn token o n ⊎ (MayEnd None × (n ≡ None)) → StageOn token o n
+on_of token o n x = ⊎_elim (λ y. y) (λ y. absurd y.0) x
+
+swap_complete : (token : List ℕ) (run n : ℕ) (b c : Copy) (st : StageState) (t u : Told) (s : Stage) → Ready token run n b c st t u → c.stage ≡ Some s → state_of s ≡ st → CompleteAt st.pin token b t (swapped_in c s) u
+swap_complete token run n b c st t u s r e es =
+    let on : StageOn token (own_stage token b.stage) (Some s) = subst (λ o. StageOn token (own_stage token b.stage) o) e (on_of token _ _ (r.ends).stage) in
+    let ag : StageFits s u.hub = subst (λ o. StageFitsIf o u.hub) e r.stage in
+    let all : length s.done ≡ kind_count = ap (λ (x : StageState). x.kinds_done) es ∙ r.all in
+    let p : st.pin ≡ s.pin = ap (λ (x : StageState). x.pin) (sym es) in
+    subst (λ v. CompleteAt v token b t (swapped_in c s) u) (sym p)
+    (complete_at token b c s t u ag all (token_of token b.stage s on) (subst (λ v. IsPinOf (own_stage token b.stage) t.hub v) p (pin_law token b.stage t.hub st r.law)))
+
+swap_agree : (token : List ℕ) (run n : ℕ) (b c : Copy) (st : StageState) (t u : Told) (s : Stage) → Ready token run n b c st t u → StageAgrees (swapped_in c s) u
+swap_agree token run n b c st t u s r =
+    let x = agree_after token run n None b c t u r.ends r.run_is r.asks r.agree r.stage in
+    record { differ = x.differ; below = x.below; stage = tt }
+
+-- swapped
+swap_done : (token : List ℕ) (run n : ℕ) (b c : Copy) (st : StageState) (t u : Told) (s : Stage) → Ready token run n b c st t u → c.stage ≡ Some s → state_of s ≡ st → Synchronised token (answer.Complete st.pin) b t (swapped_in c s) u
+swap_done token run n b c st t u s r e es = record {
+  leaves = record {
+    run = inr (r.ends).run;
+    entries = (r.ends).entries;
+    last_number = (r.ends).last_number;
+    held = (s, record { held = refl; pin = ap (λ (x : StageState). x.pin) es; all = ap (λ (x : StageState). x.kinds_done) es ∙ r.all; stage = refl });
+    stage = inr (inl (tt, refl));
+  };
+  agree = swap_agree token run n b c st t u s r;
+  held = swap_complete token run n b c st t u s r e es;
+}
+
+swap_broken : (token : List ℕ) (run n : ℕ) (b c : Copy) (st : StageState) (t u : Told) (s : Stage) → Ready token run n b c st t u → c.stage ≡ Some s → state_of s ≡ st → Synchronised token answer.KeeperFault b t (swapped_in c s) u
+swap_broken token run n b c st t u s r e es = record {
+  leaves = record {
+    run = inr (r.ends).run;
+    entries = (r.ends).entries;
+    last_number = (r.ends).last_number;
+    held = inr (s, record { held = refl; pin = refl; all = ap (λ (x : StageState). x.kinds_done) es ∙ r.all; stage = refl });
+    stage = inr (inl (tt, refl));
+  };
+  agree = swap_agree token run n b c st t u s r;
+  held = inr (st.pin, swap_complete token run n b c st t u s r e es);
+}
+
+kept_sync : (token : List ℕ) (run n : ℕ) (b c : Copy) (st : StageState) (t u : Told) (e : SyncAnswer) → MayStay e → Ready token run n b c st t u → Synchronised token e b t c u
+kept_sync token run n b c st t u answer.KeeperFault m r = record {
+  leaves = record { run = inr (r.ends).run; entries = (r.ends).entries; last_number = (r.ends).last_number; held = inl (r.ends).held; stage = inl (on_of token _ _ (r.ends).stage) };
+  agree = agree_after token run n None b c t u r.ends r.run_is r.asks r.agree r.stage;
+  held = inl (r.ends).held;
+}
+kept_sync token run n b c st t u answer.NoMemory m r = record {
+  leaves = record { run = inr (r.ends).run; entries = (r.ends).entries; last_number = (r.ends).last_number; held = (r.ends).held; stage = inl (on_of token _ _ (r.ends).stage) };
+  agree = agree_after token run n None b c t u r.ends r.run_is r.asks r.agree r.stage;
+  held = (r.ends).held;
+}
+kept_sync token run n b c st t u e m r = absurd m
+
+swap_to : (c : Copy) (s : Stage) → c.stage ≡ Some s → copy_after Swap c ≡ swapped_in c s
+swap_to c s e = ap (swapped c) e
+
+-- the last step
+pub swap_sync : (token : List ℕ) (run n : ℕ) (b c a : Copy) (st : StageState) (t u : Told) (e : SyncAnswer) → Ready token run n b c st t u → SwapsIn e st.pin c a → Synchronised token e b t a u
+swap_sync token run n b c a st t u (answer.Complete v) r x =
+    let s = stage_some c.stage st r.state in
+    subst (λ (v : ℕ). Synchronised token (answer.Complete v) b t a u) (sym x.0)
+    (subst (λ (d : Copy). Synchronised token (answer.Complete st.pin) b t d u) (sym (x.1 ∙ swap_to c s.0 s.1)) (swap_done token run n b c st t u s.0 r s.1 s.2))
+swap_sync token run n b c a st t u answer.KeeperFault r x =
+    let s = stage_some c.stage st r.state in
+    ⊎_elim (λ (h : a ≡ c). subst (λ (d : Copy). Synchronised token answer.KeeperFault b t d u) (sym h) (kept_sync token run n b c st t u answer.KeeperFault tt r))
+    (λ (h : a ≡ copy_after Swap c). subst (λ (d : Copy). Synchronised token answer.KeeperFault b t d u) (sym (h ∙ swap_to c s.0 s.1)) (swap_broken token run n b c st t u s.0 r s.1 s.2)) x
+swap_sync token run n b c a st t u answer.NoMemory r x = subst (λ (d : Copy). Synchronised token answer.NoMemory b t d u) (sym x) (kept_sync token run n b c st t u answer.NoMemory tt r)
+swap_sync token run n b c a st t u e r x = absurd x
+
+-- completeness at the beginning
+pub enter_done : (e : SyncAnswer) (b a : Copy) (K : Type 0) → StartCause K e → Enters (Err e) b a → (K → ⊥) → (b.run ≡ LAST → ⊥) → IsDone e
+enter_done answer.LastRun b a K k x quiet low = absurd (low x.0)
+enter_done answer.KeeperFault b a K k x quiet low = absurd (quiet k)
+enter_done answer.NoMemory b a K k x quiet low = tt
+enter_done e b a K k x quiet low = absurd k
+
+pub drop_done : (e : SyncAnswer) (K : Type 0) → (e ≢ answer.LastRun) × StartCause K e → (K → ⊥) → IsDone e
+drop_done answer.LastRun K k quiet = absurd (k.0 refl)
+drop_done answer.KeeperFault K k quiet = absurd (quiet k.1)
+drop_done answer.NoMemory K k quiet = tt
+drop_done e K k quiet = absurd k.1
+
+-- the last step over any link
+pub swap_leaves : (token : List ℕ) (b d c a : Copy) (st : StageState) (e : SyncAnswer) → d ≡ without_other token (copy_after (Run (b.run + 1)) b) → Ends token None d c → stage_of c ≡ Some st → st.kinds_done ≡ kind_count → SwapsIn e st.pin c a → Leaves token e b a
+swap_leaves token b d c a st (answer.Complete v) ed x0 state all x =
+    let y : Ends token None (without_other token (copy_after (Run (b.run + 1)) b)) c = subst (λ (d : Copy). Ends token None d c) ed x0 in
+    let s = stage_some c.stage st state in
+    subst (λ (v : ℕ). Leaves token (answer.Complete v) b a) (sym x.0)
+    (subst (λ (d : Copy). Leaves token (answer.Complete st.pin) b d) (sym (x.1 ∙ swap_to c s.0 s.1)) (record {
+      run = inr y.run;
+      entries = y.entries;
+      last_number = y.last_number;
+      held = (s.0, record { held = refl; pin = ap (λ (x : StageState). x.pin) s.2; all = ap (λ (x : StageState). x.kinds_done) s.2 ∙ all; stage = refl });
+      stage = inr (inl (tt, refl));
+    }))
+swap_leaves token b d c a st answer.KeeperFault ed x0 state all x =
+    let y : Ends token None (without_other token (copy_after (Run (b.run + 1)) b)) c = subst (λ (d : Copy). Ends token None d c) ed x0 in
+    let s = stage_some c.stage st state in
+    ⊎_elim (λ (h : a ≡ c). subst (λ (d : Copy). Leaves token answer.KeeperFault b d) (sym h) (record { run = inr y.run; entries = y.entries; last_number = y.last_number; held = inl y.held; stage = inl (on_of token _ _ y.stage) }))
+    (λ (h : a ≡ copy_after Swap c). subst (λ (d : Copy). Leaves token answer.KeeperFault b d) (sym (h ∙ swap_to c s.0 s.1)) (record {
+      run = inr y.run;
+      entries = y.entries;
+      last_number = y.last_number;
+      held = inr (s.0, record { held = refl; pin = refl; all = ap (λ (x : StageState). x.kinds_done) s.2 ∙ all; stage = refl });
+      stage = inr (inl (tt, refl));
+    })) x
+swap_leaves token b d c a st answer.NoMemory ed x0 state all x =
+    let y : Ends token None (without_other token (copy_after (Run (b.run + 1)) b)) c = subst (λ (d : Copy). Ends token None d c) ed x0 in
+    subst (λ (d : Copy). Leaves token answer.NoMemory b d) (sym x) (record { run = inr y.run; entries = y.entries; last_number = y.last_number; held = y.held; stage = inl (on_of token _ _ y.stage) })
+swap_leaves token b d c a st e ed x0 state all x = absurd x
+
+-- an answer of the pages is one of their own
+pub cause_end : (stage : Option StageState) (limit : ℕ) (kept : List ℕ) (run n : ℕ) (missed broke : Type 0) (result : Option SyncAnswer) → CauseIf stage limit kept run n missed broke result → IsEndIf result
+cause_end stage limit kept run n missed broke None c = tt
+cause_end stage limit kept run n missed broke (Some (answer.Complete v)) c = c
+cause_end stage limit kept run n missed broke (Some answer.LastRun) c = c
+cause_end stage limit kept run n missed broke (Some a) c = tt
+
+pub cause_whole : (stage : Option StageState) (limit : ℕ) (kept : List ℕ) (run n : ℕ) (missed broke more : Type 0) (a : SyncAnswer) → (broke → more) → CauseIf stage limit kept run n missed broke (Some a) → CauseOf stage limit kept run n missed more a
+cause_whole stage limit kept run n missed broke more (answer.Complete v) f c = absurd c
+cause_whole stage limit kept run n missed broke more answer.LastRun f c = absurd c
+cause_whole stage limit kept run n missed broke more answer.KeeperFault f c = f c
+cause_whole stage limit kept run n missed broke more a f c = c
+
+own_token_if : (b : Bool) (s : StageState) (token : List ℕ) → (b ≡ true → s.token ≡ token) → HasToken token (if b then Some s else None)
+own_token_if true s token e = e refl
+own_token_if false s token e = tt
+
+-- what is left is under the token
+pub own_token : (token : List ℕ) (o : Option StageState) → HasToken token (own_state token o)
+own_token token None = tt
+own_token token (Some s) = own_token_if (bytes_eq s.token token) s token (λ h. (bytes_eq-Decides s.token token).0 h)
+
+own_few_if : (b : Bool) (s : StageState) → s.kinds_done ≤ kind_count → kinds_of (if b then Some s else None) ≤ kind_count
+own_few_if true s le = le
+own_few_if false s le = omega arith
+
+pub own_few : (token : List ℕ) (o : Option StageState) → kinds_of o ≤ kind_count → kinds_of (own_state token o) ≤ kind_count
+own_few token None le = le
+own_few token (Some s) le = own_few_if (bytes_eq s.token token) s le
+
+-- ---- causes at the beginning and at the end
+
+pub start_cause : (limit : ℕ) (kept : List ℕ) (missed broke more : Type 0) (e : SyncAnswer) → (broke → more) → StartCause broke e → CauseOf None limit kept 0 0 missed more e
+start_cause limit kept missed broke more answer.LastRun f k = tt
+start_cause limit kept missed broke more answer.KeeperFault f k = f k
+start_cause limit kept missed broke more answer.NoMemory f k = tt
+start_cause limit kept missed broke more e f k = absurd k
+
+pub start_on : (broke : Type 0) (e : SyncAnswer) → StartCause broke e → AsksOn e → ⊥
+start_on broke answer.LastRun k on = on
+start_on broke answer.KeeperFault k on = on
+start_on broke answer.NoMemory k on = on
+start_on broke e k on = k
+
+abbrev pub IsFinish : SyncAnswer → ℕ → Type 0
+IsFinish result pin = (result ≡ answer.Complete pin) ⊎ ((result ≡ answer.KeeperFault) ⊎ (result ≡ answer.NoMemory))
+
+pub finish_by : (P : SyncAnswer → Type 0) (result : SyncAnswer) (pin : ℕ) → IsFinish result pin → P (answer.Complete pin) → (result ≡ answer.KeeperFault → P answer.KeeperFault) → P answer.NoMemory → P result
+finish_by P result pin x a b d = ⊎_elim
+    (λ (e : result ≡ answer.Complete pin). subst P (sym e) a)
+    (λ y. ⊎_elim (λ (e : result ≡ answer.KeeperFault). subst P (sym e) (b e)) (λ (e : result ≡ answer.NoMemory). subst P (sym e) d) y) x
+
+pub swap_run : (e : SyncAnswer) (pin : ℕ) (c a : Copy) → SwapsIn e pin c a → a.run ≡ c.run
+swap_run (answer.Complete v) pin c a x = ap (λ (d : Copy). d.run) x.1 ∙ run_swapped c c.stage
+  where
+    run_swapped : (c : Copy) (o : Option Stage) → (swapped c o).run ≡ c.run
+    run_swapped c None = refl
+    run_swapped c (Some s) = refl
+swap_run answer.KeeperFault pin c a x = ⊎_elim (λ (h : a ≡ c). ap (λ (d : Copy). d.run) h) (λ (h : a ≡ copy_after Swap c). ap (λ (d : Copy). d.run) h ∙ run_swapped c c.stage) x
+  where
+    run_swapped : (c : Copy) (o : Option Stage) → (swapped c o).run ≡ c.run
+    run_swapped c None = refl
+    run_swapped c (Some s) = refl
+swap_run answer.NoMemory pin c a x = ap (λ (d : Copy). d.run) x
+swap_run e pin c a x = absurd x
+
+-- ---- the last run
+
+start_aside : (broke : Type 0) (e : SyncAnswer) → StartCause broke e → (e ≡ answer.LastRun) ⊎ IsAside e
+start_aside broke answer.LastRun k = inl refl
+start_aside broke answer.KeeperFault k = inr tt
+start_aside broke answer.NoMemory k = inr tt
+start_aside broke e k = absurd k
+
+only_entered : (e : SyncAnswer) (b a : Copy) → Enters (Err e) b a → e ≡ answer.LastRun → (b.run ≡ LAST) × (a ≡ b)
+only_entered e b a x h = subst (λ (e : SyncAnswer). (let r : Result CopyState SyncAnswer = Err e in Enters r b a)) h x
+
+pub last_entered : (e : SyncAnswer) (b a : Copy) (broke : Type 0) → StartCause broke e → Enters (Err e) b a → LastLaw e b a
+last_entered e b a broke k x = record { only = only_entered e b a x; exact = λ _. start_aside broke e k }
+
+pub last_dropped : (e : SyncAnswer) (b a : Copy) (broke : Type 0) → (e ≢ answer.LastRun) × StartCause broke e → LastLaw e b a
+last_dropped e b a broke k = record { only = λ h. absurd (k.0 h); exact = λ _. start_aside broke e k.1 }
+
+end_other : (e : SyncAnswer) → IsEnd e → e ≢ answer.LastRun
+end_other e i h = subst (λ (e : SyncAnswer). IsEnd e) h i
+
+pub last_low : (e : SyncAnswer) (b a : Copy) (run : ℕ) → e ≢ answer.LastRun → run ≡ b.run + 1 → run ≤ LAST → LastLaw e b a
+last_low e b a run n e2 le = record { only = λ h. absurd (n h); exact = λ h. absurd (omega (arith, h, e2, le)) }
+
+pub last_ended : (e : SyncAnswer) (b a : Copy) (run : ℕ) → IsEnd e → run ≡ b.run + 1 → run ≤ LAST → LastLaw e b a
+last_ended e b a run i e2 le = last_low e b a run (end_other e i) e2 le
+
+pub finish_other : (result : SyncAnswer) (pin : ℕ) → IsFinish result pin → result ≢ answer.LastRun
+finish_other result pin x = finish_by (λ a. a ≢ answer.LastRun) result pin x (λ e. cc) (λ k e. cc) (λ e. cc)

@@ -1,0 +1,40 @@
+use Rattle.std.proofs.Common.{◌≡◌, ◌+◌, ◌*◌, ◌≤◌}
+use Rattle.copy_keeper.specs.Copies.{Copy}
+use Rattle.copy_keeper.specs.Lists.{kind_count}
+use Rattle.copy_keeper.specs.States.{stage_of}
+use Rattle.exchange_link.specs.Agreement.{StageFitsIf}
+use Rattle.exchange_link.specs.Causes.{IsLast, IsMore, IsOwnReply, IsPageStatus}
+use Rattle.exchange_link.specs.Exchanges.{Told}
+use Rattle.exchange_link.specs.Places.{kinds_of}
+use Rattle.http_wire.specs.declared.answer.WireReply.{WireReply}
+use Rattle.copy_keeper.specs.declared.state.StageState.{StageState}
+use Rattle.std.specs.Prelude.{Option}
+use Rattle.consumer_sync.specs.Filling.{BoundSoFar, Fills, HasToken, IsSmall, PinLaw, request_of, weight}
+use Rattle.consumer_sync.specs.Requests.{Asks, IsReady}
+use Rattle.consumer_sync.proofs.fill.fill.Given as goal
+
+abbrev pub invariant-rounds : goal.invariant-rounds
+invariant-rounds g l =
+    let S = g.C.CopyKeeper.stands_for in
+    let T = g.L.Link.tells in
+    record {
+      holds : (c : Copy) → S l.copy c → stage_of c ≡ l.stage;
+      token : HasToken l.token l.stage;
+      few : kinds_of l.stage ≤ kind_count;
+      small : IsSmall l.fn.stage → IsSmall l.stage;
+      room : l.count + 100 * weight l.stage ≤ 2000000000;
+      copy : (after : Copy) → S l.copy after → (before : Copy) × S l.fn.copy before × Fills l.token before after;
+      link : (after : Told) → T l.link after → (before : Told) × T l.fn.link before × Asks l.run 0 l.count before after × (IsSmall l.fn.stage → IsReady l.run 0 before.sent → PinLaw l.fn.stage before.hub l.stage);
+      agree : ((c : Copy) (t : Told) → S l.fn.copy c → T l.fn.link t → StageFitsIf c.stage t.hub × IsReady l.run 0 t.sent)
+          → (c : Copy) (t : Told) → S l.copy c → T l.link t → StageFitsIf c.stage t.hub;
+      asked : IsMore (g.L.Link.asked l.fn.link) l.count (g.L.Link.asked l.link);
+      bound : ((c : Copy) (t : Told) → S l.fn.copy c → T l.fn.link t → StageFitsIf c.stage t.hub × IsReady l.run 0 t.sent)
+          → (c : Copy) (t : Told) → S l.copy c → T l.link t → BoundSoFar l.count l.tries l.limit l.token l.fn.stage l.stage t.hub;
+      heard : g.L.Link.fault_count l.fn.link ≤ g.L.Link.fault_count l.link;
+      later : g.C.CopyKeeper.fault_count l.fn.copy ≤ g.C.CopyKeeper.fault_count l.copy;
+      page : (w : WireReply) → IsOwnReply (g.L.Link.kept l.link) l.run l.count w → IsPageStatus w.status;
+      last : (asked : Option StageState) × (1 ≤ l.count → (t : Told) → T l.link t → IsLast (request_of asked l.run l.count l.token l.limit) t.sent);
+    }
+
+abbrev pub decreases-rounds : goal.decreases-rounds
+decreases-rounds g l = weight l.stage

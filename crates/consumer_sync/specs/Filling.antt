@@ -1,0 +1,107 @@
+-- Page after page.
+use Rattle.std.specs.Prelude.{◌≡◌, ◌⊎◌, ℕ, ◌+◌, ◌-◌, ◌*◌, ◌≤◌, List, Option, Some, None, ⊤}
+use Rattle.copy_keeper.specs.Copies.{Copy, Stage}
+use Rattle.copy_keeper.specs.Lists.{kind_count}
+use Rattle.copy_keeper.specs.declared.state.StageState.{StageState}
+use Rattle.copy_keeper.specs.declared.state.TheConstants.{LAST}
+use Rattle.exchange_link.specs.Bounds.{HasPin, IsCallPin, work}
+use Rattle.exchange_link.specs.Causes.{AnswersTo, AsksOn, CauseOf, IsAside, IsPageStatus, ToldCause}
+use Rattle.exchange_link.specs.Completeness.{IsDone}
+use Rattle.exchange_link.specs.Exchanges.{Told}
+use Rattle.hub_rules.specs.Checks.{version_at}
+use Rattle.exchange_link.specs.Pages.{page_request}
+use Rattle.exchange_link.specs.Places.{kinds_of, next_page, staged_of}
+use Rattle.exchange_link.specs.Synchronised.{StageOn}
+use Rattle.exchange_link.specs.declared.answer.SyncAnswer.{SyncAnswer}
+use Rattle.exchange_link.specs.declared.answer.SyncAnswer.TheVariants as answer
+use Rattle.http_wire.specs.declared.answer.WireReply.{WireReply}
+use Rattle.status_info.specs.declared.request.Request.{Request}
+use Rattle.version_core.specs.HubStates.{HubState, newest_number}
+use Rattle.version_core.specs.Version.{row_limit}
+use Rattle.consumer_sync.specs.Requests.{number}
+use Rattle.consumer_sync.specs.Staging.{MayEnd}
+
+-- the request for the next page of a stage
+abbrev pub request_of : Option StageState → ℕ → ℕ → List ℕ → ℕ → Request
+request_of stage run count token limit = page_request (next_page token limit stage) (number run count)
+
+-- a stage is under this token
+abbrev pub HasToken : List ℕ → Option StageState → Type 0
+HasToken token None = ⊤
+HasToken token (Some s) = s.token ≡ token
+
+-- the numbers of a stage are ones that a request may have
+abbrev pub IsSmall : Option StageState → Type 0
+IsSmall None = ⊤
+IsSmall (Some s) = (s.staged ≤ row_limit) × (s.pin ≤ LAST)
+
+-- the pin of a stage is that of the stage at entry; where none stood it isn't older than the newest version then
+abbrev pub PinLaw : Option StageState → HubState → Option StageState → Type 0
+PinLaw None h None = Unit {0}
+PinLaw None h (Some s) = newest_number h ≤ s.pin
+PinLaw (Some first) h (Some s) = s.pin ≡ first.pin
+PinLaw (Some first) h None = ⊥
+
+-- what the call leaves of a copy before it ends
+pub record Fills (token : List ℕ) (before after : Copy) : Type 0 where
+  pub run : after.run ≡ before.run
+  pub held : after.held ≡ before.held
+  pub entries : after.entries ≡ before.entries
+  pub last_number : after.last_number ≡ before.last_number
+  pub stage : StageOn token before.stage after.stage
+
+-- the same at an answer, where the stage may be gone only where that answer allows it
+pub record Ends (token : List ℕ) (result : Option SyncAnswer) (before after : Copy) : Type 0 where
+  pub run : after.run ≡ before.run
+  pub held : after.held ≡ before.held
+  pub entries : after.entries ≡ before.entries
+  pub last_number : after.last_number ≡ before.last_number
+  pub stage : StageOn token before.stage after.stage ⊎ (MayEnd result × (after.stage ≡ None))
+
+-- the rounds that a stage may still take, at least
+abbrev pub weight : Option StageState → ℕ
+weight stage = (kind_count - kinds_of stage) * (row_limit + 2) + (row_limit + 1 - staged_of stage)
+
+-- the bound so far: with the stage that stands now
+abbrev pub BoundSoFar : ℕ → ℕ → ℕ → List ℕ → Option StageState → Option StageState → HubState → Type 0
+BoundSoFar n tries limit token first None h = n ≡ 0
+BoundSoFar n tries limit token first (Some s) h = n + tries * work limit token (Some s) (version_at h s.pin) ≤ tries * work limit token first (version_at h s.pin)
+
+abbrev pub IsDoneIf : Option SyncAnswer → Type 0
+IsDoneIf None = Unit {0}
+IsDoneIf (Some a) = IsDone a
+
+abbrev pub ToldIf : List ℕ → Told → Told → Option SyncAnswer → Type 0
+ToldIf token before after None = Unit {0}
+ToldIf token before after (Some a) = ToldCause token before after a
+
+-- the answers with which the pages end
+abbrev pub CauseIf : Option StageState → ℕ → List ℕ → ℕ → ℕ → Type 0 → Type 0 → Option SyncAnswer → Type 0
+CauseIf stage limit kept run n missed broke None = Unit {0}
+CauseIf stage limit kept run n missed broke (Some (answer.Complete v)) = ⊥
+CauseIf stage limit kept run n missed broke (Some answer.LastRun) = ⊥
+CauseIf stage limit kept run n missed broke (Some a) = CauseOf stage limit kept run n missed broke a
+
+-- the pin of the pages, so far or at their end
+abbrev pub IsCallPinIf : Option SyncAnswer → Option Stage → ℕ → Type 0
+IsCallPinIf None stage v = HasPin v stage
+IsCallPinIf (Some a) stage v = IsCallPin a stage v
+
+-- the answers that end the pages
+abbrev pub IsEnd : SyncAnswer → Type 0
+IsEnd (answer.Complete v) = ⊥
+IsEnd answer.LastRun = ⊥
+IsEnd a = Unit {0}
+
+-- what an own reply makes of the answer; pages that go on came as pages
+abbrev pub ExactIf : Option ℕ → WireReply → Option SyncAnswer → Type 0
+ExactIf pin w None = IsPageStatus w.status
+ExactIf pin w (Some a) = IsAside a ⊎ AnswersTo pin w a
+
+abbrev pub AsksOnIf : Option SyncAnswer → Type 0
+AsksOnIf None = ⊥
+AsksOnIf (Some a) = AsksOn a
+
+abbrev pub IsEndIf : Option SyncAnswer → Type 0
+IsEndIf None = Unit {0}
+IsEndIf (Some a) = IsEnd a

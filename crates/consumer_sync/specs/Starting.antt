@@ -1,0 +1,51 @@
+-- The beginning of a synchronisation, and its end.
+use Rattle.std.specs.Prelude.{◌≡◌, ◌⊎◌, ℕ, ◌+◌, List, Option, None, Result, Ok, Err}
+use Rattle.copy_keeper.specs.Changes.{copy_after}
+use Rattle.copy_keeper.specs.Copies.{Copy}
+use Rattle.copy_keeper.specs.declared.change.CopyChange.TheVariants.{Run, Drop, Swap}
+use Rattle.copy_keeper.specs.declared.state.CopyState.{CopyState}
+use Rattle.copy_keeper.specs.declared.state.StageState.{StageState}
+use Rattle.copy_keeper.specs.declared.state.TheConstants.{LAST}
+use Rattle.exchange_link.specs.Synchronised.{own_stage}
+use Rattle.exchange_link.specs.declared.answer.SyncAnswer.{SyncAnswer}
+use Rattle.exchange_link.specs.declared.answer.SyncAnswer.TheVariants as answer
+
+-- the run number as before, or the next one
+abbrev pub EntersRun : Copy → Copy → Type 0
+EntersRun before after = (after ≡ before) ⊎ (after ≡ copy_after (Run (before.run + 1)) before)
+
+-- entering a run: at Ok it is entered, with this small part
+abbrev pub Enters : Result CopyState SyncAnswer → Copy → Copy → Type 0
+Enters (Ok s) before after = (s.run ≡ before.run + 1) × (after ≡ copy_after (Run (before.run + 1)) before)
+Enters (Err answer.LastRun) before after = (before.run ≡ LAST) × (after ≡ before)
+Enters (Err e) before after = EntersRun before after
+
+-- letting a stage under another token go
+abbrev pub without_other : List ℕ → Copy → Copy
+without_other token c = record c { stage = own_stage token c.stage }
+
+abbrev pub Drops : List ℕ → Result (Option StageState) SyncAnswer → Copy → Copy → Type 0
+Drops token (Ok s) before after = after ≡ without_other token before
+Drops token (Err e) before after = (after ≡ before) ⊎ ((own_stage token before.stage ≡ None) × (after ≡ copy_after Drop before))
+
+-- a call's beginning that fails
+pub record Aborts (token : List ℕ) (before after : Copy) : Type 0 where
+  pub run : (after.run ≡ before.run) ⊎ (after.run ≡ before.run + 1)
+  pub held : after.held ≡ before.held
+  pub entries : after.entries ≡ before.entries
+  pub last_number : after.last_number ≡ before.last_number
+  pub stage : (after.stage ≡ before.stage) ⊎ ((own_stage token before.stage ≡ None) × (after.stage ≡ None))
+
+-- the first answers: the cause of the last run, the keeper's count, memory
+abbrev pub StartCause : Type 0 → SyncAnswer → Type 0
+StartCause broke answer.LastRun = Unit {0}
+StartCause broke answer.KeeperFault = broke
+StartCause broke answer.NoMemory = Unit {0}
+StartCause broke a = ⊥
+
+-- swapping the stage in
+abbrev pub SwapsIn : SyncAnswer → ℕ → Copy → Copy → Type 0
+SwapsIn (answer.Complete v) pin before after = (v ≡ pin) × (after ≡ copy_after Swap before)
+SwapsIn answer.KeeperFault pin before after = (after ≡ before) ⊎ (after ≡ copy_after Swap before)
+SwapsIn answer.NoMemory pin before after = after ≡ before
+SwapsIn a pin before after = ⊥

@@ -1,0 +1,97 @@
+//! Page after page, until all kinds are staged.
+
+ghost use Rattle.std.specs.Prelude.{◌≡◌, ◌≢◌, ◌⊎◌, ℕ, ◌+◌, ◌*◌, ◌^◌, ◌<◌, ◌≤◌, Option, None, Some};
+ghost use Rattle.copy_keeper.specs.Copies.{Copy};
+ghost use Rattle.copy_keeper.specs.Lists.{kind_count};
+ghost use Rattle.copy_keeper.specs.States.{stage_of};
+ghost use Rattle.copy_keeper.specs.declared.state.StageState.{StageState as State};
+ghost use Rattle.copy_keeper.specs.declared.state.TheConstants.{LAST};
+ghost use Rattle.exchange_link.specs.Agreement.{StageFitsIf};
+ghost use Rattle.exchange_link.specs.Bounds.{Bounded};
+ghost use Rattle.exchange_link.specs.Causes.{IsLast, IsMore, IsOwnReply, RoseBy};
+ghost use Rattle.exchange_link.specs.Completeness.{StandsAt, first_pin};
+ghost use Rattle.exchange_link.specs.Exchanges.{Told};
+ghost use Rattle.exchange_link.specs.Places.{kinds_of, pin_of};
+ghost use Rattle.http_wire.specs.declared.answer.WireReply.{WireReply as Reply};
+ghost use Rattle.roster_base.specs.Faults.{Rose};
+ghost use Rattle.consumer_sync.specs.Filling.{AsksOnIf, CauseIf, Ends, ExactIf, HasToken, IsCallPinIf, IsDoneIf, IsEndIf, IsSmall, PinLaw, ToldIf, request_of};
+ghost use Rattle.consumer_sync.specs.Requests.{Asks, IsReady};
+
+use crate::ask::{Outcome, fetch};
+use crate::judging::{kind, kinds_done, staged};
+use crate::staging::take_reply;
+use copy_keeper::{CopyKeeper, StageState};
+use exchange_link::{Link, SyncAnswer};
+use roster_texts::Token;
+use roster_values::Kind;
+use std::alloc::Global;
+
+/// How many kinds there are.
+const KINDS: u8 = Kind::ALL.len() as u8;
+
+/// Stages page after page. `None`: all kinds are done.
+pub fn fill<C: CopyKeeper, L: Link>(
+    alloc: Global,
+    copy: &mut C,
+    link: &mut L,
+    stage: &mut Option<StageState>,
+    run: u64,
+    token: &Token,
+    limit: u64,
+    tries: u64,
+) -> Option<SyncAnswer>
+    requires holds { (c : Copy) → C.stands_for copy.old c → stage_of c ≡ stage.old }
+    requires token { HasToken token.now stage.old }
+    requires few { kinds_of stage.old ≤ kind_count }
+    requires run { (1 ≤ run) × (run ≤ LAST) }
+    requires limit { (0 < limit) × (limit ≤ 1000) }
+    requires tries { (0 < tries) × (tries ≤ 100) }
+    ensures holds { result ≡ None → (c : Copy) → C.stands_for copy.new c → stage_of c ≡ stage.new }
+    ensures done { result ≡ None → kinds_of stage.new ≡ kind_count }
+    ensures copy { (after : Copy) → C.stands_for copy.new after → (before : Copy) × C.stands_for copy.old before × Ends token.now result before after }
+    ensures link { (after : Told) → L.tells link.new after → (before : Told) × L.tells link.old before × (count : ℕ) × Asks run 0 count before after
+        × (result ≡ None → IsSmall stage.old → IsReady run 0 before.sent → PinLaw stage.old before.hub stage.new) }
+    ensures agree { ((c : Copy) (t : Told) → C.stands_for copy.old c → L.tells link.old t → StageFitsIf c.stage t.hub × IsReady run 0 t.sent)
+        → (c : Copy) (t : Told) → C.stands_for copy.new c → L.tells link.new t → StageFitsIf c.stage t.hub }
+    ensures bound { ((c : Copy) (t : Told) → C.stands_for copy.old c → L.tells link.old t → StageFitsIf c.stage t.hub × IsReady run 0 t.sent)
+        → (c : Copy) (t : Told) → C.stands_for copy.new c → L.tells link.new t
+        → (n : ℕ) × (L.asked link.new ≤ L.asked link.old + n) × Bounded n tries limit token.now stage.old (λ v. IsCallPinIf result c.stage v) t.hub }
+    ensures complete { ((c : Copy) (t : Told) → C.stands_for copy.old c → L.tells link.old t → StageFitsIf c.stage t.hub × IsReady run 0 t.sent)
+        → ¬ Rose (L.fault_count link.old) (L.fault_count link.new) → ¬ Rose (C.fault_count copy.old) (C.fault_count copy.new)
+        → (c : Copy) (t : Told) → C.stands_for copy.new c → L.tells link.new t
+        → (before : Told) × L.tells link.old before × (¬ Rose before.hub_faults t.hub_faults → StandsAt (first_pin stage.old before.hub) token.now t.hub → IsDoneIf result) }
+    ensures told { ((c : Copy) (t : Told) → C.stands_for copy.old c → L.tells link.old t → StageFitsIf c.stage t.hub × IsReady run 0 t.sent)
+        → (c : Copy) (t : Told) → C.stands_for copy.new c → L.tells link.new t
+        → (before : Told) × L.tells link.old before × ToldIf token.now before t result }
+    ensures ends { IsEndIf result }
+    ensures later { C.fault_count copy.old ≤ C.fault_count copy.new }
+    ensures cause { (asked : Option State) × (n : ℕ) × IsMore (L.asked link.old) n (L.asked link.new)
+        × CauseIf asked limit (L.kept link.new) run n ((tries ≤ L.missed link.new) × (tries ≤ n) × RoseBy tries (L.fault_count link.old) (L.fault_count link.new)) (Rose (C.fault_count copy.old) (C.fault_count copy.new)) result
+        × ((w : Reply) → IsOwnReply (L.kept link.new) run n w → ExactIf (pin_of asked) w result)
+        × (1 ≤ n → result ≢ Some SyncAnswer.NoMemory → (t : Told) → L.tells link.new t → IsLast (request_of asked run n token.now limit) t.sent)
+        × (AsksOnIf result → (1 ≤ n) × ((c : Copy) → C.stands_for copy.new c → stage_of c ≡ asked)) }
+{
+    let mut count: u64 = 0;
+    'rounds: while kinds_done(stage) < KINDS {
+        match fetch(alloc, link, stage, run, token, limit, &mut count, tries) {
+            Outcome::Own(reply) => match take_reply(alloc, copy, stage, token, limit, &reply) {
+                None => {}
+                answer => return answer,
+            },
+            Outcome::NoReply => {
+                return Some(SyncAnswer::BadReply {
+                    kind: kind(stage),
+                    offset: staged(stage),
+                });
+            }
+            Outcome::Missed => {
+                return Some(SyncAnswer::Interrupted {
+                    kind: kind(stage),
+                    offset: staged(stage),
+                });
+            }
+            Outcome::NoMemory => return Some(SyncAnswer::NoMemory),
+        }
+    }
+    None
+}

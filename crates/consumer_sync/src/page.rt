@@ -1,0 +1,91 @@
+//! The requests for pages.
+
+ghost use Rattle.std.specs.Prelude.{◌≡◌, ◌<◌, ◌++◌, IfOk, codes, string_bytes};
+ghost use Rattle.copy_keeper.specs.Lists.{kind_count};
+ghost use Rattle.exchange_link.specs.Places.{kinds_of, next_page};
+ghost use Rattle.hub_requests.specs.PageRequests.{page_path, page_query, pin_text};
+ghost use Rattle.http_wire.specs.Sending.{CanSend, IsSentEcho};
+ghost use Rattle.status_info.specs.declared.request.Echo.{Echo as Number};
+ghost use Rattle.consumer_sync.specs.Requests.{numbered, unnumbered};
+
+use crate::judging::{kind, pin, staged};
+use copy_keeper::StageState;
+use roster_base::{Bytes, NoMemory, Text, TryCopy};
+use roster_texts::Token;
+use roster_values::Kind;
+use status_info::{MarkField, Request, Verb};
+use std::alloc::Global;
+
+#[tactic(auto, unfolding(hub_requests::specs::PageRequests::page_path))]
+fn path_text(alloc: Global, kind: Kind) -> Result<String, NoMemory>
+    ensures { IfOk result (λ s. string_bytes s ≡ page_path kind) }
+{
+    let mut path = String::from_str(alloc, "/ims/oneroster/v1p1/")?;
+    path.push_str(kind.plural())?;
+    Ok(path)
+}
+
+fn pin_text(alloc: Global, pin: Option<u64>) -> Result<String, NoMemory>
+    ensures { IfOk result (λ s. string_bytes s ≡ pin_text pin) }
+{
+    let mut text = String::new(alloc);
+    match pin {
+        None => {}
+        Some(pin) => text.push_str(format!(in alloc; "&hubVersion={pin}")?.as_str())?,
+    }
+    Ok(text)
+}
+
+#[tactic(auto, unfolding(hub_requests::specs::PageRequests::page_query))]
+fn query_text(alloc: Global, limit: u64, offset: u64, pin: Option<u64>) -> Result<String, NoMemory>
+    ensures { IfOk result (λ s. string_bytes s ≡ page_query limit offset pin) }
+{
+    let mut query = String::from_str(alloc, "limit=")?;
+    query.push_str(format!(in alloc; "{limit}")?.as_str())?;
+    query.push_str("&offset=")?;
+    query.push_str(format!(in alloc; "{offset}")?.as_str())?;
+    query.push_str(pin_text(alloc, pin)?.as_str())?;
+    Ok(query)
+}
+
+fn request_for(
+    alloc: Global,
+    token: &Token,
+    kind: Kind,
+    limit: u64,
+    offset: u64,
+    pin: Option<u64>,
+) -> Result<Request, NoMemory>
+    ensures { IfOk result (λ q. q ≡ unnumbered (record { token = token.now; kind = kind; limit = limit; offset = offset; pin = pin })) }
+{
+    Ok(Request {
+        verb: Verb::Get,
+        path: Text::from_string(path_text(alloc, kind)?),
+        query: Text::from_string(query_text(alloc, limit, offset, pin)?),
+        token: Some(token.copy(alloc)?),
+        mark: MarkField::Nothing,
+        echo: None,
+        close: false,
+        body: Bytes::from_vec(Vec::new(alloc)),
+    })
+}
+
+/// The request for the next page of a stage, still without a number; it may be sent under each.
+pub fn page_request(
+    alloc: Global,
+    token: &Token,
+    limit: u64,
+    stage: &Option<StageState>,
+) -> Result<Request, NoMemory>
+    requires { kinds_of stage.now < kind_count }
+    ensures request { IfOk result (λ q. q ≡ unnumbered (next_page token.now limit stage.now)) }
+    ensures can { IfOk result (λ q. (n : Number) → IsSentEcho n → CanSend (numbered q n)) }
+{
+    // Read for what a token is.
+    let _good = token.as_str();
+    let kind = kind(stage);
+    let offset = staged(stage);
+    let pin = pin(stage);
+    let request = request_for(alloc, token, kind, limit, offset, pin)?;
+    Ok(request)
+}

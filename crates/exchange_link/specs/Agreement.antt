@@ -1,0 +1,56 @@
+-- What a copy and what a link tells agree on.
+use Rattle.std.specs.Prelude.{◌≡◌, ◌<◌, ◌≤◌, ℕ, ◌++◌, true, List, [], ◌∷◌, length, take, Option, Some, None}
+use Rattle.copy_keeper.specs.Copies.{Copy, Stage}
+use Rattle.hub_rules.specs.Checks.{version_at}
+use Rattle.hub_views.specs.Cuts.{cut}
+use Rattle.roster_types.specs.Records.{Record}
+use Rattle.status_info.specs.declared.request.Echo.{Echo}
+use Rattle.status_info.specs.declared.request.Request.{Request}
+use Rattle.version_core.specs.HubStates.{HubState}
+use Rattle.version_core.specs.declared.change.BaseVersion.{BaseVersion}
+use Rattle.exchange_link.specs.Exchanges.{SentAs, Told}
+use Rattle.exchange_link.specs.Sayings.{knows, list_of}
+
+abbrev pub IsFrontOf : List Record → List Record → Type 0
+IsFrontOf xs ys = (rest : List Record) × (xs ++ rest ≡ ys)
+
+-- nothing, or this number
+abbrev pub FitsTotal : Option ℕ → ℕ → Type 0
+FitsTotal None n = Unit {0}
+FitsTotal (Some total) n = total ≡ n
+
+-- the stage is a front of what its token sees of this version
+pub record FitsVersion (s : Stage) (version : BaseVersion) : Type 0 where
+  pub known : knows version s.token ≡ true
+  pub done : take (length s.done) (cut version s.token) ≡ s.done
+  pub present : IsFrontOf s.present (list_of version s.token (length s.done))
+  pub total : FitsTotal s.total (length (list_of version s.token (length s.done)))
+
+-- the stage is a front of what its token sees of the pinned version
+pub record StageFits (s : Stage) (h : HubState) : Type 0 where
+  pub standing : s.pin < length h.published
+  pub fits : FitsVersion s (version_at h s.pin)
+
+abbrev pub StageFitsIf : Option Stage → HubState → Type 0
+StageFitsIf None h = Unit {0}
+StageFitsIf (Some s) h = StageFits s h
+
+-- no request sent has this number
+abbrev pub NotSent : Echo → List Request → Type 0
+NotSent n sent = SentAs n sent → ⊥
+
+-- the numbers of the requests differ
+abbrev pub Differ : List Request → Type 0
+Differ [] = Unit {0}
+Differ (q ∷ qs) = ((n : Echo) → q.echo ≡ Some n → NotSent n qs) × Differ qs
+
+-- no request is of a later run
+abbrev pub NoneAbove : ℕ → List Request → Type 0
+NoneAbove run [] = Unit {0}
+NoneAbove run (q ∷ qs) = ((n : Echo) → q.echo ≡ Some n → n.run ≤ run) × NoneAbove run qs
+
+-- no number is used twice, and the stage is what it says
+pub record StageAgrees (c : Copy) (told : Told) : Type 0 where
+  pub differ : Differ told.sent
+  pub below : NoneAbove c.run told.sent
+  pub stage : StageFitsIf c.stage told.hub

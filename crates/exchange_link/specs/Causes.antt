@@ -1,0 +1,138 @@
+-- Why a synchronisation answers as it does.
+use Rattle.std.specs.Prelude.{◌≡◌, ◌≢◌, ◌⊎◌, ℕ, ◌+◌, ◌-◌, ◌<◌, ◌≤◌, ◌^◌, false, List, [], ◌∷◌, length, min, Option, Some, None, Ok, IsErr}
+use Rattle.copy_keeper.specs.Lists.{ascends}
+use Rattle.copy_keeper.specs.declared.state.StageState.{StageState}
+use Rattle.copy_keeper.specs.declared.state.TheConstants.{LAST}
+use Rattle.http_wire.specs.Answers.{IsNoReply, IsReplyText}
+use Rattle.http_wire.specs.declared.answer.WireReply.{WireReply}
+use Rattle.hub_rules.specs.Growth.{Grew}
+use Rattle.hub_rules.specs.Verdicts.{newest_in}
+use Rattle.version_core.specs.Grants.{grant_of}
+use Rattle.roster_base.specs.Faults.{Rose}
+use Rattle.roster_types.specs.Records.{Record}
+use Rattle.row_json.specs.Reading.{rows_of}
+use Rattle.version_core.specs.HubStates.{HubState, oldest_number}
+use Rattle.version_core.specs.Version.{row_limit}
+use Rattle.version_core.specs.declared.grant_row.GrantRow.{GrantRow}
+use Rattle.exchange_link.specs.declared.answer.SyncAnswer.{SyncAnswer}
+use Rattle.exchange_link.specs.declared.answer.SyncAnswer.TheVariants as answer
+use Rattle.exchange_link.specs.Exchanges.{Told}
+use Rattle.exchange_link.specs.Sayings.{knows}
+use Rattle.exchange_link.specs.Places.{kind_at, kinds_of, last_of, next_page, pin_of, staged_of, total_of}
+use Rattle.exchange_link.specs.Pages.{page_request}
+use Rattle.copy_keeper.specs.Copies.{Copy}
+use Rattle.copy_keeper.specs.States.{stage_of}
+use Rattle.status_info.specs.declared.request.Request.{Request}
+
+-- a count rose at each of so many exchanges, or stands at the end of its type
+abbrev pub RoseBy : ℕ → ℕ → ℕ → Type 0
+RoseBy n before now = min (before + n) (2 ^ 64 - 1) ≤ now
+
+-- ---- the own reply
+
+-- what a link keeps is the reply to exchange `count` of this run, counted from 1
+pub record IsOwnReply (kept : List ℕ) (run count : ℕ) (w : WireReply) : Type 0 where
+  pub text : IsReplyText kept w
+  pub number : w.echo ≡ Some (record { run = run; count = count })
+  pub from : 1 ≤ count
+
+-- ---- replies that no hub gives
+
+abbrev pub IsPageStatus : ℕ → Type 0
+IsPageStatus status = (status ≡ 200) ⊎ (status ≡ 403)
+
+-- a reply for the next page of a stage that can't be taken
+pub data IsBad (stage : Option StageState) (limit : ℕ) (w : WireReply) : Type 0 where
+  NoVersion : IsPageStatus w.status → w.version ≡ None → IsBad stage limit w
+  OtherVersion : (v pin : ℕ) → IsPageStatus w.status → w.version ≡ Some v → pin_of stage ≡ Some pin → pin ≢ v → IsBad stage limit w
+  ShutBehindRows : w.status ≡ 403 → 0 < staged_of stage → IsBad stage limit w
+  NoTotal : w.status ≡ 200 → w.total ≡ None → IsBad stage limit w
+  OtherTotal : (total before : ℕ) → w.status ≡ 200 → w.total ≡ Some total → total_of stage ≡ Some before → before ≢ total → IsBad stage limit w
+  OtherCount : (total : ℕ) (rows : List Record) → w.status ≡ 200 → w.total ≡ Some total → rows_of (kind_at (kinds_of stage)) w.body ≡ Ok rows
+      → length rows ≢ min limit (total - staged_of stage) → IsBad stage limit w
+  Unreadable : w.status ≡ 200 → IsErr (rows_of (kind_at (kinds_of stage)) w.body) → IsBad stage limit w
+  OutOfOrder : (rows : List Record) → w.status ≡ 200 → rows_of (kind_at (kinds_of stage)) w.body ≡ Ok rows → ascends (last_of stage) rows ≡ false → IsBad stage limit w
+  Unpinned : w.status ≡ 404 → ((pin_of stage ≡ None) ⊎ (w.oldest ≡ None)) → IsBad stage limit w
+  OtherStatus : w.status ≢ 200 → w.status ≢ 401 → w.status ≢ 403 → w.status ≢ 404 → w.status ≢ 500 → w.status ≢ 503 → IsBad stage limit w
+
+-- ---- only where
+
+-- the cause of an answer: what the link keeps, that it missed each try, that the keeper's count rose
+abbrev pub CauseOf : Option StageState → ℕ → List ℕ → ℕ → ℕ → Type 0 → Type 0 → SyncAnswer → Type 0
+CauseOf stage limit kept run n missed broke (answer.Complete v) = Unit {0}
+CauseOf stage limit kept run n missed broke answer.LastRun = Unit {0}
+CauseOf stage limit kept run n missed broke (answer.Interrupted kind offset) = missed × (kind ≡ kind_at (kinds_of stage)) × (offset ≡ staged_of stage)
+CauseOf stage limit kept run n missed broke answer.KeeperFault = broke
+CauseOf stage limit kept run n missed broke answer.NoMemory = Unit {0}
+CauseOf stage limit kept run n missed broke (answer.PinGone pin oldest) = (w : WireReply) × IsOwnReply kept run n w × (w.status ≡ 404) × (w.oldest ≡ Some oldest) × (pin_of stage ≡ Some pin)
+CauseOf stage limit kept run n missed broke answer.UnknownToken = (w : WireReply) × IsOwnReply kept run n w × (w.status ≡ 401)
+CauseOf stage limit kept run n missed broke (answer.TooLarge kind total) = (w : WireReply) × IsOwnReply kept run n w × (w.status ≡ 200) × (w.total ≡ Some total) × (row_limit < total) × (kind ≡ kind_at (kinds_of stage))
+CauseOf stage limit kept run n missed broke (answer.BadReply kind offset) = (IsNoReply kept ⊎ ((w : WireReply) × IsOwnReply kept run n w × IsBad stage limit w)) × (kind ≡ kind_at (kinds_of stage)) × (offset ≡ staged_of stage)
+CauseOf stage limit kept run n missed broke answer.HubFault = (w : WireReply) × IsOwnReply kept run n w × (w.status ≡ 500)
+CauseOf stage limit kept run n missed broke answer.HubNoMemory = (w : WireReply) × IsOwnReply kept run n w × (w.status ≡ 503)
+
+-- ---- exactly where
+
+-- want of memory, and the keeper's fault, come before the answer that a reply gives
+abbrev pub IsAside : SyncAnswer → Type 0
+IsAside answer.NoMemory = Unit {0}
+IsAside answer.KeeperFault = Unit {0}
+IsAside a = ⊥
+
+-- the answer that the own reply to a request with this pin gives
+pub record AnswersTo (pin : Option ℕ) (w : WireReply) (a : SyncAnswer) : Type 0 where
+  pub unknown : w.status ≡ 401 → a ≡ answer.UnknownToken
+  pub fault : w.status ≡ 500 → a ≡ answer.HubFault
+  pub memory : w.status ≡ 503 → a ≡ answer.HubNoMemory
+  pub gone : (p oldest : ℕ) → pin ≡ Some p → w.status ≡ 404 → w.oldest ≡ Some oldest → a ≡ answer.PinGone p oldest
+
+-- ---- the whole
+
+-- a count of exchanges after so many more; it may stand at the end of its type
+pub record IsMore (before n after : ℕ) : Type 0 where
+  pub least : min (before + n) (2 ^ 64 - 1) ≤ after
+  pub most : after ≤ before + n
+
+-- the last request that was sent
+abbrev pub IsLast : Request → List Request → Type 0
+IsLast q [] = ⊥
+IsLast q (p ∷ sent) = p ≡ q
+
+-- the answers after which the stage stands where the last request asked on
+abbrev pub AsksOn : SyncAnswer → Type 0
+AsksOn (answer.Complete v) = ⊥
+AsksOn (answer.PinGone pin oldest) = ⊥
+AsksOn answer.KeeperFault = ⊥
+AsksOn answer.LastRun = ⊥
+AsksOn answer.NoMemory = ⊥
+AsksOn a = Unit {0}
+
+-- the cause of an answer, where the keeper then stands for `copies` and the link tells `tells`: the run, the number of exchanges
+-- of the call, and where the stage stood when the last request was sent
+pub record Caused (token : List ℕ) (limit : ℕ) (copies : Copy → Type 0) (tells : Told → Type 0) (asked_before asked_after : ℕ) (kept : List ℕ) (missed : ℕ → Type 0) (broke : Type 0) (a : SyncAnswer) : Type 0 where
+  pub run : ℕ
+  pub count : ℕ
+  pub asked : Option StageState
+  pub counts : IsMore asked_before count asked_after
+  pub runs : 1 ≤ count → (c : Copy) → copies c → c.run ≡ run
+  pub only : CauseOf asked limit kept run count (missed count) broke a
+  pub exact : (w : WireReply) → IsOwnReply kept run count w → IsAside a ⊎ AnswersTo (pin_of asked) w a
+  pub last : 1 ≤ count → a ≢ answer.NoMemory → (t : Told) → tells t → IsLast (page_request (next_page token limit asked) (record { run = run; count = count })) t.sent
+  pub on : AsksOn a → (1 ≤ count) × ((c : Copy) → copies c → stage_of c ≡ asked)
+
+-- `LastRun` comes exactly where the run number is the last one, and changes nothing
+pub record LastLaw (a : SyncAnswer) (before after : Copy) : Type 0 where
+  pub only : a ≡ answer.LastRun → (before.run ≡ LAST) × (after ≡ before)
+  pub exact : before.run ≡ LAST → (a ≡ answer.LastRun) ⊎ IsAside a
+
+-- ---- what a link that tells adds
+
+-- the state at which the hub gave the reply
+abbrev pub ToldCause : List ℕ → Told → Told → SyncAnswer → Type 0
+ToldCause token before after (answer.TooLarge kind total) = ⊥
+ToldCause token before after (answer.BadReply kind offset) = ⊥
+ToldCause token before after answer.HubFault = Rose before.hub_faults after.hub_faults
+ToldCause token before after (answer.PinGone pin oldest) = (mid : HubState) × Grew before.hub mid × Grew mid after.hub
+    × (by : GrantRow) × (grant_of token (newest_in mid).grants ≡ Some by) × ((pin < oldest_number mid) ⊎ (pin < by.grant.since))
+ToldCause token before after answer.UnknownToken = (mid : HubState) × Grew before.hub mid × Grew mid after.hub × (knows (newest_in mid) token ≡ false)
+ToldCause token before after a = Unit {0}

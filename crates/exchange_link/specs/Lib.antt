@@ -1,0 +1,9 @@
+pub mod Agreement
+pub mod Bounds
+pub mod Causes
+pub mod Completeness
+pub mod Exchanges
+pub mod Pages
+pub mod Places
+pub mod Sayings
+pub mod Synchronised

@@ -1,0 +1,10 @@
+//! The link between a consumer and its hub: what one exchange does, what both agree on, and what a synchronisation over it leaves.
+#![tactic(auto)]
+
+pub mod answer;
+pub mod link;
+pub mod no_link;
+
+pub use answer::SyncAnswer;
+pub use link::Link;
+pub use no_link::NoLink;

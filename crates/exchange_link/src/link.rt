@@ -1,0 +1,61 @@
+//! The link to a hub.
+
+ghost use Rattle.std.specs.Prelude.{◌≡◌, ◌⊎◌, ◌≤◌, ℕ, ◌+◌, ◌-◌, ◌^◌, List, [], min, OnErr, OnOk, Err};
+ghost use Rattle.roster_base.specs.Faults.{Rose};
+ghost use Rattle.outside_ports.specs.declared.failed.IoError.TheVariants as io_error;
+ghost use Rattle.status_info.specs.declared.request.Request.{Request};
+
+use outside_ports::IoError;
+use std::alloc::Global;
+
+/// Carries a consumer's requests to its hub, and the replies back. Requests and replies may get lost, and older ones may come late. What
+/// a link tells of its hub after an exchange is told by what it told before it; one that tells nothing has no such value.
+pub trait Link {
+    ghost use Rattle.exchange_link.specs.Exchanges.{Carries, Exchanged, IsTextOf, IsSentText, Misses, Told};
+    ghost use Rattle.hub_rules.specs.States.{IsHub};
+
+    /// The number of exchanges, up to the end of `u64`.
+    ghost asked: { Self → ℕ };
+
+    /// The number of exchanges since the last one at which the count of faults didn't rise.
+    ghost missed: { Self → ℕ };
+
+    /// The answer of the last exchange; nothing before the first one and after an error.
+    ghost kept: { Self → List ℕ };
+
+    /// How many exchanges failed, or brought another reply than the own one. The count stays at the end of `u64`.
+    ghost fault_count: { Self → ℕ };
+
+    /// What it tells of its hub, where it tells.
+    ghost tells: { Self → Told → Type 0 };
+
+    /// Sends the text of a request with its number, and keeps the answer.
+    fn exchange(&mut self, alloc: Global, request: &[u8]) -> Result<(), IoError>
+        requires { IsSentText request.now }
+        ensures asked { asked self.new ≡ min (asked self.old + 1) (2 ^ 64 - 1) }
+        ensures missed { Misses (Rose (fault_count self.old) (fault_count self.new)) (missed self.old) (missed self.new) }
+        ensures later { fault_count self.old ≤ fault_count self.new }
+        ensures failed { result ≡ Err io_error.Failed → Rose (fault_count self.old) (fault_count self.new) }
+        ensures kept { OnErr result (kept self.new ≡ []) }
+        // Also where the link tells nothing: an answer without the request's number comes only where the count rose.
+        ensures own { (q : Request) → IsTextOf q request.now
+            → OnOk result (Carries (kept self.new) q.echo ⊎ Rose (fault_count self.old) (fault_count self.new)) }
+        ensures told { (q : Request) → IsTextOf q request.now → (after : Told) → tells self.new after
+            → (before : Told) × tells self.old before
+            × Exchanged q result (Rose (fault_count self.old) (fault_count self.new)) (kept self.new) before after };
+
+    /// The answer that is kept; no memory is taken.
+    fn reply(&self) -> &[u8]
+        ensures { result.now ≡ kept self.now };
+
+    /// The number of exchanges since the last one at which the count of faults didn't rise.
+    fn missed(&self) -> u64
+        ensures { result ≡ missed self.now };
+
+    /// The count of faults.
+    fn faults(&self) -> u64
+        ensures { result ≡ fault_count self.now };
+
+    /// What it tells is a state that a hub can have.
+    ghost is_hub: { (link : Self) (told : Told) → tells link told → IsHub told.hub };
+}
