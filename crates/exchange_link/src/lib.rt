@@ -3,8 +3,6 @@
 
 pub mod answer;
 pub mod link;
-pub mod no_link;
 
 pub use answer::SyncAnswer;
 pub use link::Link;
-pub use no_link::NoLink;

@@ -2,7 +2,7 @@
 
 ghost use Rattle.std.specs.Prelude.{◌≡◌};
 
-use crate::link::Link;
+use exchange_link::Link;
 use outside_ports::IoError;
 use std::alloc::Global;
 

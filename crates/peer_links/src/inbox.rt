@@ -1,0 +1,85 @@
+//! What a link keeps of its exchanges.
+
+ghost use Rattle.std.specs.Prelude.{◌≡◌, ◌⊎◌, ◌≤◌, ◌+◌, ◌-◌, ◌^◌, OnErr, OnOk, [], min, Err};
+ghost use Rattle.exchange_link.specs.Exchanges.{Carries, IsSentText, IsTextOf, Misses};
+ghost use Rattle.outside_ports.specs.declared.failed.IoError.TheVariants as io_error;
+ghost use Rattle.roster_base.specs.Faults.{Rose};
+ghost use Rattle.status_info.specs.declared.request.Request.{Request};
+
+use crate::own::is_own;
+use crate::tally::Tally;
+use outside_ports::IoError;
+use roster_base::NoMemory;
+use std::alloc::Global;
+
+// The answer of the last exchange, empty where it failed, and the counts.
+#[derive(Drop)]
+pub(crate) struct Inbox {
+    pub(crate) kept: Vec<u8>,
+    pub(crate) tally: Tally,
+}
+
+impl Inbox {
+    pub(crate) fn new(alloc: Global) -> Inbox {
+        Inbox {
+            kept: Vec::new(alloc),
+            tally: Tally::new(),
+        }
+    }
+
+    // Counts an exchange that brought nothing.
+    fn miss(&mut self, error: IoError) -> Result<(), IoError>
+        ensures asked { self.new.tally.asked ≡ min (self.old.tally.asked + 1) (2 ^ 64 - 1) }
+        ensures missed { Misses (Rose self.old.tally.faults self.new.tally.faults) self.old.tally.missed self.new.tally.missed }
+        ensures later { self.old.tally.faults ≤ self.new.tally.faults }
+        ensures failed { error ≡ io_error.Failed → Rose self.old.tally.faults self.new.tally.faults }
+        ensures kept { self.new.kept ≡ self.old.kept }
+        ensures error { result ≡ Err error }
+    {
+        self.tally.count(matches!(error, IoError::Failed));
+        Err(error)
+    }
+
+    // Takes the bytes that came of an exchange, and counts a fault where they aren't the own reply.
+    fn take_reply(&mut self, alloc: Global, request: &[u8], reply: Vec<u8>) -> Result<(), IoError>
+        requires sent { IsSentText request.now }
+        requires empty { self.old.kept.items ≡ [] }
+        ensures asked { self.new.tally.asked ≡ min (self.old.tally.asked + 1) (2 ^ 64 - 1) }
+        ensures missed { Misses (Rose self.old.tally.faults self.new.tally.faults) self.old.tally.missed self.new.tally.missed }
+        ensures later { self.old.tally.faults ≤ self.new.tally.faults }
+        ensures failed { result ≡ Err io_error.Failed → Rose self.old.tally.faults self.new.tally.faults }
+        ensures kept { OnErr result (self.new.kept.items ≡ []) }
+        ensures own { (q : Request) → IsTextOf q request.now → OnOk result (Carries self.new.kept.items q.echo ⊎ Rose self.old.tally.faults self.new.tally.faults) }
+    {
+        match is_own(alloc, request, reply.as_slice()) {
+            Ok(own) => {
+                self.tally.count(!own);
+                self.kept = reply;
+                Ok(())
+            }
+            Err(NoMemory) => self.miss(IoError::NoMemory),
+        }
+    }
+
+    // Takes what came of an exchange: bytes, or an error.
+    pub(crate) fn take(
+        &mut self,
+        alloc: Global,
+        request: &[u8],
+        came: Result<Vec<u8>, IoError>,
+    ) -> Result<(), IoError>
+        requires { IsSentText request.now }
+        ensures asked { self.new.tally.asked ≡ min (self.old.tally.asked + 1) (2 ^ 64 - 1) }
+        ensures missed { Misses (Rose self.old.tally.faults self.new.tally.faults) self.old.tally.missed self.new.tally.missed }
+        ensures later { self.old.tally.faults ≤ self.new.tally.faults }
+        ensures failed { result ≡ Err io_error.Failed → Rose self.old.tally.faults self.new.tally.faults }
+        ensures kept { OnErr result (self.new.kept.items ≡ []) }
+        ensures own { (q : Request) → IsTextOf q request.now → OnOk result (Carries self.new.kept.items q.echo ⊎ Rose self.old.tally.faults self.new.tally.faults) }
+    {
+        self.kept = Vec::new(alloc);
+        match came {
+            Ok(reply) => self.take_reply(alloc, request, reply),
+            Err(error) => self.miss(error),
+        }
+    }
+}
