@@ -20,11 +20,11 @@ abbrev pub CountsFailed : ℕ → ℕ → ℕ → Type 0
 CountsFailed before now failed = ((failed ≡ 0) × (now ≡ before)) ⊎ ((failed ≡ 1) × (now ≡ min (before + 1) (2 ^ 64 - 1)))
 
 -- at each state of a hub of which `before` is kept, the reply is that of a step which takes the request at this moment and leads to a
--- state of which `after` is kept
+-- state of a hub of which `after` is kept
 abbrev pub TakesRequest : Request → ℤ → Reply → KeptState → KeptState → ℕ → Type 0
 TakesRequest request at reply before after failed =
     (state : HubState) → IsHub state → IsPartOf before state
-    → (next : HubState) × IsPartOf after next × Steps (Take (wanted_by request) at) state (Replied reply) next failed
+    → (next : HubState) × IsHub next × IsPartOf after next × Steps (Take (wanted_by request) at) state (Replied reply) next failed
 
 -- the reply where a hub's call failed
 abbrev pub error_reply : Wanted → HubError → Reply
