@@ -1,2 +1,3 @@
 pub mod Verdicts
 pub mod Within
+pub mod WriteSteps

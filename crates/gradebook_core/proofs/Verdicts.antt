@@ -1,5 +1,5 @@
 -- A verdict by what is held under the mark, and what a new version's change keeps.
-use Rattle.std.proofs.Common.{◌≡◌, ℕ, ℤ, List, Option, None, Result, Ok, Err, IfOk, option_and_then, refl, sym, ap, subst, ◌∙◌}
+use Rattle.std.proofs.Common.{◌≡◌, ℕ, ℤ, List, Option, None, Result, Ok, Err, IfOk, option_and_then, sym, ap, subst, ◌∙◌}
 use Rattle.gradebook_core.specs.Judging.{HasOrder, MayLead, verdict_of}
 use Rattle.gradebook_core.specs.declared.judgement.Judgement.{Judgement}
 use Rattle.gradebook_core.specs.declared.judgement.Judgement.TheVariants as judgement

@@ -1,4 +1,4 @@
-//! Gradebook writes: what becomes of one, by checks in order.
+//! Gradebook writes: what becomes of one, by checks in order, and how a hub does it.
 #![tactic(auto)]
 
 mod checks;
@@ -8,6 +8,10 @@ mod judging;
 mod refusals;
 mod repeats;
 mod stored;
+mod writing;
+mod written;
 
 pub use judgement::Judgement;
 pub use judging::judge;
+pub use writing::write;
+pub use written::Written;

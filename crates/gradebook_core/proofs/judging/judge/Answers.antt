@@ -1,4 +1,4 @@
-use Rattle.std.proofs.Common.{None, Some, ◌∙◌, sym}
+use Rattle.std.proofs.Common.{None, Some}
 use Rattle.gradebook_core.proofs.Verdicts.{both, each, judges, may_lead}
 use Rattle.gradebook_core.specs.Judging.{HasOrder, MayLead, verdict_of}
 use Rattle.hub_rules.specs.Verdicts.{Judges, NewJudged}
