@@ -6,6 +6,8 @@ mod clocks;
 #[cfg(test)]
 mod folders;
 #[cfg(test)]
+mod json_puts;
+#[cfg(test)]
 mod json_rows;
 #[cfg(test)]
 mod json_texts;

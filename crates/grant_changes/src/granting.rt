@@ -14,14 +14,12 @@ use grant_scopes::{Grant, GrantEntry, GrantList, Schools};
 use roster_base::{Items, NoMemory, Refusal, Same, TryCopy, are_same, sorted};
 use roster_texts::{Moment, Name};
 use set_changes::PublishFault;
+use set_changes::limits::LAST_VERSION;
 use std::alloc::Global;
 use version_core::change::Change;
 use version_core::grant_row::GrantRow;
 use version_core::sorted_rows::SortedRows;
 use version_core::table::Table;
-
-/// The greatest number of a version.
-const LAST_VERSION: u64 = 1_000_000_000_000_000;
 
 // The caller with its grant, if it has one.
 fn grant_row_of<'a>(grants: &'a [GrantRow], caller: &Name) -> Option<&'a GrantRow>

@@ -47,7 +47,7 @@ last_meets P d version [] all = all.0
 last_meets P d version (other ∷ versions) all = last_meets P version other versions all.1
 
 -- the newest of a hub's versions is one
-newest_is : (keep : ℕ) (versions : List BaseVersion) → AreHubVersions keep versions → IsVersion (newest_kept versions)
+pub newest_is : (keep : ℕ) (versions : List BaseVersion) → AreHubVersions keep versions → IsVersion (newest_kept versions)
 newest_is keep [] kept = absurd (let some = kept.kept.some in omega arith)
 newest_is keep (version ∷ versions) kept = last_meets IsVersion empty_version version versions (versions_are version.number (version ∷ versions) kept.kept.run)
 

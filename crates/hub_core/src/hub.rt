@@ -113,9 +113,9 @@ impl Hub {
         Ok(())
     }
 
-    // Hands a commit to the keeper, and takes it in where it was made. All memory is taken before. A copy is kept nowhere: the commit moves
-    // into the table, or stays beside it where the keeper failed.
-    fn install<H: HubKeeper>(
+    /// Hands a commit to the keeper, and takes it in where it was made. All memory is taken before. A copy is kept nowhere: the commit moves
+    /// into the table, or stays beside it where the keeper failed.
+    pub fn install<H: HubKeeper>(
         &mut self,
         alloc: Global,
         keeper: &mut H,

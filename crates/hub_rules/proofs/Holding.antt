@@ -9,9 +9,9 @@ use Rattle.hub_paths.specs.Paths.{IsPath, PathParts}
 use Rattle.hub_paths.specs.Routes.{objects_in}
 use Rattle.hub_paths.specs.declared.route.Route.{Route}
 use Rattle.hub_paths.specs.declared.route.Route.TheVariants as route
-use Rattle.hub_rules.proofs.PutRows.{put_row}
+use Rattle.row_json.proofs.PutRows.{put_row}
 use Rattle.hub_rules.specs.Marked.{same_write}
-use Rattle.hub_rules.specs.Puts.{put_of}
+use Rattle.row_json.specs.Puts.{put_of}
 use Rattle.hub_rules.specs.Refusals.{delete_refusal, put_refusal, stored_at}
 use Rattle.hub_rules.specs.States.{HoldsRows, ListsRows}
 use Rattle.hub_rules.specs.Verdicts.{BodyJudged, Judged, Leads, NewJudged, PutJudged, PutMakes, Refused, Repeat, Same, delete_judged, delete_makes, leads_with}

@@ -18,7 +18,7 @@ use Rattle.status_info.specs.declared.request.Verb.TheVariants.{Delete, Get, Hea
 use Rattle.hub_rules.specs.Answers.{Answered, Answers, Entered, Written, write_of, write_result}
 use Rattle.hub_rules.specs.Checks.{Entry, entry_of}
 use Rattle.hub_rules.specs.Marked.{same_write}
-use Rattle.hub_rules.specs.Puts.{put_of}
+use Rattle.row_json.specs.Puts.{put_of}
 use Rattle.hub_rules.specs.Runs.{Acts, ActedOrNot, Answer, Command, Does, Fails, Publish, Reopen, Runs, SetGrants, Step, Steps, Take, Wants, WantsMemory, end_of, state_with}
 use Rattle.hub_rules.specs.States.{AreCommands, HoldsRows, IsCommand, IsHub, ListsRows}
 use Rattle.grant_changes.proofs.Granted.{grants_next}
@@ -41,7 +41,7 @@ use Rattle.hub_views.specs.Seen.{sees}
 use Rattle.version_core.proofs.MarkLemmas.{AreMarks-later, AreMarks-with_mark}
 use Rattle.version_core.specs.Changes.{change_key, rows_of}
 use Rattle.version_core.specs.HubStates.{HubState, newest_number}
-use Rattle.version_core.specs.Marks.{AreMarks, is_outcome}
+use Rattle.version_core.specs.Marks.{AreMarks, CanMark, is_outcome}
 use Rattle.version_core.specs.Order.{put}
 use Rattle.version_core.specs.Version.{last_version}
 use Rattle.version_core.specs.declared.change.BaseVersion.{BaseVersion}
@@ -144,6 +144,21 @@ nothing_of : (write : Write) (held : MarkRow) (outcome : ℕ) → outcome_of wri
 nothing_of write held outcome e =
     elim (same_write held.write write) as (λ b. outcome_of write (cond b (Repeat held.kept) (Refused 1)) ≡ Some outcome → ⊥) [ true ↦ λ e. cc | false ↦ λ e. cc ] e
 
+module _ (state : HubState) (by : GrantRow) (number : Option ℕ) (write : Write) (at : ℤ) (verdict : Verdict) (judged : Judges state by number write at verdict) where
+  fair : (held : Option MarkRow) → Judged held (newest_in state) by write at verdict → (outcome : ℕ) → outcome_of write verdict ≡ Some outcome → is_outcome write.delete outcome ≡ true
+  fair (Some held) j outcome e = absurd (nothing_of write held outcome (ap (outcome_of write) (sym j) ∙ e))
+  fair None j outcome e = fair_kept write verdict outcome (fair_new (newest_in state) by write at write.delete verdict j) e
+
+  -- what is kept of a verdict is a mark that may be held
+  pub may_hold : (newest n outcome : ℕ) → number ≡ Some n → outcome_of write verdict ≡ Some outcome
+      → CanMark newest state.marks (record { caller = by.caller; number = n; write = write; kept = record { outcome = outcome; version = newest } })
+  unfolding Judges
+  may_hold newest n outcome is e = record {
+    outcome = fair (held_mark state by.caller number) judged outcome e;
+    version = omega arith;
+    free = free_of_judged state by number write at verdict judged n outcome is e;
+  }
+
 -- ---- each step
 
 module _ (state : HubState) (hub : IsHub state) (by : GrantRow) (number : Option ℕ) (write : Write) (at : ℤ) (moment : IsMoment at) (good : write.delete ≡ false → is_id write.id ≡ true) (verdict : Verdict) (judged : Judges state by number write at verdict) where
@@ -154,19 +169,10 @@ module _ (state : HubState) (hub : IsHub state) (by : GrantRow) (number : Option
       old : AreMarks newest state.marks
       old = AreMarks-later (newest_number state) newest state.marks later hub.state.marks
 
-      fair : (held : Option MarkRow) → Judged held (newest_in state) by write at verdict → (outcome : ℕ) → outcome_of write verdict ≡ Some outcome → is_outcome write.delete outcome ≡ true
-      fair (Some held) j outcome e = absurd (nothing_of write held outcome (ap (outcome_of write) (sym j) ∙ e))
-      fair None j outcome e = fair_kept write verdict outcome (fair_new (newest_in state) by write at write.delete verdict j) e
-
       kept : (n o : Option ℕ) → number ≡ n → outcome_of write verdict ≡ o → AreMarks newest (with_kept (kept_mark by.caller n write newest o) state.marks)
       kept None o is e = old
       kept (Some n) None is e = old
-      kept (Some n) (Some o) is e =
-          AreMarks-with_mark newest state.marks _ old (record {
-            outcome = fair (held_mark state by.caller number) judged o e;
-            version = omega arith;
-            free = free_of_judged state by number write at verdict judged n o is e;
-          })
+      kept (Some n) (Some o) is e = AreMarks-with_mark newest state.marks _ old (may_hold state by number write at verdict judged newest n o is e)
 
   verdict_keeps : IsHub (state_after state by.caller number write verdict)
   unfolding state_after Judges

@@ -7,7 +7,5 @@ pub mod Judging
 pub mod Keeping
 pub mod Once
 pub mod Publishing
-pub mod PutRows
-pub mod Rising
 pub mod Saying
 pub mod Versions

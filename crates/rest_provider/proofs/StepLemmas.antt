@@ -10,7 +10,7 @@ use Rattle.hub_rules.specs.States.{ReadsAs}
 use Rattle.keeper_memory.specs.Kept.{KeptState}
 use Rattle.keeper_memory.specs.Parts.{IsPartOf}
 use Rattle.rest_provider.specs.Replies.{IsReadOf, out_of_memory}
-use Rattle.rest_provider.specs.Steps.{IsStepOf}
+use Rattle.rest_provider.specs.Steps.{TakesRequest}
 use Rattle.status_info.specs.declared.cause.Cause.TheVariants as cause
 use Rattle.status_info.specs.declared.reply.Reply.{Reply}
 use Rattle.status_info.specs.declared.request.Request.{Request}
@@ -35,21 +35,23 @@ read_of state is kept part table same =
       reads = reads;
     }
 
--- the reply to a read is a step that doesn't fail
+-- the reply to a read is a step that leaves the state, and doesn't fail
 pub read_step : (request : Request) (reply : Reply) (kept : KeptState) (table : Versions) → table.versions ≡ kept.versions
     → ((state : HubState) → IsReadOf table state → (reply ≡ out_of_memory (wanted_by request)) ⊎ ((at : ℤ) → AnswersRequest state request at reply state))
-    → IsStepOf request reply kept 0
-read_step request reply kept table same answers = λ state is part at.
-    elim (answers state (read_of state is kept part table same)) [
-      | inl none ↦ WantsMemory (inl refl) (ap Replied none) refl
-      | inr own ↦ Acts (reply, own at, refl) refl
+    → (at : ℤ) → TakesRequest request at reply kept kept 0
+read_step request reply kept table same answers at = λ state is part.
+    elim (answers state (read_of state is.state kept part table same)) [
+      | inl none ↦ (state, is, part, WantsMemory (inl refl) (ap Replied none) refl)
+      | inr own ↦ (state, is, part, Acts (reply, own at, refl) refl)
     ]
 
-pub failed_step : (request : Request) (reply : Reply) (kept : KeptState) → reply ≡ sent (wanted_by request) (refused (wanted_by request) cause.StoreFailed) → IsStepOf request reply kept 1
-failed_step request reply kept is = λ state hub part at. Fails (inl refl) (ap Replied is) refl
+pub failed_step : (request : Request) (reply : Reply) (kept : KeptState) → reply ≡ sent (wanted_by request) (refused (wanted_by request) cause.StoreFailed)
+    → (at : ℤ) → TakesRequest request at reply kept kept 1
+failed_step request reply kept is at = λ state hub part. (state, hub, part, Fails (inl refl) (ap Replied is) refl)
 
-pub memory_step : (request : Request) (reply : Reply) (kept : KeptState) → reply ≡ out_of_memory (wanted_by request) → IsStepOf request reply kept 0
-memory_step request reply kept is = λ state hub part at. WantsMemory (inl refl) (ap Replied is) refl
+pub memory_step : (request : Request) (reply : Reply) (kept : KeptState) → reply ≡ out_of_memory (wanted_by request)
+    → (at : ℤ) → TakesRequest request at reply kept kept 0
+memory_step request reply kept is at = λ state hub part. (state, hub, part, WantsMemory (inl refl) (ap Replied is) refl)
 
 -- where no commit is left open, the hub's own state alone may stand
 pub own_stands : (hub : HeldHub) (after : KeptState) → hub.is_open ≡ false → IsStanding hub after → after ≡ hub.kept

@@ -6,21 +6,25 @@ use Rattle.hub_requests.specs.Requests.{wanted_by}
 use Rattle.hub_rules.specs.Answers.{sent}
 use Rattle.hub_rules.specs.Checks.{refused}
 use Rattle.hub_rules.specs.Runs.{Replied, Steps, Take}
+use Rattle.hub_rules.specs.States.{IsHub}
 use Rattle.hub_rules.specs.Wanted.{Wanted}
 use Rattle.keeper_memory.specs.Kept.{KeptState}
 use Rattle.keeper_memory.specs.Parts.{IsPartOf}
 use Rattle.status_info.specs.declared.cause.Cause.TheVariants as cause
 use Rattle.status_info.specs.declared.reply.Reply.{Reply}
 use Rattle.status_info.specs.declared.request.Request.{Request}
-use Rattle.version_core.specs.HubStates.{HubState, IsHubState}
+use Rattle.version_core.specs.HubStates.{HubState}
 
 -- the count rises once where a step failed, and else stands
 abbrev pub CountsFailed : ℕ → ℕ → ℕ → Type 0
 CountsFailed before now failed = ((failed ≡ 0) × (now ≡ before)) ⊎ ((failed ≡ 1) × (now ≡ min (before + 1) (2 ^ 64 - 1)))
 
--- at each state of which this is kept, the reply is that of a step which takes the request and leaves the state
-abbrev pub IsStepOf : Request → Reply → KeptState → ℕ → Type 0
-IsStepOf request reply kept failed = (state : HubState) → IsHubState state → IsPartOf kept state → (at : ℤ) → Steps (Take (wanted_by request) at) state (Replied reply) state failed
+-- at each state of a hub of which `before` is kept, the reply is that of a step which takes the request at this moment and leads to a
+-- state of a hub of which `after` is kept
+abbrev pub TakesRequest : Request → ℤ → Reply → KeptState → KeptState → ℕ → Type 0
+TakesRequest request at reply before after failed =
+    (state : HubState) → IsHub state → IsPartOf before state
+    → (next : HubState) × IsHub next × IsPartOf after next × Steps (Take (wanted_by request) at) state (Replied reply) next failed
 
 -- the reply where a hub's call failed
 abbrev pub error_reply : Wanted → HubError → Reply

@@ -1,18 +1,19 @@
 //! Answers of a hub over its keeper.
 
-ghost use Rattle.std.specs.Prelude.{◌≡◌, ℕ, false};
+ghost use Rattle.std.specs.Prelude.{◌≡◌, ℕ, false, true};
 ghost use Rattle.hub_core.specs.Standing.{IsStanding, KeeperFits};
 ghost use Rattle.hub_requests.specs.Requests.{wanted_by};
 ghost use Rattle.hub_rules.specs.Wanted.{is_write};
 ghost use Rattle.keeper_memory.specs.Kept.{KeptState};
-ghost use Rattle.rest_provider.specs.Steps.{CountsFailed, IsStepOf, error_reply};
+ghost use Rattle.rest_provider.specs.Steps.{CountsFailed, TakesRequest, error_reply};
 
 use crate::reads::{answer_read, sent};
 use crate::refusals::refused;
 use hub_core::{Hub, HubError};
 use hub_paths::PathRouter;
 use keeper_memory::HubKeeper;
-use status_info::{Cause, Reply, Request};
+use roster_texts::Moment;
+use status_info::{Cause, Reply, Request, Verb};
 use std::alloc::Global;
 
 // The reply where the hub's keeper or memory failed.
@@ -26,24 +27,78 @@ fn failing(alloc: Global, request: &Request, error: HubError) -> Reply
     sent(request, refused(alloc, request, cause))
 }
 
-/// Answers a request that writes nothing, over a hub and its keeper. The keeper is asked first what it made of a commit at which it
-/// failed, where there is one.
+// Whether the method asks for a write.
+fn is_write(verb: Verb) -> bool
+    ensures { result ≡ is_write verb }
+{
+    match verb {
+        Verb::Put | Verb::Delete => true,
+        _ => false,
+    }
+}
+
+// Answers a request that writes. Writes to the gradebook aren't built yet: each is told that memory is wanting, and nothing is written.
+fn answer_write<H: HubKeeper>(
+    alloc: Global,
+    router: &PathRouter,
+    hub: &mut Hub,
+    keeper: &mut H,
+    request: &Request,
+    at: Moment,
+) -> Reply
+    requires fits { KeeperFits (H.stands_for keeper.old) hub.old }
+    requires settled { hub.old.is_open ≡ false }
+    requires writes { is_write request.now.verb ≡ true }
+    ensures fits { KeeperFits (H.stands_for keeper.new) hub.new }
+    ensures step { (failed : ℕ) × CountsFailed (H.fault_count keeper.old) (H.fault_count keeper.new) failed
+        × ((after : KeptState) → IsStanding hub.new after → (before : KeptState) × IsStanding hub.old before × (H.stands_for keeper.new after → H.stands_for keeper.old before)
+        × TakesRequest request.now at result before after failed) }
+{
+    sent(request, refused(alloc, request, Cause::NoMemory))
+}
+
+// Answers a request over a hub that has no commit left open.
+fn answer_settled<H: HubKeeper>(
+    alloc: Global,
+    router: &PathRouter,
+    hub: &mut Hub,
+    keeper: &mut H,
+    request: &Request,
+    at: Moment,
+) -> Reply
+    requires fits { KeeperFits (H.stands_for keeper.old) hub.old }
+    requires settled { hub.old.is_open ≡ false }
+    ensures fits { KeeperFits (H.stands_for keeper.new) hub.new }
+    ensures step { (failed : ℕ) × CountsFailed (H.fault_count keeper.old) (H.fault_count keeper.new) failed
+        × ((after : KeptState) → IsStanding hub.new after → (before : KeptState) × IsStanding hub.old before × (H.stands_for keeper.new after → H.stands_for keeper.old before)
+        × TakesRequest request.now at result before after failed) }
+{
+    if is_write(request.verb) {
+        answer_write(alloc, router, hub, keeper, request, at)
+    } else {
+        answer_read(alloc, router, hub.table(), request)
+    }
+}
+
+/// Answers a request at a moment, over a hub and its keeper. The keeper is asked first what it made of a commit at which it failed, where
+/// there is one. What a keeper's failure or want of memory left is told by the reply.
 pub fn answer<H: HubKeeper>(
     alloc: Global,
     router: &PathRouter,
     hub: &mut Hub,
     keeper: &mut H,
     request: &Request,
+    at: Moment,
 ) -> Reply
-    requires fits { KeeperFits (H.stands_for keeper.old) hub.old }
-    requires reads { is_write request.now.verb ≡ false }
+    requires { KeeperFits (H.stands_for keeper.old) hub.old }
     ensures fits { KeeperFits (H.stands_for keeper.new) hub.new }
-    ensures told { (after : KeptState) → IsStanding hub.new after → IsStanding hub.old after × (H.stands_for keeper.new after → H.stands_for keeper.old after) }
+    // What may stand after the call comes of what may have stood before it, by one step that takes the request and has this reply.
     ensures step { (failed : ℕ) × CountsFailed (H.fault_count keeper.old) (H.fault_count keeper.new) failed
-        × ((after : KeptState) → IsStanding hub.new after → IsStepOf request.now result after failed) }
+        × ((after : KeptState) → IsStanding hub.new after → (before : KeptState) × IsStanding hub.old before × (H.stands_for keeper.new after → H.stands_for keeper.old before)
+        × TakesRequest request.now at result before after failed) }
 {
     match hub.ready(alloc, keeper) {
-        Ok(()) => answer_read(alloc, router, hub.table(), request),
+        Ok(()) => answer_settled(alloc, router, hub, keeper, request, at),
         Err(error) => failing(alloc, request, error),
     }
 }

@@ -3,8 +3,11 @@ pub mod Collecting
 pub mod FieldSteps
 pub mod ItemSteps
 pub mod MetadataSteps
+pub mod PutRows
+pub mod PutSteps
 pub mod Puts
 pub mod ReadBack
+pub mod Rising
 pub mod RowBack
 pub mod RowLengths
 pub mod Slots

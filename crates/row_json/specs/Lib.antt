@@ -1,4 +1,5 @@
 pub mod CellTexts
 pub mod Json
+pub mod Puts
 pub mod Reading
 pub mod Tokens

@@ -5,10 +5,12 @@ mod cell_texts;
 mod fault;
 mod members;
 mod order;
+mod put;
 mod read;
 mod text;
 mod values;
 
 pub use fault::{JsonError, JsonFault};
+pub use put::read_put;
 pub use read::{read_collection, read_row};
 pub use text::{collection_text, row_text, single_text};

@@ -1,15 +1,16 @@
 //! Reading rows from JSON texts.
 
-ghost use Rattle.std.specs.Prelude.{◌≡◌, true, IfOk, map, option_map};
+ghost use Rattle.std.specs.Prelude.{◌≡◌, true, IfOk, codes, drop, map, option_map};
 ghost use Rattle.std.specs.List.{All};
 ghost use Rattle.serde_json.specs.Find.{as_str, get};
 ghost use Rattle.serde_json.specs.View.{items_view, members_view, view};
 ghost use Rattle.roster_base.specs.Reading.{Gives};
+ghost use Rattle.roster_types.specs.Rows.{row_from};
 ghost use Rattle.roster_types.specs.Shapes.{fits_all};
 ghost use Rattle.roster_values.specs.Table.{info_in, info_of, table};
 ghost use Rattle.row_json.specs.declared.fault.JsonFault.TheVariants as json;
 ghost use Rattle.row_json.specs.CellTexts.{each};
-ghost use Rattle.row_json.specs.Reading.{are_objects, collection_in, data_of, entries_in, entry_in, field_in, in_member, metadata_in, row_in, row_of, rows_of, single_in, values_in};
+ghost use Rattle.row_json.specs.Reading.{are_objects, collection_in, data_of, entries_in, entry_in, field_in, in_member, metadata_in, row_in, row_of, rows_of, single_in, unless_long, values_in};
 
 use crate::cell_texts::text_of;
 use crate::fault::{JsonError, JsonFault};
@@ -41,8 +42,8 @@ fn read_field(
     }
 }
 
-// The value of a field, whose fault goes under its name.
-fn read_member(
+/// The value of a field, whose fault goes under its name.
+pub fn read_member(
     alloc: Global,
     mode: Mode,
     place: usize,
@@ -67,19 +68,21 @@ fn bad_member(alloc: Global, name: &str, fault: ValueFault) -> Result<JsonFault,
     })
 }
 
-// The values of the fields in their order, or the first bad one.
-fn read_values(
+/// The values of the fields from a place on in their order, or the first bad one.
+pub fn read_values(
     alloc: Global,
     mode: Mode,
+    first: usize,
     kind: Kind,
     row: &Value,
 ) -> Result<Vec<Option<FieldValue>>, JsonError>
-    ensures values { Gives (λ v. v.items) result (values_in mode 0 (table kind) (view row.now)) }
-    ensures fit { IfOk result (λ v. fits_all (table kind) v.items ≡ true) }
+    ensures values { Gives (λ v. v.items) result (values_in mode first (drop first (table kind)) (view row.now)) }
+    ensures fit { IfOk result (λ v. fits_all (drop first (table kind)) v.items ≡ true) }
 {
+    let infos = fields(kind);
     let mut values = Vec::new(alloc);
-    for (place, info) in fields(kind).iter().enumerate() {
-        values.push(read_member(alloc, mode, place, info, row)?)?;
+    for place in first..infos.len() {
+        values.push(read_member(alloc, mode, place, &infos[place], row)?)?;
     }
     Ok(values)
 }
@@ -132,24 +135,43 @@ fn read_metadata(alloc: Global, member: Option<&Value>) -> Result<Metadata, Valu
     }
 }
 
+/// The metadata of an object, whose fault goes under its name.
+pub fn read_own_metadata(alloc: Global, row: &Value) -> Result<Metadata, JsonError>
+    ensures { Gives (λ m. m) result (in_member (codes "metadata") (metadata_in (get (codes "metadata") (view row.now)))) }
+{
+    match read_metadata(alloc, row.get("metadata")) {
+        Ok(metadata) => Ok(metadata),
+        Err(Refusal::Fault(fault)) => Err(Refusal::Fault(bad_member(alloc, "metadata", fault)?)),
+        Err(Refusal::NoMemory) => Err(Refusal::NoMemory),
+    }
+}
+
+/// The row of the values of all its fields, where it isn't too long.
+pub fn row_of_values(
+    alloc: Global,
+    kind: Kind,
+    values: Vec<Option<FieldValue>>,
+    metadata: Metadata,
+) -> Result<Row, JsonError>
+    requires { fits_all (table kind) values.items ≡ true }
+    ensures row { Gives (λ r. r) result (unless_long (row_from kind values.items metadata)) }
+    ensures kind { IfOk result (λ r. r.kind ≡ kind) }
+{
+    match Row::from_values(alloc, kind, values, metadata)? {
+        Some(row) => Ok(row),
+        None => Err(Refusal::Fault(bad_member(alloc, "*", ValueFault::TooLong)?)),
+    }
+}
+
 // The row that an object says: its fields, its metadata and its length, or the first fault of these.
 #[tactic(auto, unfolding(crate::specs::Reading::row_in))]
 fn read_object(alloc: Global, mode: Mode, kind: Kind, row: &Value) -> Result<Row, JsonError>
     ensures row { Gives (λ r. r) result (row_in mode kind (view row.now)) }
     ensures kind { IfOk result (λ r. r.kind ≡ kind) }
 {
-    let values = read_values(alloc, mode, kind, row)?;
-    let metadata = match read_metadata(alloc, row.get("metadata")) {
-        Ok(metadata) => metadata,
-        Err(Refusal::Fault(fault)) => {
-            return Err(Refusal::Fault(bad_member(alloc, "metadata", fault)?));
-        }
-        Err(Refusal::NoMemory) => return Err(Refusal::NoMemory),
-    };
-    match Row::from_values(alloc, kind, values, metadata)? {
-        Some(row) => Ok(row),
-        None => Err(Refusal::Fault(bad_member(alloc, "*", ValueFault::TooLong)?)),
-    }
+    let values = read_values(alloc, mode, 0, kind, row)?;
+    let metadata = read_own_metadata(alloc, row)?;
+    row_of_values(alloc, kind, values, metadata)
 }
 
 // The row under the single word of its kind.
@@ -206,9 +228,9 @@ fn read_rows(alloc: Global, mode: Mode, kind: Kind, value: &Value) -> Result<Vec
     }
 }
 
-// The value of a text, so far as `serde_json` reads it.
+/// The value of a text, so far as `serde_json` reads it.
 #[tactic(auto, unfolding(crate::specs::Reading::data_of))]
-fn read_data(alloc: Global, bytes: &[u8]) -> Result<Value, JsonError>
+pub fn read_data(alloc: Global, bytes: &[u8]) -> Result<Value, JsonError>
     ensures { Gives view result (data_of bytes.now) }
 {
     match Value::from_slice(alloc, bytes) {

@@ -4,6 +4,7 @@
 mod draft;
 mod index;
 pub mod laws;
+pub mod limits;
 mod listed;
 mod marks;
 pub mod publish;
@@ -11,5 +12,6 @@ pub mod publish_fault;
 mod refusals;
 mod soundness;
 
+pub use marks::{is_active, marked};
 pub use publish::{set_change, set_change_over};
 pub use publish_fault::PublishFault;

@@ -2,7 +2,7 @@
 
 ghost use Rattle.std.specs.Prelude.{◌≡◌, ◌++◌, IfOk, OnOk, Some, filter, option_to_list};
 ghost use Rattle.roster_types.specs.Keys.{Ascends, Key, is_of_kind, look_up};
-ghost use Rattle.set_changes.specs.Applying.{is_active, is_bulk, is_left_out, is_whole, set_key};
+ghost use Rattle.set_changes.specs.Applying.{is_active, is_bulk, is_left_out, is_whole, marked, set_key};
 ghost use Rattle.set_changes.specs.Steps.{mark_at, mark_of, marks_of};
 ghost use Rattle.version_core.specs.Changes.{AreChanges, change_key, rows_of};
 
@@ -26,7 +26,8 @@ fn is_bulk(mode: Mode) -> bool
     }
 }
 
-fn is_active(status: Status) -> bool
+/// Whether a row of this status is there, and not marked as deleted.
+pub fn is_active(status: Status) -> bool
     ensures { result ≡ is_active status }
 {
     match status {
@@ -50,6 +51,17 @@ fn is_left_out(set: &RosterSet, stored: &RowChange) -> bool
         && is_active(stored.row.status())
 }
 
+/// The row of a change, marked as deleted at a moment; its owner stays.
+pub fn marked(alloc: Global, at: Moment, stored: &RowChange) -> Result<RowChange, NoMemory>
+    ensures { IfOk result (λ change. change ≡ marked at stored.now) }
+{
+    // The owner first, so that no row is dropped where memory runs out.
+    let owner = stored.owner.copy(alloc)?;
+    let row = stored.row.copy(alloc)?;
+    let row = row.marked(at);
+    Ok(RowChange { row, owner })
+}
+
 // The mark of a stored row, where it is left out.
 fn mark_of(
     alloc: Global,
@@ -67,11 +79,7 @@ fn mark_of(
     if !is_left_out(set, stored) {
         return Ok(None);
     }
-    // The owner first, so that no row is dropped where memory runs out.
-    let owner = stored.owner.copy(alloc)?;
-    let row = stored.row.copy(alloc)?;
-    let row = row.marked(at);
-    Ok(Some(RowChange { row, owner }))
+    Ok(Some(marked(alloc, at, stored)?))
 }
 
 // Adds a mark, where there is one.

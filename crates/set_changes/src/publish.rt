@@ -11,6 +11,7 @@ ghost use Rattle.version_core.specs.Version.{newest_of};
 
 use crate::draft::Draft;
 use crate::index::{index_of, ordered_rows};
+use crate::limits::LAST_VERSION;
 use crate::listed::listed_changes;
 use crate::marks::marks_of;
 use crate::publish_fault::PublishFault;
@@ -25,9 +26,6 @@ use version_core::row_change::RowChange;
 use version_core::sorted_rows::SortedRows;
 use version_core::table::Table;
 use version_core::view::VersionView;
-
-/// The greatest number of a version.
-const LAST_VERSION: u64 = 1_000_000_000_000_000;
 
 // Marks with the changes of listed rows over them.
 fn merged(alloc: Global, marks: Vec<RowChange>, listed: SortedRows) -> Result<SortedRows, NoMemory>

@@ -8,6 +8,7 @@ ghost use Rattle.version_core.specs.Changes.{change_key, rows_of};
 ghost use Rattle.version_core.specs.Order.{overlaid};
 
 use crate::draft::Draft;
+use crate::limits::ROW_LIMIT;
 use crate::listed::is_own;
 use crate::publish_fault::PublishFault;
 use crate::soundness::stays_sound;
@@ -21,9 +22,6 @@ use roster_values::Kind;
 use std::alloc::Global;
 use version_core::row_change::RowChange;
 use version_core::view::VersionView;
-
-/// How many rows a kind may have.
-const ROW_LIMIT: u64 = 1_000_000;
 
 fn fault_of_owner(
     alloc: Global,

@@ -1,14 +1,14 @@
-use Rattle.std.proofs.Common.{inl, refl, subst, sym}
-use Rattle.rest_provider.specs.Steps.{IsStepOf}
-use Rattle.rest_provider.proofs.StepLemmas.{own_stands, read_step}
+use Rattle.std.proofs.Common.{subst}
+use Rattle.rest_provider.specs.Steps.{CountsFailed}
 use Rattle.rest_provider.proofs.answering.answer.Goals as goal
 
 pub returns-in-Ok-clause-step : goal.returns-in-Ok-clause-step
 returns-in-Ok-clause-step g c =
-    let hub = c.ready.new.self in (
-      0,
-      inl (refl, c.in-Ok.ensures.cause),
+    let (failed, counts, led) = c.answer_settled.ensures.step in (
+      failed,
+      subst (λ count. CountsFailed count (g.H.HubKeeper.fault_count c.answer_settled.new.keeper) failed) c.in-Ok.ensures.cause counts,
       λ after stands.
-          subst (λ kept. IsStepOf c.args.request.now c.answer_read.result kept 0) (sym (own_stands hub after c.in-Ok.ensures.settled stands))
-          (read_step c.args.request.now c.answer_read.result hub.kept c.table.result.now c.table.ensures.versions c.answer_read.ensures),
+          let (before, stood, told, step) = led after stands in
+          let first = c.in-Ok.ensures.told before stood in
+          (before, first.0, (λ now. first.1 (told now)), step),
     )

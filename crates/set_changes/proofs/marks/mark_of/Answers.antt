@@ -1,8 +1,6 @@
 use Rattle.std.proofs.Common.{◌≡◌, Some, None, true, false, cond, sym, ap, ◌∙◌, rules}
 use Rattle.std.specs.Prelude.{is_some}
 use Rattle.roster_types.specs.Keys.{look_up}
-use Rattle.roster_types.specs.Records.{Record}
-use Rattle.roster_types.specs.declared.status.Status.TheVariants.{ToBeDeleted}
 use Rattle.roster_values.specs.Kinds.{place_of_kind}
 use Rattle.set_changes.proofs.MarkLemmas.{none_found}
 use Rattle.set_changes.specs.Applying.{is_left_out, marked, set_key}
@@ -18,5 +16,4 @@ returns c =
     let unlisted : is_some (look_up set_key (change_key stored) c.args.index.now) ≡ false =
     (λ i. is_some (look_up set_key (place_of_kind (sym c.kind.ensures.kind i), sym c.id.ensures i) c.args.index.now)) ∙ sym c.is_listed.ensures ∙ (search rules) in
     let left : is_left_out set stored ≡ true = sym c.is_left_out.ensures ∙ (search rules) in
-    (λ i. Some (record { row = (c.marked-row.ensures.row ∙ ap (λ (r : Record). record r { status = ToBeDeleted; modified = at }) c.in_ok-row.ensures) i; owner = c.in_ok-owner.ensures i }))
-    ∙ sym (ap (λ b. cond b (Some (marked at stored)) None) left) ∙ ap (λ l. mark_of set at l stored) (sym (none_found (look_up set_key (change_key stored) c.args.index.now) unlisted))
+    ap Some c.in_ok-marked.ensures ∙ sym (ap (λ b. cond b (Some (marked at stored)) None) left) ∙ ap (λ l. mark_of set at l stored) (sym (none_found (look_up set_key (change_key stored) c.args.index.now) unlisted))

@@ -1,8 +1,8 @@
 use Rattle.std.proofs.Common.{rules, ◌≡◌, ◌∙◌, ap, w64, to_z, of_z, to_z-of_z, sym}
 use Rattle.std.proofs.lemmas.Int.{ints}
 use Rattle.roster_texts.specs.Moments.{moment_at}
-use Rattle.hub_cli.proofs.Dating.{moment_at-in_range}
-use Rattle.hub_cli.proofs.moment.moment_of.Goals as goal
+use Rattle.hub_streams.proofs.Dating.{moment_at-in_range}
+use Rattle.hub_streams.proofs.moment.moment_of.Goals as goal
 
 pub unreachable-requires : goal.unreachable-requires
 unreachable-requires g c =

@@ -8,34 +8,32 @@ use Rattle.std.specs.List.{AllByRecursion, list_all}
 use Rattle.std.specs.List.Sorted.{IsStrictlySortedBy}
 use Rattle.std.specs.Ordering.{nat_cmp}
 use Rattle.std.specs.Str.{is_utf8}
-use Rattle.hub_rules.proofs.Rising.{InOrder, IsBelow, Rise, get_in_order, members_of_object, read_in_order}
-use Rattle.hub_rules.specs.Puts.{id_field, member_value, put_in, put_of, put_under, status_field, unless_other}
+use Rattle.row_json.proofs.FieldSteps.{field_fits, read_in}
+use Rattle.row_json.proofs.PutSteps.{put_fits}
+use Rattle.row_json.proofs.Rising.{InOrder, IsBelow, Rise, get_in_order, members_of_object, read_in_order}
+use Rattle.row_json.specs.Puts.{id_field, member_value, put_in, put_of, put_under, status_field, unless_other}
 use Rattle.roster_base.specs.Moments.{IsMoment}
 use Rattle.roster_base.specs.Order.{RiseBy}
 use Rattle.roster_base.specs.Reading.{◌>>=◌}
 use Rattle.roster_texts.specs.Results.{found_or}
 use Rattle.roster_texts.specs.Texts.{is_id}
 use Rattle.roster_texts.specs.Trim.{trimmed}
-use Rattle.roster_texts.specs.declared.fault.ValueFault.{ValueFault}
 use Rattle.roster_texts.specs.declared.fault.ValueFault.TheVariants.{BadList}
-use Rattle.roster_types.proofs.Fitting.{fitting_from, in_moments, table-common}
+use Rattle.roster_types.proofs.Fitting.{fitting_from}
 use Rattle.roster_types.proofs.MetadataLaws.{IsMetadata-nil}
 use Rattle.roster_types.specs.Lengths.{row_length}
 use Rattle.roster_types.specs.Records.{IsMetadata, Record, has_id_key, has_plain_text, id_in, key_of, moment_in, record_from, status_in}
 use Rattle.roster_types.specs.Rows.{IsRow, longest, row_from}
 use Rattle.roster_types.specs.Shapes.{fits_all, own_fields}
 use Rattle.roster_types.specs.declared.metadata.Entry.{Entry}
-use Rattle.roster_values.proofs.FitLaws.{value_fits}
 use Rattle.roster_values.specs.Fit.{fits}
 use Rattle.roster_values.specs.Kinds.{single_of}
-use Rattle.roster_values.specs.Table.{Info, common, common_fields, table}
-use Rattle.roster_values.specs.Values.{value_of}
+use Rattle.roster_values.specs.Table.{Info, common_fields, table}
 use Rattle.roster_values.specs.declared.kind.Kind.{Kind}
 use Rattle.roster_values.specs.declared.mode.Mode.TheVariants.{Bulk}
 use Rattle.roster_values.specs.declared.value.Value.{Value}
 use Rattle.roster_values.specs.declared.value.Value.TheVariants.{Id, Moment}
 use Rattle.row_json.proofs.MetadataSteps.{entry_read}
-use Rattle.row_json.specs.CellTexts.{text_of}
 use Rattle.row_json.specs.Reading.{data_of, entries_in, entry_from, entry_in, field_in, in_member, is_object, metadata_in, object_under, unless_long, values_in, with_entry}
 use Rattle.row_json.specs.declared.fault.JsonFault.{JsonFault}
 use Rattle.row_json.specs.declared.fault.JsonFault.TheVariants.{NotJson, OtherId, Shape}
@@ -47,10 +45,6 @@ use Rattle.serde_json.specs.Read.{read}
 both_gave : {A B F : Type 0} (r : Result A F) (f : A → Result B F) (y : B) → (r >>= f) ≡ Ok y → (x : A) × (r ≡ Ok x) × (f x ≡ Ok y)
 both_gave (Ok x) f y e = (x, refl, e)
 both_gave (Err fault) f y e = cc
-
-member_gave : {A : Type 0} (name : List ℕ) (r : Result A ValueFault) (x : A) → in_member name r ≡ Ok x → r ≡ Ok x
-member_gave name (Ok y) x e = cc
-member_gave name (Err fault) x e = cc
 
 -- ---- metadata
 
@@ -100,15 +94,6 @@ good_metadata (Some d) es is e = good_of_object (as_object d) es (members_of_obj
 
 -- ---- values
 
-text_fits : (info : Info) (r : Result (List ℕ) ValueFault) (v : Option Value) → (r >>= value_of info) ≡ Ok v → fits info v ≡ true
-text_fits info (Ok text) v e = IfOk-at_ok (λ o. fits info o ≡ true) e (value_fits info text)
-text_fits info (Err fault) v e = cc
-
-field_fits : (info : Info) (o : Option Data) (v : Option Value) → field_in info o ≡ Ok v → fits info v ≡ true
-unfolding field_in
-field_fits info None v e = IfOk-at_ok (λ o. fits info o ≡ true) e (value_fits info [])
-field_fits info (Some d) v e = text_fits info (text_of info.form d) v e
-
 values_fit : (place : ℕ) (infos : List Info) (d : Data) (vs : List (Option Value)) → values_in Bulk place infos d ≡ Ok vs → fits_all infos vs ≡ true
 unfolding values_in
 values_fit place [] d vs e = let none : [] ≡ vs = cc in subst (λ vs. fits_all [] vs ≡ true) none refl
@@ -116,15 +101,7 @@ values_fit place (i ∷ is) d vs e =
     let one = both_gave (in_member i.name (field_in i (get i.name d))) (λ v. values_in Bulk (place + 1) is d >>= λ more. Ok (v ∷ more)) vs e in
     let more = both_gave (values_in Bulk (place + 1) is d) (λ more. Ok (one.0 ∷ more)) vs one.2 in
     let same : one.0 ∷ more.0 ≡ vs = let made = more.2 in cc in
-    subst (λ vs. fits_all (i ∷ is) vs ≡ true) same (and_from _ _ (field_fits i (get i.name d) one.0 (member_gave i.name _ one.0 one.1)) (values_fit (place + 1) is d more.0 more.1))
-
-joined : (own : List Info) (id : List ℕ) (status : Option Value) (at : ℤ) (vs : List (Option Value)) → is_id id ≡ true → IsMoment at → fits status_field status ≡ true → fits_all own vs ≡ true
-    → fits_all (common own) (Some (Id id) ∷ status ∷ Some (Moment at) ∷ vs) ≡ true
-joined own id status at vs good moment s h = rw (good, s, in_moments at moment, h) refl
-
-put_fits : (kind : Kind) (id : List ℕ) (status : Option Value) (at : ℤ) (vs : List (Option Value)) → is_id id ≡ true → IsMoment at → fits status_field status ≡ true → fits_all (own_fields kind) vs ≡ true
-    → fits_all (table kind) (Some (Id id) ∷ status ∷ Some (Moment at) ∷ vs) ≡ true
-put_fits kind id status at vs good moment s h = rw (table-common kind) (joined (own_fields kind) id status at vs good moment s h)
+    subst (λ vs. fits_all (i ∷ is) vs ≡ true) same (and_from _ _ (IfOk-at_ok (λ o. fits i o ≡ true) (read_in i.name _ one.0 one.1) (field_fits i (get i.name d))) (values_fit (place + 1) is d more.0 more.1))
 
 -- ---- the row
 
@@ -170,8 +147,8 @@ module _ (kind : Kind) (id : List ℕ) (at : ℤ) (good : is_id id ≡ true) (mo
         let values = both_gave values_read (with_values named.0 status.0) row status.2 in
         let metadata = both_gave metadata_read (with_metadata named.0 status.0 values.0) row values.2 in
         let made = both_gave (unless_long (row_from kind (all_of status.0 values.0) metadata.0)) (unless_other id named.0) row metadata.2 in
-        let told = good_metadata (get (codes "metadata") d) metadata.0 (get_in_order (codes "metadata") d order) (member_gave (codes "metadata") _ metadata.0 metadata.1) in
-        let fit = put_fits kind id status.0 at values.0 good moment (field_fits status_field (get status_field.name d) status.0 (member_gave status_field.name _ status.0 status.1)) (values_fit common_fields (own_fields kind) d values.0 values.1) in
+        let told = good_metadata (get (codes "metadata") d) metadata.0 (get_in_order (codes "metadata") d order) (read_in (codes "metadata") _ metadata.0 metadata.1) in
+        let fit = put_fits kind id status.0 at values.0 good moment (IfOk-at_ok (λ o. fits status_field o ≡ true) (read_in status_field.name _ status.0 status.1) (field_fits status_field (get status_field.name d))) (values_fit common_fields (own_fields kind) d values.0 values.1) in
         subst IsRow (same_row id named.0 made.0 row made.2) (row_made kind (all_of status.0 values.0) metadata.0 made.0 fit told made.1)
 
   read_order : (bytes : List ℕ) (d : Data) → data_of bytes ≡ Ok d → InOrder d

@@ -1,6 +1,6 @@
 //! The clock's moment.
 
-ghost use Rattle.hub_cli.specs.Outside.{IsMomentOf};
+ghost use Rattle.hub_streams.specs.Moments.{IsMomentOf};
 
 use outside_ports::Clock;
 use roster_texts::Moment;

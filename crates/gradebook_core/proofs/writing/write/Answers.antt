@@ -1,0 +1,23 @@
+use Rattle.gradebook_core.proofs.WriteSteps.{done, failed, may_commit}
+use Rattle.gradebook_core.proofs.writing.write.Goals as goal
+
+pub commit-requires-clause-may : goal.commit-requires-clause-may
+commit-requires-clause-may g c =
+    may_commit c.args.hub.now.kept c.table-table.result.now c.marks.result.now.marks c.table-table.ensures.versions c.marks.ensures c.args.by.now c.args.mark c.args.write c.args.at c.in_ok-judgement.judgement
+    c.in_ok-judgement.ensures.verdict c.in_ok-judgement.ensures.leads c.told_of-written.result c.told_of-written.ensures c.in_ok-due.due c.in_ok-due.ensures c.table-table.ensures.kept
+
+pub returns-in-Ok-clause-told : goal.returns-in-Ok-clause-told
+returns-in-Ok-clause-told g c = λ after standing.
+    let told = c.in-Ok.ensures.told after standing in (
+      told.0,
+      done c.args.hub.now.kept c.table-table.result.now c.marks.result.now.marks c.table-table.ensures.versions c.marks.ensures c.args.by.now c.args.mark c.args.write c.args.at c.in_ok-judgement.judgement
+          c.in_ok-judgement.ensures.verdict c.in_ok-judgement.ensures.leads c.told_of-written.result c.told_of-written.ensures c.in_ok-due.due c.in_ok-due.ensures after told.1,
+    )
+
+pub returns-in-Err-clause-told : goal.returns-in-Err-clause-told
+returns-in-Err-clause-told g c = λ after standing.
+    let told = c.in-Err.ensures.told after standing in (
+      told.0,
+      failed c.args.hub.now.kept c.table-table.result.now c.marks.result.now.marks c.table-table.ensures.versions c.marks.ensures c.args.by.now c.args.mark c.args.write c.args.at c.in_ok-judgement.judgement
+          c.in_ok-judgement.ensures.verdict c.in_ok-judgement.ensures.leads c.told_of-written.result c.told_of-written.ensures c.in_ok-due.due c.in_ok-due.ensures c.in-Err.error after told.1,
+    )

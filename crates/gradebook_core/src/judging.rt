@@ -1,0 +1,136 @@
+//! Judging writes.
+
+ghost use Rattle.std.specs.Prelude.{◌≡◌, IfOk, Ok, option_and_then, option_copied};
+ghost use Rattle.gradebook_core.specs.Judging.{HasOrder, MayLead, verdict_of};
+ghost use Rattle.hub_rules.specs.Refusals.{delete_refusal};
+ghost use Rattle.hub_rules.specs.Verdicts as spec;
+ghost use Rattle.row_json.specs.Puts.{put_of};
+ghost use Rattle.version_core.specs.HubStates.{HubState};
+ghost use Rattle.version_core.specs.Marks.{mark_at};
+ghost use Rattle.version_core.specs.Version.{newest_of};
+
+use crate::judgement::Judgement;
+use crate::refusals::{delete_refusal, put_refusal};
+use crate::repeats::repeated;
+use crate::stored::{delete_makes, put_makes};
+use roster_base::{NoMemory, Refusal, TryCopy};
+use roster_texts::{Moment, Name};
+use roster_types::owner::Owner;
+use roster_types::row::Row;
+use row_json::read_put;
+use std::alloc::Global;
+use version_core::grant_row::GrantRow;
+use version_core::mark::{MarkRow, Write};
+use version_core::marks::Marks;
+use version_core::row_change::RowChange;
+use version_core::table::Table;
+
+// What becomes of a row that is put.
+fn put_judged(
+    alloc: Global,
+    table: &Table,
+    by: &GrantRow,
+    write: &Write,
+    at: Moment,
+    row: Row,
+) -> Result<Judgement, NoMemory>
+    ensures verdict { IfOk result (λ made. spec.BodyJudged (newest_of table.now) by.now write.now at (Ok row) (verdict_of (newest_of table.now) made)) }
+    ensures order { IfOk result HasOrder }
+{
+    let view = table.newest_rows();
+    let stored = view.change(write.kind, &write.id);
+    if let Some(number) = put_refusal(&view, by, write, stored, &row) {
+        drop(row);
+        return Ok(Judgement::Refused(number));
+    }
+    let owner = Owner::Caller(by.caller.copy(alloc)?);
+    put_makes(alloc, table, at, RowChange { row, owner }, stored)
+}
+
+// What becomes of a PUT that no mark tells of.
+fn body_judged(
+    alloc: Global,
+    table: &Table,
+    by: &GrantRow,
+    write: &Write,
+    at: Moment,
+) -> Result<Judgement, NoMemory>
+    ensures verdict { IfOk result (λ made. spec.BodyJudged (newest_of table.now) by.now write.now at (put_of write.now.kind write.now.id at write.now.body) (verdict_of (newest_of table.now) made)) }
+    ensures order { IfOk result HasOrder }
+{
+    match read_put(alloc, write.kind, &write.id, at, write.body.as_slice()) {
+        Ok(row) => put_judged(alloc, table, by, write, at, row),
+        Err(Refusal::Fault(_)) => Ok(Judgement::Refused(2)),
+        Err(Refusal::NoMemory) => Err(NoMemory),
+    }
+}
+
+// What becomes of a DELETE that no mark tells of.
+fn delete_judged(
+    alloc: Global,
+    table: &Table,
+    by: &GrantRow,
+    write: &Write,
+    at: Moment,
+) -> Result<Judgement, NoMemory>
+    ensures verdict { IfOk result (λ made. verdict_of (newest_of table.now) made ≡ spec.delete_judged (newest_of table.now) write.now at (delete_refusal (newest_of table.now) by.now write.now)) }
+    ensures order { IfOk result HasOrder }
+{
+    let view = table.newest_rows();
+    let stored = view.change(write.kind, &write.id);
+    if let Some(number) = delete_refusal(&view, by, write, stored) {
+        return Ok(Judgement::Refused(number));
+    }
+    delete_makes(alloc, table, at, stored)
+}
+
+// What becomes of a write that no mark tells of.
+fn new_judged(
+    alloc: Global,
+    table: &Table,
+    by: &GrantRow,
+    write: &Write,
+    at: Moment,
+) -> Result<Judgement, NoMemory>
+    ensures verdict { IfOk result (λ made. spec.NewJudged write.now.delete (newest_of table.now) by.now write.now at (verdict_of (newest_of table.now) made)) }
+    ensures order { IfOk result HasOrder }
+{
+    if write.delete {
+        return delete_judged(alloc, table, by, write, at);
+    }
+    body_judged(alloc, table, by, write, at)
+}
+
+// The mark of this number that the caller has.
+fn held_mark<'a>(marks: &'a Marks, caller: &Name, mark: Option<u64>) -> Option<&'a MarkRow>
+    ensures { option_copied result ≡ option_and_then (λ number. mark_at (caller.now, number) marks.now.marks) mark }
+{
+    match mark {
+        Some(number) => marks.get(caller, number),
+        None => None,
+    }
+}
+
+/// What becomes of the write of a caller with a grant, under a mark if it has one, by the newest version of the table and the
+/// marks that are held: its verdict, by checks in order. The verdict is that at each state of a hub for which the table and
+/// the marks stand. A refusal is a verdict too; the error is want of memory alone.
+pub fn judge(
+    alloc: Global,
+    table: &Table,
+    marks: &Marks,
+    by: &GrantRow,
+    mark: Option<u64>,
+    write: &Write,
+    at: Moment,
+) -> Result<Judgement, NoMemory>
+    ensures verdict { (state : HubState) → spec.newest_in state ≡ newest_of table.now → state.marks ≡ marks.now.marks
+        → IfOk result (λ made. spec.Judges state by.now mark write.now at (verdict_of (newest_of table.now) made)) }
+    ensures leads { IfOk result (MayLead (newest_of table.now)) }
+{
+    // Read for what it keeps.
+    let _ = table.newest_rows();
+    match held_mark(marks, &by.caller, mark) {
+        Some(held) => Ok(repeated(held, write)),
+        None => new_judged(alloc, table, by, write, at),
+    }
+}

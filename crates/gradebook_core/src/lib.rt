@@ -1,0 +1,17 @@
+//! Gradebook writes: what becomes of one, by checks in order, and how a hub does it.
+#![tactic(auto)]
+
+mod checks;
+mod fields;
+mod judgement;
+mod judging;
+mod refusals;
+mod repeats;
+mod stored;
+mod writing;
+mod written;
+
+pub use judgement::Judgement;
+pub use judging::judge;
+pub use writing::write;
+pub use written::Written;

@@ -1,0 +1,69 @@
+//! Writes of a hub.
+
+ghost use Rattle.std.specs.Prelude.{◌≡◌, false};
+ghost use Rattle.gradebook_core.specs.Writing.{MayCommit, Writes};
+ghost use Rattle.hub_core.specs.Standing.{IsStanding, KeeperFits};
+ghost use Rattle.hub_core.specs.Steps.{CountsFault, Installs, LeavesOpen, RefusesNothing};
+ghost use Rattle.keeper_memory.specs.Kept.{KeptState};
+
+use crate::judging::judge;
+use crate::written::{Written, commit_of, told_of};
+use hub_core::{Hub, HubError};
+use keeper_memory::{HubCommit, HubKeeper};
+use roster_texts::Moment;
+use std::alloc::Global;
+use version_core::grant_row::GrantRow;
+use version_core::mark::Write;
+
+// Hands a commit to the keeper, unless it has nothing.
+fn commit<H: HubKeeper>(
+    alloc: Global,
+    hub: &mut Hub,
+    keeper: &mut H,
+    commit: HubCommit,
+) -> Result<(), HubError>
+    requires fits { KeeperFits (H.stands_for keeper.old) hub.old }
+    requires settled { hub.old.is_open ≡ false }
+    requires may { MayCommit hub.old.kept commit }
+    ensures fits { KeeperFits (H.stands_for keeper.new) hub.new }
+    ensures told { (after : KeptState) → IsStanding hub.new after → (H.stands_for keeper.new after → H.stands_for keeper.old hub.old.kept) × Installs commit result hub.old.kept after }
+    ensures settled { LeavesOpen result hub.new.is_open }
+    ensures cause { CountsFault (H.fault_count keeper.old) (H.fault_count keeper.new) result }
+    ensures refused { RefusesNothing result }
+{
+    if commit.change.is_none() && commit.mark.is_none() {
+        drop(commit);
+        return Ok(());
+    }
+    hub.install(alloc, keeper, commit)
+}
+
+/// Does what the write of a caller with a grant asks for, under a mark if it has one, at a moment: as it is judged by the newest
+/// version and the marks. Where it has a mark, its verdict is kept under it for good, in the same commit as its change; only that
+/// the mark is another write's is kept nowhere. All memory is taken before the commit.
+pub fn write<H: HubKeeper>(
+    alloc: Global,
+    hub: &mut Hub,
+    keeper: &mut H,
+    by: &GrantRow,
+    mark: Option<u64>,
+    write: Write,
+    at: Moment,
+) -> Result<Written, HubError>
+    requires fits { KeeperFits (H.stands_for keeper.old) hub.old }
+    requires settled { hub.old.is_open ≡ false }
+    ensures fits { KeeperFits (H.stands_for keeper.new) hub.new }
+    ensures told { (after : KeptState) → IsStanding hub.new after → (H.stands_for keeper.new after → H.stands_for keeper.old hub.old.kept) × Writes by.now mark write at result hub.old.kept after }
+    ensures settled { LeavesOpen result hub.new.is_open }
+    ensures cause { CountsFault (H.fault_count keeper.old) (H.fault_count keeper.new) result }
+    ensures refused { RefusesNothing result }
+{
+    let table = hub.table();
+    let judgement = judge(alloc, table, hub.marks(), by, mark, &write, at)?;
+    let written = told_of(table, mark, &write, &judgement);
+    let due = commit_of(alloc, &by.caller, mark, write, judgement, written.version)?;
+    match commit(alloc, hub, keeper, due) {
+        Ok(()) => Ok(written),
+        Err(error) => Err(error),
+    }
+}

@@ -1,0 +1,2 @@
+mod Dating
+pub mod Progressing

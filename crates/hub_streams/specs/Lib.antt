@@ -1,0 +1,4 @@
+pub mod Exchanges
+pub mod Moments
+pub mod Streams
+pub mod Turns
