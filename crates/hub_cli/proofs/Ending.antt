@@ -54,7 +54,7 @@ show-wants kind o a (inl failed) other = (failed.0, refl)
 show-wants kind o a (inr (inl shown)) other = (shown-done o kind a shown.0 other, refl)
 show-wants kind o a (inr (inr wants)) other = (wants.0, refl)
 
-command-wants : (command : Command) (o : Outside) (a : Answer) (before after : KeptState) → IsCommandAnswer command o a before after → a.end ≢ ends.Done → IsAnswer (Ok (record { folder = None; keep = None; command = command })) o (record a { end = ends.NoMemory }) before after
+command-wants : (command : Command) (o : Outside) (a : Answer) (before after : KeptState) → IsCommandAnswer command o a before after → a.end ≢ ends.Done → IsAnswer (Ok (record { folder = None; store = None; keep = None; command = command })) o (record a { end = ends.NoMemory }) before after
 command-wants (Show kind) o a before after is other = inr (is.0, show-wants kind o a is.1 other)
 command-wants (Publish feeds) o a before after (inl failed) other = inr (failed.0, (failed.1.0, refl))
 command-wants (Publish feeds) o a before after (inr run) other = inl (inr (run-wants o feeds a.done a.end before after run))

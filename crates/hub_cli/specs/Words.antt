@@ -11,7 +11,7 @@ use Rattle.hub_cli.specs.declared.words.Command.{Command}
 use Rattle.hub_cli.specs.declared.words.Command.TheVariants.{Grant, Publish, Show}
 use Rattle.hub_cli.specs.declared.words.Feed.{Feed}
 use Rattle.hub_cli.specs.declared.words.OptionWord.{OptionWord}
-use Rattle.hub_cli.specs.declared.words.OptionWord.TheVariants.{Folder, Keep}
+use Rattle.hub_cli.specs.declared.words.OptionWord.TheVariants.{Folder, Keep, Store}
 use Rattle.hub_cli.specs.declared.words.Options.{Options}
 use Rattle.hub_cli.specs.declared.words.Parsed.{Parsed}
 
@@ -83,12 +83,13 @@ command_words place (word ∷ words) =
 -- ---- options
 
 abbrev pub no_options : Options
-no_options = record { folder = None; keep = None }
+no_options = record { folder = None; store = None; keep = None }
 
 -- the option that a word names, if it isn't given yet
 unfoldable pub option_of : Options → List ℕ → Option OptionWord
 option_of options word =
     if bytes_eq word (codes "--folder") && is_none options.folder then Some Folder
+    else if bytes_eq word (codes "--store") && is_none options.store then Some Store
     else if bytes_eq word (codes "--keep") && is_none options.keep then Some Keep
     else None
 
@@ -113,15 +114,20 @@ abbrev pub with_folder : ℕ → Options → List ℕ → Result Options ℕ
 with_folder place options [] = Err place
 with_folder place options (b ∷ bs) = Ok (record options { folder = Some (b ∷ bs) })
 
+abbrev pub with_store : ℕ → Options → List ℕ → Result Options ℕ
+with_store place options [] = Err place
+with_store place options (b ∷ bs) = Ok (record options { store = Some (b ∷ bs) })
+
 -- the options with one more, whose value stands at a place
 abbrev pub set_option : ℕ → Options → OptionWord → List ℕ → Result Options ℕ
 set_option place options Folder value = with_folder place options value
+set_option place options Store value = with_store place options value
 set_option place options Keep value = with_keep place options (in_bounds (number_in value))
 
 abbrev pub with_options : Options → Result Command ℕ → Result Parsed ℕ
 with_options options command = do
   c ← command
-  Ok (record { folder = options.folder; keep = options.keep; command = c })
+  Ok (record { folder = options.folder; store = options.store; keep = options.keep; command = c })
 
 -- what follows a word: options behind the value of one, or the command that begins with the word
 abbrev pub behind : Option (Result Options ℕ) → Result Parsed ℕ → (Options → Result Parsed ℕ) → Result Parsed ℕ
@@ -155,3 +161,8 @@ root_in (Err place) = []
 abbrev pub keep_in : Result Parsed ℕ → ℕ
 keep_in (Ok parsed) = unwrap_or parsed.keep 10000
 keep_in (Err place) = 10000
+
+-- the folder of the hub's store, where the words name one
+abbrev pub store_in : Result Parsed ℕ → Option (List ℕ)
+store_in (Ok parsed) = parsed.store
+store_in (Err place) = None

@@ -14,5 +14,5 @@ pub mod words;
 pub use answer::{Answer, End};
 pub use run::{print, run_hub};
 pub use words::{
-    Command, Feed, OptionWord, Options, Parsed, WordError, keep_of, root_of, split_words,
+    Command, Feed, OptionWord, Options, Parsed, WordError, keep_of, root_of, split_words, store_of,
 };

@@ -2,7 +2,7 @@
 
 ghost use Rattle.std.specs.Prelude.{◌≡◌, ◌+◌, ◌<◌, ◌^◌, IfOk, Ok, length, map, string_bytes};
 ghost use Rattle.roster_base.specs.Reading.{Gives};
-ghost use Rattle.hub_cli.specs.Words.{command_words, ended, feed_in, feed_of, feed_words, grant_words, in_bounds, is_file_word, keep_in, no_options, number_in, option_of, option_words, publish_words, root_in, set_option, show_words, split, with_folder, with_keep, with_options};
+ghost use Rattle.hub_cli.specs.Words.{command_words, ended, feed_in, feed_of, feed_words, grant_words, in_bounds, is_file_word, keep_in, no_options, number_in, option_of, option_words, publish_words, root_in, set_option, show_words, split, store_in, with_folder, with_keep, with_options, with_store};
 
 use roster_base::{Items, NoMemory, Refusal, Text};
 use roster_texts::Name;
@@ -32,6 +32,7 @@ pub enum Command {
 #[derive(Clone, Copy)]
 pub enum OptionWord {
     Folder,
+    Store,
     Keep,
 }
 
@@ -40,6 +41,8 @@ pub enum OptionWord {
 pub struct Options {
     /// The folder of the files, where another than the working folder is named.
     pub folder: Option<Text>,
+    /// The folder of the hub's store, where one is named.
+    pub store: Option<Text>,
     /// How many versions a new keeper keeps beside the newest.
     pub keep: Option<u32>,
 }
@@ -49,6 +52,8 @@ pub struct Options {
 pub struct Parsed {
     /// The folder of the files, where another than the working folder is named.
     pub folder: Option<Text>,
+    /// The folder of the hub's store, where one is named.
+    pub store: Option<Text>,
     /// How many versions a new keeper keeps beside the newest, where the words say so: 1 to 100,000.
     pub keep: Option<u32>,
     pub command: Command,
@@ -184,9 +189,14 @@ fn with_command(
     ensures { Gives (λ p. p) result (with_options options (command_words place (map string_bytes words.now))) }
 {
     let command = command_at(alloc, place, words)?;
-    let Options { folder, keep } = options;
+    let Options {
+        folder,
+        store,
+        keep,
+    } = options;
     Ok(Parsed {
         folder,
+        store,
         keep,
         command,
     })
@@ -199,6 +209,9 @@ fn option_of(options: &Options, word: &str) -> Option<OptionWord>
 {
     if word == "--folder" && options.folder.is_none() {
         return Some(OptionWord::Folder);
+    }
+    if word == "--store" && options.store.is_none() {
+        return Some(OptionWord::Store);
     }
     if word == "--keep" && options.keep.is_none() {
         return Some(OptionWord::Keep);
@@ -245,6 +258,22 @@ fn with_folder(
     Ok(Options { folder, ..options })
 }
 
+// The options with the folder of a store that a word names.
+fn with_store(
+    alloc: Global,
+    place: usize,
+    options: Options,
+    value: &str,
+) -> Result<Options, WordError>
+    ensures { Gives (λ o. o) result (with_store place options value.now) }
+{
+    if value.is_empty() {
+        return Err(Refusal::Fault(place));
+    }
+    let store = Some(Text::new(alloc, value)?);
+    Ok(Options { store, ..options })
+}
+
 // The options with as many versions to keep as a word says.
 fn with_keep(place: usize, options: Options, value: &str) -> Result<Options, WordError>
     ensures { Gives (λ o. o) result (with_keep place options (in_bounds (number_in value.now))) }
@@ -270,6 +299,7 @@ fn set_option(
 {
     match option {
         OptionWord::Folder => with_folder(alloc, place, options, value),
+        OptionWord::Store => with_store(alloc, place, options, value),
         OptionWord::Keep => with_keep(place, options, value),
     }
 }
@@ -303,6 +333,7 @@ pub fn split_words(alloc: Global, words: &[String]) -> Result<Parsed, WordError>
 {
     let none = Options {
         folder: None,
+        store: None,
         keep: None,
     };
     options_at(alloc, 0, none, words)
@@ -314,9 +345,11 @@ fn folder_in(alloc: Global, parsed: Parsed) -> String
 {
     let Parsed {
         folder,
+        store,
         command,
         ..
     } = parsed;
+    drop(store);
     drop(command);
     match folder {
         Some(folder) => folder.into_string(),
@@ -343,6 +376,32 @@ pub fn keep_of(alloc: Global, words: &[String]) -> Result<u32, NoMemory>
     match split_words(alloc, words) {
         Ok(parsed) => Ok(parsed.keep.unwrap_or(USUAL_KEEP)),
         Err(Refusal::Fault(_)) => Ok(USUAL_KEEP),
+        Err(Refusal::NoMemory) => Err(NoMemory),
+    }
+}
+
+// The folder of the store that parsed words name.
+fn store_folder(parsed: Parsed) -> Option<Text>
+    ensures { result ≡ store_in (Ok parsed) }
+{
+    let Parsed {
+        folder,
+        store,
+        command,
+        ..
+    } = parsed;
+    drop(folder);
+    drop(command);
+    store
+}
+
+/// The folder of the hub's store, where the words name one.
+pub fn store_of(alloc: Global, words: &[String]) -> Result<Option<Text>, NoMemory>
+    ensures { IfOk result (λ s. s ≡ store_in (split (map string_bytes words.now))) }
+{
+    match split_words(alloc, words) {
+        Ok(parsed) => Ok(store_folder(parsed)),
+        Err(Refusal::Fault(_)) => Ok(None),
         Err(Refusal::NoMemory) => Err(NoMemory),
     }
 }

@@ -1,6 +1,6 @@
 //! What items say, read back.
 
-ghost use Rattle.std.specs.Prelude.{◌≡◌, ◌++◌, ◌∷◌, [], IfOk, IfSome, drop, map, true};
+ghost use Rattle.std.specs.Prelude.{◌≡◌, ◌≢◌, ◌↔◌, ◌++◌, ◌∷◌, [], IfOk, IfSome, drop, map, true};
 ghost use Rattle.item_maps.specs.Edits.{entry_of};
 ghost use Rattle.hub_codec.specs.declared.reading.Format.TheVariants as format;
 ghost use Rattle.roster_values.specs.Kinds.{place_of_kind};
@@ -119,7 +119,7 @@ pub enum Format {
 }
 
 fn is_one(body: &[u8]) -> bool
-    ensures { body.now ≡ number 1 → result ≡ true }
+    ensures { (result ≡ true) ↔ (body.now ≡ number 1) }
 {
     body == [0, 0, 0, 0, 0, 0, 0, 1].as_slice()
 }
@@ -128,6 +128,7 @@ fn is_one(body: &[u8]) -> bool
 pub fn format_of(items: &[Item]) -> Format
     ensures none { map entry_of items.now ≡ [] → result ≡ format.New }
     ensures one { map entry_of items.now ≡ format_entry ∷ [] → result ≡ format.One }
+    ensures other { (entry : Entry) → map entry_of items.now ≡ entry ∷ [] → entry.1 ≢ number 1 → result ≡ format.Other }
 {
     match items {
         [] => Format::New,

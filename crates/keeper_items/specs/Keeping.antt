@@ -1,10 +1,11 @@
 -- Stores whose items keep a state, by what they stand for.
-use Rattle.std.specs.Prelude.{◌≡◌, ◌⊎◌, ℕ}
-use Rattle.item_maps.specs.Items.{Items, no_items}
+use Rattle.std.specs.Prelude.{◌≡◌, ◌≢◌, ◌⊎◌, ℕ, [], ◌∷◌}
+use Rattle.item_maps.specs.Items.{Items, listed, no_items}
 use Rattle.keeper_memory.specs.Kept.{KeptState, kept_by}
 use Rattle.version_core.specs.Tables.{AreTables}
 use Rattle.version_core.specs.declared.hub_tables.HubTables.{HubTables}
-use Rattle.hub_items.specs.Format.{Fit, Keep, items_of, new_tables}
+use Rattle.hub_items.specs.Format.{Entry, Fit, Keep, items_of, new_tables}
+use Rattle.hub_items.specs.Pieces.{number}
 
 -- no items keep version 0 alone, with so many versions to be kept beside the newest
 abbrev pub KeepOrNew : ℕ → Items → KeptState → Type 0
@@ -25,3 +26,9 @@ pub record HasTables (stand : Items → Type 0) (t : HubTables) : Type 0 where
 -- what one stood for, another stands for
 abbrev pub Stay : (Items → Type 0) → (Items → Type 0) → Type 0
 Stay old new = (items : Items) → old items → new items
+
+-- the items of the format say another number than 1
+pub record HasOtherFormat (items : Items) : Type 0 where
+  pub entry : Entry
+  pub only : listed 0 [] (0 ∷ []) items ≡ entry ∷ []
+  pub other : entry.1 ≢ number 1

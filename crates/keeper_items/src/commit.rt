@@ -1,13 +1,14 @@
 //! Commits to a store.
 
-ghost use Rattle.std.specs.Prelude.{◌≡◌, IfOk, OnErr, OnOk};
+ghost use Rattle.std.specs.Prelude.{◌≡◌, IfOk, IsErr, OnErr, OnOk};
 ghost use Rattle.roster_base.specs.Faults.{CountsFailure};
+ghost use Rattle.item_maps.specs.Items.{Items};
 ghost use Rattle.keeper_memory.specs.Commits.{CanCommit, with_commit};
 ghost use Rattle.keeper_memory.specs.Kept.{KeptState, kept_by};
 ghost use Rattle.version_core.specs.declared.hub_tables.HubTables.{HubTables};
 ghost use Rattle.hub_items.specs.Edits.{edits as edits_of};
 ghost use Rattle.hub_items.specs.Format.{FitsCommit, Keep};
-ghost use Rattle.keeper_items.specs.Keeping.{HasTables, KeepOrNew, Keeps, Stay};
+ghost use Rattle.keeper_items.specs.Keeping.{HasOtherFormat, HasTables, KeepOrNew, Keeps, Stay};
 
 use crate::oldest::oldest_for;
 use crate::prepare::prepare;
@@ -67,6 +68,7 @@ pub(crate) fn commit_to<S: StoredItems>(
         → OnOk result (Keeps (KeepOrNew keep) (S.stands_for store.new) (with_commit state commit.now)) }
     ensures err { (state : KeptState) → Keeps (KeepOrNew keep) (S.stands_for store.old) state → S.is_trusted store.new
         → OnErr result (Keeps (KeepOrNew keep) (S.stands_for store.new) state) }
+    ensures other { (m : Items) → S.stands_for store.old m → HasOtherFormat m → S.is_trusted store.new → IsErr result × S.stands_for store.new m }
     ensures cause { CountsFailure (S.fault_count store.old) (S.fault_count store.new) result }
     ensures trust { S.is_trusted store.new → S.is_trusted store.old }
 {

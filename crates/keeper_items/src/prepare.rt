@@ -1,10 +1,11 @@
 //! A store is made ready.
 
-ghost use Rattle.std.specs.Prelude.{OnErr, OnOk};
+ghost use Rattle.std.specs.Prelude.{IsErr, OnErr, OnOk};
 ghost use Rattle.roster_base.specs.Faults.{CountsFailure};
+ghost use Rattle.item_maps.specs.Items.{Items};
 ghost use Rattle.keeper_memory.specs.Kept.{KeptState};
 ghost use Rattle.hub_items.specs.Format.{Keep};
-ghost use Rattle.keeper_items.specs.Keeping.{KeepOrNew, Keeps};
+ghost use Rattle.keeper_items.specs.Keeping.{HasOtherFormat, KeepOrNew, Keeps};
 
 use crate::stored_items::StoredItems;
 use hub_codec::{Format, first_edits, format_of};
@@ -21,6 +22,7 @@ pub(crate) fn prepare<S: StoredItems>(
         → OnOk result (Keeps Keep (S.stands_for store.new) state) }
     ensures err { (state : KeptState) → Keeps (KeepOrNew keep) (S.stands_for store.old) state
         → OnErr result (Keeps (KeepOrNew keep) (S.stands_for store.new) state) }
+    ensures other { (m : Items) → S.stands_for store.old m → HasOtherFormat m → S.is_trusted store.new → IsErr result × S.stands_for store.new m }
     ensures cause { CountsFailure (S.fault_count store.old) (S.fault_count store.new) result }
     ensures trust { S.is_trusted store.new → S.is_trusted store.old }
 {

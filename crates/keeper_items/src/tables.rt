@@ -1,12 +1,13 @@
 //! The tables that a store keeps.
 
-ghost use Rattle.std.specs.Prelude.{◌≡◌, IfOk, IfSome};
+ghost use Rattle.std.specs.Prelude.{◌≡◌, IfOk, IfSome, IsErr};
 ghost use Rattle.roster_base.specs.Faults.{CountsFailure};
+ghost use Rattle.item_maps.specs.Items.{Items};
 ghost use Rattle.keeper_memory.specs.Kept.{KeptState, kept_by};
 ghost use Rattle.version_core.specs.Tables.{AreTables};
 ghost use Rattle.version_core.specs.declared.hub_tables.HubTables.{HubTables as Tables};
 ghost use Rattle.hub_items.specs.Format.{Keep};
-ghost use Rattle.keeper_items.specs.Keeping.{HasTables, KeepOrNew, Keeps, Stay};
+ghost use Rattle.keeper_items.specs.Keeping.{HasOtherFormat, HasTables, KeepOrNew, Keeps, Stay};
 
 use crate::load::{base_rows, changes_in, grants_at, marks_in};
 use crate::prepare::prepare;
@@ -83,6 +84,7 @@ pub fn load_from<S: StoredItems>(
     ensures shown { (state : KeptState) → Keeps (KeepOrNew keep) (S.stands_for store.old) state → S.is_trusted store.new → IfOk result (λ tables. state ≡ kept_by tables) }
     ensures kept { (state : KeptState) → Keeps (KeepOrNew keep) (S.stands_for store.old) state → S.is_trusted store.new → Keeps (KeepOrNew keep) (S.stands_for store.new) state }
     ensures tables { IfOk result AreTables }
+    ensures other { (m : Items) → S.stands_for store.old m → HasOtherFormat m → S.is_trusted store.new → IsErr result × S.stands_for store.new m }
     ensures cause { CountsFailure (S.fault_count store.old) (S.fault_count store.new) result }
     ensures trust { S.is_trusted store.new → S.is_trusted store.old }
 {
