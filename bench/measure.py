@@ -114,8 +114,12 @@ def print_series(cases, times=RUNS):
         before = print_case(case, before, times)
 
 
-def begin():
+def build():
     """Builds the program where it is missing, which is not to be measured."""
     sys.stdout.reconfigure(line_buffering=True)
     subprocess.run([os.path.join(TOP, "hub")], stdin=subprocess.DEVNULL, stdout=subprocess.DEVNULL, check=False)
+
+
+def begin():
+    build()
     print_head()
