@@ -10,7 +10,7 @@ use Rattle.hub_rules.specs.Reads.{contents_of, object_shown, read_at, read_resul
 use Rattle.hub_rules.specs.Wanted.{Wanted, access_of, allows, is_write}
 use Rattle.hub_views.specs.Lists.{is_single, kind_of_path, object_of}
 use Rattle.hub_views.specs.Seen.{seen}
-use Rattle.rest_provider.specs.Replies.{entry, path_allowed, query_read, read_by_token, read_in_turn}
+use Rattle.rest_provider.specs.Replies.{entry, path_allowed, path_checked, query_read, read_in_turn}
 use Rattle.rest_provider.specs.Shown.{contents_shown}
 use Rattle.rest_provider.specs.declared.contents.Contents.{Contents}
 use Rattle.roster_base.specs.Reading.{◌>>=◌}
@@ -40,26 +40,27 @@ unfolding read_at
 behind_query state wanted path by version view grant query at is opened asked = rw (at, is, opened, asked) refl
 
 -- the checks of the entry and those behind it, path first
-in_turn : (state : HubState) (wanted : Wanted) → entry_of state wanted >>= read_result state wanted ≡ read_in_turn state wanted
-in_turn state wanted = from wanted.path
+pub in_turn : {X : Type 0} (state : HubState) (wanted : Wanted) (rest : Entry → Result X Reply)
+    → entry_of state wanted >>= rest ≡ path_checked wanted >>= (λ path. found_or (refused wanted cause.NoKnownToken) (grant_in state wanted.token) >>= (λ by. rest (entry path by)))
+in_turn state wanted rest = from wanted.path
   where
     told : (path : Path) (g : Option GrantRow)
-        → (found_or (refused wanted cause.NoKnownToken) g >>= (λ by. Ok (entry path by))) >>= read_result state wanted
-        ≡ found_or (refused wanted cause.NoKnownToken) g >>= (λ by. read_result state wanted (entry path by))
+        → (found_or (refused wanted cause.NoKnownToken) g >>= (λ by. Ok (entry path by))) >>= rest
+        ≡ found_or (refused wanted cause.NoKnownToken) g >>= (λ by. rest (entry path by))
     told path None = refl
     told path (Some by) = refl
 
     allowed : (path : Path) (b : Bool)
-        → (check b (method_refused wanted path) >>= (λ _. found_or (refused wanted cause.NoKnownToken) (grant_in state wanted.token) >>= (λ by. Ok (entry path by)))) >>= read_result state wanted
-        ≡ (check b (method_refused wanted path) >>= (λ _. Ok path)) >>= read_by_token state wanted
+        → (check b (method_refused wanted path) >>= (λ _. found_or (refused wanted cause.NoKnownToken) (grant_in state wanted.token) >>= (λ by. Ok (entry path by)))) >>= rest
+        ≡ (check b (method_refused wanted path) >>= (λ _. Ok path)) >>= (λ path. found_or (refused wanted cause.NoKnownToken) (grant_in state wanted.token) >>= (λ by. rest (entry path by)))
     allowed path true = told path (grant_in state wanted.token)
     allowed path false = refl
 
     from : (p : Option Path)
         → (found_or (refused wanted cause.NoSuchPath) p
         >>= (λ path. check (allows path wanted.verb) (method_refused wanted path)
-        >>= (λ _. found_or (refused wanted cause.NoKnownToken) (grant_in state wanted.token) >>= (λ by. Ok (entry path by))))) >>= read_result state wanted
-        ≡ (found_or (refused wanted cause.NoSuchPath) p >>= path_allowed wanted) >>= read_by_token state wanted
+        >>= (λ _. found_or (refused wanted cause.NoKnownToken) (grant_in state wanted.token) >>= (λ by. Ok (entry path by))))) >>= rest
+        ≡ (found_or (refused wanted cause.NoSuchPath) p >>= path_allowed wanted) >>= (λ path. found_or (refused wanted cause.NoKnownToken) (grant_in state wanted.token) >>= (λ by. rest (entry path by)))
     from None = refl
     from (Some path) = allowed path (allows path wanted.verb)
 
@@ -68,7 +69,7 @@ pub read_answers : (state : HubState) (wanted : Wanted) → is_write wanted.verb
     → Answers state wanted at (sent wanted (either (read_in_turn state wanted))) state
 unfolding Answers
 read_answers state wanted reads at =
-    subst (λ read. Answered state wanted at (entry_of state wanted) (sent wanted (either read)) state) (in_turn state wanted) (by (entry_of state wanted))
+    subst (λ read. Answered state wanted at (entry_of state wanted) (sent wanted (either read)) state) (in_turn state wanted (read_result state wanted)) (by (entry_of state wanted))
   where
     entered : (e : Entry) (b : Bool) → b ≡ false → Entered b state wanted at e (sent wanted (either (read_result state wanted e))) state
     entered e true is = absurd (cc is)

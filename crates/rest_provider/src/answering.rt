@@ -9,6 +9,7 @@ ghost use Rattle.rest_provider.specs.Steps.{CountsFailed, TakesRequest, error_re
 
 use crate::reads::{answer_read, sent};
 use crate::refusals::refused;
+use crate::writes::answer_write;
 use hub_core::{Hub, HubError};
 use hub_paths::PathRouter;
 use keeper_memory::HubKeeper;
@@ -16,8 +17,8 @@ use roster_texts::Moment;
 use status_info::{Cause, Reply, Request, Verb};
 use std::alloc::Global;
 
-// The reply where the hub's keeper or memory failed.
-fn failing(alloc: Global, request: &Request, error: HubError) -> Reply
+/// The reply where the hub's keeper or memory failed.
+pub fn failing(alloc: Global, request: &Request, error: HubError) -> Reply
     ensures { result ≡ error_reply (wanted_by request.now) error }
 {
     let cause = match error {
@@ -35,26 +36,6 @@ fn is_write(verb: Verb) -> bool
         Verb::Put | Verb::Delete => true,
         _ => false,
     }
-}
-
-// Answers a request that writes. Writes to the gradebook aren't built yet: each is told that memory is wanting, and nothing is written.
-fn answer_write<H: HubKeeper>(
-    alloc: Global,
-    router: &PathRouter,
-    hub: &mut Hub,
-    keeper: &mut H,
-    request: &Request,
-    at: Moment,
-) -> Reply
-    requires fits { KeeperFits (H.stands_for keeper.old) hub.old }
-    requires settled { hub.old.is_open ≡ false }
-    requires writes { is_write request.now.verb ≡ true }
-    ensures fits { KeeperFits (H.stands_for keeper.new) hub.new }
-    ensures step { (failed : ℕ) × CountsFailed (H.fault_count keeper.old) (H.fault_count keeper.new) failed
-        × ((after : KeptState) → IsStanding hub.new after → (before : KeptState) × IsStanding hub.old before × (H.stands_for keeper.new after → H.stands_for keeper.old before)
-        × TakesRequest request.now at result before after failed) }
-{
-    sent(request, refused(alloc, request, Cause::NoMemory))
 }
 
 // Answers a request over a hub that has no commit left open.

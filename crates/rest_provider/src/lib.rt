@@ -7,6 +7,7 @@ mod contents;
 mod reading;
 pub mod reads;
 mod refusals;
+mod writes;
 
 pub use answering::answer;
 pub use reads::answer_read;

@@ -3,6 +3,7 @@
 ghost use Rattle.std.specs.Prelude.{◌≡◌, ◌≤◌, true, false, IfOk, Ok, Err, Some, option_map};
 ghost use Rattle.filter_grammar.specs.Queries.{query_of};
 ghost use Rattle.hub_requests.specs.Requests.{query_or_cause, wanted_by};
+ghost use Rattle.hub_rules.specs.Answers.{write_result};
 ghost use Rattle.hub_rules.specs.Checks as spec;
 ghost use Rattle.hub_rules.specs.Reads as reads;
 ghost use Rattle.hub_rules.specs.Wanted.{access_of, is_good_mark};
@@ -16,7 +17,7 @@ ghost use Rattle.roster_base.specs.declared.refusal.Refusal.TheVariants as refus
 ghost use Rattle.roster_texts.specs.Results.{found_or};
 ghost use Rattle.status_info.specs.declared.cause.Cause.TheVariants as cause;
 ghost use Rattle.version_core.specs.Changes.{rows_of};
-ghost use Rattle.version_core.specs.HubStates.{HubState};
+ghost use Rattle.version_core.specs.HubStates.{HubState, newest_number};
 ghost use Rattle.version_core.specs.declared.grant_row.GrantRow.{GrantRow};
 
 use crate::checks::{access_of, is_good_mark};
@@ -33,7 +34,7 @@ use status_info::{Cause, Reply, Request};
 use std::alloc::Global;
 use version_core::view::VersionView;
 
-/// A request for a path, who makes it, and the number of the version that it reads.
+/// A request for a path, who makes it, and the number of the version that it reads, or that a write is told of.
 #[derive(Clone, Copy)]
 pub struct Reading<'a> {
     pub request: &'a Request,
@@ -91,6 +92,15 @@ impl<'a> Reading<'a> {
         } else {
             self.refused(alloc, Cause::BadMark)
         }
+    }
+
+    /// The checks of a write that stand before its verdict: scope, mark.
+    pub fn may_write(self, alloc: Global) -> Result<(), Stop>
+        ensures { (state : HubState) (by : GrantRow) → newest_number state ≡ self.entry.version → by.grant ≡ self.entry.grant.now
+            → Gives (λ _. true) result (write_result state (wanted_by self.entry.request.now) (entry self.entry.path.now by)) }
+    {
+        self.opened(alloc)?;
+        self.marked(alloc)
     }
 
     // The seen object that the path names.

@@ -1,0 +1,98 @@
+//! A district of two schools with a class each, and the grants of two callers.
+
+use csv_sets::read_set;
+use grant_files::read_grants;
+use grant_scopes::GrantList;
+use outside_ports::MemFolder;
+use roster_texts::{Moment, Name};
+use roster_types::set::RosterSet;
+use std::alloc::Global;
+use std::process::Abort;
+use std::test::Fail;
+
+static FILES: [(&str, &str); 8] = [
+    (
+        "manifest.csv",
+        "propertyName,value\nmanifest.version,1.0\noneroster.version,1.1\nfile.orgs,bulk\nfile.academicSessions,bulk\n\
+file.courses,bulk\nfile.classes,bulk\nfile.users,bulk\nfile.categories,bulk\nfile.lineItems,bulk\n",
+    ),
+    (
+        "orgs.csv",
+        "sourcedId,status,dateLastModified,name,type,identifier,parentSourcedId\n\
+d1,,,Lake,district,,\ns1,,,East,school,,d1\ns2,,,West,school,,d1\n",
+    ),
+    (
+        "academicSessions.csv",
+        "sourcedId,status,dateLastModified,title,type,startDate,endDate,parentSourcedId,schoolYear\n\
+t1,,,Fall,term,2024-08-01,2024-12-20,,2025\ng1,,,Quarter 1,gradingPeriod,2024-08-01,2024-10-11,t1,2025\n",
+    ),
+    (
+        "courses.csv",
+        "sourcedId,status,dateLastModified,schoolYearSourcedId,title,courseCode,grades,orgSourcedId,subjects,subjectCodes\n\
+alg,,,,Algebra,,09,d1,,\n",
+    ),
+    (
+        "classes.csv",
+        "sourcedId,status,dateLastModified,title,grades,courseSourcedId,classCode,classType,location,schoolSourcedId,termSourcedIds,subjects,subjectCodes,periods\n\
+k1,,,Algebra A,09,alg,,scheduled,,s1,t1,,,1\nk2,,,Algebra B,09,alg,,scheduled,,s2,t1,,,2\n",
+    ),
+    (
+        "users.csv",
+        "sourcedId,status,dateLastModified,enabledUser,orgSourcedIds,role,username,userIds,givenName,familyName,middleName,identifier,email,sms,phone,agentSourcedIds,grades,password\n\
+u1,,,true,s1,student,aoak,,Ann,Oak,,,,,,,,\nu2,,,true,s2,student,boak,,Ben,Oak,,,,,,,,\n",
+    ),
+    (
+        "categories.csv",
+        "sourcedId,status,dateLastModified,title\nhw,,,Homework\n",
+    ),
+    (
+        "lineItems.csv",
+        "sourcedId,status,dateLastModified,title,description,assignDate,dueDate,classSourcedId,categorySourcedId,gradingPeriodSourcedId,resultValueMin,resultValueMax\n\
+li1,,,Set 1,,2024-08-15,2024-08-22,k1,hw,g1,0,100\nli2,,,Set 2,,2024-08-15,2024-08-22,k2,hw,g1,0,100\n",
+    ),
+];
+
+static GRANTS: &str =
+    "caller,token,scopes,schools\neast,tok-e,gradebook.createput gradebook.delete,s1\nwest,tok-w,gradebook.createput gradebook.delete,s2\n";
+
+fn file(alloc: Global, name: &str, text: &str) -> Result<(String, String, Vec<u8>), Fail> {
+    let dir = String::from_str(alloc, "lake")?;
+    let name = String::from_str(alloc, name)?;
+    Ok((dir, name, text.as_bytes().to_vec(alloc)?))
+}
+
+fn folder(alloc: Global) -> Result<MemFolder, Fail> {
+    let mut files = Vec::new(alloc);
+    for (name, text) in &FILES {
+        files.push(file(alloc, name, text)?)?;
+    }
+    Ok(MemFolder::new(files, Vec::new(alloc)))
+}
+
+/// The set of the feed.
+pub fn set(rt: &impl Abort, alloc: Global) -> Result<RosterSet, Fail> {
+    let Some(feed) = Name::read(alloc, "sis")? else {
+        panic!(rt; "no name");
+    };
+    let mut folder = folder(alloc)?;
+    match read_set(alloc, &mut folder, "lake", &feed) {
+        Ok(set) => Ok(set),
+        Err(_) => panic!(rt; "no set"),
+    }
+}
+
+/// What the two callers are to have.
+pub fn grants(rt: &impl Abort, alloc: Global) -> Result<GrantList, Fail> {
+    match read_grants(alloc, GRANTS.as_bytes()) {
+        Ok(list) => Ok(list),
+        Err(_) => panic!(rt; "no grants"),
+    }
+}
+
+/// The moment of each call, so many seconds after the first.
+pub fn moment(rt: &impl Abort, second: u32) -> Moment {
+    match Moment::at(1_000 * (second as i64 + 1)) {
+        Some(at) => at,
+        None => panic!(rt; "no moment"),
+    }
+}

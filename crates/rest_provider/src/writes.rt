@@ -1,0 +1,238 @@
+//! Answers to writes.
+
+ghost use Rattle.std.specs.Prelude.{◌≡◌, ◌⊎◌, ℕ, IfOk, Result, Some, false, true};
+ghost use Rattle.std.specs.Option.{ForSome};
+ghost use Rattle.hub_core.specs.Standing.{IsStanding, KeeperFits};
+ghost use Rattle.hub_paths.specs.Paths.{IsPath};
+ghost use Rattle.hub_requests.specs.Requests.{wanted_by};
+ghost use Rattle.hub_rules.specs.Answers as answers;
+ghost use Rattle.hub_rules.specs.Wanted as wanting;
+ghost use Rattle.keeper_memory.specs.Kept.{KeptState};
+ghost use Rattle.rest_provider.specs.Replies.{IsReadOf};
+ghost use Rattle.rest_provider.specs.Steps.{CountsFailed, TakesRequest};
+ghost use Rattle.rest_provider.specs.Writes.{TakesWrite, asked_at, asked_in_turn, reply_of, stop_reply};
+ghost use Rattle.roster_base.specs.Reading.{Gives};
+ghost use Rattle.version_core.specs.HubStates.{HubState};
+
+use crate::answering::failing;
+use crate::checks::{caller_of, path_of};
+use crate::reading::Reading;
+use crate::reads::sent;
+use crate::refusals::{Stop, refused, refused_at};
+use gradebook_core::{Written, write};
+use grant_scopes::Grant;
+use hub_core::Hub;
+use hub_paths::{Path, PathRouter};
+use keeper_memory::HubKeeper;
+use query_pages::belonging::id_at;
+use roster_base::{Bytes, NoMemory, Refusal, TryCopy};
+use roster_texts::{Moment, Name};
+use status_info::{Cause, MarkField, Reply, Request, Verb};
+use std::alloc::Global;
+use version_core::grant_row::GrantRow;
+use version_core::mark::Write;
+use version_core::table::Table;
+
+/// Who asks, and for which write.
+#[derive(Drop)]
+pub struct Asked {
+    pub by: GrantRow,
+    pub write: Write,
+}
+
+fn is_delete(verb: Verb) -> bool
+    ensures { result ≡ wanting.is_delete verb }
+{
+    match verb {
+        Verb::Delete => true,
+        _ => false,
+    }
+}
+
+fn mark_number(mark: MarkField) -> Option<u64>
+    ensures { result ≡ wanting.mark_number mark }
+{
+    match mark {
+        MarkField::Number(number) => Some(number),
+        _ => None,
+    }
+}
+
+// The write that a request wants.
+fn write_of(alloc: Global, request: &Request, path: &Path) -> Result<Write, NoMemory>
+    requires { wanting.takes_writes path.now ≡ true }
+    ensures { IfOk result (λ w. w ≡ answers.write_of (wanted_by request.now) path.now) }
+{
+    // Read for the number of its ids.
+    let _ = path.ids();
+    Ok(Write {
+        delete: is_delete(request.verb),
+        kind: path.route().lists().kind(),
+        id: id_at(path, 0).copy(alloc)?,
+        body: Bytes::from_vec(Vec::from_slice(alloc, request.body.as_slice())?),
+    })
+}
+
+fn row_of(alloc: Global, caller: &Name, grant: &Grant) -> Result<GrantRow, NoMemory>
+    ensures { IfOk result (λ row. row ≡ record { caller = caller.now; grant = grant.now }) }
+{
+    Ok(GrantRow {
+        caller: caller.copy(alloc)?,
+        grant: grant.copy(alloc)?,
+    })
+}
+
+// The write, by a caller who may ask for it.
+fn asked_by(
+    alloc: Global,
+    request: &Request,
+    path: &Path,
+    caller: &Name,
+    grant: &Grant,
+) -> Result<Asked, NoMemory>
+    requires { wanting.takes_writes path.now ≡ true }
+    ensures { IfOk result (λ a. a ≡ record { by = record { caller = caller.now; grant = grant.now }; write = answers.write_of (wanted_by request.now) path.now }) }
+{
+    let by = row_of(alloc, caller, grant)?;
+    match write_of(alloc, request, path) {
+        Ok(write) => Ok(Asked { by, write }),
+        Err(error) => {
+            drop(by);
+            Err(error)
+        }
+    }
+}
+
+// The checks of a write behind those of its path: token, scope, mark.
+fn asked_at(alloc: Global, table: &Table, request: &Request, path: &Path) -> Result<Asked, Stop>
+    requires { wanting.takes_writes path.now ≡ true }
+    ensures { (state : HubState) → IsReadOf table.now state → Gives (λ a. a) result (asked_at state (wanted_by request.now) path.now) }
+{
+    let newest = table.newest_rows();
+    let (caller, grant) = caller_of(alloc, &newest, request)?;
+    let reading = Reading {
+        request,
+        path,
+        grant,
+        version: table.newest(),
+    };
+    match reading.may_write(alloc) {
+        Ok(()) => Ok(asked_by(alloc, request, path, caller, grant)?),
+        Err(stop) => Err(stop),
+    }
+}
+
+// All checks of a write before its verdict.
+fn asked_in_turn(
+    alloc: Global,
+    router: &PathRouter,
+    table: &Table,
+    request: &Request,
+) -> Result<Asked, Stop>
+    requires { wanting.is_write request.now.verb ≡ true }
+    ensures asked { (state : HubState) → IsReadOf table.now state → Gives (λ a. a) result (asked_in_turn state (wanted_by request.now)) }
+    ensures path { IfOk result (λ _. ForSome (wanted_by request.now).path IsPath) }
+{
+    let path = path_of(alloc, router, request)?;
+    // Read for what it keeps.
+    let _ = path.route();
+    asked_at(alloc, table, request, &path)
+}
+
+// What the outcomes of writes are told by, by their numbers.
+static CAUSES: [Cause; 10] = [
+    Cause::Stored,
+    Cause::MarkOfAnotherWrite,
+    Cause::BadBody,
+    Cause::NoSuchObject,
+    Cause::OwnedByAnother,
+    Cause::ReferenceOutsideGrant,
+    Cause::ReferenceOfWrongType,
+    Cause::TooManyRows,
+    Cause::LastVersion,
+    Cause::Deleted,
+];
+
+fn cause_of(outcome: u8) -> Cause
+    ensures { result ≡ answers.cause_of outcome }
+{
+    match CAUSES.get(outcome as usize) {
+        Some(cause) => *cause,
+        None => Cause::Stored,
+    }
+}
+
+// The reply that tells what became of a write.
+fn reply_of(alloc: Global, request: &Request, written: Written) -> Reply
+    ensures { result ≡ reply_of (wanted_by request.now) written }
+{
+    let mut reply = refused_at(alloc, request, written.version, cause_of(written.outcome));
+    if written.kept {
+        reply.mark = mark_number(request.mark);
+    }
+    reply
+}
+
+// Does what is asked for, and tells what became of it.
+fn answer_asked<H: HubKeeper>(
+    alloc: Global,
+    hub: &mut Hub,
+    keeper: &mut H,
+    request: &Request,
+    asked: Asked,
+    at: Moment,
+) -> Reply
+    requires fits { KeeperFits (H.stands_for keeper.old) hub.old }
+    requires settled { hub.old.is_open ≡ false }
+    requires path { ForSome (wanted_by request.now).path IsPath }
+    requires writes { wanting.is_write request.now.verb ≡ true }
+    ensures fits { KeeperFits (H.stands_for keeper.new) hub.new }
+    ensures step { (failed : ℕ) × CountsFailed (H.fault_count keeper.old) (H.fault_count keeper.new) failed
+        × ((after : KeptState) → IsStanding hub.new after → (H.stands_for keeper.new after → H.stands_for keeper.old hub.old.kept)
+        × TakesWrite request.now at asked result hub.old.kept after failed) }
+{
+    // Read for what it keeps.
+    let _ = at.milliseconds();
+    let Asked { by, write: asked } = asked;
+    let mark = mark_number(request.mark);
+    let answer = write(alloc, hub, keeper, &by, mark, asked, at);
+    drop(by);
+    match answer {
+        Ok(written) => sent(request, reply_of(alloc, request, written)),
+        Err(error) => failing(alloc, request, error),
+    }
+}
+
+// The reply to a request that a check stops, or want of memory.
+fn stopped(alloc: Global, request: &Request, stop: Stop) -> Reply
+    ensures { result ≡ stop_reply (wanted_by request.now) stop }
+{
+    let reply = match stop {
+        Refusal::Fault(reply) => reply,
+        Refusal::NoMemory => refused(alloc, request, Cause::NoMemory),
+    };
+    sent(request, reply)
+}
+
+/// Answers a request that writes, over a hub that has no commit left open.
+pub fn answer_write<H: HubKeeper>(
+    alloc: Global,
+    router: &PathRouter,
+    hub: &mut Hub,
+    keeper: &mut H,
+    request: &Request,
+    at: Moment,
+) -> Reply
+    requires fits { KeeperFits (H.stands_for keeper.old) hub.old }
+    requires settled { hub.old.is_open ≡ false }
+    requires writes { wanting.is_write request.now.verb ≡ true }
+    ensures fits { KeeperFits (H.stands_for keeper.new) hub.new }
+    ensures step { (failed : ℕ) × CountsFailed (H.fault_count keeper.old) (H.fault_count keeper.new) failed
+        × ((after : KeptState) → IsStanding hub.new after → (before : KeptState) × IsStanding hub.old before × (H.stands_for keeper.new after → H.stands_for keeper.old before)
+        × TakesRequest request.now at result before after failed) }
+{
+    match asked_in_turn(alloc, router, hub.table(), request) {
+        Ok(asked) => answer_asked(alloc, hub, keeper, request, asked, at),
+        Err(stop) => stopped(alloc, request, stop),
+    }
+}
