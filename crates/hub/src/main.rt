@@ -13,6 +13,7 @@ use std::rt::Env;
 const HELP: &str = "\
 hub [--folder DIR] [--keep N] COMMAND
 
+ask FILE      answers the HTTP requests in FILE, one behind another, and prints their replies
 grant FILE    gives each caller what FILE asks for, in place of all grants, and prints the version
               that this leads to
 publish FEED=DIR ..

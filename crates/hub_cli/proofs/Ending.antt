@@ -15,8 +15,9 @@ use Rattle.hub_cli.specs.declared.answer.Answer.{Answer}
 use Rattle.hub_cli.specs.declared.answer.End.{End}
 use Rattle.hub_cli.specs.declared.answer.End.TheVariants as ends
 use Rattle.hub_cli.specs.declared.words.Command.{Command}
-use Rattle.hub_cli.specs.declared.words.Command.TheVariants.{Grant, Publish, Show}
+use Rattle.hub_cli.specs.declared.words.Command.TheVariants.{Ask, Grant, Publish, Show}
 use Rattle.hub_cli.specs.declared.words.Parsed.{Parsed}
+use Rattle.hub_cli.proofs.Asking.{ask-says, ask-wants}
 use Rattle.hub_cli.proofs.Granting.{grant-says, grant-wants}
 use Rattle.hub_cli.proofs.Leading.{leads-nowhere, leads-on}
 use Rattle.hub_cli.proofs.Publishing.{Says, run-says, run-wants}
@@ -59,6 +60,7 @@ command-wants (Show kind) o a before after is other = inr (is.0, show-wants kind
 command-wants (Publish feeds) o a before after (inl failed) other = inr (failed.0, (failed.1.0, refl))
 command-wants (Publish feeds) o a before after (inr run) other = inl (inr (run-wants o feeds a.done a.end before after run))
 command-wants (Grant file) o a before after is other = inl (grant-wants o file a.done a.end before after is other)
+command-wants (Ask file) o a before after is other = inl (ask-wants o file a.done a.end before after is other)
 
 answer-wants : (r : Result Parsed ℕ) (o : Outside) (a : Answer) (before after : KeptState) → IsAnswer r o a before after → a.end ≢ ends.Done → IsAnswer r o (record a { end = ends.NoMemory }) before after
 answer-wants (Err place) o a before after (same, inl bad) other = (same, inr (ap (λ (x : Answer). x.done) bad.0, refl))
@@ -107,6 +109,7 @@ module _ (o : Outside) where
   command-says (Publish feeds) a before after (inl failed) = subst (Says o) (sym failed.1.1) (record { words = λ e. cc e; folder = λ e. cc e; keeper = λ e. failed.1.2 })
   command-says (Publish feeds) a before after (inr run) = run-says o feeds a.done a.end before after run
   command-says (Grant file) a before after is = grant-says o file a.done a.end before after is
+  command-says (Ask file) a before after is = ask-says o file a.done a.end before after is
 
 -- status 2 comes only with bad words
 pub answer-words : (r : Result Parsed ℕ) (o : Outside) (a : Answer) (before after : KeptState) → IsAnswer r o a before after → status_of a.end ≡ 2 → IsErr r
@@ -135,3 +138,29 @@ leads-bad old new r o a from = answer-bad r o a from.before from.after from.some
 
 pub leads-says : (old new : KeptState → Type 0) (r : Result Parsed ℕ) (o : Outside) (a : Answer) → LeadsFrom old new (IsAnswer r o a) → (status_of a.end ≡ 3 → HaveRisen o.folder) × (status_of a.end ≡ 5 → HaveRisen o.keeper)
 leads-says old new r o a from = answer-says r o a from.before from.after from.some
+
+-- ---- what is written
+
+-- a command's answer is one to the words that spell the command
+pub leads-command : (old new : KeptState → Type 0) (parsed : Parsed) (command : Command) → parsed.command ≡ command → (o : Outside) (a : Answer) → LeadsFrom old new (IsCommandAnswer command o a)
+    → LeadsFrom old new (IsAnswer (Ok parsed) o a)
+leads-command old new parsed command same o a from =
+    leads-on old old new (IsCommandAnswer command o a) (IsAnswer (Ok parsed) o a) (λ kept stands. stands) (λ before after is. inl (subst (λ (c : Command). IsCommandAnswer c o a before after) (sym same) is)) from
+
+-- what is printed of it is one too
+pub leads-told : (old new : KeptState → Type 0) (parsed : Parsed) (command : Command) → parsed.command ≡ command → (o : Outside) (answer : Answer) → LeadsFrom old new (IsCommandAnswer command o answer)
+    → (a : Answer) → IsPrinted answer a → LeadsFrom old new (IsAnswer (Ok parsed) o a)
+leads-told old new parsed command same o answer from a printed = leads-printed old new (Ok parsed) o answer a printed (leads-command old new parsed command same o answer from)
+
+pub leads-shown : (stands : KeptState → Type 0) (parsed : Parsed) (kind : Kind) → parsed.command ≡ Show kind → (o : Outside) (answer : Answer) → IsShowAnswer kind o answer
+    → (a : Answer) → IsPrinted answer a → LeadsFrom stands stands (IsAnswer (Ok parsed) o a)
+leads-shown stands parsed kind same o answer is = leads-told stands stands parsed (Show kind) same o answer (leads-nowhere stands (IsCommandAnswer (Show kind) o answer) (λ kept. (refl, is)))
+
+-- what is printed of bad words
+pub leads-bad-words : (stands : KeptState → Type 0) (files : Option (List Stored)) (moment : Option ℤ) (folder keeper place : ℕ) (a : Answer) → IsPrinted (record { done = []; end = ends.BadWord place }) a
+    → LeadsFrom stands stands (IsAnswer (Err place) (outside_of files moment (faults_of folder folder) (faults_of keeper keeper)) a)
+leads-bad-words stands files moment folder keeper place a printed = leads-printed stands stands (Err place) _ _ a printed (bad-words stands files moment folder keeper place)
+
+-- and of want of memory
+pub leads-no-memory : (stands : KeptState → Type 0) (r : Result Parsed ℕ) (o : Outside) (a : Answer) → IsPrinted out_of_memory a → LeadsFrom stands stands (IsAnswer r o a)
+leads-no-memory stands r o a printed = leads-printed stands stands r o out_of_memory a printed (leads-wants stands r o)

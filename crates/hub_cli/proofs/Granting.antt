@@ -19,12 +19,13 @@ use Rattle.outside_ports.specs.declared.folder.FileRead.TheVariants.{Absent, Byt
 use Rattle.outside_ports.specs.Files.{ReadsFile, Stored}
 use Rattle.hub_cli.proofs.Leading.{leads-nowhere, leads-on, leads-standing}
 use Rattle.hub_cli.proofs.Publishing.{Says, rose}
+use Rattle.hub_streams.specs.Moments.{IsMomentOf}
 use Rattle.hub_cli.specs.declared.answer.Answer.{Answer}
 use Rattle.hub_cli.specs.declared.answer.End.{End}
-use Rattle.hub_cli.specs.declared.answer.End.TheVariants.{BadWord, Done, FileTooLarge, FolderFailed, GrantsRefused, HubFailed, MissingFile, NoMemory, NotPublished, Refused}
+use Rattle.hub_cli.specs.declared.answer.End.TheVariants.{BadWord, Done, FileTooLarge, FolderFailed, GrantsRefused, HubFailed, MissingFile, NoMemory, NotPublished, Refused, RequestRefused}
 use Rattle.hub_cli.specs.declared.words.Command.TheVariants.{Grant}
 use Rattle.hub_cli.specs.GrantAnswers.{GivesGrants, GrantsFile, IsGrantAnswer, IsGrantsOf, IsTold, ReadsGrants, SetsGrants, StopsGrant, grants_in, or_refused}
-use Rattle.hub_cli.specs.Outside.{Faults, HaveStood, IsMomentOf, Outside, faults_of, outside_of}
+use Rattle.hub_cli.specs.Outside.{Faults, HaveStood, Outside, faults_of, outside_of}
 use Rattle.hub_cli.specs.Runs.{IsCommandAnswer, LeadsFrom}
 use Rattle.hub_cli.specs.Steps.{end_of_error}
 
@@ -56,6 +57,7 @@ module _ (files : Option (List Stored)) (before now : ℕ) (name : List ℕ) (re
   reads_grants (Err (MissingFile n)) gives = ((read, told, gives), same)
   reads_grants (Err (FileTooLarge n)) gives = ((read, told, gives), same)
   reads_grants (Err (GrantsRefused f)) gives = ((read, told, gives), same)
+  reads_grants (Err (RequestRefused n f)) gives = ((read, told, gives), same)
   reads_grants (Err Done) gives = ((read, told, gives), same)
   reads_grants (Err (BadWord place)) gives = ((read, told, gives), same)
   reads_grants (Err (Refused f)) gives = ((read, told, gives), same)
@@ -78,6 +80,7 @@ module _ (files : Option (List Stored)) (moment : Option ℤ) (folder keeper : F
   end_of_grants (MissingFile name) kept is quiet = (is.0, record { folder = is.1; keeper = quiet }, refl)
   end_of_grants (FileTooLarge name) kept is quiet = (is.0, record { folder = is.1; keeper = quiet }, refl)
   end_of_grants (GrantsRefused f) kept is quiet = (is.0, record { folder = is.1; keeper = quiet }, refl)
+  end_of_grants (RequestRefused n f) kept is quiet = (is.0, record { folder = is.1; keeper = quiet }, refl)
   end_of_grants (NotPublished f) kept is quiet = absurd (refused_file file is.0.0 (NotPublished f) is.0.2)
   end_of_grants NoMemory kept is quiet = inl refl
 
@@ -107,6 +110,7 @@ module _ (o : Outside) (file : List ℕ) where
   stopped (MissingFile name) before after stops = (refl, stops)
   stopped (FileTooLarge name) before after stops = (refl, stops)
   stopped (GrantsRefused f) before after stops = (refl, stops)
+  stopped (RequestRefused n f) before after stops = (refl, stops)
   stopped (NotPublished f) before after stops = (refl, stops)
   stopped NoMemory before after stops = (refl, stops)
 
@@ -140,6 +144,7 @@ module _ (o : Outside) (file : List ℕ) where
   grant-wants done (MissingFile name) before after is other = (is.0, inl is.1.2)
   grant-wants done (FileTooLarge name) before after is other = (is.0, inl is.1.2)
   grant-wants done (GrantsRefused f) before after is other = (is.0, inl is.1.2)
+  grant-wants done (RequestRefused n f) before after is other = (is.0, inl is.1.2)
   grant-wants done (NotPublished f) before after is other = (is.0, inl is.1.0.4.1)
   grant-wants done NoMemory before after is other = is
 
@@ -153,6 +158,7 @@ module _ (o : Outside) (file : List ℕ) where
   grant-says done (MissingFile name) before after is = record { words = λ e. cc e; folder = λ e. cc e; keeper = λ e. cc e }
   grant-says done (FileTooLarge name) before after is = record { words = λ e. cc e; folder = λ e. cc e; keeper = λ e. cc e }
   grant-says done (GrantsRefused f) before after is = record { words = λ e. cc e; folder = λ e. cc e; keeper = λ e. cc e }
+  grant-says done (RequestRefused n f) before after is = record { words = λ e. cc e; folder = λ e. cc e; keeper = λ e. cc e }
   grant-says done (NotPublished f) before after is = record { words = λ e. cc e; folder = λ e. cc e; keeper = λ e. cc e }
   grant-says done NoMemory before after is = record { words = λ e. cc e; folder = λ e. cc e; keeper = λ e. cc e }
 

@@ -1,4 +1,4 @@
-mod Dating
+mod Asking
 mod Ending
 mod FeedWords
 mod Granting
@@ -6,3 +6,4 @@ mod Leading
 mod OptionWords
 mod Publishing
 mod Showing
+mod Telling

@@ -17,14 +17,15 @@ use Rattle.keeper_memory.specs.Kept.{IsKept, KeptState}
 use Rattle.outside_ports.specs.Files.{Stored}
 use Rattle.roster_types.specs.Sets.{SetRecord}
 use Rattle.set_changes.specs.Applying.{Applies}
+use Rattle.hub_streams.specs.Moments.{IsMomentOf}
 use Rattle.hub_cli.specs.Answers.{status_of}
-use Rattle.hub_cli.specs.Outside.{Faults, HaveRisen, HaveStood, IsMomentOf, NothingFailed, Outside, faults_of, outside_of}
+use Rattle.hub_cli.specs.Outside.{Faults, HaveRisen, HaveStood, NothingFailed, Outside, faults_of, outside_of}
 use Rattle.hub_cli.specs.Publishes.{IsRunOf, IsSetOf, PublishesSet, StopsAt, told_text}
 use Rattle.hub_cli.specs.Runs.{IsCommandAnswer, LeadsFrom}
 use Rattle.hub_cli.specs.Steps.{PublishesFeed, ReadsSet, end_of, end_of_error}
 use Rattle.hub_cli.specs.declared.answer.Answer.{Answer}
 use Rattle.hub_cli.specs.declared.answer.End.{End}
-use Rattle.hub_cli.specs.declared.answer.End.TheVariants.{BadWord, Done, FileTooLarge, FolderFailed, GrantsRefused, HubFailed, MissingFile, NoMemory, NotPublished, Refused}
+use Rattle.hub_cli.specs.declared.answer.End.TheVariants.{BadWord, Done, FileTooLarge, FolderFailed, GrantsRefused, HubFailed, MissingFile, NoMemory, NotPublished, Refused, RequestRefused}
 use Rattle.hub_cli.specs.declared.words.Command.TheVariants.{Publish}
 use Rattle.hub_cli.specs.declared.words.Feed.{Feed}
 use Rattle.hub_cli.proofs.Leading.{leads-nowhere, leads-on, leads-standing}
@@ -52,6 +53,7 @@ module _ (o : Outside) where
   stop-wants feed (MissingFile name) before after stops = absurd stops
   stop-wants feed (FileTooLarge name) before after stops = absurd stops
   stop-wants feed (GrantsRefused f) before after stops = absurd stops
+  stop-wants feed (RequestRefused n f) before after stops = absurd stops
 
   pub run-wants : (feeds : List Feed) (done : List ℕ) (end : End) (before after : KeptState) → IsRunOf o feeds done end before after → IsRunOf o feeds done NoMemory before after
   run-wants [] done end before after run = (run.0, run.1, inr refl)
@@ -79,6 +81,7 @@ module _ (o : Outside) where
   stop-says feed (MissingFile name) before after stops = absurd stops
   stop-says feed (FileTooLarge name) before after stops = absurd stops
   stop-says feed (GrantsRefused f) before after stops = absurd stops
+  stop-says feed (RequestRefused n f) before after stops = absurd stops
   stop-says feed NoMemory before after stops = record { words = λ e. cc e; folder = λ e. cc e; keeper = λ e. cc e }
 
   quiet-says : (end : End) → ((end ≡ Done) × NothingFailed o) ⊎ (end ≡ NoMemory) → Says end
@@ -255,6 +258,7 @@ module _ (files : Option (List Stored)) (moment : Option ℤ) (folder keeper : F
   end_of_set (MissingFile name) kept empty quiet = absurd empty
   end_of_set (FileTooLarge name) kept empty quiet = absurd empty
   end_of_set (GrantsRefused f) kept empty quiet = absurd empty
+  end_of_set (RequestRefused n f) kept empty quiet = absurd empty
   end_of_set NoMemory kept is quiet = inl refl
 
   module _ (set : SetRecord) (at : ℤ) (is : IsSetOf files feed (Ok set)) (stood : HaveStood folder) (m : IsMomentOf moment at) where

@@ -10,9 +10,10 @@ use Rattle.outside_ports.specs.declared.failed.IoError.{IoError}
 use Rattle.outside_ports.specs.Files.{ReadsFile, Stored, file_at}
 use Rattle.roster_values.specs.declared.kind.Kind.{Kind}
 use Rattle.roster_values.specs.Kinds.{file_of}
+use Rattle.hub_streams.specs.Moments.{IsMomentOf}
 use Rattle.hub_cli.specs.declared.answer.Answer.{Answer}
 use Rattle.hub_cli.specs.declared.answer.End.TheVariants.{Refused}
-use Rattle.hub_cli.specs.Outside.{Faults, IsMomentOf, outside_of}
+use Rattle.hub_cli.specs.Outside.{Faults, outside_of}
 use Rattle.hub_cli.specs.Reads.{IsAnswerTo}
 use Rattle.hub_cli.specs.Shows.{IsShown, answer_of_file}
 

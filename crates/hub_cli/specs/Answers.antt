@@ -2,8 +2,8 @@
 use Rattle.std.specs.Prelude.{◌≡◌, ◌≢◌, ◌⊎◌, ℕ, ◌++◌, List, [], codes}
 use Rattle.hub_cli.specs.declared.answer.Answer.{Answer}
 use Rattle.hub_cli.specs.declared.answer.End.{End}
-use Rattle.hub_cli.specs.declared.answer.End.TheVariants.{BadWord, Done, FileTooLarge, FolderFailed, GrantsRefused, HubFailed, MissingFile, NoMemory, NotPublished, Refused}
-use Rattle.hub_cli.specs.Lines.{bad_word_text, fault_text, folder_failed, grants_fault_text, hub_failed, named_file_text, no_memory, publish_fault_text}
+use Rattle.hub_cli.specs.declared.answer.End.TheVariants.{BadWord, Done, FileTooLarge, FolderFailed, GrantsRefused, HubFailed, MissingFile, NoMemory, NotPublished, Refused, RequestRefused}
+use Rattle.hub_cli.specs.Lines.{bad_word_text, fault_text, folder_failed, grants_fault_text, hub_failed, named_file_text, no_memory, publish_fault_text, request_text}
 
 abbrev pub status_of : End → ℕ
 status_of Done = 0
@@ -13,6 +13,7 @@ status_of (Refused fault) = 4
 status_of (MissingFile name) = 4
 status_of (FileTooLarge name) = 4
 status_of (GrantsRefused fault) = 4
+status_of (RequestRefused number fault) = 4
 status_of (NotPublished fault) = 4
 status_of HubFailed = 5
 status_of NoMemory = 17
@@ -26,6 +27,7 @@ end_text (Refused fault) = fault_text fault
 end_text (MissingFile name) = named_file_text name (codes ": missing file\n")
 end_text (FileTooLarge name) = named_file_text name (codes ": too large\n")
 end_text (GrantsRefused fault) = grants_fault_text fault
+end_text (RequestRefused number fault) = request_text number fault
 end_text (NotPublished fault) = publish_fault_text fault
 end_text HubFailed = hub_failed
 end_text NoMemory = no_memory

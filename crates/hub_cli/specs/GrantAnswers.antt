@@ -14,10 +14,11 @@ use Rattle.outside_ports.specs.declared.failed.IoError.{IoError}
 use Rattle.outside_ports.specs.declared.folder.FileRead.{FileRead}
 use Rattle.outside_ports.specs.declared.folder.FileRead.TheVariants.{Absent, Bytes, TooLong}
 use Rattle.outside_ports.specs.Files.{ReadsFile, Stored}
+use Rattle.hub_streams.specs.Moments.{IsMomentOf}
 use Rattle.hub_cli.specs.declared.answer.Answer.{Answer}
 use Rattle.hub_cli.specs.declared.answer.End.{End}
 use Rattle.hub_cli.specs.declared.answer.End.TheVariants.{Done, FileTooLarge, FolderFailed, GrantsRefused, HubFailed, MissingFile, NoMemory, NotPublished}
-use Rattle.hub_cli.specs.Outside.{Faults, HaveRisen, HaveStood, IsMomentOf, NothingFailed, Outside}
+use Rattle.hub_cli.specs.Outside.{Faults, HaveRisen, HaveStood, NothingFailed, Outside}
 use Rattle.hub_cli.specs.Publishes.{told_text}
 
 abbrev pub or_refused : Result (List GrantEntry) GrantFault → Result (List GrantEntry) End

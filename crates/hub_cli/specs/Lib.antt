@@ -1,4 +1,5 @@
 pub mod Answers
+pub mod AskAnswers
 pub mod GrantAnswers
 pub mod Lines
 pub mod Outside

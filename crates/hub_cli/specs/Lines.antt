@@ -11,6 +11,10 @@ use Rattle.csv_sets.specs.Names.{name_of}
 use Rattle.csv_sets.specs.Properties.{property_name}
 use Rattle.grant_files.specs.declared.fault.GrantFault.{GrantFault}
 use Rattle.grant_files.specs.declared.fault.GrantFault.TheVariants as grant
+use Rattle.http_wire.specs.declared.fault.WireFault.{WireFault}
+use Rattle.http_wire.specs.declared.fault.WireFault.TheVariants as wire
+use Rattle.hub_streams.specs.declared.request_fault.RequestFault.{RequestFault}
+use Rattle.hub_streams.specs.declared.request_fault.RequestFault.TheVariants.{AfterClose, Unreadable}
 use Rattle.reference_rules.specs.declared.ref_fault.Fault.{Fault}
 use Rattle.reference_rules.specs.declared.ref_fault.Fault.TheVariants as reference
 use Rattle.reference_rules.specs.declared.ref_fault.RefFault.{RefFault}
@@ -124,6 +128,25 @@ grants_fault_text (grant.BadScope number) = grants_record_text number (codes "ba
 grants_fault_text (grant.BadSchools number) = grants_record_text number (codes "bad schools")
 grants_fault_text (grant.RepeatedCaller number) = grants_record_text number (codes "repeated caller")
 grants_fault_text (grant.RepeatedToken number) = grants_record_text number (codes "repeated token")
+
+-- ---- what `ask` tells
+
+abbrev pub unreadable_word : WireFault → List ℕ
+unreadable_word wire.Cut = codes "cut"
+unreadable_word wire.Head = codes "head"
+unreadable_word wire.HeadTooLong = codes "head too long"
+unreadable_word wire.Length = codes "length"
+unreadable_word wire.BodyTooLong = codes "body too long"
+unreadable_word wire.Chunked = codes "chunked"
+unreadable_word _ = []
+
+abbrev pub request_word : RequestFault → List ℕ
+request_word (Unreadable fault) = unreadable_word fault
+request_word AfterClose = codes "after close"
+
+-- the line of why the rest of a stream is refused, under the number of the next request
+unfoldable pub request_text : ℕ → RequestFault → List ℕ
+request_text number fault = codes "refused: request " ++ decimal number ++ codes ": " ++ request_word fault ++ codes "\n"
 
 -- what is wrong with a file that the words name
 abbrev pub named_file_text : List ℕ → List ℕ → List ℕ

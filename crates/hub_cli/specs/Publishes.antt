@@ -12,11 +12,12 @@ use Rattle.keeper_memory.specs.Kept.{KeptState}
 use Rattle.outside_ports.specs.Files.{Stored}
 use Rattle.roster_types.specs.Sets.{SetRecord}
 use Rattle.set_changes.specs.Applying.{Applies}
+use Rattle.hub_streams.specs.Moments.{IsMomentOf}
 use Rattle.hub_cli.specs.declared.answer.End.{End}
 use Rattle.hub_cli.specs.declared.answer.End.TheVariants.{Done, FolderFailed, HubFailed, NoMemory, NotPublished, Refused}
 use Rattle.hub_cli.specs.declared.words.Feed.{Feed}
 use Rattle.hub_cli.specs.Lines.{published_text, unchanged_text}
-use Rattle.hub_cli.specs.Outside.{HaveRisen, IsMomentOf, NothingFailed, Outside}
+use Rattle.hub_cli.specs.Outside.{HaveRisen, NothingFailed, Outside}
 
 -- the set that a feed's files mean, or its first fault; whatever the folder tells, some files mean it
 abbrev pub IsSetOf : Option (List Stored) → Feed → Result SetRecord SetFault → Type 0

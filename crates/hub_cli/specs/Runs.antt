@@ -1,12 +1,17 @@
 -- What a run of the program answers, and why.
-use Rattle.std.specs.Prelude.{◌≡◌, ◌⊎◌, ℕ, [], Result, Ok, Err}
+use Rattle.std.specs.Prelude.{◌≡◌, ◌≢◌, ◌⊎◌, ℕ, List, [], Option, Result, Ok, Err}
+use Rattle.std.specs.Io.KnownBytes.{Appends}
 use Rattle.keeper_memory.specs.Kept.{IsKept, KeptState}
+use Rattle.outside_ports.specs.Written.{AppendsPart}
+use Rattle.roster_base.specs.Faults.{Rose}
 use Rattle.roster_values.specs.declared.kind.Kind.{Kind}
+use Rattle.hub_cli.specs.Answers.{status_of, text_of}
 use Rattle.hub_cli.specs.declared.answer.Answer.{Answer}
 use Rattle.hub_cli.specs.declared.answer.End.TheVariants.{BadWord, FolderFailed, HubFailed, NoMemory}
 use Rattle.hub_cli.specs.declared.words.Command.{Command}
-use Rattle.hub_cli.specs.declared.words.Command.TheVariants.{Grant, Publish, Show}
+use Rattle.hub_cli.specs.declared.words.Command.TheVariants.{Ask, Grant, Publish, Show}
 use Rattle.hub_cli.specs.declared.words.Parsed.{Parsed}
+use Rattle.hub_cli.specs.AskAnswers.{IsAskAnswer}
 use Rattle.hub_cli.specs.GrantAnswers.{IsGrantAnswer}
 use Rattle.hub_cli.specs.Outside.{HaveRisen, HaveStood, NothingFailed, Outside}
 use Rattle.hub_cli.specs.Publishes.{IsRunOf}
@@ -35,6 +40,7 @@ IsCommandAnswer (Show kind) outside answer before after =
 IsCommandAnswer (Publish feeds) outside answer before after =
     ((after ≡ before) × IsHubFailure outside answer) ⊎ IsRunOf outside feeds answer.done answer.end before after
 IsCommandAnswer (Grant file) outside answer before after = IsGrantAnswer outside file answer.done answer.end before after
+IsCommandAnswer (Ask file) outside answer before after = IsAskAnswer outside file answer.done answer.end before after
 
 -- the answer to words
 abbrev pub IsAnswer : Result Parsed ℕ → Outside → Answer → KeptState → KeptState → Type 0
@@ -50,3 +56,10 @@ pub record LeadsFrom (old new : KeptState → Type 0) (leads : KeptState → Kep
   pub is : IsKept before
   pub some : leads before after
   pub told : (now : KeptState) → new now → (stood : KeptState) × old stood × leads stood now
+
+-- what is written, with its status: the text of an answer of which this is so, or where the sink failed a front of such a text
+abbrev pub Writes : ℕ → Option (List ℕ) → Option (List ℕ) → ℕ → ℕ → (Answer → Type 0) → Type 0
+Writes status old new before now is =
+    (answer : Answer) × is answer
+    × (((status ≢ 1) × (status ≡ status_of answer.end) × Appends old new (text_of answer) × (now ≡ before))
+    ⊎ ((status ≡ 1) × Rose before now × AppendsPart old new (text_of answer)))

@@ -12,9 +12,10 @@ use Rattle.roster_values.specs.declared.kind.Kind.{Kind}
 use Rattle.roster_values.specs.declared.mode.Mode.TheVariants.{Bulk}
 use Rattle.roster_values.specs.Kinds.{file_of}
 use Rattle.row_json.specs.Json.{collection_text}
+use Rattle.hub_streams.specs.Moments.{IsMomentOf}
 use Rattle.hub_cli.specs.declared.answer.Answer.{Answer}
 use Rattle.hub_cli.specs.declared.answer.End.TheVariants.{Done, Refused}
-use Rattle.hub_cli.specs.Outside.{IsMomentOf, Outside}
+use Rattle.hub_cli.specs.Outside.{Outside}
 
 -- the row of a set, dated by the clock where it brings no date
 abbrev pub dated_row : ℤ → SetRow → Record

@@ -8,7 +8,7 @@ use Rattle.roster_texts.specs.Texts.{is_name}
 use Rattle.roster_values.specs.Kinds.{kind_of_word}
 use Rattle.roster_values.specs.declared.kind.Kind.{Kind}
 use Rattle.hub_cli.specs.declared.words.Command.{Command}
-use Rattle.hub_cli.specs.declared.words.Command.TheVariants.{Grant, Publish, Show}
+use Rattle.hub_cli.specs.declared.words.Command.TheVariants.{Ask, Grant, Publish, Show}
 use Rattle.hub_cli.specs.declared.words.Feed.{Feed}
 use Rattle.hub_cli.specs.declared.words.OptionWord.{OptionWord}
 use Rattle.hub_cli.specs.declared.words.OptionWord.TheVariants.{Folder, Keep, Store}
@@ -66,10 +66,10 @@ publish_words place (word ∷ words) = do
   feeds ← feed_words place (word ∷ words)
   Ok (Publish feeds)
 
--- a file's name, behind `grant`
-abbrev pub grant_words : ℕ → List (List ℕ) → Result Command ℕ
-grant_words place [] = Err place
-grant_words place (word ∷ words) = if is_file_word word then ended (place + 1) (Grant word) words else Err place
+-- a file's name, behind `grant` or `ask`
+abbrev pub file_words : ℕ → (List ℕ → Command) → List (List ℕ) → Result Command ℕ
+file_words place command [] = Err place
+file_words place command (word ∷ words) = if is_file_word word then ended (place + 1) (command word) words else Err place
 
 -- the command from a place on
 abbrev pub command_words : ℕ → List (List ℕ) → Result Command ℕ
@@ -77,7 +77,8 @@ command_words place [] = Err place
 command_words place (word ∷ words) =
     if bytes_eq word (codes "show") then show_words (place + 1) words
     else if bytes_eq word (codes "publish") then publish_words (place + 1) words
-    else if bytes_eq word (codes "grant") then grant_words (place + 1) words
+    else if bytes_eq word (codes "grant") then file_words (place + 1) Grant words
+    else if bytes_eq word (codes "ask") then file_words (place + 1) Ask words
     else Err place
 
 -- ---- options

@@ -6,10 +6,11 @@ ghost use Rattle.hub_cli.specs.declared.answer.End.TheVariants as ends;
 
 use crate::lines::{
     FOLDER_FAILED, HUB_FAILED, NO_MEMORY, bad_word_line, fault_line, grants_fault_line,
-    named_file_line, publish_fault_lines,
+    named_file_line, publish_fault_lines, request_line,
 };
 use csv_sets::SetFault;
 use grant_files::GrantFault;
+use hub_streams::RequestFault;
 use roster_base::{NoMemory, Text};
 use set_changes::PublishFault;
 use std::alloc::Global;
@@ -30,6 +31,8 @@ pub enum End {
     FileTooLarge(Text),
     /// A file of grants is refused for this fault, its first.
     GrantsRefused(GrantFault),
+    /// What stands behind the answered requests of a stream is refused, under the number of the next request.
+    RequestRefused { number: u64, fault: RequestFault },
     /// A set, or a list of grants, isn't published, for this reason, the first.
     NotPublished(PublishFault),
     /// The hub's keeper failed, and its count of faults rose.
@@ -69,6 +72,7 @@ impl End {
             End::FolderFailed => 3,
             End::Refused(_) | End::NotPublished(_) => 4,
             End::MissingFile(_) | End::FileTooLarge(_) | End::GrantsRefused(_) => 4,
+            End::RequestRefused { .. } => 4,
             End::HubFailed => 5,
             End::NoMemory => 17,
         }
@@ -87,6 +91,7 @@ impl End {
             End::MissingFile(name) => named_file_line(alloc, name.as_str(), ": missing file\n"),
             End::FileTooLarge(name) => named_file_line(alloc, name.as_str(), ": too large\n"),
             End::GrantsRefused(fault) => grants_fault_line(alloc, *fault),
+            End::RequestRefused { number, fault } => request_line(alloc, *number, *fault),
             End::NotPublished(fault) => publish_fault_lines(alloc, fault),
             End::HubFailed => Ok(String::from_str(alloc, HUB_FAILED)?),
             End::NoMemory => Ok(String::from_str(alloc, NO_MEMORY)?),

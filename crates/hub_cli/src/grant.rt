@@ -9,12 +9,12 @@ ghost use Rattle.hub_cli.specs.Runs.{IsCommandAnswer, LeadsFrom};
 ghost use Rattle.hub_cli.specs.declared.words.Command.{Command};
 
 use crate::answer::{Answer, End};
-use crate::moment::moment_of;
 use crate::publish::{end_of_error, told_line};
 use csv_sets::file::LARGEST;
 use grant_files::read_grants;
 use grant_scopes::GrantList;
 use hub_core::{Hub, Published};
+use hub_streams::moment_of;
 use keeper_memory::HubKeeper;
 use outside_ports::{Clock, FileRead, Folder, IoError};
 use roster_base::{NoMemory, Refusal, Text, TryCopy};

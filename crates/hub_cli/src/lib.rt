@@ -3,16 +3,18 @@
 #![tactic(auto)]
 
 pub mod answer;
+mod ask;
 mod grant;
 pub mod lines;
-mod moment;
+mod printing;
 mod publish;
 pub mod run;
 mod show;
 pub mod words;
 
 pub use answer::{Answer, End};
-pub use run::{print, run_hub};
+pub use printing::print;
+pub use run::run_hub;
 pub use words::{
     Command, Feed, OptionWord, Options, Parsed, WordError, keep_of, root_of, split_words, store_of,
 };

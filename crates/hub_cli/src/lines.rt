@@ -9,6 +9,8 @@ ghost use Rattle.hub_cli.specs.Lines as lines;
 
 use csv_sets::{ColumnFault, ManifestFault, Property, SetFault, SetFile};
 use grant_files::GrantFault;
+use http_wire::WireFault;
+use hub_streams::RequestFault;
 use reference_rules::{Fault, RefFault};
 use roster_base::NoMemory;
 use roster_texts::{Id, ValueFault};
@@ -362,6 +364,41 @@ pub fn grants_fault_line(alloc: Global, fault: GrantFault) -> Result<String, NoM
             grants_record_line(alloc, record_no, "repeated token")
         }
     }
+}
+
+// What is said of a fault of the wire. Of the end of a stream, of a source that failed and of want of memory nothing is.
+fn unreadable_word(fault: WireFault) -> &'static str
+    ensures { result.now ≡ lines.unreadable_word fault }
+{
+    match fault {
+        WireFault::Cut => "cut",
+        WireFault::Head => "head",
+        WireFault::HeadTooLong => "head too long",
+        WireFault::Length => "length",
+        WireFault::BodyTooLong => "body too long",
+        WireFault::Chunked => "chunked",
+        _ => "",
+    }
+}
+
+fn request_word(fault: RequestFault) -> &'static str
+    ensures { result.now ≡ lines.request_word fault }
+{
+    match fault {
+        RequestFault::Unreadable(fault) => unreadable_word(fault),
+        RequestFault::AfterClose => "after close",
+    }
+}
+
+/// The line of why the rest of a stream is refused, under the number of the next request. Status 4.
+#[tactic(auto, unfolding(crate::specs::Lines::request_text))]
+pub fn request_line(alloc: Global, number: u64, fault: RequestFault) -> Result<String, NoMemory>
+    ensures { IfOk result (λ s. string_bytes s ≡ lines.request_text number fault) }
+{
+    let mut line = format!(in alloc; "refused: request {number}: ")?;
+    line.push_str(request_word(fault))?;
+    line.push_str("\n")?;
+    Ok(line)
 }
 
 /// The line of a file that the words name, and what is wrong with it as a whole. Status 4.

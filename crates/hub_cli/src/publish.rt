@@ -11,10 +11,10 @@ ghost use Rattle.hub_cli.specs.declared.words.Command.{Command};
 
 use crate::answer::{Answer, End};
 use crate::lines::{published_line, unchanged_line};
-use crate::moment::moment_of;
 use crate::words::Feed;
 use csv_sets::{SetFault, read_set};
 use hub_core::{Hub, HubError, Published};
+use hub_streams::moment_of;
 use keeper_memory::HubKeeper;
 use outside_ports::{Clock, Folder};
 use roster_base::{Items, NoMemory, Refusal, Text};

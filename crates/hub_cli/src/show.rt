@@ -9,9 +9,9 @@ ghost use Rattle.hub_cli.specs.Shows.{answer_of_rows, dated_row, shown_text};
 ghost use Rattle.hub_cli.specs.declared.answer.End.TheVariants.{Done, Refused};
 
 use crate::answer::{Answer, End};
-use crate::moment::moment_of;
 use csv_sets::file::LARGEST;
 use csv_sets::{SetFault, SetFile, read_file};
+use hub_streams::moment_of;
 use outside_ports::{Clock, FileRead, Folder, IoError};
 use roster_base::{Bytes, NoMemory, Refusal, Text, sorted};
 use roster_texts::Moment;

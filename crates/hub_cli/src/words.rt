@@ -1,8 +1,10 @@
 //! The words of the command line.
 
-ghost use Rattle.std.specs.Prelude.{◌≡◌, ◌+◌, ◌<◌, ◌^◌, IfOk, Ok, length, map, string_bytes};
+ghost use Rattle.std.specs.Prelude.{◌≡◌, ◌+◌, ◌<◌, ◌^◌, ℕ, IfOk, List, Ok, length, map, string_bytes};
 ghost use Rattle.roster_base.specs.Reading.{Gives};
-ghost use Rattle.hub_cli.specs.Words.{command_words, ended, feed_in, feed_of, feed_words, grant_words, in_bounds, is_file_word, keep_in, no_options, number_in, option_of, option_words, publish_words, root_in, set_option, show_words, split, store_in, with_folder, with_keep, with_options, with_store};
+ghost use Rattle.hub_cli.specs.Words.{command_words, ended, feed_in, feed_of, feed_words, file_words, in_bounds, is_file_word, keep_in, no_options, number_in, option_of, option_words, publish_words, root_in, set_option, show_words, split, store_in, with_folder, with_keep, with_options, with_store};
+ghost use Rattle.hub_cli.specs.declared.words.Command.{Command as CommandValue};
+ghost use Rattle.hub_cli.specs.declared.words.Command.TheVariants.{Ask, Grant};
 
 use roster_base::{Items, NoMemory, Refusal, Text};
 use roster_texts::Name;
@@ -26,6 +28,8 @@ pub enum Command {
     Publish { feeds: Items<Feed> },
     /// Gives each caller what a file asks for, and takes all other grants away.
     Grant { file: Text },
+    /// Answers the requests of a file's bytes.
+    Ask { file: Text },
 }
 
 /// An option, whose value is the word behind it.
@@ -151,9 +155,10 @@ fn publish(alloc: Global, place: usize, words: &[String]) -> Result<Command, Wor
     Ok(Command::Publish { feeds })
 }
 
-fn grant(alloc: Global, place: usize, words: &[String]) -> Result<Command, WordError>
+// The file that the last word names.
+fn file_at(alloc: Global, place: usize, words: &[String]) -> Result<Text, WordError>
     requires { place + length words.now < 2 ^ 63 }
-    ensures { Gives (λ c. c) result (grant_words place (map string_bytes words.now)) }
+    ensures { (command : List ℕ → CommandValue) → Gives command result (file_words place command (map string_bytes words.now)) }
 {
     let Some((word, words)) = words.split_first() else {
         return Err(Refusal::Fault(place));
@@ -161,8 +166,26 @@ fn grant(alloc: Global, place: usize, words: &[String]) -> Result<Command, WordE
     if !is_file_word(word.as_str()) {
         return Err(Refusal::Fault(place));
     }
-    let file = Text::new(alloc, word.as_str())?;
-    end(place + 1, Command::Grant { file }, words)
+    if !words.is_empty() {
+        return Err(Refusal::Fault(place + 1));
+    }
+    Ok(Text::new(alloc, word.as_str())?)
+}
+
+fn grant(alloc: Global, place: usize, words: &[String]) -> Result<Command, WordError>
+    requires { place + length words.now < 2 ^ 63 }
+    ensures { Gives (λ c. c) result (file_words place Grant (map string_bytes words.now)) }
+{
+    let file = file_at(alloc, place, words)?;
+    Ok(Command::Grant { file })
+}
+
+fn ask(alloc: Global, place: usize, words: &[String]) -> Result<Command, WordError>
+    requires { place + length words.now < 2 ^ 63 }
+    ensures { Gives (λ c. c) result (file_words place Ask (map string_bytes words.now)) }
+{
+    let file = file_at(alloc, place, words)?;
+    Ok(Command::Ask { file })
 }
 
 // The command of the words from a place on.
@@ -174,6 +197,7 @@ fn command_at(alloc: Global, place: usize, words: &[String]) -> Result<Command, 
         Some((word, words)) if word.as_str() == "show" => show(place + 1, words),
         Some((word, words)) if word.as_str() == "publish" => publish(alloc, place + 1, words),
         Some((word, words)) if word.as_str() == "grant" => grant(alloc, place + 1, words),
+        Some((word, words)) if word.as_str() == "ask" => ask(alloc, place + 1, words),
         _ => Err(Refusal::Fault(place)),
     }
 }

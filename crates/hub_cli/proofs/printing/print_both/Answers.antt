@@ -1,5 +1,5 @@
 use Rattle.outside_ports.proofs.Appending.{part_behind, part_front}
-use Rattle.hub_cli.proofs.run.print_both.Goals as goal
+use Rattle.hub_cli.proofs.printing.print_both.Goals as goal
 
 pub returns-then-print-eq1-clause-fault : goal.returns-then-print-eq1-clause-fault
 returns-then-print-eq1-clause-fault g c e =
