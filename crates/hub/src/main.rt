@@ -1,17 +1,17 @@
-//! The program `hub`: makes the real folder, clock and output, and runs the words over them.
+//! The program `hub`: takes the words and the output, and runs the words over the real folder, clock and store.
 #![tactic(auto)]
 
 use hub_cli::lines::NO_MEMORY;
-use hub_cli::{keep_of, print, root_of, run_hub};
-use keeper_memory::MemHub;
-use outside_ports::{DirFolder, IoSink, Sink, SystemClock};
+use hub_cli::print;
+use outside_ports::{IoSink, Sink};
+use real_run::run_real;
 use std::env;
 use std::io::{self, ErrorKind};
 use std::process::ExitCode;
 use std::rt::Env;
 
 const HELP: &str = "\
-hub [--folder DIR] [--keep N] COMMAND
+hub [--store DIR] [--folder DIR] [--keep N] COMMAND
 
 ask FILE      answers the HTTP requests in FILE, one behind another, and prints their replies
 grant FILE    gives each caller what FILE asks for, in place of all grants, and prints the version
@@ -23,8 +23,9 @@ show KIND     prints the rows of KIND.csv, in order of id, as JSON
               KIND is one of orgs, academicSessions, courses, classes, users, enrollments,
               demographics, categories, lineItems, results
 
+--store DIR   the folder where the hub's store is kept, in place of memory
 --folder DIR  the folder where the command finds its files, in place of the working folder
---keep N      how many versions are kept beside the newest, 1 to 100000, in place of 10000
+--keep N      how many versions a new store keeps beside the newest, 1 to 100000, in place of 10000
 --help        prints this
 --version     prints the version
 
@@ -48,32 +49,12 @@ fn answer_unread(error: &io::Error, out: &mut impl Sink) -> u8 {
     }
 }
 
-// Runs a command over the real folder and clock, and a hub in memory, which keeps so many versions beside the newest.
-fn run_in(rt: HostRuntime, words: &[String], root: String, keep: u32, out: &mut impl Sink) -> u8 {
-    let alloc = rt.alloc();
-    let mut folder = DirFolder::new(rt, root);
-    let mut keeper = MemHub::new(alloc, keep);
-    let clock = SystemClock::new(rt);
-    let status = run_hub(alloc, words, &mut folder, &mut keeper, &clock, out);
-    drop(keeper);
-    status
-}
-
-// Runs a command with the options that the words give.
-fn run_command(rt: HostRuntime, words: &[String], out: &mut impl Sink) -> u8 {
-    let alloc = rt.alloc();
-    match (root_of(alloc, words), keep_of(alloc, words)) {
-        (Ok(root), Ok(keep)) => run_in(rt, words, root, keep, out),
-        _ => print(out, 17, NO_MEMORY),
-    }
-}
-
 // Runs the words, of which two are the program's own.
 fn run(rt: HostRuntime, words: &[String], out: &mut impl Sink) -> u8 {
     match words {
         [word] if word.as_str() == "--help" => print(out, 0, HELP),
         [word] if word.as_str() == "--version" => print(out, 0, VERSION),
-        _ => run_command(rt, words, out),
+        _ => run_real(rt, rt.alloc(), words, out),
     }
 }
 

@@ -6,7 +6,7 @@ use std::alloc::Global;
 use std::test::Fail;
 
 // Words, and the line that names the first bad one.
-static BAD_WORDS: [(&str, &str); 27] = [
+static BAD_WORDS: [(&str, &str); 29] = [
     ("", "bad word 0\n"),
     ("hide", "bad word 0\n"),
     ("--help", "bad word 0\n"),
@@ -19,6 +19,8 @@ static BAD_WORDS: [(&str, &str); 27] = [
     ("--folder lake --folder lake show orgs", "bad word 2\n"),
     ("--folder lake show", "bad word 3\n"),
     ("--folder lake show orgs orgs", "bad word 4\n"),
+    ("--folder lake --store", "bad word 3\n"),
+    ("--store st --keep 5 --store st show orgs", "bad word 4\n"),
     ("publish", "bad word 1\n"),
     ("publish sis=lake sis", "bad word 2\n"),
     ("publish sis=.lake", "bad word 1\n"),
