@@ -1,14 +1,12 @@
 //! Streams of requests, served by a hub over its keeper.
 #![tactic(auto)]
 
-pub mod held_source;
 pub mod moment;
 pub mod request_fault;
 pub mod serving;
 pub mod stream_end;
 mod turn;
 
-pub use held_source::HeldSource;
 pub use moment::moment_of;
 pub use request_fault::RequestFault;
 pub use serving::serve_stream;
