@@ -5,3 +5,5 @@
 mod reads;
 #[cfg(test)]
 mod tables;
+#[cfg(test)]
+mod writes;

@@ -14,7 +14,8 @@ use std::process::Abort;
 use std::test::Fail;
 use version_core::table::Table;
 
-fn request(rt: &impl Abort, alloc: Global, text: &str) -> Result<Request, Fail> {
+/// The request that a text is.
+pub fn request(rt: &impl Abort, alloc: Global, text: &str) -> Result<Request, Fail> {
     let bytes = text.as_bytes().to_vec(alloc)?;
     let mut source = MemSource::new(bytes, Vec::new(alloc), Vec::new(alloc));
     match WireReader::new(alloc)?.next(alloc, &mut source) {

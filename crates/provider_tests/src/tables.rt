@@ -1,4 +1,4 @@
-//! A table with a district of two schools, and the grants of two callers in the version behind it.
+//! A table with a district of two schools, and the grants of three callers in the version behind it.
 
 use csv_sets::read_set;
 use grant_changes::granting::grants_change;
@@ -30,7 +30,7 @@ d1,,,Lake,district,,\ns1,,,East,school,,d1\ns2,,,West,school,,d1\n",
 ];
 
 static GRANTS: &str =
-    "caller,token,scopes,schools\neast,tok-e,roster-core.readonly,s1\nall,tok-a,roster.readonly,*\n";
+    "caller,token,scopes,schools\neast,tok-e,roster-core.readonly,s1\nall,tok-a,roster.readonly,*\ngrades,tok-g,gradebook.createput gradebook.delete,*\n";
 
 fn file(alloc: Global, name: &str, text: &str) -> Result<(String, String, Vec<u8>), Fail> {
     let dir = String::from_str(alloc, "lake")?;
@@ -46,7 +46,8 @@ fn folder(alloc: Global) -> Result<MemFolder, Fail> {
     Ok(MemFolder::new(files, Vec::new(alloc)))
 }
 
-fn set(rt: &impl Abort, alloc: Global) -> Result<RosterSet, Fail> {
+/// The set of the feed.
+pub fn set(rt: &impl Abort, alloc: Global) -> Result<RosterSet, Fail> {
     let Some(feed) = Name::read(alloc, "sis")? else {
         panic!(rt; "no name");
     };
@@ -57,7 +58,8 @@ fn set(rt: &impl Abort, alloc: Global) -> Result<RosterSet, Fail> {
     }
 }
 
-fn moment(rt: &impl Abort) -> Moment {
+/// The moment of each call.
+pub fn moment(rt: &impl Abort) -> Moment {
     match Moment::at(1_000) {
         Some(at) => at,
         None => panic!(rt; "no moment"),
@@ -90,7 +92,8 @@ fn grant(rt: &impl Abort, alloc: Global, table: &mut Table, list: &GrantList) ->
     }
 }
 
-fn grants(rt: &impl Abort, alloc: Global) -> Result<GrantList, Fail> {
+/// What the callers are to have.
+pub fn grants(rt: &impl Abort, alloc: Global) -> Result<GrantList, Fail> {
     match read_grants(alloc, GRANTS.as_bytes()) {
         Ok(list) => Ok(list),
         Err(_) => panic!(rt; "no grants"),
