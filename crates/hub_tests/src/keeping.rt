@@ -53,8 +53,8 @@ fn push_grants(alloc: Global, files: &mut Files) -> Result<(), Fail> {
     Ok(())
 }
 
-// The files of `lake`, a set that renames one of its schools, one of another feed with a row of it, and files of grants.
-fn all_files(alloc: Global) -> Result<Files, Fail> {
+/// The files of `lake`, a set that renames one of its schools, one of another feed with a row of it, and files of grants.
+pub fn all_files(alloc: Global) -> Result<Files, Fail> {
     let mut files = Vec::new(alloc);
     push_grants(alloc, &mut files)?;
     push_lake(alloc, &mut files)?;
