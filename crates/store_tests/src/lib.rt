@@ -1,0 +1,15 @@
+//! Tests of the keeper over a database: what is kept is found again, beside a keeper in memory, and stores that are broken or cut off.
+#![tactic(auto)]
+
+#[cfg(test)]
+mod broken;
+#[cfg(test)]
+mod kept;
+#[cfg(test)]
+mod real;
+#[cfg(test)]
+mod stops;
+#[cfg(test)]
+mod tables;
+#[cfg(test)]
+mod words;

@@ -1,0 +1,122 @@
+//! Words that are run over a keeper, and the files that they name.
+
+use crate::tables::push_keeper;
+use hub_cli::run_hub;
+use keeper_memory::HubKeeper;
+use outside_ports::{FixedClock, MemFolder, MemSink};
+use roster_base::NoMemory;
+use std::alloc::Global;
+
+// 2024-08-01T12:00:00.000Z
+const NOON: i64 = 1_722_513_600_000;
+
+const ALL_ORGS: &str =
+    "propertyName,value\nmanifest.version,1.0\noneroster.version,1.1\nfile.orgs,bulk\nfile.academicSessions,absent\n\
+file.courses,absent\nfile.classes,absent\nfile.users,absent\nfile.enrollments,absent\nfile.demographics,absent\n\
+file.categories,absent\nfile.lineItems,absent\nfile.results,absent\nfile.resources,absent\nfile.classResources,absent\n\
+file.courseResources,absent\nsource.systemName,Lake SIS\nsource.systemCode,LSIS\n";
+
+const SOME_ORGS: &str =
+    "propertyName,value\nmanifest.version,1.0\noneroster.version,1.1\nfile.orgs,delta\n";
+
+// The set of all orgs.
+static LAKE: [(&str, &str); 2] = [
+    ("manifest.csv", ALL_ORGS),
+    (
+        "orgs.csv",
+        "sourcedId,status,dateLastModified,name,type,identifier,parentSourcedId,metadata.bus\n\
+d1,,,\"Lake, \"\"Unified\"\"\",district,LDU,,\ns1,,,East,school,,d1,7\ns2,,,Wést,school,,d1,\n",
+    ),
+];
+
+// Folders, names and texts: two sets of some orgs, and two files of grants.
+static FILES: [(&str, &str, &str); 6] = [
+    ("new", "manifest.csv", SOME_ORGS),
+    (
+        "new",
+        "orgs.csv",
+        "sourcedId,status,dateLastModified,name,type\n\
+s2,active,2024-09-01T00:00:00.000Z,West High,school\ns3,active,2024-09-01T00:00:00.001Z,North,school\n",
+    ),
+    ("gone", "manifest.csv", SOME_ORGS),
+    (
+        "gone",
+        "orgs.csv",
+        "sourcedId,status,dateLastModified,name,type\ns3,tobedeleted,2024-09-02T00:00:00.000Z,North,school\n",
+    ),
+    (
+        "",
+        "g.csv",
+        "caller,token,scopes,schools\neast,tok-e,roster.readonly gradebook.delete,\"s1,s2\"\nall,tok-a,roster.readonly,*\n",
+    ),
+    (
+        "",
+        "g2.csv",
+        "caller,token,scopes,schools\nall,tok-a,roster.readonly,*\n",
+    ),
+];
+
+type Files = Vec<(String, String, Vec<u8>)>;
+
+fn push_file(
+    alloc: Global,
+    files: &mut Files,
+    dir: &str,
+    name: &str,
+    text: &str,
+) -> Result<(), NoMemory> {
+    let dir = String::from_str(alloc, dir)?;
+    let name = String::from_str(alloc, name)?;
+    files.push((dir, name, text.as_bytes().to_vec(alloc)?))?;
+    Ok(())
+}
+
+fn folder(alloc: Global) -> Result<MemFolder, NoMemory> {
+    let mut files = Vec::new(alloc);
+    for (name, text) in &LAKE {
+        push_file(alloc, &mut files, "lake", name, text)?;
+    }
+    for (dir, name, text) in &FILES {
+        push_file(alloc, &mut files, dir, name, text)?;
+    }
+    Ok(MemFolder::new(files, Vec::new(alloc)))
+}
+
+/// The words between spaces.
+pub fn words_of(alloc: Global, line: &str) -> Result<Vec<String>, NoMemory> {
+    let mut words = Vec::new(alloc);
+    for word in line.split_whitespace() {
+        words.push(String::from_str(alloc, word)?)?;
+    }
+    Ok(words)
+}
+
+// Runs the words over a keeper at noon, and tells the status and what is printed.
+fn run_line<H: HubKeeper>(alloc: Global, line: &str, keeper: &mut H) -> Result<String, NoMemory> {
+    let words = words_of(alloc, line)?;
+    let mut folder = folder(alloc)?;
+    let mut sink = MemSink::new(alloc, 1024, Vec::new(alloc))?;
+    let clock = FixedClock::at(NOON);
+    let status = run_hub(
+        alloc,
+        words.as_slice(),
+        &mut folder,
+        keeper,
+        &clock,
+        &mut sink,
+    );
+    let text = str::from_utf8(sink.written()).unwrap_or("no text");
+    Ok(format!(in alloc; "{status} {text}")?)
+}
+
+/// Runs the words between spaces over a keeper, and tells the status, what is printed, and what the keeper gives then.
+pub fn told<H: HubKeeper>(alloc: Global, line: &str, keeper: &mut H) -> Result<String, NoMemory> {
+    let mut told = run_line(alloc, line, keeper)?;
+    push_keeper(alloc, &mut told, keeper)?;
+    Ok(told)
+}
+
+/// The files of the set of all orgs: names and texts.
+pub fn lake_files() -> &'static [(&'static str, &'static str)] {
+    &LAKE
+}
