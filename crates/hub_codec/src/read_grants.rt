@@ -10,7 +10,7 @@ ghost use Rattle.version_core.specs.declared.grant_row.GrantRow.{GrantRow as Gra
 ghost use Rattle.hub_items.specs.Format.{FitsGrant, grant_entry, grants_under};
 ghost use Rattle.hub_items.specs.Pieces.{AreSized, IsSized, all_sized, caller_label, grant_body, number, schools_bytes, sized};
 
-use crate::reading::{behind, id_of, name_of, number_at, sized_at};
+use crate::reading::{behind, id_of, name_of, number_at, only_number, sized_at};
 use grant_scopes::{Grant, SchoolList, Schools, Scopes};
 use item_maps::Item;
 use roster_base::{Items, NoMemory};
@@ -158,14 +158,6 @@ fn token_at(alloc: Global, body: &[u8]) -> Result<Option<(Token, Scopes, &[u8])>
         Some(token) => Ok(Some((token, scopes, rest))),
         None => Ok(None),
     }
-}
-
-// The only number.
-fn only_number(bytes: &[u8]) -> Option<u64>
-    ensures { IfSome result (λ n. bytes.now ≡ number n) }
-{
-    let (n, rest) = number_at(bytes)?;
-    if rest.is_empty() { Some(n) } else { None }
 }
 
 // What a body grants.

@@ -1,15 +1,15 @@
 //! The state and the versions of changes, read back from their items.
 
-ghost use Rattle.std.specs.Prelude.{◌≡◌, ◌∷◌, [], ◌<◌, ◌^◌, ℕ, ℤ, IfSome, map};
+ghost use Rattle.std.specs.Prelude.{◌≡◌, ◌∷◌, [], ◌<◌, ◌≤◌, ◌^◌, ℕ, ℤ, List, IfSome, length, map};
 ghost use Rattle.std.specs.Int.{w64, cast_unsigned};
 ghost use Rattle.std.specs.Int.RustNames.{FitsSigned};
 ghost use Rattle.item_maps.specs.Edits.{entry_of};
 ghost use Rattle.version_core.specs.declared.change.BaseVersion.{BaseVersion};
 ghost use Rattle.version_core.specs.declared.change.Change.{Change};
-ghost use Rattle.hub_items.specs.Format.{own_version, state_entry};
+ghost use Rattle.hub_items.specs.Format.{Entry, own_version, state_entry};
 ghost use Rattle.hub_items.specs.Pieces.{has_grants};
 
-use crate::reading::{number_at, only_body, state_parts};
+use crate::reading::{number_at, only_body, only_number, state_parts};
 use item_maps::Item;
 use roster_texts::Moment;
 
@@ -27,16 +27,28 @@ pub fn state_of(items: &[Item]) -> Option<(u64, u64, Moment)>
         → IfSome result (λ s. (s.0 ≡ keep) × (s.1 ≡ base.number) × (s.2 ≡ base.moment)) }
 {
     let (keep, base, rest) = state_parts(only_body(items)?)?;
-    let (at, _) = number_at(rest)?;
-    Some((keep, base, moment_of(at)?))
+    Some((keep, base, moment_of(only_number(rest)?)?))
 }
 
-// The only byte.
-fn only_byte(bytes: &[u8]) -> Option<u8>
-    ensures { IfSome result (λ b. bytes.now ≡ b ∷ []) }
+// The only byte, if it is 0 or 1.
+fn only_flag(bytes: &[u8]) -> Option<u8>
+    ensures byte { IfSome result (λ b. bytes.now ≡ b ∷ []) }
+    ensures flag { IfSome result (λ b. b ≤ 1) }
 {
     match bytes {
-        [b] => Some(*b),
+        [0] => Some(0),
+        [1] => Some(1),
+        _ => None,
+    }
+}
+
+// The body of the only item, if its label is as long as a number.
+fn numbered_body(items: &[Item]) -> Option<&[u8]>
+    ensures body { (entry : Entry) → map entry_of items.now ≡ entry ∷ [] → IfSome result (λ body. body.now ≡ entry.1) }
+    ensures label { IfSome result (λ body. (label : List ℕ) × (length label ≡ 8) × (map entry_of items.now ≡ (label, body.now) ∷ [])) }
+{
+    match items {
+        [item] if item.label.as_slice().len() == 8 => Some(item.body.as_slice()),
         _ => None,
     }
 }
@@ -46,7 +58,7 @@ pub fn version_of(items: &[Item]) -> Option<(Moment, u8)>
     ensures { (change : Change) → FitsSigned w64 change.moment → map entry_of items.now ≡ own_version change
         → IfSome result (λ v. (v.0 ≡ change.moment) × (v.1 ≡ has_grants change.grants)) }
 {
-    let (at, rest) = number_at(only_body(items)?)?;
-    let flag = only_byte(rest)?;
+    let (at, rest) = number_at(numbered_body(items)?)?;
+    let flag = only_flag(rest)?;
     Some((moment_of(at)?, flag))
 }
