@@ -27,7 +27,8 @@ pub fn state_of(items: &[Item]) -> Option<(u64, u64, Moment)>
         → IfSome result (λ s. (s.0 ≡ keep) × (s.1 ≡ base.number) × (s.2 ≡ base.moment)) }
 {
     let (keep, base, rest) = state_parts(only_body(items)?)?;
-    Some((keep, base, moment_of(only_number(rest)?)?))
+    let at = only_number(rest)?;
+    Some((keep, base, moment_of(at)?))
 }
 
 // The only byte, if it is 0 or 1.

@@ -14,5 +14,5 @@ returns c keep base fits_keep fits_base fits_at same =
     let rest = c.in_ok-keep.rest.now in
     let keeps = number_back c.in_ok-keep.keep keep (number c.in_ok-keep.base ++ rest) (number base.number ++ moment base.moment) small_keep fits_keep (sym c.in_ok-keep.ensures ∙ body) in
     let bases = number_back c.in_ok-keep.base base.number rest (moment base.moment) small_base fits_base keeps.1 in
-    let ats = moment_number c.in_ok-at.at base.moment c.in_ok-at.field-0-1.now [] small_at fits_at (sym c.in_ok-at.ensures ∙ bases.1) in
+    let ats = moment_number c.in_ok-at.at base.moment [] [] small_at fits_at (sym c.in_ok-at.ensures ∙ bases.1) in
     (keeps.0, bases.0, c.in_ok-moment_of.ensures base.moment fits_at ats.0)

@@ -7,8 +7,8 @@ use Rattle.hub_codec.proofs.read_state.version_of.Goals as goal
 pub returns : goal.returns
 returns c change fits_at same =
     let small_at : c.in_ok-at.at < 2 ^ 64 = search rules in
-    let body = c.in_ok-only_body.ensures (version_entry change) same in
+    let body = c.in_ok-numbered_body.ensures.body (version_entry change) same in
     let ats = moment_number c.in_ok-at.at change.moment c.in_ok-at.rest.now (has_grants change.grants ∷ []) small_at fits_at (sym c.in_ok-at.ensures ∙ body) in
-    let bytes : c.in_ok-flag.flag ∷ [] ≡ has_grants change.grants ∷ [] = sym c.in_ok-flag.ensures ∙ ats.1 in
+    let bytes : c.in_ok-flag.flag ∷ [] ≡ has_grants change.grants ∷ [] = sym c.in_ok-flag.ensures.byte ∙ ats.1 in
     let flags : c.in_ok-flag.flag ≡ has_grants change.grants = cc bytes in
     (c.in_ok-moment_of.ensures change.moment fits_at ats.0, flags)
