@@ -1,9 +1,10 @@
 -- Items that are those of a list, one after another.
-use Rattle.std.proofs.Common.{◌≡◌, ◌+◌, ◌<◌, ◌≤◌, ℕ, zero, suc, List, [], ◌∷◌, ◌++◌, get_or, length, map, refl, ap, take, ◌∙◌, arith}
-use Rattle.std.proofs.lemmas.List.{length-map, take_all}
+use Rattle.std.proofs.Common.{◌≡◌, ◌+◌, ◌<◌, ◌≤◌, ℕ, zero, suc, List, [], ◌∷◌, ◌++◌, get_or, length, map, refl, sym, ap, take, ◌∙◌, arith}
+use Rattle.std.proofs.lemmas.List.{length-map, take_all, take_more}
 use Rattle.std.specs.List.{AllByRecursion}
 use Rattle.item_maps.specs.Edits.{entry_of}
 use Rattle.item_maps.specs.declared.item.Item.{Item}
+use Rattle.version_core.proofs.RoomLemmas.{map_push}
 use Rattle.hub_items.specs.Format.{Entry}
 
 -- the value of the item at a place
@@ -27,3 +28,12 @@ all_found f items xs found i same le so_far =
     let right = length-map xs f in
     let long = ap length same in
     so_far ∙ take_all i xs (omega arith)
+
+-- what is read of one item more
+pub more_read : {A X Y : Type 0} (f : A → Y) (g : X → Y) (items : List A) (xs : List X) (i : ℕ) (item : A) (x : X) → map f (take i items) ≡ map g xs → i < length items → item ≡ get_or items i item → f item ≡ g x
+    → map f (take (i + 1) items) ≡ map g (xs ++ x ∷ [])
+more_read f g items xs i item x so_far within is same = rw (take_more items i item within, ← is, map_push f (take i items) item, map_push g xs x, so_far, same) refl
+
+-- after the last, all is read
+pub all_read : {A X Y : Type 0} (f : A → Y) (g : X → Y) (items : List A) (xs : List X) (i : ℕ) → length items ≤ i → map f (take i items) ≡ map g xs → map f items ≡ map g xs
+all_read f g items xs i le so_far = ap (map f) (sym (take_all i items le)) ∙ so_far

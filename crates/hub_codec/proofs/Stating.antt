@@ -3,7 +3,7 @@ use Rattle.std.proofs.Common.{◌≡◌, ◌<◌, ◌^◌, ◌++◌, ℕ, ℤ, L
 use Rattle.std.specs.Prelude.{IfSome}
 use Rattle.std.specs.Int.{cast_signed, cast_unsigned, w64}
 use Rattle.std.specs.Int.RustNames.{FitsSigned}
-use Rattle.std.proofs.lemmas.Int.{to_z-of_z}
+use Rattle.std.proofs.lemmas.Int.{of_z-to_z, to_z-of_z}
 use Rattle.roster_texts.specs.Moments.{is_moment, moment_at}
 use Rattle.hub_items.specs.Pieces.{moment, number}
 use Rattle.hub_items.proofs.Back.{cast_fits, number_back}
@@ -22,3 +22,14 @@ moment_found n at ms found fits bits is answer =
 -- the number in front of what stood behind a moment
 pub moment_number : (n : ℕ) (at : ℤ) (x y : List ℕ) → n < 2 ^ 64 → FitsSigned w64 at → number n ++ x ≡ moment at ++ y → (n ≡ cast_unsigned w64 at) × (x ≡ y)
 moment_number n at x y fits fits_at same = number_back n (cast_unsigned w64 at) x y fits (cast_fits at fits_at) same
+
+-- where a number is a moment, it is that moment's
+pub moment_bits : (n : ℕ) (ms : ℤ) (found : Option ℤ) → n < 2 ^ 64 → ms ≡ cast_signed w64 n → found ≡ moment_at ms → IfSome found (λ m. cast_unsigned w64 m ≡ n)
+unfolding moment_at
+moment_bits n ms found fits is answer =
+    let same : cast_unsigned w64 ms ≡ n = ap (cast_unsigned w64) is ∙ of_z-to_z w64 n fits in
+    rw answer (go (is_moment ms) same)
+  where
+    go : (b : Bool) → cast_unsigned w64 ms ≡ n → IfSome (cond b (Some ms) None) (λ m. cast_unsigned w64 m ≡ n)
+    go true same = same
+    go false same = tt

@@ -9,8 +9,9 @@ ghost use Rattle.item_maps.specs.Edits.{entry_of};
 ghost use Rattle.version_core.specs.declared.grant_row.GrantRow.{GrantRow as GrantValue};
 ghost use Rattle.hub_items.specs.Format.{FitsGrant, grant_entry, grants_under};
 ghost use Rattle.hub_items.specs.Pieces.{AreSized, IsSized, all_sized, caller_label, grant_body, number, schools_bytes, sized};
+ghost use Rattle.hub_codec.specs.Behind.{entry_behind, own_entry};
 
-use crate::reading::{behind, id_of, name_of, number_at, sized_at};
+use crate::reading::{behind, id_of, name_of, number_at, only_number, sized_at};
 use grant_scopes::{Grant, SchoolList, Schools, Scopes};
 use item_maps::Item;
 use roster_base::{Items, NoMemory};
@@ -160,14 +161,6 @@ fn token_at(alloc: Global, body: &[u8]) -> Result<Option<(Token, Scopes, &[u8])>
     }
 }
 
-// The only number.
-fn only_number(bytes: &[u8]) -> Option<u64>
-    ensures { IfSome result (λ n. bytes.now ≡ number n) }
-{
-    let (n, rest) = number_at(bytes)?;
-    if rest.is_empty() { Some(n) } else { None }
-}
-
 // What a body grants.
 fn grant_of_body(alloc: Global, body: &[u8]) -> Result<Option<Grant>, NoMemory>
     ensures grant { IfOk result (λ o. IfSome o (λ grant. body.now ≡ grant_body grant)) }
@@ -196,7 +189,8 @@ fn grant_of_body(alloc: Global, body: &[u8]) -> Result<Option<Grant>, NoMemory>
 
 // The grant of an item, whose label has a version's number in front. None where it is no grant's item.
 fn grant_of(alloc: Global, item: &Item) -> Result<Option<GrantRow>, NoMemory>
-    ensures { (version : ℕ) (row : GrantValue) → FitsGrant row → entry_of item.now ≡ grant_entry version row → IfOk result (λ o. IfSome o (λ found. found ≡ row)) }
+    ensures found { (version : ℕ) (row : GrantValue) → FitsGrant row → entry_of item.now ≡ grant_entry version row → IfOk result (λ o. IfSome o (λ found. found ≡ row)) }
+    ensures whole { IfOk result (λ o. IfSome o (λ found. entry_behind item.now ≡ own_entry found)) }
 {
     let caller = match caller_in(behind(item.label.as_slice(), 8)) {
         Some(caller) => caller,
@@ -214,8 +208,9 @@ fn grant_of(alloc: Global, item: &Item) -> Result<Option<GrantRow>, NoMemory>
 
 /// The grants of items behind a version's number. None where one is no grant's item.
 pub fn grants_of(alloc: Global, items: &[Item]) -> Result<Option<Vec<GrantRow>>, NoMemory>
-    ensures { (version : ℕ) (grants : List GrantValue) → AllByRecursion FitsGrant grants → map entry_of items.now ≡ grants_under version grants
+    ensures found { (version : ℕ) (grants : List GrantValue) → AllByRecursion FitsGrant grants → map entry_of items.now ≡ grants_under version grants
         → IfOk result (λ o. IfSome o (λ found. found.items ≡ grants)) }
+    ensures whole { IfOk result (λ o. IfSome o (λ found. map entry_behind items.now ≡ map own_entry found.items)) }
 {
     let mut found = Vec::new(alloc);
     for item in items {

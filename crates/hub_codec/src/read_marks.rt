@@ -101,7 +101,8 @@ fn body_parts(body: &[u8]) -> Option<(u8, u8, &[u8], &[u8], Kept)>
 
 // The mark of an item. None where it is no mark's item.
 fn mark_of(alloc: Global, item: &Item) -> Result<Option<MarkRow>, NoMemory>
-    ensures { (mark : MarkValue) → FitsMark mark → entry_of item.now ≡ mark_entry mark → IfOk result (λ o. IfSome o (λ found. found ≡ mark)) }
+    ensures found { (mark : MarkValue) → FitsMark mark → entry_of item.now ≡ mark_entry mark → IfOk result (λ o. IfSome o (λ found. found ≡ mark)) }
+    ensures whole { IfOk result (λ o. IfSome o (λ found. entry_of item.now ≡ mark_entry found)) }
 {
     let (caller, number) = match label_parts(item.label.as_slice()) {
         Some(parts) => parts,
@@ -128,8 +129,9 @@ fn mark_of(alloc: Global, item: &Item) -> Result<Option<MarkRow>, NoMemory>
 
 /// The marks of items. None where one is no mark's item.
 pub fn marks_of(alloc: Global, items: &[Item]) -> Result<Option<Vec<MarkRow>>, NoMemory>
-    ensures { (marks : List MarkValue) → AllByRecursion FitsMark marks → map entry_of items.now ≡ map mark_entry marks
+    ensures found { (marks : List MarkValue) → AllByRecursion FitsMark marks → map entry_of items.now ≡ map mark_entry marks
         → IfOk result (λ o. IfSome o (λ found. found.items ≡ marks)) }
+    ensures whole { IfOk result (λ o. IfSome o (λ found. map entry_of items.now ≡ map mark_entry found.items)) }
 {
     let mut found = Vec::new(alloc);
     for item in items {

@@ -1,8 +1,10 @@
 //! Rows, read back from their items.
 
-ghost use Rattle.std.specs.Prelude.{◌≡◌, ◌∷◌, ◌++◌, ℕ, List, IfOk, IfSome, length, map};
+ghost use Rattle.std.specs.Prelude.{◌≡◌, ◌∷◌, ◌++◌, ℕ, List, IfOk, IfSome, drop, length, map};
 ghost use Rattle.std.specs.List.{AllByRecursion};
 ghost use Rattle.item_maps.specs.Edits.{entry_of};
+ghost use Rattle.item_maps.specs.declared.item.Item.{Item as ItemValue};
+ghost use Rattle.roster_values.specs.Kinds.{place_of_kind};
 ghost use Rattle.version_core.specs.Changes.{change_key};
 ghost use Rattle.version_core.specs.declared.row_change.RowChange.{RowChange as RowValue};
 ghost use Rattle.hub_items.specs.Format.{row_entry, rows_under};
@@ -48,7 +50,8 @@ fn parts_of(body: &[u8]) -> Option<(u8, &[u8], &[u8])>
 
 // The row and the owner of a body, if it is one of a row of this kind.
 fn row_of_body(alloc: Global, kind: Kind, body: &[u8]) -> Result<Option<RowChange>, NoMemory>
-    ensures { (change : RowValue) → IsReadBack change → change.row.kind ≡ kind → body.now ≡ row_body change → IfOk result (λ o. IfSome o (λ found. found ≡ change)) }
+    ensures row { (change : RowValue) → IsReadBack change → change.row.kind ≡ kind → body.now ≡ row_body change → IfOk result (λ o. IfSome o (λ found. found ≡ change)) }
+    ensures kind { IfOk result (λ o. IfSome o (λ found. found.row.kind ≡ kind)) }
 {
     let (byte, name, text) = match parts_of(body) {
         Some(parts) => parts,
@@ -69,31 +72,50 @@ fn row_of_body(alloc: Global, kind: Kind, body: &[u8]) -> Result<Option<RowChang
     }
 }
 
-// The kind in front of a key's label.
-fn kind_at(label: &[u8]) -> Option<Kind>
-    ensures { (row : RowValue) → label.now ≡ key_label (change_key row) → IfSome result (λ kind. row.row.kind ≡ kind) }
+// The kind and the id of a key's label.
+fn key_of(label: &[u8]) -> Option<(Kind, &[u8])>
+    ensures { IfSome result (λ key. label.now ≡ place_of_kind key.0 ∷ key.1.now) }
 {
-    kind_of(*label.first()?)
+    let (byte, id) = label.split_first()?;
+    Some((kind_of(*byte)?, id))
 }
 
-// The row of an item whose label has so many bytes in front of the row's key. None where it is no row's item.
-fn row_of(alloc: Global, skip: usize, item: &Item) -> Result<Option<RowChange>, NoMemory>
-    ensures { (prefix : List ℕ) (row : RowValue) → length prefix ≡ skip → IsReadBack row → entry_of item.now ≡ row_entry prefix row → IfOk result (λ o. IfSome o (λ found. found ≡ row)) }
+// The row, if this is its id.
+fn with_id(row: RowChange, id: &[u8]) -> Option<RowChange>
+    ensures same { IfSome result (λ found. found ≡ row) }
+    ensures id { IfSome result (λ found. found.row.id ≡ id.now) }
 {
-    match kind_at(behind(item.label.as_slice(), skip)) {
-        Some(kind) => row_of_body(alloc, kind, item.body.as_slice()),
+    if row.row.id().as_str().as_bytes() == id {
+        Some(row)
+    } else {
+        None
+    }
+}
+
+// The row of an item whose label has so many bytes in front of the row's key. None where it is no row's item, or another row's.
+fn row_of(alloc: Global, skip: usize, item: &Item) -> Result<Option<RowChange>, NoMemory>
+    ensures found { (prefix : List ℕ) (row : RowValue) → length prefix ≡ skip → IsReadBack row → entry_of item.now ≡ row_entry prefix row → IfOk result (λ o. IfSome o (λ found. found ≡ row)) }
+    ensures key { IfOk result (λ o. IfSome o (λ found. drop skip item.now.label ≡ key_label (change_key found))) }
+{
+    let (kind, id) = match key_of(behind(item.label.as_slice(), skip)) {
+        Some(key) => key,
+        None => return Ok(None),
+    };
+    match row_of_body(alloc, kind, item.body.as_slice())? {
+        Some(row) => Ok(with_id(row, id)),
         None => Ok(None),
     }
 }
 
-/// The rows of items whose labels have so many bytes in front of the rows' keys. None where one is no row's item.
+/// The rows of items whose labels have so many bytes in front of the rows' keys. None where one is no row's item, or another row's.
 pub fn rows_of(
     alloc: Global,
     skip: usize,
     items: &[Item],
 ) -> Result<Option<Vec<RowChange>>, NoMemory>
-    ensures { (prefix : List ℕ) (rows : List RowValue) → length prefix ≡ skip → AllByRecursion IsReadBack rows → map entry_of items.now ≡ rows_under prefix rows
+    ensures found { (prefix : List ℕ) (rows : List RowValue) → length prefix ≡ skip → AllByRecursion IsReadBack rows → map entry_of items.now ≡ rows_under prefix rows
         → IfOk result (λ o. IfSome o (λ found. found.items ≡ rows)) }
+    ensures keys { IfOk result (λ o. IfSome o (λ found. map (λ (item : ItemValue). drop skip item.label) items.now ≡ map (λ row. key_label (change_key row)) found.items)) }
 {
     let mut found = Vec::new(alloc);
     for item in items {

@@ -29,6 +29,14 @@ pub(crate) fn number_at(bytes: &[u8]) -> Option<(u64, &[u8])>
     Some((number_of(*first), rest))
 }
 
+// The only number.
+pub(crate) fn only_number(bytes: &[u8]) -> Option<u64>
+    ensures { IfSome result (λ n. bytes.now ≡ number n) }
+{
+    let (n, rest) = number_at(bytes)?;
+    if rest.is_empty() { Some(n) } else { None }
+}
+
 /// What stands behind so many bytes.
 pub(crate) fn behind(bytes: &[u8], skip: usize) -> &[u8]
     ensures { result.now ≡ drop skip bytes.now }

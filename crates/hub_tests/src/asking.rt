@@ -132,8 +132,8 @@ fn sink_of(alloc: Global, failing: &[u64]) -> Result<MemSink, Fail> {
     Ok(MemSink::new(alloc, 8192, failing.to_vec(alloc)?)?)
 }
 
-// A keeper of the example district and its grants.
-fn lake_keeper(alloc: Global) -> Result<MemHub, Fail> {
+/// A keeper of the example district and its grants.
+pub fn lake_keeper(alloc: Global) -> Result<MemHub, Fail> {
     let mut keeper = MemHub::new(alloc, 2);
     let mut sink = sink_of(alloc, &[])?;
     run_with(alloc, "publish sis=lake", "", &mut keeper, &mut sink)?;
@@ -141,7 +141,8 @@ fn lake_keeper(alloc: Global) -> Result<MemHub, Fail> {
     Ok(keeper)
 }
 
-fn assert_stream(
+/// Runs `ask` over a file of these bytes, and tells the status and the bytes that are wanted from others.
+pub fn assert_stream(
     rt: &impl Abort,
     alloc: Global,
     keeper: &mut MemHub,

@@ -8,7 +8,11 @@ mod keeping;
 #[cfg(test)]
 mod lake;
 #[cfg(test)]
+mod lists;
+#[cfg(test)]
 mod outside;
+#[cfg(test)]
+mod paging;
 #[cfg(test)]
 mod publishing;
 #[cfg(test)]

@@ -18,10 +18,8 @@ use hub_codec::state_of;
 use item_maps::Item;
 use roster_base::KeeperError;
 use roster_texts::Moment;
+use set_changes::limits::LAST_VERSION;
 use std::alloc::Global;
-
-// The greatest number of a version.
-const LAST_VERSION: u64 = 1_000_000_000_000_000;
 
 // The state of these items, if its base may have the number.
 fn state_in(items: &[Item]) -> Option<(u64, u64, Moment)>

@@ -4,6 +4,8 @@
 #[cfg(test)]
 mod reads;
 #[cfg(test)]
+mod streams;
+#[cfg(test)]
 mod tables;
 #[cfg(test)]
 mod writes;

@@ -1,9 +1,14 @@
 //! A table with a district of two schools, and the grants of three callers in the version behind it.
 
+ghost use Rattle.std.specs.Prelude.{IfOk};
+ghost use Rattle.hub_core.specs.Standing.{KeeperFits};
+
 use csv_sets::read_set;
 use grant_changes::granting::grants_change;
 use grant_files::read_grants;
 use grant_scopes::GrantList;
+use hub_core::Hub;
+use keeper_memory::HubKeeper;
 use outside_ports::MemFolder;
 use roster_base::Refusal;
 use roster_texts::{Moment, Name};
@@ -58,9 +63,12 @@ pub fn set(rt: &impl Abort, alloc: Global) -> Result<RosterSet, Fail> {
     }
 }
 
+/// The moment of each call, in milliseconds.
+pub const SECOND: i64 = 1_000;
+
 /// The moment of each call.
 pub fn moment(rt: &impl Abort) -> Moment {
-    match Moment::at(1_000) {
+    match Moment::at(SECOND) {
         Some(at) => at,
         None => panic!(rt; "no moment"),
     }
@@ -106,4 +114,39 @@ pub fn table(rt: &impl Abort, alloc: Global) -> Result<Table, Fail> {
     publish(rt, alloc, &mut table, set(rt, alloc)?)?;
     grant(rt, alloc, &mut table, &grants(rt, alloc)?)?;
     Ok(table)
+}
+
+// Rows in version 1, grants in version 2.
+fn fill<H: HubKeeper>(
+    rt: &impl Abort,
+    alloc: Global,
+    hub: &mut Hub,
+    keeper: &mut H,
+) -> Result<(), Fail>
+    requires { KeeperFits (H.stands_for keeper.old) hub.old }
+    ensures { KeeperFits (H.stands_for keeper.new) hub.new }
+{
+    let set = set(rt, alloc)?;
+    let list = grants(rt, alloc)?;
+    let published = hub.publish(alloc, keeper, set, moment(rt));
+    drop(published);
+    let granted = hub.set_grants(alloc, keeper, &list, moment(rt));
+    drop(granted);
+    Ok(())
+}
+
+/// A hub over a keeper: rows in version 1, grants in version 2.
+pub fn opened<H: HubKeeper>(rt: &impl Abort, alloc: Global, keeper: &mut H) -> Result<Hub, Fail>
+    ensures { IfOk result (λ hub. KeeperFits (H.stands_for keeper.new) hub) }
+{
+    let Ok(mut hub) = Hub::open(alloc, keeper) else {
+        panic!(rt; "no hub");
+    };
+    match fill(rt, alloc, &mut hub, keeper) {
+        Ok(()) => Ok(hub),
+        Err(error) => {
+            drop(hub);
+            Err(error)
+        }
+    }
 }

@@ -3,7 +3,7 @@
 ghost use Rattle.hub_core.specs.Standing.{KeeperFits};
 
 use crate::reads::request;
-use crate::tables::{grants, moment, set};
+use crate::tables::{moment, opened};
 use http_wire::write_reply;
 use hub_core::Hub;
 use hub_paths::PathRouter;
@@ -13,25 +13,6 @@ use rest_provider::answer;
 use std::alloc::Global;
 use std::process::Abort;
 use std::test::Fail;
-
-// Rows in version 1, grants in version 2.
-fn fill<H: HubKeeper>(
-    rt: &impl Abort,
-    alloc: Global,
-    hub: &mut Hub,
-    keeper: &mut H,
-) -> Result<(), Fail>
-    requires { KeeperFits (H.stands_for keeper.old) hub.old }
-    ensures { KeeperFits (H.stands_for keeper.new) hub.new }
-{
-    let set = set(rt, alloc)?;
-    let list = grants(rt, alloc)?;
-    let published = hub.publish(alloc, keeper, set, moment(rt));
-    drop(published);
-    let granted = hub.set_grants(alloc, keeper, &list, moment(rt));
-    drop(granted);
-    Ok(())
-}
 
 // What is written for a request is this.
 fn compare<H: HubKeeper>(
@@ -122,7 +103,6 @@ fn compare_all<H: HubKeeper>(
 ) -> Result<(), Fail>
     requires { KeeperFits (H.stands_for keeper.old) hub.old }
 {
-    fill(rt, alloc, hub, keeper)?;
     for (text, want) in &REPLIES {
         compare(rt, alloc, router, hub, keeper, text, want)?;
     }
@@ -135,9 +115,7 @@ fn compare_over<H: HubKeeper>(
     router: &PathRouter,
     keeper: &mut H,
 ) -> Result<(), Fail> {
-    let Ok(mut hub) = Hub::open(alloc, keeper) else {
-        panic!(rt; "no hub");
-    };
+    let mut hub = opened(rt, alloc, keeper)?;
     let compared = compare_all(rt, alloc, router, &mut hub, keeper);
     drop(hub);
     compared

@@ -4,10 +4,8 @@ ghost use Rattle.std.specs.Prelude.{◌≡◌, ◌+◌, ◌-◌, ◌≤◌, ◌<
 ghost use Rattle.version_core.specs.Table.{LeadOn};
 ghost use Rattle.version_core.specs.Version.{empty_version, last_version};
 
+use set_changes::limits::LAST_VERSION;
 use version_core::change::{BaseVersion, Change};
-
-// The greatest number of a version.
-const LAST_VERSION: u64 = 1_000_000_000_000_000;
 
 // Whether a number is the one after another.
 fn is_next(last: u64, number: u64) -> bool

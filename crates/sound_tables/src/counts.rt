@@ -12,13 +12,11 @@ ghost use Rattle.sound_tables.specs.Behind.{AreFew, rows_behind};
 use roster_types::row::Row;
 use roster_types::rows::Rows;
 use roster_values::Kind;
+use set_changes::limits::ROW_LIMIT;
 use version_core::change::Change;
 use version_core::row_change::RowChange;
 use version_core::sorted::found;
 use version_core::sorted_rows::SortedRows;
-
-// How many rows a kind may have.
-const ROW_LIMIT: u64 = 1_000_000;
 
 fn is_of_kind(kind: Kind, row: &Row) -> bool
     ensures { result ≡ is_of_kind kind row.now }

@@ -10,7 +10,7 @@ use std::alloc::Global;
 use std::test::Fail;
 
 // Statements that break a store of a base and two changes.
-static BREAKING: [(&str, u64); 11] = [
+static BREAKING: [(&str, u64); 16] = [
     // Another format.
     (
         "UPDATE item SET body = x'0000000000000002' WHERE area = 0",
@@ -24,6 +24,28 @@ static BREAKING: [(&str, u64); 11] = [
     ("UPDATE item SET body = x'00' WHERE area = 3", 0),
     ("UPDATE item SET body = x'00' WHERE area = 4", 0),
     ("UPDATE item SET body = x'00' WHERE area = 5", 0),
+    // More than is read: behind the state, behind a version's number, and a flag that is none.
+    (
+        "UPDATE item SET body = x'00000000000000020000000000000001000001910dcfae0000' WHERE area = 1",
+        0,
+    ),
+    (
+        "UPDATE item SET label = x'000000000000000300' WHERE area = 3 AND label = x'0000000000000003'",
+        0,
+    ),
+    (
+        "UPDATE item SET body = x'000001910dcfae0002' WHERE area = 3 AND label = x'0000000000000002'",
+        0,
+    ),
+    // A row with another id than its label says, in the base and in a change.
+    (
+        "UPDATE item SET label = x'007333' WHERE area = 2 AND label = x'007332'",
+        0,
+    ),
+    (
+        "UPDATE item SET label = x'0000000000000003007334' WHERE area = 4 AND label = x'0000000000000003007333'",
+        0,
+    ),
     // A row of another kind than its label says, and a mark without a number.
     (
         "UPDATE item SET label = x'0000000000000003017333' WHERE area = 4 AND label = x'0000000000000003007333'",

@@ -6,4 +6,6 @@ use Rattle.hub_items.specs.Format.{FitsMark, mark_entry}
 use Rattle.hub_codec.proofs.read_marks.marks_of.Given as goal
 
 abbrev pub invariant-loop-item : goal.invariant-loop-item
-invariant-loop-item l = (marks : List MarkRow) → AllByRecursion FitsMark marks → map entry_of l.items ≡ map mark_entry marks → l.found.items ≡ take l.item-index marks
+invariant-loop-item l =
+    ((marks : List MarkRow) → AllByRecursion FitsMark marks → map entry_of l.items ≡ map mark_entry marks → l.found.items ≡ take l.item-index marks)
+    × (map entry_of (take l.item-index l.items) ≡ map mark_entry l.found.items)

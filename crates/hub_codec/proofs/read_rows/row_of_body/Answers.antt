@@ -3,8 +3,8 @@ use Rattle.hub_items.specs.Pieces.{sized}
 use Rattle.hub_items.proofs.Back.{row_back}
 use Rattle.hub_codec.proofs.read_rows.row_of_body.Goals as goal
 
-pub returns-in-Ok : goal.returns-in-Ok
-returns-in-Ok c change back kinds body =
+pub returns-in-Ok-clause-row : goal.returns-in-Ok-clause-row
+returns-in-Ok-clause-row c change back kinds body =
     let byte = c.in-Some.parts.0 in
     let name = c.in-Some.parts.1.now in
     let text = c.in-Some.parts.2.now in
