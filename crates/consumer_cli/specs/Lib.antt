@@ -1,0 +1,4 @@
+pub mod Consumers
+pub mod Held
+pub mod SyncLines
+pub mod Syncs
