@@ -21,5 +21,5 @@ pub fn synchronise<C: CopyKeeper, L: Link>(
         (copy_run (C.stands_for copy.old) (C.stands_for copy.new) (C.fault_count copy.old) (C.fault_count copy.new) (copy.new ≡ copy.old))
         (link_run (L.tells link.old) (L.tells link.new) (L.asked link.old) (L.asked link.new) (L.missed link.new) (L.kept link.new) (L.fault_count link.old) (L.fault_count link.new) (link.new ≡ link.old)) }
 {
-    sync(alloc, copy, link, &task.token, task.limit, task.tries)
+    sync(alloc, copy, link, task.token(), task.limit(), task.tries())
 }

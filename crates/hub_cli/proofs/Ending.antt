@@ -4,7 +4,7 @@ use Rattle.std.specs.Io.KnownBytes.{Appends}
 use Rattle.consumer_cli.specs.Consumers.{CopyRun, LinkRun}
 use Rattle.consumer_cli.specs.SyncLines.{sync_status, sync_text}
 use Rattle.consumer_cli.specs.Syncs.{IsSyncOf}
-use Rattle.consumer_cli.specs.declared.task.SyncTask.{SyncTask}
+use Rattle.consumer_cli.specs.Tasks.{Task}
 use Rattle.csv_sets.specs.declared.fault.SetFault.{SetFault}
 use Rattle.csv_sets.specs.Files as files
 use Rattle.exchange_link.specs.declared.answer.SyncAnswer.{SyncAnswer}
@@ -54,7 +54,7 @@ show-wants kind o a (inr (inl shown)) other = (shown-done o kind a shown.0 other
 show-wants kind o a (inr (inr wants)) other = (wants.0, refl)
 
 module _ (copy : CopyRun) (link : LinkRun) where
-  sync-wants : (task : SyncTask) (a : Answer) → IsSyncAnswer task copy link a → IsSyncAnswer task copy link (record a { end = ends.NoMemory })
+  sync-wants : (task : Task) (a : Answer) → IsSyncAnswer task copy link a → IsSyncAnswer task copy link (record a { end = ends.NoMemory })
   sync-wants task a (none, s, is, how) = (none, s, is, inr refl)
 
   list-wants : (kind : Kind) (a : Answer) → ListEnds kind copy a → a.end ≢ ends.Done → ListEnds kind copy (record a { end = ends.NoMemory })
@@ -129,7 +129,7 @@ module _ (o : Outside) (copy : CopyRun) (link : LinkRun) where
   tells_sync : (end : End) (n : ℕ) → status_of end ≡ n → n ≢ 2 → n ≢ 3 → n ≢ 5 → n ≢ 6 → Tells end
   tells_sync end n is a b d f = record { words = λ e. a (sym is ∙ e); folder = λ e. absurd (b (sym is ∙ e)); keeper = λ e. absurd (d (sym is ∙ e)); copy_says = λ e. absurd (f (sym is ∙ e)) }
 
-  synced-tells : (task : SyncTask) (s : SyncAnswer) → IsSyncOf task s copy link → Tells (ends.Synced s)
+  synced-tells : (task : Task) (s : SyncAnswer) → IsSyncOf task s copy link → Tells (ends.Synced s)
   synced-tells task (sync.Complete version) is = tells_sync _ 0 refl (λ e. cc e) (λ e. cc e) (λ e. cc e) (λ e. cc e)
   synced-tells task (sync.Interrupted kind offset) is = tells_sync _ 7 refl (λ e. cc e) (λ e. cc e) (λ e. cc e) (λ e. cc e)
   synced-tells task (sync.PinGone pin oldest) is = tells_sync _ 8 refl (λ e. cc e) (λ e. cc e) (λ e. cc e) (λ e. cc e)
@@ -142,7 +142,7 @@ module _ (o : Outside) (copy : CopyRun) (link : LinkRun) where
   synced-tells task sync.NoMemory is = tells_sync _ 17 refl (λ e. cc e) (λ e. cc e) (λ e. cc e) (λ e. cc e)
   synced-tells task sync.KeeperFault is = record { words = λ e. cc e; folder = λ e. cc e; keeper = λ e. cc e; copy_says = λ e. is.cause.only }
 
-  sync-tells : (task : SyncTask) (a : Answer) → IsSyncAnswer task copy link a → Tells a.end
+  sync-tells : (task : Task) (a : Answer) → IsSyncAnswer task copy link a → Tells a.end
   sync-tells task a (none, s, is, inl same) = subst Tells (sym same) (synced-tells task s is)
   sync-tells task a (none, s, is, inr same) = tells a.end (says_memory o a.end same)
 
@@ -197,24 +197,24 @@ module _ (o : Outside) (copy : CopyRun) (link : LinkRun) where
 
   -- ---- a synchronisation
 
-  synced : (task : SyncTask) (a : Answer) → IsSyncAnswer task copy link a → status_of a.end ≢ 17 → (s : SyncAnswer) × IsSyncOf task s copy link × (status_of a.end ≡ sync_status s) × (text_of a ≡ sync_text s)
+  synced : (task : Task) (a : Answer) → IsSyncAnswer task copy link a → status_of a.end ≢ 17 → (s : SyncAnswer) × IsSyncOf task s copy link × (status_of a.end ≡ sync_status s) × (text_of a ≡ sync_text s)
   synced task a (none, s, is, inl same) other = (s, is, ap status_of same, text)
     where
       text : text_of a ≡ sync_text s
       text = rw (none, same) refl
   synced task a (none, s, is, inr same) other = absurd (other (ap status_of same))
 
-  spelled : (task : SyncTask) (parsed : Parsed) (a : Answer) (before after : KeptState) → parsed.command ≡ Sync task → IsCommandAnswer parsed.command o copy link a before after → IsSyncAnswer task copy link a
-  spelled task parsed a before after same is = let sync : IsCommandAnswer (Sync task) o copy link a before after = subst (λ (c : Command). IsCommandAnswer c o copy link a before after) same is in sync.2
+  spelled : (task : Task) (parsed : Parsed) (a : Answer) (before after : KeptState) → parsed.command ≡ Sync task → IsCommandAnswer parsed.command o copy link a before after → IsSyncAnswer task copy link a
+  spelled task parsed a before after same is = let told : IsCommandAnswer (Sync task) o copy link a before after = subst (λ (c : Command). IsCommandAnswer c o copy link a before after) same is in told.2
 
-  answer-synced : (task : SyncTask) (r : Result Parsed ℕ) (a : Answer) (before after : KeptState) → command_in r ≡ Some (Sync task) → IsAnswer r o copy link a before after → status_of a.end ≢ 17
+  answer-synced : (task : Task) (r : Result Parsed ℕ) (a : Answer) (before after : KeptState) → command_in r ≡ Some (Sync task) → IsAnswer r o copy link a before after → status_of a.end ≢ 17
       → (s : SyncAnswer) × IsSyncOf task s copy link × (status_of a.end ≡ sync_status s) × (text_of a ≡ sync_text s)
   answer-synced task (Err place) a before after same is other = absurd (cc same)
   answer-synced task (Ok parsed) a before after same (inl is) other = synced task a (spelled task parsed a before after (cc same) is) other
   answer-synced task (Ok parsed) a before after same (inr wants) other = absurd (other (ap status_of wants.2.1))
 
   -- what is told of words that spell `sync` is told of a synchronisation
-  pub leads-synced : (old new : KeptState → Type 0) (task : SyncTask) (r : Result Parsed ℕ) (a : Answer) → command_in r ≡ Some (Sync task) → LeadsFrom old new (IsAnswer r o copy link a) → status_of a.end ≢ 17
+  pub leads-synced : (old new : KeptState → Type 0) (task : Task) (r : Result Parsed ℕ) (a : Answer) → command_in r ≡ Some (Sync task) → LeadsFrom old new (IsAnswer r o copy link a) → status_of a.end ≢ 17
       → (s : SyncAnswer) × IsSyncOf task s copy link × (status_of a.end ≡ sync_status s) × (text_of a ≡ sync_text s)
   leads-synced old new task r a same from other = answer-synced task r a from.before from.after same from.some other
 
@@ -241,7 +241,7 @@ module _ (o : Outside) (copy : CopyRun) (link : LinkRun) where
   leads-shown stands parsed kind same rests answer is =
       leads-told stands stands parsed (Show kind) same answer (leads-nowhere stands (IsCommandAnswer (Show kind) o copy link answer) (λ kept. (rests, refl, is)))
 
-  pub leads-synchronised : (stands : KeptState → Type 0) (parsed : Parsed) (task : SyncTask) → parsed.command ≡ Sync task → NothingFailed o → (answer : Answer) → IsSyncAnswer task copy link answer → (a : Answer) → IsPrinted answer a
+  pub leads-synchronised : (stands : KeptState → Type 0) (parsed : Parsed) (task : Task) → parsed.command ≡ Sync task → NothingFailed o → (answer : Answer) → IsSyncAnswer task copy link answer → (a : Answer) → IsPrinted answer a
       → LeadsFrom stands stands (IsAnswer (Ok parsed) o copy link a)
   leads-synchronised stands parsed task same nothing answer is =
       leads-told stands stands parsed (Sync task) same answer (leads-nowhere stands (IsCommandAnswer (Sync task) o copy link answer) (λ kept. (refl, nothing, is)))

@@ -3,7 +3,7 @@ use Rattle.std.specs.Prelude.{◌≡◌, ◌⊎◌, []}
 use Rattle.consumer_cli.specs.Consumers.{CopyRun, LinkRun}
 use Rattle.consumer_cli.specs.Held.{IsHeldText}
 use Rattle.consumer_cli.specs.Syncs.{IsSyncOf}
-use Rattle.consumer_cli.specs.declared.task.SyncTask.{SyncTask}
+use Rattle.consumer_cli.specs.Tasks.{Task}
 use Rattle.copy_keeper.specs.Copies.{Copy}
 use Rattle.exchange_link.specs.declared.answer.SyncAnswer.{SyncAnswer}
 use Rattle.roster_base.specs.Faults.{Rose}
@@ -13,7 +13,7 @@ use Rattle.hub_cli.specs.declared.answer.End.TheVariants.{CopyFailed, Done, NoMe
 
 -- the answer of `sync`: that of a synchronisation between copy and link, of which all holds that is promised of one; memory may run out
 -- for its line
-abbrev pub IsSyncAnswer : SyncTask → CopyRun → LinkRun → Answer → Type 0
+abbrev pub IsSyncAnswer : Task → CopyRun → LinkRun → Answer → Type 0
 IsSyncAnswer task copy link answer = (answer.done ≡ []) × (a : SyncAnswer) × IsSyncOf task a copy link × ((answer.end ≡ Synced a) ⊎ (answer.end ≡ NoMemory))
 
 -- each copy for which the keeper stands is one for which it stood

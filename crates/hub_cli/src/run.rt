@@ -5,7 +5,7 @@ ghost use Rattle.std.specs.Io.KnownBytes.{Appends};
 ghost use Rattle.consumer_cli.specs.Consumers.{copy_run, link_run};
 ghost use Rattle.consumer_cli.specs.SyncLines.{sync_status, sync_text};
 ghost use Rattle.consumer_cli.specs.Syncs.{IsSyncOf};
-ghost use Rattle.consumer_cli.specs.declared.task.SyncTask.{SyncTask as TaskValue};
+ghost use Rattle.consumer_cli.specs.Tasks.{Task};
 ghost use Rattle.exchange_link.specs.declared.answer.SyncAnswer.{SyncAnswer as SyncAnswerValue};
 ghost use Rattle.outside_ports.specs.Written.{AppendsPart};
 ghost use Rattle.roster_base.specs.Faults.{Rose};
@@ -139,7 +139,7 @@ pub fn run_hub<F: Folder, H: HubKeeper, C: CopyKeeper, L: Link, K: Clock, O: Sin
         a) × AppendsPart (O.written out.old) (O.written out.new) (text_of a) }
     // Where the words spell `sync`, and neither the sink failed nor memory ran out, line and status are those of a synchronisation, of which
     // all holds that is promised of one.
-    ensures synchronised { (task : TaskValue) → command_in (split (map string_bytes words.now)) ≡ Some (Sync task) → result ≢ 1 → result ≢ 17 → (a : SyncAnswerValue) × IsSyncOf task a
+    ensures synchronised { (task : Task) → command_in (split (map string_bytes words.now)) ≡ Some (Sync task) → result ≢ 1 → result ≢ 17 → (a : SyncAnswerValue) × IsSyncOf task a
         (copy_run (C.stands_for copy.old) (C.stands_for copy.new) (C.fault_count copy.old) (C.fault_count copy.new) (copy.new ≡ copy.old))
         (link_run (L.tells link.old) (L.tells link.new) (L.asked link.old) (L.asked link.new) (L.missed link.new) (L.kept link.new) (L.fault_count link.old) (L.fault_count link.new) (link.new ≡ link.old))
         × (result ≡ sync_status a) × Appends (O.written out.old) (O.written out.new) (sync_text a) }

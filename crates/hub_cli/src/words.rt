@@ -5,7 +5,6 @@ ghost use Rattle.roster_base.specs.Reading.{Gives};
 ghost use Rattle.hub_cli.specs.Words.{command_words, ended, feed_in, feed_of, feed_words, file_words, is_file_word, keep_in, kind_words, largest_keep, limit_words, no_options, number_in, number_to, option_of, option_words, peer_in, publish_words, root_in, set_option, split, store_in, sync_words, tries_words, with_folder, with_keep, with_options, with_peer, with_store};
 ghost use Rattle.hub_cli.specs.declared.words.Command.{Command as CommandValue};
 ghost use Rattle.hub_cli.specs.declared.words.Command.TheVariants.{Ask, Grant, ListHeld, Show};
-ghost use Rattle.roster_values.specs.declared.kind.Kind.{Kind as Kinds};
 
 use consumer_cli::SyncTask;
 use roster_base::{Items, NoMemory, Refusal, Text};
@@ -98,37 +97,30 @@ fn end(place: usize, command: Command, words: &[String]) -> Result<Command, Word
     }
 }
 
-// The kind that the last word names.
-fn kind_at(place: usize, words: &[String]) -> Result<Kind, WordError>
-    requires { place + length words.now < 2 ^ 63 }
-    ensures { (command : Kinds → CommandValue) → Gives command result (kind_words place command (map string_bytes words.now)) }
-{
-    let Some((word, words)) = words.split_first() else {
-        return Err(Refusal::Fault(place));
-    };
-    let Some(kind) = Kind::read(word.as_str()) else {
-        return Err(Refusal::Fault(place));
-    };
-    if !words.is_empty() {
-        return Err(Refusal::Fault(place + 1));
-    }
-    Ok(kind)
-}
-
 fn show(place: usize, words: &[String]) -> Result<Command, WordError>
     requires { place + length words.now < 2 ^ 63 }
     ensures { Gives (λ c. c) result (kind_words place Show (map string_bytes words.now)) }
 {
-    let kind = kind_at(place, words)?;
-    Ok(Command::Show { kind })
+    let Some((word, words)) = words.split_first() else {
+        return Err(Refusal::Fault(place));
+    };
+    match Kind::read(word.as_str()) {
+        Some(kind) => end(place + 1, Command::Show { kind }, words),
+        None => Err(Refusal::Fault(place)),
+    }
 }
 
 fn list(place: usize, words: &[String]) -> Result<Command, WordError>
     requires { place + length words.now < 2 ^ 63 }
     ensures { Gives (λ c. c) result (kind_words place ListHeld (map string_bytes words.now)) }
 {
-    let kind = kind_at(place, words)?;
-    Ok(Command::ListHeld { kind })
+    let Some((word, words)) = words.split_first() else {
+        return Err(Refusal::Fault(place));
+    };
+    match Kind::read(word.as_str()) {
+        Some(kind) => end(place + 1, Command::ListHeld { kind }, words),
+        None => Err(Refusal::Fault(place)),
+    }
 }
 
 // Whether a word may name a file or a folder.
@@ -266,11 +258,7 @@ fn tries_at(
     let Some(tries) = number_to(LARGEST_TRIES, word.as_str()) else {
         return Err(Refusal::Fault(place));
     };
-    let task = SyncTask {
-        token,
-        limit,
-        tries,
-    };
+    let task = SyncTask::new(token, limit, tries);
     end(place + 1, Command::Sync { task }, words)
 }
 

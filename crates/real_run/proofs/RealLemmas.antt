@@ -1,8 +1,9 @@
 -- Answers over the real folder and clock, from answers over a keeper.
-use Rattle.std.proofs.Common.{◌≡◌, ⊤, ℕ, List, [], Option, None, Some, Result, Ok, Err, IfNone, IsSome, refl, sym, ◌∙◌, ap, subst, inl, inr}
+use Rattle.std.proofs.Common.{◌≡◌, ℕ, List, [], Option, None, Some, Result, Ok, Err, IfNone, IsSome, refl, sym, ◌∙◌, ap, subst, inl, inr}
+use Rattle.std.specs.Bool.{⊤}
 use Rattle.consumer_cli.specs.Consumers.{CopyRun, LinkRun, copy_run, link_run}
 use Rattle.consumer_cli.specs.Syncs.{IsSyncOf}
-use Rattle.consumer_cli.specs.declared.task.SyncTask.{SyncTask}
+use Rattle.consumer_cli.specs.Tasks.{Task}
 use Rattle.copy_keeper.specs.Copies.{Copy, IsCopy}
 use Rattle.copy_keeper.specs.HeldCopy.{HeldCopy, empty_copy}
 use Rattle.exchange_link.specs.Exchanges.{Told}
@@ -39,7 +40,7 @@ module _ (stood stands : Copy → Type 0) (before now : ℕ) (told tells : Told 
   rests-more : ConsumerRests copy_old link_old → ConsumerRests copy_new link_new
   rests-more is = (c is.0, l is.1)
 
-  sync-more : (task : SyncTask) (a : SyncAnswer) → IsSyncOf task a copy_old link_old → IsSyncOf task a copy_new link_new
+  sync-more : (task : Task) (a : SyncAnswer) → IsSyncOf task a copy_old link_old → IsSyncOf task a copy_new link_new
   sync-more task a is = record {
     copy = is.copy;
     last_run = is.last_run;
@@ -94,7 +95,7 @@ module _ (told tells : Told → Type 0) (asked asked_now missed : ℕ) (kept : L
         (now ≡ start) (now.copy ≡ start.copy) same same (λ e. ap (λ (h : HeldCopy). h.copy) e) (λ s. s) old new parsed (outside_of None None folder keeper) answer leads));
   }
     where
-      abbrev Leads : (Copy → Type 0) → ℕ → Type 0 → Type 0
+      Leads : (Copy → Type 0) → ℕ → Type 0 → Type 0
       Leads stood before rests = LeadsFrom old new (IsAnswer parsed (outside_of None None folder keeper) (copy_run stood (λ copy. (copy ≡ now.copy) × IsCopy copy) before now.plan.faults rests) link answer)
 
 -- over a link that tells nothing
