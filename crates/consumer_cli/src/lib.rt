@@ -3,10 +3,10 @@
 
 pub mod held;
 pub mod line;
-pub mod synchronise;
+mod run;
 pub mod task;
 
 pub use held::held_text;
 pub use line::{COPY_FAILED, sync_line, sync_status};
-pub use synchronise::synchronise;
+pub use run::synchronise;
 pub use task::SyncTask;

@@ -1,5 +1,5 @@
 use Rattle.consumer_cli.proofs.SameTasks.{synced_as}
-use Rattle.consumer_cli.proofs.synchronise.synchronise.Goals as goal
+use Rattle.consumer_cli.proofs.run.synchronise.Goals as goal
 
 pub returns : goal.returns
 returns g c =
