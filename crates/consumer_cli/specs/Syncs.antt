@@ -1,5 +1,5 @@
 -- What is promised of a synchronisation between a copy and a link: the clauses of `consumer_sync::sync`, one by one.
-use Rattle.std.specs.Prelude.{◌≡◌, ◌≢◌, ℕ, ◌+◌, ◌≤◌}
+use Rattle.std.specs.Prelude.{◌≢◌, ℕ, ◌+◌, ◌≤◌}
 use Rattle.copy_keeper.specs.Copies.{Copy}
 use Rattle.copy_keeper.specs.States.{stage_of}
 use Rattle.copy_keeper.specs.declared.state.TheConstants.{LAST}

@@ -8,8 +8,8 @@ ghost use Rattle.hub_cli.specs.declared.words.Command.TheVariants.{Ask, Grant, L
 
 use consumer_cli::SyncTask;
 use roster_base::{Items, NoMemory, Refusal, Text};
-use roster_texts::{Name, Token};
 use roster_texts::digits::number;
+use roster_texts::{Name, Token};
 use roster_values::Kind;
 use std::alloc::Global;
 
@@ -241,12 +241,7 @@ fn number_to(most: u32, word: &str) -> Option<u32>
     }
 }
 
-fn tries_at(
-    place: usize,
-    token: Token,
-    limit: u32,
-    words: &[String],
-) -> Result<Command, WordError>
+fn tries_at(place: usize, token: Token, limit: u32, words: &[String]) -> Result<Command, WordError>
     requires place { place + length words.now < 2 ^ 63 }
     requires some { 0 < limit }
     requires few { limit ≤ LARGEST_LIMIT }

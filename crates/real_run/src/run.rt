@@ -47,7 +47,16 @@ fn run_between<H: HubKeeper, L: Link, O: Sink>(
     let mut folder = DirFolder::new(rt, root);
     let clock = SystemClock::new(rt);
     let mut copy = MemCopy::new(alloc);
-    let status = run_hub(alloc, words, &mut folder, keeper, &mut copy, link, &clock, out);
+    let status = run_hub(
+        alloc,
+        words,
+        &mut folder,
+        keeper,
+        &mut copy,
+        link,
+        &clock,
+        out,
+    );
     drop(copy);
     status
 }
