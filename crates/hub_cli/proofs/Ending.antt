@@ -1,6 +1,5 @@
 -- What an answer's status says, and answers for want of memory.
-use Rattle.std.proofs.Common.{◌≡◌, ◌≢◌, ◌⊎◌, ℕ, ℤ, List, [], ◌++◌, Option, Some, None, Result, Ok, Err, IsErr, refl, sym, ap, subst, ◌∙◌, inl, inr}
-use Rattle.std.specs.Io.KnownBytes.{Appends}
+use Rattle.std.proofs.Common.{◌≡◌, ◌≢◌, ◌⊎◌, ℕ, ℤ, List, [], Option, Some, None, Result, Ok, Err, IsErr, refl, sym, ap, subst, ◌∙◌, inl, inr}
 use Rattle.consumer_cli.specs.Consumers.{CopyRun, LinkRun}
 use Rattle.consumer_cli.specs.SyncLines.{sync_status, sync_text}
 use Rattle.consumer_cli.specs.Syncs.{IsSyncOf}
@@ -10,14 +9,13 @@ use Rattle.csv_sets.specs.Files as files
 use Rattle.exchange_link.specs.declared.answer.SyncAnswer.{SyncAnswer}
 use Rattle.exchange_link.specs.declared.answer.SyncAnswer.TheVariants as sync
 use Rattle.keeper_memory.specs.Kept.{KeptState}
-use Rattle.outside_ports.specs.Files.{Stored}
 use Rattle.roster_base.specs.Faults.{Rose}
 use Rattle.roster_types.specs.declared.set_row.SetRow.{SetRow}
 use Rattle.roster_values.specs.declared.kind.Kind.{Kind}
 use Rattle.roster_values.specs.declared.mode.Mode.TheVariants.{Bulk}
 use Rattle.hub_cli.specs.Answers.{IsPrinted, status_of, text_of}
 use Rattle.hub_cli.specs.ConsumerAnswers.{IsListAnswer, IsSyncAnswer, ListEnds}
-use Rattle.hub_cli.specs.Outside.{HaveRisen, NothingFailed, Outside, faults_of, outside_of}
+use Rattle.hub_cli.specs.Outside.{HaveRisen, NothingFailed, Outside}
 use Rattle.hub_cli.specs.Runs.{ConsumerRests, IsAnswer, IsCommandAnswer, IsShowAnswer, LeadsFrom, WantsMemory}
 use Rattle.hub_cli.specs.Shows.{IsShown, answer_of_file, answer_of_rows}
 use Rattle.hub_cli.specs.Words.{command_in}
