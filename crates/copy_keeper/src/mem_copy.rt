@@ -148,7 +148,11 @@ impl CopyKeeper for MemCopy {
         self.failures.end_commit()
     }
 
-    fn faults(&self) -> u64 {
+    fn faults(&self) -> u64
+        ensures faults { result ≡ self.now.plan.faults }
+        ensures copy { IsCopy self.now.copy }
+    {
+        let _ = &self.tables;
         self.failures.faults()
     }
 }

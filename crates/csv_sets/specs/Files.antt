@@ -1,10 +1,11 @@
 -- The rows of a file: those that its records spell, in their order, or the file's first fault.
-use Rattle.std.specs.Prelude.{◌≡◌, ◌≤◌, ◌+◌, ℕ, Bool, true, List, [], ◌∷◌, ◌++◌, Result, Ok, Err, String, bytes_eq, drop, length, map, nat_lt, not, if◌then◌else◌}
+use Rattle.std.specs.Prelude.{◌≡◌, ◌≤◌, ◌+◌, ℕ, Bool, true, List, [], ◌∷◌, ◌++◌, Option, Some, None, Result, Ok, Err, String, bytes_eq, drop, length, map, nat_lt, not, if◌then◌else◌}
 use Rattle.std.specs.BTreeSet.{BTreeSet, contains_text}
 use Rattle.std.specs.List.{AllZip, IsDistinct, list_any}
 use Rattle.std.specs.Str.{is_utf8}
 use Rattle.std.specs.declared.alloc.Global.{Global}
 use Rattle.csv.specs.Reading.{default_config, records, strip_bom}
+use Rattle.roster_base.specs.Order.{RiseBy}
 use Rattle.roster_base.specs.Reading.{◌>>=◌}
 use Rattle.roster_values.specs.declared.kind.Kind.{Kind}
 use Rattle.roster_values.specs.declared.mode.Mode.{Mode}
@@ -55,6 +56,14 @@ file_of kind mode bytes =
 -- a set holds the ids of these rows and no others
 abbrev pub HoldsIds : BTreeSet (String Global) → List SetRow → Type 0
 HoldsIds ids rows = (q : List ℕ) → contains_text ids q ≡ has_id q rows
+
+abbrev pub id_in : SetRow → List ℕ
+id_in listed = listed.row.id
+
+-- rows whose ids rise need no set; else it holds them
+abbrev pub KnowsIds : Option (BTreeSet (String Global)) → List SetRow → Type 0
+KnowsIds None rows = RiseBy id_in rows
+KnowsIds (Some ids) rows = HoldsIds ids rows
 
 -- the cells of the first record, none where there is no record
 abbrev pub first_of : List (List (List ℕ)) → List (List ℕ)

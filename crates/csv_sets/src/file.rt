@@ -1,14 +1,16 @@
 //! The rows of a file.
 
-ghost use Rattle.std.specs.Prelude.{◌≡◌, ◌≤◌, ◌<◌, ◌^◌, ◌++◌, ◌∷◌, [], List, Ok, bytes_eq, length, map, not, true, IfOk, OnOk};
+ghost use Rattle.std.specs.Prelude.{◌≡◌, ◌≤◌, ◌<◌, ◌^◌, ◌++◌, ◌∷◌, [], List, Ok, bytes_eq, length, map, not, true, false, IfOk, OnOk};
 ghost use Rattle.std.specs.List.{All, IsDistinct};
+ghost use Rattle.std.specs.Option.{ForSome};
 ghost use Rattle.csv.specs.Reading.{default_config, records, strip_bom};
 ghost use Rattle.csv.specs.Records.{AllText, fields_of};
+ghost use Rattle.roster_base.specs.Order.{RiseBy};
 ghost use Rattle.roster_base.specs.Reading.{Gives};
 ghost use Rattle.roster_types.specs.Sets.{IsDatedOrZero};
 ghost use Rattle.roster_values.specs.Table.{table};
 ghost use Rattle.roster_types.specs.declared.set_row.SetRow.{SetRow as SetRows};
-ghost use Rattle.csv_sets.specs.Files.{AreRowsIn, HoldsIds, file_of, has_id, in_record, largest, rows_after, rows_of};
+ghost use Rattle.csv_sets.specs.Files.{AreRowsIn, HoldsIds, KnowsIds, file_of, has_id, id_in, in_record, largest, rows_after, rows_of};
 ghost use Rattle.csv_sets.specs.Left.{AllRowsText};
 ghost use Rattle.csv_sets.specs.Rows.{row_at};
 
@@ -51,22 +53,81 @@ fn row_in(
     }
 }
 
-// Adds a row behind the others, and says whether its id is new among theirs.
+// Whether a row's id is above that of the last row, if there is one.
+fn rises(rows: &[SetRow], row: &SetRow) -> bool
+    ensures { result ≡ true → RiseBy id_in rows.now → RiseBy id_in (rows.now ++ row.now ∷ []) × (has_id row.now.row.id rows.now ≡ false) }
+{
+    match rows.last() {
+        None => true,
+        Some(last) => last.row.id().as_str().cmp(row.row.id().as_str()).is_lt(),
+    }
+}
+
+// The ids of rows.
+fn ids_of(alloc: Global, rows: &[SetRow]) -> Result<BTreeSet<String>, NoMemory>
+    ensures { IfOk result (λ ids. HoldsIds ids rows.now) }
+{
+    let mut ids = BTreeSet::new(alloc);
+    for row in rows {
+        let _ = ids.insert(String::from_str(alloc, row.row.id().as_str())?)?;
+    }
+    Ok(ids)
+}
+
+// The ids of these rows, where none is held yet.
+fn held_ids(
+    alloc: Global,
+    rows: &[SetRow],
+    ids: Option<BTreeSet<String>>,
+) -> Result<BTreeSet<String>, NoMemory>
+    requires { ForSome ids (λ ids. HoldsIds ids rows.now) }
+    ensures { IfOk result (λ ids. HoldsIds ids rows.now) }
+{
+    match ids {
+        Some(ids) => Ok(ids),
+        None => ids_of(alloc, rows),
+    }
+}
+
+// Adds the id of the last row, and says whether it is new among those before it.
+fn add_id(
+    alloc: Global,
+    front: &[SetRow],
+    last: &SetRow,
+    ids: &mut Option<BTreeSet<String>>,
+) -> Result<bool, NoMemory>
+    requires { ForSome ids.old (λ ids. HoldsIds ids front.now) }
+    ensures told { IfOk result (λ is_new. is_new ≡ not (has_id last.now.row.id front.now)) }
+    ensures ids { IfOk result (λ is_new. KnowsIds ids.new (front.now ++ last.now ∷ [])) }
+{
+    let mut held = held_ids(alloc, front, ids.take())?;
+    let is_new = held.insert(String::from_str(alloc, last.row.id().as_str())?)?;
+    *ids = Some(held);
+    Ok(is_new)
+}
+
+// Adds a row behind the others, and says whether its id is new among theirs. While the ids rise, as in most files, none is kept.
 fn add(
     alloc: Global,
     rows: &mut Vec<SetRow>,
-    ids: &mut BTreeSet<String>,
+    ids: &mut Option<BTreeSet<String>>,
     row: SetRow,
 ) -> Result<bool, NoMemory>
-    requires { HoldsIds ids.old rows.old.items }
+    requires { KnowsIds ids.old rows.old.items }
     ensures rows { OnOk result (rows.new.items ≡ rows.old.items ++ row ∷ []) }
     ensures told { IfOk result (λ is_new. is_new ≡ not (has_id row.row.id rows.old.items)) }
-    ensures ids { IfOk result (λ is_new. is_new ≡ true → HoldsIds ids.new rows.new.items) }
+    ensures ids { IfOk result (λ is_new. is_new ≡ true → KnowsIds ids.new rows.new.items) }
 {
+    let goes_on = ids.is_none() && rises(rows, &row);
     // The row goes in before its id is tried, so that no path drops it here: the check of such a drop takes many minutes.
     rows.push(row)?;
-    let id = rows[rows.len() - 1].row.id();
-    Ok(ids.insert(String::from_str(alloc, id.as_str())?)?)
+    if goes_on {
+        return Ok(true);
+    }
+    match rows.split_last() {
+        Some((last, front)) => add_id(alloc, front, last, ids),
+        None => unreachable!(),
+    }
 }
 
 // The rows of the records below the header.
@@ -83,7 +144,7 @@ fn rows_under(
     ensures { Gives (λ v. v.items) result (rows_after kind mode header.now [] 2 reader.old) }
 {
     let mut rows = Vec::new(alloc);
-    let mut ids = BTreeSet::new(alloc);
+    let mut ids = None;
     let mut cells = ByteRecord::new(alloc);
     let mut number = 2;
     while reader.read(&mut cells)? {

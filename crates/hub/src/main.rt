@@ -11,27 +11,36 @@ use std::process::ExitCode;
 use std::rt::Env;
 
 const HELP: &str = "\
-hub [--store DIR] [--folder DIR] [--keep N] COMMAND
+hub [--store DIR] [--folder DIR] [--peer HOST:PORT] [--keep N] COMMAND
 
 ask FILE      answers the HTTP requests in FILE, one behind another, and prints their replies
 grant FILE    gives each caller what FILE asks for, in place of all grants, and prints the version
               that this leads to
+list KIND     prints the rows of KIND that the consumer's copy holds, in order of id, as JSON
 publish FEED=DIR ..
               publishes the set in each folder DIR as the feed FEED, one after another, and
               prints the version that each leads to
 show KIND     prints the rows of KIND.csv, in order of id, as JSON
               KIND is one of orgs, academicSessions, courses, classes, users, enrollments,
               demographics, categories, lineItems, results
+sync TOKEN LIMIT TRIES
+              copies what TOKEN sees of the hub at the peer's address, in pages of LIMIT rows, 1 to
+              1000, and tries each request TRIES times, 1 to 100; prints the version of the copy
 
 --store DIR   the folder where the hub's store is kept, in place of memory
 --folder DIR  the folder where the command finds its files, in place of the working folder
+--peer HOST:PORT
+              the address of the hub that is copied; without it each try fails
 --keep N      how many versions a new store keeps beside the newest, 1 to 100000, in place of 10000
 --help        prints this
 --version     prints the version
 
 The status is 0 where the command is done, 1 where the output could not be written, 2 where the
 words are no command, 3 where the folder failed, 4 where the input is refused, 5 where the hub's
-store failed and 17 where memory ran out. All lines go to standard output.
+store failed, 6 where the copy's store failed and 17 where memory ran out. Where a copy isn't made it
+is 7 where the peer wasn't reached, 8 where it keeps the version no longer, 9 where it doesn't know
+the token, 12 where its reply is none that a hub gives, 13 where it has too many rows, 14 where it
+failed, 15 where it had no memory and 16 at the last run. All lines go to standard output.
 ";
 
 const VERSION: &str = "hub 0.1.0\n";

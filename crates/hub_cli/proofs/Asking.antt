@@ -29,12 +29,11 @@ use Rattle.hub_cli.proofs.Publishing.{Says, rose}
 use Rattle.hub_cli.specs.Answers.{IsPrinted, end_text}
 use Rattle.hub_cli.specs.AskAnswers.{AsksBytes, IsAskAnswer, IsBytesOf, IsToldOf, ReadsBytes, StopsAsking, StreamEnds, ask_end, bytes_in, closed_end}
 use Rattle.hub_cli.specs.Outside.{Faults, Outside, faults_of, outside_of}
-use Rattle.hub_cli.specs.Runs.{IsCommandAnswer, LeadsFrom, Writes}
+use Rattle.hub_cli.specs.Runs.{LeadsFrom, Writes}
 use Rattle.hub_cli.specs.Steps.{end_of_error}
 use Rattle.hub_cli.specs.declared.answer.Answer.{Answer}
-use Rattle.hub_cli.specs.declared.words.Command.TheVariants.{Ask}
 use Rattle.hub_cli.specs.declared.answer.End.{End}
-use Rattle.hub_cli.specs.declared.answer.End.TheVariants.{BadWord, Done, FileTooLarge, FolderFailed, GrantsRefused, HubFailed, MissingFile, NoMemory, NotPublished, Refused, RequestRefused}
+use Rattle.hub_cli.specs.declared.answer.End.TheVariants.{BadWord, CopyFailed, Done, FileTooLarge, FolderFailed, GrantsRefused, HubFailed, MissingFile, NoMemory, NotPublished, Refused, RequestRefused, Synced}
 
 some_same : {A : Type 0} {x y : A} → Some x ≡ Some y → x ≡ y
 some_same is = cc is
@@ -57,6 +56,8 @@ ends-wants bytes xs done (MissingFile name) is other = absurd is
 ends-wants bytes xs done (FileTooLarge name) is other = absurd is
 ends-wants bytes xs done (GrantsRefused f) is other = absurd is
 ends-wants bytes xs done (NotPublished f) is other = absurd is
+ends-wants bytes xs done (Synced a) is other = absurd is
+ends-wants bytes xs done CopyFailed is other = absurd is
 
 is_some : (b : ℕ) (bytes : List ℕ) → (length (b ∷ bytes) == 0) ≡ false
 is_some b bytes = ne_eqb (length (b ∷ bytes)) 0 (λ e. absurd (omega (arith, e)))
@@ -220,14 +221,14 @@ module _ (o : Outside) (file : List ℕ) where
 
   file-says : (end : End) → IsBytesOf o.files file (Err end) → Says o end
   file-says end (read, told, is) = elim (refused_as file read end is) [
-    | inl missing ↦ subst (Says o) (sym missing) (record { words = λ e. cc e; folder = λ e. cc e; keeper = λ e. cc e })
-    | inr large ↦ subst (Says o) (sym large) (record { words = λ e. cc e; folder = λ e. cc e; keeper = λ e. cc e })
+    | inl missing ↦ subst (Says o) (sym missing) (record { words = λ e. cc e; folder = λ e. cc e; keeper = λ e. cc e; copy = λ e. cc e })
+    | inr large ↦ subst (Says o) (sym large) (record { words = λ e. cc e; folder = λ e. cc e; keeper = λ e. cc e; copy = λ e. cc e })
   ]
 
   stops-says : (end : End) → StopsAsking o file end → Says o end
-  stops-says FolderFailed stops = record { words = λ e. cc e; folder = λ e. stops; keeper = λ e. cc e }
-  stops-says HubFailed stops = record { words = λ e. cc e; folder = λ e. cc e; keeper = λ e. stops }
-  stops-says NoMemory stops = record { words = λ e. cc e; folder = λ e. cc e; keeper = λ e. cc e }
+  stops-says FolderFailed stops = record { words = λ e. cc e; folder = λ e. stops; keeper = λ e. cc e; copy = λ e. cc e }
+  stops-says HubFailed stops = record { words = λ e. cc e; folder = λ e. cc e; keeper = λ e. stops; copy = λ e. cc e }
+  stops-says NoMemory stops = record { words = λ e. cc e; folder = λ e. cc e; keeper = λ e. cc e; copy = λ e. cc e }
   stops-says Done stops = file-says Done stops.0
   stops-says (BadWord place) stops = file-says (BadWord place) stops.0
   stops-says (Refused f) stops = file-says (Refused f) stops.0
@@ -236,11 +237,13 @@ module _ (o : Outside) (file : List ℕ) where
   stops-says (GrantsRefused f) stops = file-says (GrantsRefused f) stops.0
   stops-says (RequestRefused n f) stops = file-says (RequestRefused n f) stops.0
   stops-says (NotPublished f) stops = file-says (NotPublished f) stops.0
+  stops-says (Synced a) stops = file-says (Synced a) stops.0
+  stops-says CopyFailed stops = file-says CopyFailed stops.0
 
   ends-says : (bytes : List ℕ) (xs : List Exchange) (done : List ℕ) (end : End) → StreamEnds bytes xs done end → Says o end
-  ends-says bytes xs done Done is = record { words = λ e. cc e; folder = λ e. cc e; keeper = λ e. cc e }
-  ends-says bytes xs done NoMemory is = record { words = λ e. cc e; folder = λ e. cc e; keeper = λ e. cc e }
-  ends-says bytes xs done (RequestRefused n f) is = record { words = λ e. cc e; folder = λ e. cc e; keeper = λ e. cc e }
+  ends-says bytes xs done Done is = record { words = λ e. cc e; folder = λ e. cc e; keeper = λ e. cc e; copy = λ e. cc e }
+  ends-says bytes xs done NoMemory is = record { words = λ e. cc e; folder = λ e. cc e; keeper = λ e. cc e; copy = λ e. cc e }
+  ends-says bytes xs done (RequestRefused n f) is = record { words = λ e. cc e; folder = λ e. cc e; keeper = λ e. cc e; copy = λ e. cc e }
   ends-says bytes xs done FolderFailed is = absurd is
   ends-says bytes xs done HubFailed is = absurd is
   ends-says bytes xs done (BadWord place) is = absurd is
@@ -249,6 +252,8 @@ module _ (o : Outside) (file : List ℕ) where
   ends-says bytes xs done (FileTooLarge name) is = absurd is
   ends-says bytes xs done (GrantsRefused f) is = absurd is
   ends-says bytes xs done (NotPublished f) is = absurd is
+  ends-says bytes xs done (Synced a) is = absurd is
+  ends-says bytes xs done CopyFailed is = absurd is
 
   pub ask-says : (done : List ℕ) (end : End) (before after : KeptState) → IsAskAnswer o file done end before after → Says o end
   ask-says done end kept after (inl (none, same, stops)) = stops-says end stops
@@ -289,6 +294,8 @@ module _ (files : Option (List Stored)) (moment : Option ℤ) (folder : Faults) 
   read_stops keeper (GrantsRefused f) is = (is.0, record { folder = is.1; keeper = refl })
   read_stops keeper (RequestRefused n f) is = (is.0, record { folder = is.1; keeper = refl })
   read_stops keeper (NotPublished f) is = (is.0, record { folder = is.1; keeper = refl })
+  read_stops keeper (Synced a) is = (is.0, record { folder = is.1; keeper = refl })
+  read_stops keeper CopyFailed is = (is.0, record { folder = is.1; keeper = refl })
 
   -- an end before which nothing was done, and of which a line is printed
   stopped_as : (o : Outside) (end : End) (a : Answer) (kept : KeptState) → StopsAsking o file end → IsPrinted (record { done = []; end = end }) a → IsAskAnswer o file a.done a.end kept kept
@@ -315,7 +322,7 @@ module _ (files : Option (List Stored)) (moment : Option ℤ) (folder : Faults) 
 
     -- the hub was opened
     pub asks_opened : (keeper_open : ℕ) (stands : KeptState → Type 0) → ((kept : KeptState) → stands kept → old kept) → keeper_open ≡ keeper → (a : Answer)
-        → LeadsFrom stands new (IsAskAnswer (outside_of files moment folder (faults_of keeper_open keeper_now)) file a.done a.end) → LeadsFrom old new (IsCommandAnswer (Ask file) whole a)
+        → LeadsFrom stands new (IsAskAnswer (outside_of files moment folder (faults_of keeper_open keeper_now)) file a.done a.end) → LeadsFrom old new (IsAskAnswer whole file a.done a.end)
     asks_opened keeper_open stands told same a =
         leads-on old stands new _ _ told (λ before after is. subst (λ k. IsAskAnswer (outside_of files moment folder (faults_of k keeper_now)) file a.done a.end before after) same is)
 
@@ -326,7 +333,7 @@ module _ (files : Option (List Stored)) (moment : Option ℤ) (folder : Faults) 
 
     -- it couldn't be opened
     pub asks_closed : (T : Type 0) (e : HubError) → RefusesNothing {T = T} (Err e) → CountsFault {T = T} keeper keeper_now (Err e) → ((kept : KeptState) → new kept → old kept)
-        → (a : Answer) → IsPrinted (record { done = []; end = end_of_error e }) a → LeadsFrom old new (IsCommandAnswer (Ask file) whole a)
+        → (a : Answer) → IsPrinted (record { done = []; end = end_of_error e }) a → LeadsFrom old new (IsAskAnswer whole file a.done a.end)
     asks_closed T e quiet counts told a printed =
         leads-on old new new _ _ told (λ before after is. is)
-        (leads-nowhere new (IsCommandAnswer (Ask file) whole a) (λ kept. stopped_as whole (end_of_error e) a kept (open_stops T e quiet counts) printed))
+        (leads-nowhere new (IsAskAnswer whole file a.done a.end) (λ kept. stopped_as whole (end_of_error e) a kept (open_stops T e quiet counts) printed))

@@ -1,21 +1,29 @@
 -- What an answer's status says, and answers for want of memory.
-use Rattle.std.proofs.Common.{◌≡◌, ◌≢◌, ℕ, ℤ, List, [], Option, Some, None, Result, Ok, Err, IsErr, refl, sym, ap, subst, ◌∙◌, inl, inr}
+use Rattle.std.proofs.Common.{◌≡◌, ◌≢◌, ◌⊎◌, ℕ, ℤ, List, [], Option, Some, None, Result, Ok, Err, IsErr, refl, sym, ap, subst, ◌∙◌, inl, inr}
+use Rattle.consumer_cli.specs.Consumers.{CopyRun, LinkRun}
+use Rattle.consumer_cli.specs.SyncLines.{sync_status, sync_text}
+use Rattle.consumer_cli.specs.Syncs.{IsSyncOf}
+use Rattle.consumer_cli.specs.Tasks.{Task}
 use Rattle.csv_sets.specs.declared.fault.SetFault.{SetFault}
 use Rattle.csv_sets.specs.Files as files
+use Rattle.exchange_link.specs.declared.answer.SyncAnswer.{SyncAnswer}
+use Rattle.exchange_link.specs.declared.answer.SyncAnswer.TheVariants as sync
 use Rattle.keeper_memory.specs.Kept.{KeptState}
+use Rattle.roster_base.specs.Faults.{Rose}
 use Rattle.roster_types.specs.declared.set_row.SetRow.{SetRow}
 use Rattle.roster_values.specs.declared.kind.Kind.{Kind}
 use Rattle.roster_values.specs.declared.mode.Mode.TheVariants.{Bulk}
-use Rattle.hub_cli.specs.Answers.{IsPrinted, status_of}
-use Rattle.outside_ports.specs.Files.{Stored}
-use Rattle.hub_cli.specs.Outside.{HaveRisen, Outside, faults_of, outside_of}
-use Rattle.hub_cli.specs.Runs.{IsAnswer, IsCommandAnswer, IsShowAnswer, LeadsFrom, WantsMemory}
+use Rattle.hub_cli.specs.Answers.{IsPrinted, status_of, text_of}
+use Rattle.hub_cli.specs.ConsumerAnswers.{IsListAnswer, IsSyncAnswer, ListEnds}
+use Rattle.hub_cli.specs.Outside.{HaveRisen, NothingFailed, Outside}
+use Rattle.hub_cli.specs.Runs.{ConsumerRests, IsAnswer, IsCommandAnswer, IsShowAnswer, LeadsFrom, WantsMemory}
 use Rattle.hub_cli.specs.Shows.{IsShown, answer_of_file, answer_of_rows}
+use Rattle.hub_cli.specs.Words.{command_in}
 use Rattle.hub_cli.specs.declared.answer.Answer.{Answer}
 use Rattle.hub_cli.specs.declared.answer.End.{End}
 use Rattle.hub_cli.specs.declared.answer.End.TheVariants as ends
 use Rattle.hub_cli.specs.declared.words.Command.{Command}
-use Rattle.hub_cli.specs.declared.words.Command.TheVariants.{Ask, Grant, Publish, Show}
+use Rattle.hub_cli.specs.declared.words.Command.TheVariants.{Ask, Grant, ListHeld, Publish, Show, Sync}
 use Rattle.hub_cli.specs.declared.words.Parsed.{Parsed}
 use Rattle.hub_cli.proofs.Asking.{ask-says, ask-wants}
 use Rattle.hub_cli.proofs.Granting.{grant-says, grant-wants}
@@ -24,18 +32,6 @@ use Rattle.hub_cli.proofs.Publishing.{Says, run-says, run-wants}
 
 abbrev pub out_of_memory : Answer
 out_of_memory = record { done = []; end = ends.NoMemory }
-
--- memory may run out before anything is done
-wants-any : (r : Result Parsed ℕ) (o : Outside) (kept : KeptState) → IsAnswer r o out_of_memory kept kept
-wants-any (Err place) o kept = (refl, inr (refl, refl))
-wants-any (Ok parsed) o kept = inr (refl, (refl, refl))
-
-pub leads-wants : (stands : KeptState → Type 0) (r : Result Parsed ℕ) (o : Outside) → LeadsFrom stands stands (IsAnswer r o out_of_memory)
-leads-wants stands r o = leads-nowhere stands (IsAnswer r o out_of_memory) (wants-any r o)
-
--- words that are no command
-pub bad-words : (stands : KeptState → Type 0) (files : Option (List Stored)) (moment : Option ℤ) (folder keeper place : ℕ) → LeadsFrom stands stands (IsAnswer (Err place) (outside_of files moment (faults_of folder folder) (faults_of keeper keeper)) (record { done = []; end = ends.BadWord place }))
-bad-words stands files moment folder keeper place = leads-nowhere stands _ (λ kept. (refl, inl (refl, record { folder = refl; keeper = refl })))
 
 -- ---- want of memory for the line of an end
 
@@ -55,41 +51,54 @@ show-wants kind o a (inl failed) other = (failed.0, refl)
 show-wants kind o a (inr (inl shown)) other = (shown-done o kind a shown.0 other, refl)
 show-wants kind o a (inr (inr wants)) other = (wants.0, refl)
 
-command-wants : (command : Command) (o : Outside) (a : Answer) (before after : KeptState) → IsCommandAnswer command o a before after → a.end ≢ ends.Done → IsAnswer (Ok (record { folder = None; store = None; keep = None; command = command })) o (record a { end = ends.NoMemory }) before after
-command-wants (Show kind) o a before after is other = inr (is.0, show-wants kind o a is.1 other)
-command-wants (Publish feeds) o a before after (inl failed) other = inr (failed.0, (failed.1.0, refl))
-command-wants (Publish feeds) o a before after (inr run) other = inl (inr (run-wants o feeds a.done a.end before after run))
-command-wants (Grant file) o a before after is other = inl (grant-wants o file a.done a.end before after is other)
-command-wants (Ask file) o a before after is other = inl (ask-wants o file a.done a.end before after is other)
+module _ (copy : CopyRun) (link : LinkRun) where
+  sync-wants : (task : Task) (a : Answer) → IsSyncAnswer task copy link a → IsSyncAnswer task copy link (record a { end = ends.NoMemory })
+  sync-wants task a (none, s, is, how) = (none, s, is, inr refl)
 
-answer-wants : (r : Result Parsed ℕ) (o : Outside) (a : Answer) (before after : KeptState) → IsAnswer r o a before after → a.end ≢ ends.Done → IsAnswer r o (record a { end = ends.NoMemory }) before after
-answer-wants (Err place) o a before after (same, inl bad) other = (same, inr (ap (λ (x : Answer). x.done) bad.0, refl))
-answer-wants (Err place) o a before after (same, inr wants) other = (same, inr (wants.0, refl))
-answer-wants (Ok parsed) o a before after (inl is) other = command-wants parsed.command o a before after is other
-answer-wants (Ok parsed) o a before after (inr wants) other = inr (wants.0, (wants.1.0, refl))
+  list-wants : (kind : Kind) (a : Answer) → ListEnds kind copy a → a.end ≢ ends.Done → ListEnds kind copy (record a { end = ends.NoMemory })
+  list-wants kind a (inl told) other = absurd (other told.0)
+  list-wants kind a (inr (inl failed)) other = inr (inr (refl, failed.1))
+  list-wants kind a (inr (inr wants)) other = inr (inr (refl, wants.1))
 
--- what is printed of an answer is one
-answer-printed : (r : Result Parsed ℕ) (o : Outside) (a b : Answer) (before after : KeptState) → IsPrinted a b → IsAnswer r o a before after → IsAnswer r o b before after
-answer-printed r o a b before after (inl same) is = subst (λ (x : Answer). IsAnswer r o x before after) (sym same) is
-answer-printed r o a b before after (inr (other, same)) is = subst (λ (x : Answer). IsAnswer r o x before after) (sym same) (answer-wants r o a before after is other)
+  command-wants : (command : Command) (o : Outside) (a : Answer) (before after : KeptState) → IsCommandAnswer command o copy link a before after → a.end ≢ ends.Done
+      → IsCommandAnswer command o copy link (record a { end = ends.NoMemory }) before after ⊎ (ConsumerRests copy link × (after ≡ before) × WantsMemory (record a { end = ends.NoMemory }))
+  command-wants (Show kind) o a before after is other = inr (is.0, is.1, show-wants kind o a is.2 other)
+  command-wants (Publish feeds) o a before after (rests, inl failed) other = inr (rests, failed.0, (failed.1.0, refl))
+  command-wants (Publish feeds) o a before after (rests, inr run) other = inl (rests, inr (run-wants o feeds a.done a.end before after run))
+  command-wants (Grant file) o a before after is other = inl (is.0, grant-wants o file a.done a.end before after is.1 other)
+  command-wants (Ask file) o a before after is other = inl (is.0, ask-wants o file a.done a.end before after is.1 other)
+  command-wants (Sync task) o a before after is other = inl (is.0, is.1, sync-wants task a is.2)
+  command-wants (ListHeld kind) o a before after is other = inl (is.0, is.1, is.2, (is.3.0, list-wants kind a is.3.1 other))
 
-pub leads-printed : (old new : KeptState → Type 0) (r : Result Parsed ℕ) (o : Outside) (a b : Answer) → IsPrinted a b → LeadsFrom old new (IsAnswer r o a) → LeadsFrom old new (IsAnswer r o b)
-leads-printed old new r o a b printed = leads-on old old new (IsAnswer r o a) (IsAnswer r o b) (λ kept stands. stands) (λ before after is. answer-printed r o a b before after printed is)
+  answer-wants : (r : Result Parsed ℕ) (o : Outside) (a : Answer) (before after : KeptState) → IsAnswer r o copy link a before after → a.end ≢ ends.Done → IsAnswer r o copy link (record a { end = ends.NoMemory }) before after
+  answer-wants (Err place) o a before after (rests, same, inl bad) other = (rests, same, inr (ap (λ (x : Answer). x.done) bad.0, refl))
+  answer-wants (Err place) o a before after (rests, same, inr wants) other = (rests, same, inr (wants.0, refl))
+  answer-wants (Ok parsed) o a before after (inl is) other = command-wants parsed.command o a before after is other
+  answer-wants (Ok parsed) o a before after (inr wants) other = inr (wants.0, wants.1, (wants.2.0, refl))
+
+  -- what is printed of an answer is one
+  answer-printed : (r : Result Parsed ℕ) (o : Outside) (a b : Answer) (before after : KeptState) → IsPrinted a b → IsAnswer r o copy link a before after → IsAnswer r o copy link b before after
+  answer-printed r o a b before after (inl same) is = subst (λ (x : Answer). IsAnswer r o copy link x before after) (sym same) is
+  answer-printed r o a b before after (inr (other, same)) is = subst (λ (x : Answer). IsAnswer r o copy link x before after) (sym same) (answer-wants r o a before after is other)
+
+  pub leads-printed : (old new : KeptState → Type 0) (r : Result Parsed ℕ) (o : Outside) (a b : Answer) → IsPrinted a b → LeadsFrom old new (IsAnswer r o copy link a) → LeadsFrom old new (IsAnswer r o copy link b)
+  leads-printed old new r o a b printed =
+      leads-on old old new (IsAnswer r o copy link a) (IsAnswer r o copy link b) (λ kept stands. stands) (λ before after is. answer-printed r o a b before after printed is)
 
 -- ---- what a status says
 
 module _ (o : Outside) where
-  says_only : (end : End) (n : ℕ) → status_of end ≡ n → n ≢ 2 → n ≢ 3 → n ≢ 5 → Says o end
-  says_only end n is a b d = record { words = λ e. a (sym is ∙ e); folder = λ e. absurd (b (sym is ∙ e)); keeper = λ e. absurd (d (sym is ∙ e)) }
+  says_only : (end : End) (n : ℕ) → status_of end ≡ n → n ≢ 2 → n ≢ 3 → n ≢ 5 → n ≢ 6 → Says o end
+  says_only end n is a b d f = record { words = λ e. a (sym is ∙ e); folder = λ e. absurd (b (sym is ∙ e)); keeper = λ e. absurd (d (sym is ∙ e)); copy = λ e. f (sym is ∙ e) }
 
   says_done : (end : End) → status_of end ≡ 0 → Says o end
-  says_done end is = says_only end 0 is (λ f. cc f) (λ f. cc f) (λ f. cc f)
+  says_done end is = says_only end 0 is (λ f. cc f) (λ f. cc f) (λ f. cc f) (λ f. cc f)
 
   says_refused : (end : End) → status_of end ≡ 4 → Says o end
-  says_refused end is = says_only end 4 is (λ f. cc f) (λ f. cc f) (λ f. cc f)
+  says_refused end is = says_only end 4 is (λ f. cc f) (λ f. cc f) (λ f. cc f) (λ f. cc f)
 
   says_memory : (end : End) → end ≡ ends.NoMemory → Says o end
-  says_memory end is = says_only end 17 (ap status_of is) (λ f. cc f) (λ f. cc f) (λ f. cc f)
+  says_memory end is = says_only end 17 (ap status_of is) (λ f. cc f) (λ f. cc f) (λ f. cc f) (λ f. cc f)
 
   rows-say : (kind : Kind) (at : ℤ) (r : Result (List SetRow) SetFault) → Says o (answer_of_rows kind at r).end
   rows-say kind at (Ok rows) = says_done ends.Done refl
@@ -100,67 +109,156 @@ module _ (o : Outside) where
   file-says kind at (Some bytes) = rows-say kind at (files.file_of kind Bulk bytes)
 
   show-says : (kind : Kind) (a : Answer) → IsShowAnswer kind o a → Says o a.end
-  show-says kind a (inl failed) = subst (Says o) (sym failed.1) (record { words = λ e. cc e; folder = λ e. failed.2; keeper = λ e. cc e })
+  show-says kind a (inl failed) = subst (Says o) (sym failed.1) (record { words = λ e. cc e; folder = λ e. failed.2; keeper = λ e. cc e; copy = λ e. cc e })
   show-says kind a (inr (inl shown)) = subst (λ (x : Answer). Says o x.end) (sym shown.0.is) (file-says kind shown.0.at shown.0.file)
   show-says kind a (inr (inr wants)) = says_memory a.end wants.1
 
-  command-says : (command : Command) (a : Answer) (before after : KeptState) → IsCommandAnswer command o a before after → Says o a.end
-  command-says (Show kind) a before after is = show-says kind a is.1
-  command-says (Publish feeds) a before after (inl failed) = subst (Says o) (sym failed.1.1) (record { words = λ e. cc e; folder = λ e. cc e; keeper = λ e. failed.1.2 })
-  command-says (Publish feeds) a before after (inr run) = run-says o feeds a.done a.end before after run
-  command-says (Grant file) a before after is = grant-says o file a.done a.end before after is
-  command-says (Ask file) a before after is = ask-says o file a.done a.end before after is
+module _ (o : Outside) (copy : CopyRun) (link : LinkRun) where
+  -- what the status of an end says of all outside
+  record Tells (end : End) : Type 0 where
+    words : status_of end ≢ 2
+    folder : status_of end ≡ 3 → HaveRisen o.folder
+    keeper : status_of end ≡ 5 → HaveRisen o.keeper
+    copy_says : status_of end ≡ 6 → Rose copy.faults_before copy.faults_now
 
--- status 2 comes only with bad words
-pub answer-words : (r : Result Parsed ℕ) (o : Outside) (a : Answer) (before after : KeptState) → IsAnswer r o a before after → status_of a.end ≡ 2 → IsErr r
-answer-words (Err place) o a before after is e = refl
-answer-words (Ok parsed) o a before after (inl is) e = absurd ((command-says o parsed.command a before after is).words e)
-answer-words (Ok parsed) o a before after (inr wants) e = absurd ((says_memory o a.end wants.1.1).words e)
+  tells : (end : End) → Says o end → Tells end
+  tells end says = record { words = says.words; folder = says.folder; keeper = says.keeper; copy_says = λ e. absurd (says.copy e) }
 
--- and always with them, unless memory runs out
-answer-bad : (r : Result Parsed ℕ) (o : Outside) (a : Answer) (before after : KeptState) → IsAnswer r o a before after → IsErr r → status_of a.end ≢ 17 → status_of a.end ≡ 2
-answer-bad (Err place) o a before after (same, inl bad) err other = ap (λ (x : Answer). status_of x.end) bad.0
-answer-bad (Err place) o a before after (same, inr wants) err other = absurd (other (ap status_of wants.1))
-answer-bad (Ok parsed) o a before after is err other = cc err
+  tells_sync : (end : End) (n : ℕ) → status_of end ≡ n → n ≢ 2 → n ≢ 3 → n ≢ 5 → n ≢ 6 → Tells end
+  tells_sync end n is a b d f = record { words = λ e. a (sym is ∙ e); folder = λ e. absurd (b (sym is ∙ e)); keeper = λ e. absurd (d (sym is ∙ e)); copy_says = λ e. absurd (f (sym is ∙ e)) }
 
--- and 3 and 5 only where the count of the folder's faults, or of the keeper's, rose
-answer-says : (r : Result Parsed ℕ) (o : Outside) (a : Answer) (before after : KeptState) → IsAnswer r o a before after → (status_of a.end ≡ 3 → HaveRisen o.folder) × (status_of a.end ≡ 5 → HaveRisen o.keeper)
-answer-says (Err place) o a before after (same, inl bad) = ((λ e. cc (e, bad.0)), (λ e. cc (e, bad.0)))
-answer-says (Err place) o a before after (same, inr wants) = let says = says_memory o a.end wants.1 in (says.folder, says.keeper)
-answer-says (Ok parsed) o a before after (inl is) = let says = command-says o parsed.command a before after is in (says.folder, says.keeper)
-answer-says (Ok parsed) o a before after (inr wants) = let says = says_memory o a.end wants.1.1 in (says.folder, says.keeper)
+  synced-tells : (task : Task) (s : SyncAnswer) → IsSyncOf task s copy link → Tells (ends.Synced s)
+  synced-tells task (sync.Complete version) is = tells_sync _ 0 refl (λ e. cc e) (λ e. cc e) (λ e. cc e) (λ e. cc e)
+  synced-tells task (sync.Interrupted kind offset) is = tells_sync _ 7 refl (λ e. cc e) (λ e. cc e) (λ e. cc e) (λ e. cc e)
+  synced-tells task (sync.PinGone pin oldest) is = tells_sync _ 8 refl (λ e. cc e) (λ e. cc e) (λ e. cc e) (λ e. cc e)
+  synced-tells task sync.UnknownToken is = tells_sync _ 9 refl (λ e. cc e) (λ e. cc e) (λ e. cc e) (λ e. cc e)
+  synced-tells task (sync.BadReply kind offset) is = tells_sync _ 12 refl (λ e. cc e) (λ e. cc e) (λ e. cc e) (λ e. cc e)
+  synced-tells task (sync.TooLarge kind total) is = tells_sync _ 13 refl (λ e. cc e) (λ e. cc e) (λ e. cc e) (λ e. cc e)
+  synced-tells task sync.HubFault is = tells_sync _ 14 refl (λ e. cc e) (λ e. cc e) (λ e. cc e) (λ e. cc e)
+  synced-tells task sync.HubNoMemory is = tells_sync _ 15 refl (λ e. cc e) (λ e. cc e) (λ e. cc e) (λ e. cc e)
+  synced-tells task sync.LastRun is = tells_sync _ 16 refl (λ e. cc e) (λ e. cc e) (λ e. cc e) (λ e. cc e)
+  synced-tells task sync.NoMemory is = tells_sync _ 17 refl (λ e. cc e) (λ e. cc e) (λ e. cc e) (λ e. cc e)
+  synced-tells task sync.KeeperFault is = record { words = λ e. cc e; folder = λ e. cc e; keeper = λ e. cc e; copy_says = λ e. is.cause.only }
 
-pub leads-words : (old new : KeptState → Type 0) (r : Result Parsed ℕ) (o : Outside) (a : Answer) → LeadsFrom old new (IsAnswer r o a) → status_of a.end ≡ 2 → IsErr r
-leads-words old new r o a from = answer-words r o a from.before from.after from.some
+  sync-tells : (task : Task) (a : Answer) → IsSyncAnswer task copy link a → Tells a.end
+  sync-tells task a (none, s, is, inl same) = subst Tells (sym same) (synced-tells task s is)
+  sync-tells task a (none, s, is, inr same) = tells a.end (says_memory o a.end same)
 
-pub leads-bad : (old new : KeptState → Type 0) (r : Result Parsed ℕ) (o : Outside) (a : Answer) → LeadsFrom old new (IsAnswer r o a) → IsErr r → status_of a.end ≢ 17 → status_of a.end ≡ 2
-leads-bad old new r o a from = answer-bad r o a from.before from.after from.some
+  list-tells : (kind : Kind) (a : Answer) → ListEnds kind copy a → Tells a.end
+  list-tells kind a (inl told) = subst Tells (sym told.0) (tells ends.Done (says_done o ends.Done refl))
+  list-tells kind a (inr (inl failed)) = subst Tells (sym failed.0) (record { words = λ e. cc e; folder = λ e. cc e; keeper = λ e. cc e; copy_says = λ e. failed.2 })
+  list-tells kind a (inr (inr wants)) = tells a.end (says_memory o a.end wants.0)
 
-pub leads-says : (old new : KeptState → Type 0) (r : Result Parsed ℕ) (o : Outside) (a : Answer) → LeadsFrom old new (IsAnswer r o a) → (status_of a.end ≡ 3 → HaveRisen o.folder) × (status_of a.end ≡ 5 → HaveRisen o.keeper)
-leads-says old new r o a from = answer-says r o a from.before from.after from.some
+  command-tells : (command : Command) (a : Answer) (before after : KeptState) → IsCommandAnswer command o copy link a before after → Tells a.end
+  command-tells (Show kind) a before after is = tells a.end (show-says o kind a is.2)
+  command-tells (Publish feeds) a before after (rests, inl failed) =
+      subst Tells (sym failed.1.1) (tells ends.HubFailed (record { words = λ e. cc e; folder = λ e. cc e; keeper = λ e. failed.1.2; copy = λ e. cc e }))
+  command-tells (Publish feeds) a before after (rests, inr run) = tells a.end (run-says o feeds a.done a.end before after run)
+  command-tells (Grant file) a before after is = tells a.end (grant-says o file a.done a.end before after is.1)
+  command-tells (Ask file) a before after is = tells a.end (ask-says o file a.done a.end before after is.1)
+  command-tells (Sync task) a before after is = sync-tells task a is.2
+  command-tells (ListHeld kind) a before after is = list-tells kind a is.3.1
 
--- ---- what is written
+  -- status 2 comes only with bad words
+  answer-words : (r : Result Parsed ℕ) (a : Answer) (before after : KeptState) → IsAnswer r o copy link a before after → status_of a.end ≡ 2 → IsErr r
+  answer-words (Err place) a before after is e = refl
+  answer-words (Ok parsed) a before after (inl is) e = absurd ((command-tells parsed.command a before after is).words e)
+  answer-words (Ok parsed) a before after (inr wants) e = absurd ((says_memory o a.end wants.2.1).words e)
 
--- a command's answer is one to the words that spell the command
-pub leads-command : (old new : KeptState → Type 0) (parsed : Parsed) (command : Command) → parsed.command ≡ command → (o : Outside) (a : Answer) → LeadsFrom old new (IsCommandAnswer command o a)
-    → LeadsFrom old new (IsAnswer (Ok parsed) o a)
-leads-command old new parsed command same o a from =
-    leads-on old old new (IsCommandAnswer command o a) (IsAnswer (Ok parsed) o a) (λ kept stands. stands) (λ before after is. inl (subst (λ (c : Command). IsCommandAnswer c o a before after) (sym same) is)) from
+  -- and always with them, unless memory runs out
+  answer-bad : (r : Result Parsed ℕ) (a : Answer) (before after : KeptState) → IsAnswer r o copy link a before after → IsErr r → status_of a.end ≢ 17 → status_of a.end ≡ 2
+  answer-bad (Err place) a before after (rests, same, inl bad) err other = ap (λ (x : Answer). status_of x.end) bad.0
+  answer-bad (Err place) a before after (rests, same, inr wants) err other = absurd (other (ap status_of wants.1))
+  answer-bad (Ok parsed) a before after is err other = cc err
 
--- what is printed of it is one too
-pub leads-told : (old new : KeptState → Type 0) (parsed : Parsed) (command : Command) → parsed.command ≡ command → (o : Outside) (answer : Answer) → LeadsFrom old new (IsCommandAnswer command o answer)
-    → (a : Answer) → IsPrinted answer a → LeadsFrom old new (IsAnswer (Ok parsed) o a)
-leads-told old new parsed command same o answer from a printed = leads-printed old new (Ok parsed) o answer a printed (leads-command old new parsed command same o answer from)
+  -- what 3, 5 and 6 say
+  abbrev pub Blames : End → Type 0
+  Blames end = (status_of end ≡ 3 → HaveRisen o.folder) × (status_of end ≡ 5 → HaveRisen o.keeper) × (status_of end ≡ 6 → Rose copy.faults_before copy.faults_now)
 
-pub leads-shown : (stands : KeptState → Type 0) (parsed : Parsed) (kind : Kind) → parsed.command ≡ Show kind → (o : Outside) (answer : Answer) → IsShowAnswer kind o answer
-    → (a : Answer) → IsPrinted answer a → LeadsFrom stands stands (IsAnswer (Ok parsed) o a)
-leads-shown stands parsed kind same o answer is = leads-told stands stands parsed (Show kind) same o answer (leads-nowhere stands (IsCommandAnswer (Show kind) o answer) (λ kept. (refl, is)))
+  blames : (end : End) → Tells end → Blames end
+  blames end t = (t.folder, t.keeper, t.copy_says)
 
--- what is printed of bad words
-pub leads-bad-words : (stands : KeptState → Type 0) (files : Option (List Stored)) (moment : Option ℤ) (folder keeper place : ℕ) (a : Answer) → IsPrinted (record { done = []; end = ends.BadWord place }) a
-    → LeadsFrom stands stands (IsAnswer (Err place) (outside_of files moment (faults_of folder folder) (faults_of keeper keeper)) a)
-leads-bad-words stands files moment folder keeper place a printed = leads-printed stands stands (Err place) _ _ a printed (bad-words stands files moment folder keeper place)
+  answer-says : (r : Result Parsed ℕ) (a : Answer) (before after : KeptState) → IsAnswer r o copy link a before after → Blames a.end
+  answer-says (Err place) a before after (rests, same, inl bad) = ((λ e. cc (e, bad.0)), (λ e. cc (e, bad.0)), (λ e. cc (e, bad.0)))
+  answer-says (Err place) a before after (rests, same, inr wants) = blames a.end (tells a.end (says_memory o a.end wants.1))
+  answer-says (Ok parsed) a before after (inl is) = blames a.end (command-tells parsed.command a before after is)
+  answer-says (Ok parsed) a before after (inr wants) = blames a.end (tells a.end (says_memory o a.end wants.2.1))
 
--- and of want of memory
-pub leads-no-memory : (stands : KeptState → Type 0) (r : Result Parsed ℕ) (o : Outside) (a : Answer) → IsPrinted out_of_memory a → LeadsFrom stands stands (IsAnswer r o a)
-leads-no-memory stands r o a printed = leads-printed stands stands r o out_of_memory a printed (leads-wants stands r o)
+  pub leads-words : (old new : KeptState → Type 0) (r : Result Parsed ℕ) (a : Answer) → LeadsFrom old new (IsAnswer r o copy link a) → status_of a.end ≡ 2 → IsErr r
+  leads-words old new r a from = answer-words r a from.before from.after from.some
+
+  pub leads-bad : (old new : KeptState → Type 0) (r : Result Parsed ℕ) (a : Answer) → LeadsFrom old new (IsAnswer r o copy link a) → IsErr r → status_of a.end ≢ 17 → status_of a.end ≡ 2
+  leads-bad old new r a from = answer-bad r a from.before from.after from.some
+
+  pub leads-says : (old new : KeptState → Type 0) (r : Result Parsed ℕ) (a : Answer) → LeadsFrom old new (IsAnswer r o copy link a) → Blames a.end
+  leads-says old new r a from = answer-says r a from.before from.after from.some
+
+  -- ---- a synchronisation
+
+  synced : (task : Task) (a : Answer) → IsSyncAnswer task copy link a → status_of a.end ≢ 17 → (s : SyncAnswer) × IsSyncOf task s copy link × (status_of a.end ≡ sync_status s) × (text_of a ≡ sync_text s)
+  synced task a (none, s, is, inl same) other = (s, is, ap status_of same, text)
+    where
+      text : text_of a ≡ sync_text s
+      text = rw (none, same) refl
+  synced task a (none, s, is, inr same) other = absurd (other (ap status_of same))
+
+  spelled : (task : Task) (parsed : Parsed) (a : Answer) (before after : KeptState) → parsed.command ≡ Sync task → IsCommandAnswer parsed.command o copy link a before after → IsSyncAnswer task copy link a
+  spelled task parsed a before after same is = let told : IsCommandAnswer (Sync task) o copy link a before after = subst (λ (c : Command). IsCommandAnswer c o copy link a before after) same is in told.2
+
+  answer-synced : (task : Task) (r : Result Parsed ℕ) (a : Answer) (before after : KeptState) → command_in r ≡ Some (Sync task) → IsAnswer r o copy link a before after → status_of a.end ≢ 17
+      → (s : SyncAnswer) × IsSyncOf task s copy link × (status_of a.end ≡ sync_status s) × (text_of a ≡ sync_text s)
+  answer-synced task (Err place) a before after same is other = absurd (cc same)
+  answer-synced task (Ok parsed) a before after same (inl is) other = synced task a (spelled task parsed a before after (cc same) is) other
+  answer-synced task (Ok parsed) a before after same (inr wants) other = absurd (other (ap status_of wants.2.1))
+
+  -- what is told of words that spell `sync` is told of a synchronisation
+  pub leads-synced : (old new : KeptState → Type 0) (task : Task) (r : Result Parsed ℕ) (a : Answer) → command_in r ≡ Some (Sync task) → LeadsFrom old new (IsAnswer r o copy link a) → status_of a.end ≢ 17
+      → (s : SyncAnswer) × IsSyncOf task s copy link × (status_of a.end ≡ sync_status s) × (text_of a ≡ sync_text s)
+  leads-synced old new task r a same from other = answer-synced task r a from.before from.after same from.some other
+
+  -- ---- what is written
+
+  -- a command's answer is one to the words that spell the command
+  module _ (old new : KeptState → Type 0) (parsed : Parsed) where
+    pub leads-command : (command : Command) → parsed.command ≡ command → (a : Answer) → LeadsFrom old new (IsCommandAnswer command o copy link a) → LeadsFrom old new (IsAnswer (Ok parsed) o copy link a)
+    leads-command command same a from =
+        leads-on old old new (IsCommandAnswer command o copy link a) (IsAnswer (Ok parsed) o copy link a) (λ kept stands. stands)
+        (λ before after is. inl (subst (λ (c : Command). IsCommandAnswer c o copy link a before after) (sym same) is)) from
+
+    -- what is printed of it is one too
+    pub leads-told : (command : Command) → parsed.command ≡ command → (answer : Answer) → LeadsFrom old new (IsCommandAnswer command o copy link answer) → (a : Answer) → IsPrinted answer a
+        → LeadsFrom old new (IsAnswer (Ok parsed) o copy link a)
+    leads-told command same answer from a printed = leads-printed copy link old new (Ok parsed) o answer a printed (leads-command command same answer from)
+
+  -- a command that looks at no consumer
+  pub leads-resting : (old new : KeptState → Type 0) → ConsumerRests copy link → (leads : KeptState → KeptState → Type 0) → LeadsFrom old new leads → LeadsFrom old new (λ before after. ConsumerRests copy link × leads before after)
+  leads-resting old new rests leads = leads-on old old new leads (λ before after. ConsumerRests copy link × leads before after) (λ kept stands. stands) (λ before after is. (rests, is))
+
+  pub leads-shown : (stands : KeptState → Type 0) (parsed : Parsed) (kind : Kind) → parsed.command ≡ Show kind → ConsumerRests copy link → (answer : Answer) → IsShowAnswer kind o answer → (a : Answer) → IsPrinted answer a
+      → LeadsFrom stands stands (IsAnswer (Ok parsed) o copy link a)
+  leads-shown stands parsed kind same rests answer is =
+      leads-told stands stands parsed (Show kind) same answer (leads-nowhere stands (IsCommandAnswer (Show kind) o copy link answer) (λ kept. (rests, refl, is)))
+
+  pub leads-synchronised : (stands : KeptState → Type 0) (parsed : Parsed) (task : Task) → parsed.command ≡ Sync task → NothingFailed o → (answer : Answer) → IsSyncAnswer task copy link answer → (a : Answer) → IsPrinted answer a
+      → LeadsFrom stands stands (IsAnswer (Ok parsed) o copy link a)
+  leads-synchronised stands parsed task same nothing answer is =
+      leads-told stands stands parsed (Sync task) same answer (leads-nowhere stands (IsCommandAnswer (Sync task) o copy link answer) (λ kept. (refl, nothing, is)))
+
+  pub leads-listed : (stands : KeptState → Type 0) (parsed : Parsed) (kind : Kind) → parsed.command ≡ ListHeld kind → NothingFailed o → link.same → (answer : Answer) → IsListAnswer kind copy answer → (a : Answer) → IsPrinted answer a
+      → LeadsFrom stands stands (IsAnswer (Ok parsed) o copy link a)
+  leads-listed stands parsed kind same nothing rests answer is =
+      leads-told stands stands parsed (ListHeld kind) same answer (leads-nowhere stands (IsCommandAnswer (ListHeld kind) o copy link answer) (λ kept. (refl, nothing, rests, is)))
+
+  -- want of memory before anything is done
+  pub leads-no-memory : (stands : KeptState → Type 0) (r : Result Parsed ℕ) → ConsumerRests copy link → (a : Answer) → IsPrinted out_of_memory a → LeadsFrom stands stands (IsAnswer r o copy link a)
+  leads-no-memory stands r rests a printed = leads-printed copy link stands stands r o out_of_memory a printed (leads-nowhere stands (IsAnswer r o copy link out_of_memory) (λ kept. wants r kept))
+    where
+      wants : (r : Result Parsed ℕ) (kept : KeptState) → IsAnswer r o copy link out_of_memory kept kept
+      wants (Err place) kept = (rests, refl, inr (refl, refl))
+      wants (Ok parsed) kept = inr (rests, refl, (refl, refl))
+
+  -- what is printed of bad words
+  pub leads-bad-words : (stands : KeptState → Type 0) (place : ℕ) → ConsumerRests copy link → NothingFailed o → (a : Answer) → IsPrinted (record { done = []; end = ends.BadWord place }) a → LeadsFrom stands stands (IsAnswer (Err place) o copy link a)
+  leads-bad-words stands place rests nothing a printed =
+      leads-printed copy link stands stands (Err place) o (record { done = []; end = ends.BadWord place }) a printed
+      (leads-nowhere stands (IsAnswer (Err place) o copy link (record { done = []; end = ends.BadWord place })) (λ kept. (rests, refl, inl (refl, nothing))))

@@ -22,11 +22,10 @@ use Rattle.hub_cli.proofs.Publishing.{Says, rose}
 use Rattle.hub_streams.specs.Moments.{IsMomentOf}
 use Rattle.hub_cli.specs.declared.answer.Answer.{Answer}
 use Rattle.hub_cli.specs.declared.answer.End.{End}
-use Rattle.hub_cli.specs.declared.answer.End.TheVariants.{BadWord, Done, FileTooLarge, FolderFailed, GrantsRefused, HubFailed, MissingFile, NoMemory, NotPublished, Refused, RequestRefused}
-use Rattle.hub_cli.specs.declared.words.Command.TheVariants.{Grant}
+use Rattle.hub_cli.specs.declared.answer.End.TheVariants.{BadWord, CopyFailed, Done, FileTooLarge, FolderFailed, GrantsRefused, HubFailed, MissingFile, NoMemory, NotPublished, Refused, RequestRefused, Synced}
 use Rattle.hub_cli.specs.GrantAnswers.{GivesGrants, GrantsFile, IsGrantAnswer, IsGrantsOf, IsTold, ReadsGrants, SetsGrants, StopsGrant, grants_in, or_refused}
 use Rattle.hub_cli.specs.Outside.{Faults, HaveStood, Outside, faults_of, outside_of}
-use Rattle.hub_cli.specs.Runs.{IsCommandAnswer, LeadsFrom}
+use Rattle.hub_cli.specs.Runs.{LeadsFrom}
 use Rattle.hub_cli.specs.Steps.{end_of_error}
 
 -- ---- the file
@@ -63,6 +62,8 @@ module _ (files : Option (List Stored)) (before now : ℕ) (name : List ℕ) (re
   reads_grants (Err (Refused f)) gives = ((read, told, gives), same)
   reads_grants (Err (NotPublished f)) gives = ((read, told, gives), same)
   reads_grants (Err HubFailed) gives = ((read, told, gives), same)
+  reads_grants (Err (Synced a)) gives = ((read, told, gives), same)
+  reads_grants (Err CopyFailed) gives = ((read, told, gives), same)
 
 -- ---- what the hub makes of it
 
@@ -82,6 +83,8 @@ module _ (files : Option (List Stored)) (moment : Option ℤ) (folder keeper : F
   end_of_grants (GrantsRefused f) kept is quiet = (is.0, record { folder = is.1; keeper = quiet }, refl)
   end_of_grants (RequestRefused n f) kept is quiet = (is.0, record { folder = is.1; keeper = quiet }, refl)
   end_of_grants (NotPublished f) kept is quiet = absurd (refused_file file is.0.0 (NotPublished f) is.0.2)
+  end_of_grants (Synced a) kept is quiet = (is.0, record { folder = is.1; keeper = quiet }, refl)
+  end_of_grants CopyFailed kept is quiet = (is.0, record { folder = is.1; keeper = quiet }, refl)
   end_of_grants NoMemory kept is quiet = inl refl
 
   module _ (entries : List GrantEntry) (at : ℤ) (is : IsGrantsOf files file (Ok entries)) (stood : HaveStood folder) (m : IsMomentOf moment at) where
@@ -112,6 +115,8 @@ module _ (o : Outside) (file : List ℕ) where
   stopped (GrantsRefused f) before after stops = (refl, stops)
   stopped (RequestRefused n f) before after stops = (refl, stops)
   stopped (NotPublished f) before after stops = (refl, stops)
+  stopped (Synced a) before after stops = (refl, stops)
+  stopped CopyFailed before after stops = (refl, stops)
   stopped NoMemory before after stops = (refl, stops)
 
   -- what is told of what the hub made is the answer
@@ -146,21 +151,25 @@ module _ (o : Outside) (file : List ℕ) where
   grant-wants done (GrantsRefused f) before after is other = (is.0, inl is.1.2)
   grant-wants done (RequestRefused n f) before after is other = (is.0, inl is.1.2)
   grant-wants done (NotPublished f) before after is other = (is.0, inl is.1.0.4.1)
+  grant-wants done (Synced a) before after is other = (is.0, inl is.1.2)
+  grant-wants done CopyFailed before after is other = (is.0, inl is.1.2)
   grant-wants done NoMemory before after is other = is
 
   -- what the status of an end says
   pub grant-says : (done : List ℕ) (end : End) (before after : KeptState) → IsGrantAnswer o file done end before after → Says o end
-  grant-says done Done before after is = record { words = λ e. cc e; folder = λ e. cc e; keeper = λ e. cc e }
+  grant-says done Done before after is = record { words = λ e. cc e; folder = λ e. cc e; keeper = λ e. cc e; copy = λ e. cc e }
   grant-says done (BadWord place) before after is = absurd (refused_file file is.1.0.0 (BadWord place) is.1.0.2)
-  grant-says done FolderFailed before after is = record { words = λ e. cc e; folder = λ e. is.1.0; keeper = λ e. cc e }
-  grant-says done HubFailed before after is = record { words = λ e. cc e; folder = λ e. cc e; keeper = λ e. is.1.0 }
-  grant-says done (Refused f) before after is = record { words = λ e. cc e; folder = λ e. cc e; keeper = λ e. cc e }
-  grant-says done (MissingFile name) before after is = record { words = λ e. cc e; folder = λ e. cc e; keeper = λ e. cc e }
-  grant-says done (FileTooLarge name) before after is = record { words = λ e. cc e; folder = λ e. cc e; keeper = λ e. cc e }
-  grant-says done (GrantsRefused f) before after is = record { words = λ e. cc e; folder = λ e. cc e; keeper = λ e. cc e }
-  grant-says done (RequestRefused n f) before after is = record { words = λ e. cc e; folder = λ e. cc e; keeper = λ e. cc e }
-  grant-says done (NotPublished f) before after is = record { words = λ e. cc e; folder = λ e. cc e; keeper = λ e. cc e }
-  grant-says done NoMemory before after is = record { words = λ e. cc e; folder = λ e. cc e; keeper = λ e. cc e }
+  grant-says done FolderFailed before after is = record { words = λ e. cc e; folder = λ e. is.1.0; keeper = λ e. cc e; copy = λ e. cc e }
+  grant-says done HubFailed before after is = record { words = λ e. cc e; folder = λ e. cc e; keeper = λ e. is.1.0; copy = λ e. cc e }
+  grant-says done (Refused f) before after is = record { words = λ e. cc e; folder = λ e. cc e; keeper = λ e. cc e; copy = λ e. cc e }
+  grant-says done (MissingFile name) before after is = record { words = λ e. cc e; folder = λ e. cc e; keeper = λ e. cc e; copy = λ e. cc e }
+  grant-says done (FileTooLarge name) before after is = record { words = λ e. cc e; folder = λ e. cc e; keeper = λ e. cc e; copy = λ e. cc e }
+  grant-says done (GrantsRefused f) before after is = record { words = λ e. cc e; folder = λ e. cc e; keeper = λ e. cc e; copy = λ e. cc e }
+  grant-says done (RequestRefused n f) before after is = record { words = λ e. cc e; folder = λ e. cc e; keeper = λ e. cc e; copy = λ e. cc e }
+  grant-says done (NotPublished f) before after is = record { words = λ e. cc e; folder = λ e. cc e; keeper = λ e. cc e; copy = λ e. cc e }
+  grant-says done (Synced a) before after is = absurd (refused_file file is.1.0.0 (Synced a) is.1.0.2)
+  grant-says done CopyFailed before after is = absurd (refused_file file is.1.0.0 CopyFailed is.1.0.2)
+  grant-says done NoMemory before after is = record { words = λ e. cc e; folder = λ e. cc e; keeper = λ e. cc e; copy = λ e. cc e }
 
 -- ---- the whole command
 
@@ -170,16 +179,16 @@ module _ (files : Option (List Stored)) (moment : Option ℤ) (folder : Faults) 
 
   -- the grants of a file, set in the hub that was opened
   pub grant_opened : (keeper_open : ℕ) (stands : KeptState → Type 0) (answer : Answer) → ((kept : KeptState) → stands kept → old kept) → keeper_open ≡ keeper
-      → LeadsFrom stands new (IsGrantAnswer (outside_of files moment folder (faults_of keeper_open keeper_now)) file answer.done answer.end) → LeadsFrom old new (IsCommandAnswer (Grant file) whole answer)
+      → LeadsFrom stands new (IsGrantAnswer (outside_of files moment folder (faults_of keeper_open keeper_now)) file answer.done answer.end) → LeadsFrom old new (IsGrantAnswer whole file answer.done answer.end)
   grant_opened keeper_open stands answer told same =
       leads-on old stands new _ _ told (λ before after is. subst (λ k. IsGrantAnswer (outside_of files moment folder (faults_of k keeper_now)) file answer.done answer.end before after) same is)
 
   -- a hub that couldn't be opened
   pub grant_not_opened : (T : Type 0) (e : HubError) → RefusesNothing {T = T} (Err e) → CountsFault {T = T} keeper keeper_now (Err e) → ((kept : KeptState) → new kept → old kept)
-      → LeadsFrom old new (IsCommandAnswer (Grant file) whole (record { done = []; end = end_of_error e }))
-  grant_not_opened T e quiet counts told = leads-on old new new _ _ told (λ before after is. is) (leads-nowhere new (IsCommandAnswer (Grant file) whole (record { done = []; end = end_of_error e })) (failed e quiet counts))
+      → LeadsFrom old new (IsGrantAnswer whole file [] (end_of_error e))
+  grant_not_opened T e quiet counts told = leads-on old new new _ _ told (λ before after is. is) (leads-nowhere new (IsGrantAnswer whole file [] (end_of_error e)) (failed e quiet counts))
     where
-      failed : (e : HubError) → RefusesNothing {T = T} (Err e) → CountsFault {T = T} keeper keeper_now (Err e) → (kept : KeptState) → IsCommandAnswer (Grant file) whole (record { done = []; end = end_of_error e }) kept kept
+      failed : (e : HubError) → RefusesNothing {T = T} (Err e) → CountsFault {T = T} keeper keeper_now (Err e) → (kept : KeptState) → IsGrantAnswer whole file [] (end_of_error e) kept kept
       failed error.Keeper quiet counts kept = (refl, (rose keeper keeper_now counts, inl refl))
       failed error.NoMemory quiet counts kept = (refl, inl refl)
       failed (error.Refused f) quiet counts kept = absurd quiet

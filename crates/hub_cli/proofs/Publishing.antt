@@ -21,12 +21,11 @@ use Rattle.hub_streams.specs.Moments.{IsMomentOf}
 use Rattle.hub_cli.specs.Answers.{status_of}
 use Rattle.hub_cli.specs.Outside.{Faults, HaveRisen, HaveStood, NothingFailed, Outside, faults_of, outside_of}
 use Rattle.hub_cli.specs.Publishes.{IsRunOf, IsSetOf, PublishesSet, StopsAt, told_text}
-use Rattle.hub_cli.specs.Runs.{IsCommandAnswer, LeadsFrom}
+use Rattle.hub_cli.specs.Runs.{IsPublishAnswer, LeadsFrom}
 use Rattle.hub_cli.specs.Steps.{PublishesFeed, ReadsSet, end_of, end_of_error}
 use Rattle.hub_cli.specs.declared.answer.Answer.{Answer}
 use Rattle.hub_cli.specs.declared.answer.End.{End}
-use Rattle.hub_cli.specs.declared.answer.End.TheVariants.{BadWord, Done, FileTooLarge, FolderFailed, GrantsRefused, HubFailed, MissingFile, NoMemory, NotPublished, Refused, RequestRefused}
-use Rattle.hub_cli.specs.declared.words.Command.TheVariants.{Publish}
+use Rattle.hub_cli.specs.declared.answer.End.TheVariants.{BadWord, CopyFailed, Done, FileTooLarge, FolderFailed, GrantsRefused, HubFailed, MissingFile, NoMemory, NotPublished, Refused, RequestRefused, Synced}
 use Rattle.hub_cli.specs.declared.words.Feed.{Feed}
 use Rattle.hub_cli.proofs.Leading.{leads-nowhere, leads-on, leads-standing}
 
@@ -54,6 +53,8 @@ module _ (o : Outside) where
   stop-wants feed (FileTooLarge name) before after stops = absurd stops
   stop-wants feed (GrantsRefused f) before after stops = absurd stops
   stop-wants feed (RequestRefused n f) before after stops = absurd stops
+  stop-wants feed (Synced a) before after stops = absurd stops
+  stop-wants feed CopyFailed before after stops = absurd stops
 
   pub run-wants : (feeds : List Feed) (done : List ℕ) (end : End) (before after : KeptState) → IsRunOf o feeds done end before after → IsRunOf o feeds done NoMemory before after
   run-wants [] done end before after run = (run.0, run.1, inr refl)
@@ -70,23 +71,26 @@ module _ (o : Outside) where
     pub words : status_of end ≢ 2
     pub folder : status_of end ≡ 3 → HaveRisen o.folder
     pub keeper : status_of end ≡ 5 → HaveRisen o.keeper
+    pub copy : status_of end ≢ 6
 
   stop-says : (feed : Feed) (end : End) (before after : KeptState) → StopsAt o feed end before after → Says end
   stop-says feed Done before after stops = absurd stops
   stop-says feed (BadWord place) before after stops = absurd stops
-  stop-says feed FolderFailed before after stops = record { words = λ e. cc e; folder = λ e. stops.0; keeper = λ e. cc e }
-  stop-says feed HubFailed before after stops = record { words = λ e. cc e; folder = λ e. cc e; keeper = λ e. stops.0 }
-  stop-says feed (Refused f) before after stops = record { words = λ e. cc e; folder = λ e. cc e; keeper = λ e. cc e }
-  stop-says feed (NotPublished f) before after stops = record { words = λ e. cc e; folder = λ e. cc e; keeper = λ e. cc e }
+  stop-says feed FolderFailed before after stops = record { words = λ e. cc e; folder = λ e. stops.0; keeper = λ e. cc e; copy = λ e. cc e }
+  stop-says feed HubFailed before after stops = record { words = λ e. cc e; folder = λ e. cc e; keeper = λ e. stops.0; copy = λ e. cc e }
+  stop-says feed (Refused f) before after stops = record { words = λ e. cc e; folder = λ e. cc e; keeper = λ e. cc e; copy = λ e. cc e }
+  stop-says feed (NotPublished f) before after stops = record { words = λ e. cc e; folder = λ e. cc e; keeper = λ e. cc e; copy = λ e. cc e }
   stop-says feed (MissingFile name) before after stops = absurd stops
   stop-says feed (FileTooLarge name) before after stops = absurd stops
   stop-says feed (GrantsRefused f) before after stops = absurd stops
   stop-says feed (RequestRefused n f) before after stops = absurd stops
-  stop-says feed NoMemory before after stops = record { words = λ e. cc e; folder = λ e. cc e; keeper = λ e. cc e }
+  stop-says feed (Synced a) before after stops = absurd stops
+  stop-says feed CopyFailed before after stops = absurd stops
+  stop-says feed NoMemory before after stops = record { words = λ e. cc e; folder = λ e. cc e; keeper = λ e. cc e; copy = λ e. cc e }
 
   quiet-says : (end : End) → ((end ≡ Done) × NothingFailed o) ⊎ (end ≡ NoMemory) → Says end
-  quiet-says end (inl is) = subst Says (sym is.0) (record { words = λ e. cc e; folder = λ e. cc e; keeper = λ e. cc e })
-  quiet-says end (inr is) = subst Says (sym is) (record { words = λ e. cc e; folder = λ e. cc e; keeper = λ e. cc e })
+  quiet-says end (inl is) = subst Says (sym is.0) (record { words = λ e. cc e; folder = λ e. cc e; keeper = λ e. cc e; copy = λ e. cc e })
+  quiet-says end (inr is) = subst Says (sym is) (record { words = λ e. cc e; folder = λ e. cc e; keeper = λ e. cc e; copy = λ e. cc e })
 
   pub run-says : (feeds : List Feed) (done : List ℕ) (end : End) (before after : KeptState) → IsRunOf o feeds done end before after → Says end
   run-says [] done end before after run = quiet-says end run.2
@@ -214,16 +218,16 @@ module _ (files : Option (List Stored)) (moment : Option ℤ) (folder folder_now
 
   -- the run of a command that opened its hub
   pub opened : (keeper_open : ℕ) (stands : KeptState → Type 0) (answer : Answer) → ((kept : KeptState) → stands kept → old kept) → keeper_open ≡ keeper
-      → LeadsFrom stands new (IsRunOf (outside_of files moment (faults_of folder folder_now) (faults_of keeper_open keeper_now)) feeds answer.done answer.end) → LeadsFrom old new (IsCommandAnswer (Publish feeds) outside answer)
+      → LeadsFrom stands new (IsRunOf (outside_of files moment (faults_of folder folder_now) (faults_of keeper_open keeper_now)) feeds answer.done answer.end) → LeadsFrom old new (IsPublishAnswer outside feeds answer)
   opened keeper_open stands answer told same =
       leads-on old stands new _ _ told (λ before after run. inr (subst (λ k. IsRunOf (outside_of files moment (faults_of folder folder_now) (faults_of k keeper_now)) feeds answer.done answer.end before after) same run))
 
   -- a hub that couldn't be opened
   pub not_opened : (T : Type 0) (e : HubError) → RefusesNothing {T = T} (Err e) → CountsFault {T = T} keeper keeper_now (Err e) → ((kept : KeptState) → new kept → old kept)
-      → LeadsFrom old new (IsCommandAnswer (Publish feeds) outside (record { done = []; end = end_of_error e }))
-  not_opened T e quiet counts told = leads-on old new new _ _ told (λ before after is. is) (leads-nowhere new (IsCommandAnswer (Publish feeds) outside (record { done = []; end = end_of_error e })) (failed e quiet counts))
+      → LeadsFrom old new (IsPublishAnswer outside feeds (record { done = []; end = end_of_error e }))
+  not_opened T e quiet counts told = leads-on old new new _ _ told (λ before after is. is) (leads-nowhere new (IsPublishAnswer outside feeds (record { done = []; end = end_of_error e })) (failed e quiet counts))
     where
-      failed : (e : HubError) → RefusesNothing {T = T} (Err e) → CountsFault {T = T} keeper keeper_now (Err e) → (kept : KeptState) → IsCommandAnswer (Publish feeds) outside (record { done = []; end = end_of_error e }) kept kept
+      failed : (e : HubError) → RefusesNothing {T = T} (Err e) → CountsFault {T = T} keeper keeper_now (Err e) → (kept : KeptState) → IsPublishAnswer outside feeds (record { done = []; end = end_of_error e }) kept kept
       failed error.Keeper quiet counts kept = inl (refl, (refl, refl, rose keeper keeper_now counts))
       failed error.NoMemory quiet counts kept = inr (run-none outside feeds kept)
       failed (error.Refused f) quiet counts kept = absurd quiet
@@ -259,6 +263,8 @@ module _ (files : Option (List Stored)) (moment : Option ℤ) (folder keeper : F
   end_of_set (FileTooLarge name) kept empty quiet = absurd empty
   end_of_set (GrantsRefused f) kept empty quiet = absurd empty
   end_of_set (RequestRefused n f) kept empty quiet = absurd empty
+  end_of_set (Synced a) kept empty quiet = absurd empty
+  end_of_set CopyFailed kept empty quiet = absurd empty
   end_of_set NoMemory kept is quiet = inl refl
 
   module _ (set : SetRecord) (at : ℤ) (is : IsSetOf files feed (Ok set)) (stood : HaveStood folder) (m : IsMomentOf moment at) where

@@ -1,9 +1,10 @@
 -- What a command answers: its status and its text are functions of the answer alone.
 use Rattle.std.specs.Prelude.{◌≡◌, ◌≢◌, ◌⊎◌, ℕ, ◌++◌, List, [], codes}
+use Rattle.consumer_cli.specs.SyncLines.{sync_status, sync_text}
 use Rattle.hub_cli.specs.declared.answer.Answer.{Answer}
 use Rattle.hub_cli.specs.declared.answer.End.{End}
-use Rattle.hub_cli.specs.declared.answer.End.TheVariants.{BadWord, Done, FileTooLarge, FolderFailed, GrantsRefused, HubFailed, MissingFile, NoMemory, NotPublished, Refused, RequestRefused}
-use Rattle.hub_cli.specs.Lines.{bad_word_text, fault_text, folder_failed, grants_fault_text, hub_failed, named_file_text, no_memory, publish_fault_text, request_text}
+use Rattle.hub_cli.specs.declared.answer.End.TheVariants.{BadWord, CopyFailed, Done, FileTooLarge, FolderFailed, GrantsRefused, HubFailed, MissingFile, NoMemory, NotPublished, Refused, RequestRefused, Synced}
+use Rattle.hub_cli.specs.Lines.{bad_word_text, copy_failed, fault_text, folder_failed, grants_fault_text, hub_failed, named_file_text, no_memory, publish_fault_text, request_text}
 
 abbrev pub status_of : End → ℕ
 status_of Done = 0
@@ -16,6 +17,8 @@ status_of (GrantsRefused fault) = 4
 status_of (RequestRefused number fault) = 4
 status_of (NotPublished fault) = 4
 status_of HubFailed = 5
+status_of (Synced answer) = sync_status answer
+status_of CopyFailed = 6
 status_of NoMemory = 17
 
 -- the line that an end is told by
@@ -30,6 +33,8 @@ end_text (GrantsRefused fault) = grants_fault_text fault
 end_text (RequestRefused number fault) = request_text number fault
 end_text (NotPublished fault) = publish_fault_text fault
 end_text HubFailed = hub_failed
+end_text (Synced answer) = sync_text answer
+end_text CopyFailed = copy_failed
 end_text NoMemory = no_memory
 
 -- what was done, and how it ended

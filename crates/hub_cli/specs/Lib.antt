@@ -1,5 +1,6 @@
 pub mod Answers
 pub mod AskAnswers
+pub mod ConsumerAnswers
 pub mod GrantAnswers
 pub mod Lines
 pub mod Outside

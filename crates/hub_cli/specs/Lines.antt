@@ -159,5 +159,8 @@ bad_word_text place = codes "bad word " ++ decimal place ++ codes "\n"
 abbrev pub hub_failed : List ℕ
 hub_failed = codes "hub store failed\n"
 
+abbrev pub copy_failed : List ℕ
+copy_failed = codes "copy store failed\n"
+
 abbrev pub no_memory : List ℕ
 no_memory = codes "no memory\n"

@@ -1,6 +1,7 @@
 -- What a run of the program answers, and why.
 use Rattle.std.specs.Prelude.{◌≡◌, ◌≢◌, ◌⊎◌, ℕ, List, [], Option, Result, Ok, Err}
 use Rattle.std.specs.Io.KnownBytes.{Appends}
+use Rattle.consumer_cli.specs.Consumers.{CopyRun, LinkRun}
 use Rattle.keeper_memory.specs.Kept.{IsKept, KeptState}
 use Rattle.outside_ports.specs.Written.{AppendsPart}
 use Rattle.roster_base.specs.Faults.{Rose}
@@ -9,9 +10,11 @@ use Rattle.hub_cli.specs.Answers.{status_of, text_of}
 use Rattle.hub_cli.specs.declared.answer.Answer.{Answer}
 use Rattle.hub_cli.specs.declared.answer.End.TheVariants.{BadWord, FolderFailed, HubFailed, NoMemory}
 use Rattle.hub_cli.specs.declared.words.Command.{Command}
-use Rattle.hub_cli.specs.declared.words.Command.TheVariants.{Ask, Grant, Publish, Show}
+use Rattle.hub_cli.specs.declared.words.Command.TheVariants.{Ask, Grant, ListHeld, Publish, Show, Sync}
+use Rattle.hub_cli.specs.declared.words.Feed.{Feed}
 use Rattle.hub_cli.specs.declared.words.Parsed.{Parsed}
 use Rattle.hub_cli.specs.AskAnswers.{IsAskAnswer}
+use Rattle.hub_cli.specs.ConsumerAnswers.{IsListAnswer, IsSyncAnswer}
 use Rattle.hub_cli.specs.GrantAnswers.{IsGrantAnswer}
 use Rattle.hub_cli.specs.Outside.{HaveRisen, HaveStood, NothingFailed, Outside}
 use Rattle.hub_cli.specs.Publishes.{IsRunOf}
@@ -33,20 +36,29 @@ IsHubFailure outside answer = (answer.done ≡ []) × (answer.end ≡ HubFailed)
 abbrev pub IsShowAnswer : Kind → Outside → Answer → Type 0
 IsShowAnswer kind outside answer = IsFolderFailure outside answer ⊎ (IsShown outside kind answer × HaveStood outside.folder) ⊎ WantsMemory answer
 
--- the answer of a command, and the states of the hub before it and after it
-abbrev pub IsCommandAnswer : Command → Outside → Answer → KeptState → KeptState → Type 0
-IsCommandAnswer (Show kind) outside answer before after =
-    (after ≡ before) × IsShowAnswer kind outside answer
-IsCommandAnswer (Publish feeds) outside answer before after =
-    ((after ≡ before) × IsHubFailure outside answer) ⊎ IsRunOf outside feeds answer.done answer.end before after
-IsCommandAnswer (Grant file) outside answer before after = IsGrantAnswer outside file answer.done answer.end before after
-IsCommandAnswer (Ask file) outside answer before after = IsAskAnswer outside file answer.done answer.end before after
+-- the answer of `publish`
+abbrev pub IsPublishAnswer : Outside → List Feed → Answer → KeptState → KeptState → Type 0
+IsPublishAnswer outside feeds answer before after = ((after ≡ before) × IsHubFailure outside answer) ⊎ IsRunOf outside feeds answer.done answer.end before after
+
+-- the consumer's copy and its link are as they were
+abbrev pub ConsumerRests : CopyRun → LinkRun → Type 0
+ConsumerRests copy link = copy.same × link.same
+
+-- the answer of a command, what it does to the consumer's copy and its link, and the states of the hub before it and after it
+abbrev pub IsCommandAnswer : Command → Outside → CopyRun → LinkRun → Answer → KeptState → KeptState → Type 0
+IsCommandAnswer (Show kind) outside copy link answer before after = ConsumerRests copy link × (after ≡ before) × IsShowAnswer kind outside answer
+IsCommandAnswer (Publish feeds) outside copy link answer before after = ConsumerRests copy link × IsPublishAnswer outside feeds answer before after
+IsCommandAnswer (Grant file) outside copy link answer before after = ConsumerRests copy link × IsGrantAnswer outside file answer.done answer.end before after
+IsCommandAnswer (Ask file) outside copy link answer before after = ConsumerRests copy link × IsAskAnswer outside file answer.done answer.end before after
+IsCommandAnswer (Sync task) outside copy link answer before after = (after ≡ before) × NothingFailed outside × IsSyncAnswer task copy link answer
+IsCommandAnswer (ListHeld kind) outside copy link answer before after = (after ≡ before) × NothingFailed outside × link.same × IsListAnswer kind copy answer
 
 -- the answer to words
-abbrev pub IsAnswer : Result Parsed ℕ → Outside → Answer → KeptState → KeptState → Type 0
-IsAnswer (Err place) outside answer before after =
-    (after ≡ before) × (((answer ≡ record { done = []; end = BadWord place }) × NothingFailed outside) ⊎ WantsMemory answer)
-IsAnswer (Ok parsed) outside answer before after = IsCommandAnswer parsed.command outside answer before after ⊎ ((after ≡ before) × WantsMemory answer)
+abbrev pub IsAnswer : Result Parsed ℕ → Outside → CopyRun → LinkRun → Answer → KeptState → KeptState → Type 0
+IsAnswer (Err place) outside copy link answer before after =
+    ConsumerRests copy link × (after ≡ before) × (((answer ≡ record { done = []; end = BadWord place }) × NothingFailed outside) ⊎ WantsMemory answer)
+IsAnswer (Ok parsed) outside copy link answer before after =
+    IsCommandAnswer parsed.command outside copy link answer before after ⊎ (ConsumerRests copy link × (after ≡ before) × WantsMemory answer)
 
 -- a relation of states holds of a run over a keeper that stood for what `old` holds of, and then for what `new` holds of: there is a
 -- state of a hub from which it leads to another; and where the keeper tells, it stood for such a state before

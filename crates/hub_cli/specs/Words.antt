@@ -4,14 +4,14 @@ use Rattle.std.specs.List.{after_first, before_first}
 use Rattle.roster_base.specs.Reading.{◌>>=◌}
 use Rattle.roster_texts.specs.Digits.{digits_value}
 use Rattle.roster_texts.specs.Signs.{digit_zero, dot}
-use Rattle.roster_texts.specs.Texts.{is_name}
+use Rattle.roster_texts.specs.Texts.{is_name, is_token}
 use Rattle.roster_values.specs.Kinds.{kind_of_word}
 use Rattle.roster_values.specs.declared.kind.Kind.{Kind}
 use Rattle.hub_cli.specs.declared.words.Command.{Command}
-use Rattle.hub_cli.specs.declared.words.Command.TheVariants.{Ask, Grant, Publish, Show}
+use Rattle.hub_cli.specs.declared.words.Command.TheVariants.{Ask, Grant, ListHeld, Publish, Show, Sync}
 use Rattle.hub_cli.specs.declared.words.Feed.{Feed}
 use Rattle.hub_cli.specs.declared.words.OptionWord.{OptionWord}
-use Rattle.hub_cli.specs.declared.words.OptionWord.TheVariants.{Folder, Keep, Store}
+use Rattle.hub_cli.specs.declared.words.OptionWord.TheVariants.{Folder, Keep, Peer, Store}
 use Rattle.hub_cli.specs.declared.words.Options.{Options}
 use Rattle.hub_cli.specs.declared.words.Parsed.{Parsed}
 
@@ -20,14 +20,14 @@ abbrev pub ended : ℕ → Command → List (List ℕ) → Result Command ℕ
 ended place command [] = Ok command
 ended place command (word ∷ words) = Err place
 
-abbrev pub shown_kind : ℕ → Option Kind → List (List ℕ) → Result Command ℕ
-shown_kind place None words = Err place
-shown_kind place (Some kind) words = ended (place + 1) (Show kind) words
+abbrev pub of_kind : ℕ → (Kind → Command) → Option Kind → List (List ℕ) → Result Command ℕ
+of_kind place command None words = Err place
+of_kind place command (Some kind) words = ended (place + 1) (command kind) words
 
--- a kind's plural word at a place, behind `show`
-abbrev pub show_words : ℕ → List (List ℕ) → Result Command ℕ
-show_words place [] = Err place
-show_words place (word ∷ words) = shown_kind place (kind_of_word word) words
+-- a kind's plural word, behind `show` or `list`
+abbrev pub kind_words : ℕ → (Kind → Command) → List (List ℕ) → Result Command ℕ
+kind_words place command [] = Err place
+kind_words place command (word ∷ words) = of_kind place command (kind_of_word word) words
 
 abbrev pub begins_with_dot : List ℕ → Bool
 begins_with_dot [] = false
@@ -71,41 +71,77 @@ abbrev pub file_words : ℕ → (List ℕ → Command) → List (List ℕ) → R
 file_words place command [] = Err place
 file_words place command (word ∷ words) = if is_file_word word then ended (place + 1) (command word) words else Err place
 
--- the command from a place on
-abbrev pub command_words : ℕ → List (List ℕ) → Result Command ℕ
-command_words place [] = Err place
-command_words place (word ∷ words) =
-    if bytes_eq word (codes "show") then show_words (place + 1) words
-    else if bytes_eq word (codes "publish") then publish_words (place + 1) words
-    else if bytes_eq word (codes "grant") then file_words (place + 1) Grant words
-    else if bytes_eq word (codes "ask") then file_words (place + 1) Ask words
-    else Err place
-
--- ---- options
-
-abbrev pub no_options : Options
-no_options = record { folder = None; store = None; keep = None }
-
--- the option that a word names, if it isn't given yet
-unfoldable pub option_of : Options → List ℕ → Option OptionWord
-option_of options word =
-    if bytes_eq word (codes "--folder") && is_none options.folder then Some Folder
-    else if bytes_eq word (codes "--store") && is_none options.store then Some Store
-    else if bytes_eq word (codes "--keep") && is_none options.keep then Some Keep
-    else None
+-- ---- numbers
 
 -- a number in at most 12 digits, the first of which isn't 0
 unfoldable pub number_in : List ℕ → Option ℕ
 number_in [] = None
 number_in (b ∷ bs) = if (b == digit_zero) || nat_lt 12 (length (b ∷ bs)) then None else digits_value (b ∷ bs)
 
+abbrev pub in_bounds : ℕ → Option ℕ → Option ℕ
+in_bounds most None = None
+in_bounds most (Some n) = if nat_le 1 n && nat_le n most then Some n else None
+
+-- the number from 1 to the most that a word writes
+abbrev pub number_to : ℕ → List ℕ → Option ℕ
+number_to most word = in_bounds most (number_in word)
+
+-- ---- a synchronisation
+
+abbrev pub largest_limit : ℕ
+largest_limit = 1000
+
+abbrev pub largest_tries : ℕ
+largest_tries = 100
+
+abbrev pub tries_words : ℕ → List ℕ → ℕ → List (List ℕ) → Result Command ℕ
+tries_words place token limit [] = Err place
+tries_words place token limit (word ∷ words) = do
+  tries ← or_bad place (number_to largest_tries word)
+  ended (place + 1) (Sync (record { token = token; limit = limit; tries = tries })) words
+
+abbrev pub limit_words : ℕ → List ℕ → List (List ℕ) → Result Command ℕ
+limit_words place token [] = Err place
+limit_words place token (word ∷ words) = do
+  limit ← or_bad place (number_to largest_limit word)
+  tries_words (place + 1) token limit words
+
+-- a token, how many rows a page has at most, and how often a request is tried, behind `sync`
+abbrev pub sync_words : ℕ → List (List ℕ) → Result Command ℕ
+sync_words place [] = Err place
+sync_words place (word ∷ words) = if is_token word then limit_words (place + 1) word words else Err place
+
+-- ---- the command
+
+-- the command from a place on
+abbrev pub command_words : ℕ → List (List ℕ) → Result Command ℕ
+command_words place [] = Err place
+command_words place (word ∷ words) =
+    if bytes_eq word (codes "show") then kind_words (place + 1) Show words
+    else if bytes_eq word (codes "publish") then publish_words (place + 1) words
+    else if bytes_eq word (codes "grant") then file_words (place + 1) Grant words
+    else if bytes_eq word (codes "ask") then file_words (place + 1) Ask words
+    else if bytes_eq word (codes "sync") then sync_words (place + 1) words
+    else if bytes_eq word (codes "list") then kind_words (place + 1) ListHeld words
+    else Err place
+
+-- ---- options
+
+abbrev pub no_options : Options
+no_options = record { folder = None; store = None; peer = None; keep = None }
+
+-- the option that a word names, if it isn't given yet
+unfoldable pub option_of : Options → List ℕ → Option OptionWord
+option_of options word =
+    if bytes_eq word (codes "--folder") && is_none options.folder then Some Folder
+    else if bytes_eq word (codes "--store") && is_none options.store then Some Store
+    else if bytes_eq word (codes "--peer") && is_none options.peer then Some Peer
+    else if bytes_eq word (codes "--keep") && is_none options.keep then Some Keep
+    else None
+
+-- how many versions are to be kept beside the newest at most
 abbrev pub largest_keep : ℕ
 largest_keep = 100000
-
--- how many versions are to be kept beside the newest: 1 to 100,000
-abbrev pub in_bounds : Option ℕ → Option ℕ
-in_bounds None = None
-in_bounds (Some n) = if nat_le 1 n && nat_le n largest_keep then Some n else None
 
 abbrev pub with_keep : ℕ → Options → Option ℕ → Result Options ℕ
 with_keep place options None = Err place
@@ -119,16 +155,21 @@ abbrev pub with_store : ℕ → Options → List ℕ → Result Options ℕ
 with_store place options [] = Err place
 with_store place options (b ∷ bs) = Ok (record options { store = Some (b ∷ bs) })
 
+abbrev pub with_peer : ℕ → Options → List ℕ → Result Options ℕ
+with_peer place options [] = Err place
+with_peer place options (b ∷ bs) = Ok (record options { peer = Some (b ∷ bs) })
+
 -- the options with one more, whose value stands at a place
 abbrev pub set_option : ℕ → Options → OptionWord → List ℕ → Result Options ℕ
 set_option place options Folder value = with_folder place options value
 set_option place options Store value = with_store place options value
-set_option place options Keep value = with_keep place options (in_bounds (number_in value))
+set_option place options Peer value = with_peer place options value
+set_option place options Keep value = with_keep place options (number_to largest_keep value)
 
 abbrev pub with_options : Options → Result Command ℕ → Result Parsed ℕ
 with_options options command = do
   c ← command
-  Ok (record { folder = options.folder; store = options.store; keep = options.keep; command = c })
+  Ok (record { folder = options.folder; store = options.store; peer = options.peer; keep = options.keep; command = c })
 
 -- what follows a word: options behind the value of one, or the command that begins with the word
 abbrev pub behind : Option (Result Options ℕ) → Result Parsed ℕ → (Options → Result Parsed ℕ) → Result Parsed ℕ
@@ -167,3 +208,13 @@ keep_in (Err place) = 10000
 abbrev pub store_in : Result Parsed ℕ → Option (List ℕ)
 store_in (Ok parsed) = parsed.store
 store_in (Err place) = None
+
+-- the address of the hub that is copied, where the words name one
+abbrev pub peer_in : Result Parsed ℕ → Option (List ℕ)
+peer_in (Ok parsed) = parsed.peer
+peer_in (Err place) = None
+
+-- the command that words spell
+abbrev pub command_in : Result Parsed ℕ → Option Command
+command_in (Ok parsed) = Some parsed.command
+command_in (Err place) = None

@@ -8,7 +8,9 @@ use crate::lines::{
     FOLDER_FAILED, HUB_FAILED, NO_MEMORY, bad_word_line, fault_line, grants_fault_line,
     named_file_line, publish_fault_lines, request_line,
 };
+use consumer_cli::{COPY_FAILED, sync_line, sync_status};
 use csv_sets::SetFault;
+use exchange_link::SyncAnswer;
 use grant_files::GrantFault;
 use hub_streams::RequestFault;
 use roster_base::{NoMemory, Text};
@@ -37,6 +39,10 @@ pub enum End {
     NotPublished(PublishFault),
     /// The hub's keeper failed, and its count of faults rose.
     HubFailed,
+    /// A synchronisation ended with this answer.
+    Synced(SyncAnswer),
+    /// The copy's keeper failed, and its count of faults rose.
+    CopyFailed,
     /// Memory ran out, which says nothing of the input.
     NoMemory,
 }
@@ -61,7 +67,7 @@ impl Answer {
 }
 
 impl End {
-    /// The status of the process: 0, 2, 3, 4, 5 or 17.
+    /// The status of the process: 0, 2 to 9, or 12 to 17.
     pub fn status(&self) -> u8
         ensures value { result ≡ answers.status_of self.now }
         ensures other { result ≢ 1 }
@@ -74,6 +80,8 @@ impl End {
             End::MissingFile(_) | End::FileTooLarge(_) | End::GrantsRefused(_) => 4,
             End::RequestRefused { .. } => 4,
             End::HubFailed => 5,
+            End::Synced(answer) => sync_status(*answer),
+            End::CopyFailed => 6,
             End::NoMemory => 17,
         }
     }
@@ -94,6 +102,8 @@ impl End {
             End::RequestRefused { number, fault } => request_line(alloc, *number, *fault),
             End::NotPublished(fault) => publish_fault_lines(alloc, fault),
             End::HubFailed => Ok(String::from_str(alloc, HUB_FAILED)?),
+            End::Synced(answer) => sync_line(alloc, *answer),
+            End::CopyFailed => Ok(String::from_str(alloc, COPY_FAILED)?),
             End::NoMemory => Ok(String::from_str(alloc, NO_MEMORY)?),
         }
     }

@@ -6,9 +6,8 @@ ghost use Rattle.keeper_memory.specs.Kept.{IsKept};
 ghost use Rattle.hub_cli.specs.AskAnswers.{AsksBytes, IsAskAnswer, IsRefusedFile, ReadsBytes, ask_end, closed_end};
 ghost use Rattle.hub_cli.specs.Answers.{IsPrinted};
 ghost use Rattle.hub_cli.specs.Outside.{faults_of, outside_of};
-ghost use Rattle.hub_cli.specs.Runs.{IsCommandAnswer, LeadsFrom, Writes};
+ghost use Rattle.hub_cli.specs.Runs.{LeadsFrom, Writes};
 ghost use Rattle.hub_cli.specs.declared.answer.End.{End as EndValue};
-ghost use Rattle.hub_cli.specs.declared.words.Command.{Command};
 
 use crate::answer::{Answer, End};
 use crate::printing::tell;
@@ -167,7 +166,7 @@ pub fn ask<F: Folder, H: HubKeeper, K: Clock, O: Sink>(
     clock: &K,
     out: &mut O,
 ) -> u8
-    ensures { Writes result (O.written out.old) (O.written out.new) (O.faults out.old) (O.faults out.new) (λ a. LeadsFrom (H.stands_for keeper.old) (H.stands_for keeper.new) (IsCommandAnswer (Command.Ask file.now) (outside_of (F.files folder.old) (K.moment clock.now) (faults_of (F.faults folder.old) (F.faults folder.new)) (faults_of (H.fault_count keeper.old) (H.fault_count keeper.new))) a)) }
+    ensures { Writes result (O.written out.old) (O.written out.new) (O.faults out.old) (O.faults out.new) (λ a. LeadsFrom (H.stands_for keeper.old) (H.stands_for keeper.new) (IsAskAnswer (outside_of (F.files folder.old) (K.moment clock.now) (faults_of (F.faults folder.old) (F.faults folder.new)) (faults_of (H.fault_count keeper.old) (H.fault_count keeper.new))) file.now a.done a.end)) }
 {
     match Hub::open(alloc, keeper) {
         Ok(hub) => ask_into(alloc, hub, file, folder, keeper, clock, out),

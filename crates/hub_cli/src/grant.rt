@@ -5,8 +5,7 @@ ghost use Rattle.hub_core.specs.Standing.{IsStanding, KeeperFits};
 ghost use Rattle.keeper_memory.specs.Kept.{IsKept, KeptState};
 ghost use Rattle.hub_cli.specs.GrantAnswers.{GivesGrants, GrantsFile, IsGrantAnswer, IsTold, ReadsGrants};
 ghost use Rattle.hub_cli.specs.Outside.{faults_of, outside_of};
-ghost use Rattle.hub_cli.specs.Runs.{IsCommandAnswer, LeadsFrom};
-ghost use Rattle.hub_cli.specs.declared.words.Command.{Command};
+ghost use Rattle.hub_cli.specs.Runs.{LeadsFrom};
 
 use crate::answer::{Answer, End};
 use crate::publish::{end_of_error, told_line};
@@ -146,7 +145,7 @@ pub fn grant<F: Folder, H: HubKeeper, K: Clock>(
     keeper: &mut H,
     clock: &K,
 ) -> Answer
-    ensures { LeadsFrom (H.stands_for keeper.old) (H.stands_for keeper.new) (IsCommandAnswer (Command.Grant file.now) (outside_of (F.files folder.old) (K.moment clock.now) (faults_of (F.faults folder.old) (F.faults folder.new)) (faults_of (H.fault_count keeper.old) (H.fault_count keeper.new))) result) }
+    ensures { LeadsFrom (H.stands_for keeper.old) (H.stands_for keeper.new) (IsGrantAnswer (outside_of (F.files folder.old) (K.moment clock.now) (faults_of (F.faults folder.old) (F.faults folder.new)) (faults_of (H.fault_count keeper.old) (H.fault_count keeper.new))) file.now result.done result.end) }
 {
     match Hub::open(alloc, keeper) {
         Ok(hub) => grant_into(alloc, hub, file, folder, keeper, clock),

@@ -6,15 +6,18 @@ pub mod answer;
 mod ask;
 mod grant;
 pub mod lines;
+mod list;
 mod printing;
 mod publish;
 pub mod run;
 mod show;
+mod sync;
 pub mod words;
 
 pub use answer::{Answer, End};
 pub use printing::print;
 pub use run::run_hub;
 pub use words::{
-    Command, Feed, OptionWord, Options, Parsed, WordError, keep_of, root_of, split_words, store_of,
+    Command, Feed, OptionWord, Options, Parsed, WordError, keep_of, peer_of, root_of, split_words,
+    store_of,
 };

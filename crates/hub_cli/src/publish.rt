@@ -5,9 +5,8 @@ ghost use Rattle.hub_core.specs.Standing.{IsStanding, KeeperFits};
 ghost use Rattle.keeper_memory.specs.Kept.{IsKept, KeptState};
 ghost use Rattle.hub_cli.specs.Outside.{faults_of, outside_of};
 ghost use Rattle.hub_cli.specs.Publishes.{IsRunOf, told_text};
-ghost use Rattle.hub_cli.specs.Runs.{IsCommandAnswer, LeadsFrom};
+ghost use Rattle.hub_cli.specs.Runs.{IsPublishAnswer, LeadsFrom};
 ghost use Rattle.hub_cli.specs.Steps.{PublishesFeed, ReadsSet, end_of, end_of_error};
-ghost use Rattle.hub_cli.specs.declared.words.Command.{Command};
 
 use crate::answer::{Answer, End};
 use crate::lines::{published_line, unchanged_line};
@@ -157,7 +156,7 @@ pub fn publish<F: Folder, H: HubKeeper, K: Clock>(
     keeper: &mut H,
     clock: &K,
 ) -> Answer
-    ensures { LeadsFrom (H.stands_for keeper.old) (H.stands_for keeper.new) (IsCommandAnswer (Command.Publish feeds.now) (outside_of (F.files folder.old) (K.moment clock.now) (faults_of (F.faults folder.old) (F.faults folder.new)) (faults_of (H.fault_count keeper.old) (H.fault_count keeper.new))) result) }
+    ensures { LeadsFrom (H.stands_for keeper.old) (H.stands_for keeper.new) (IsPublishAnswer (outside_of (F.files folder.old) (K.moment clock.now) (faults_of (F.faults folder.old) (F.faults folder.new)) (faults_of (H.fault_count keeper.old) (H.fault_count keeper.new))) feeds.now result) }
 {
     match Hub::open(alloc, keeper) {
         Ok(hub) => publish_into(alloc, hub, feeds.as_slice(), folder, keeper, clock),

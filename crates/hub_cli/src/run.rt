@@ -1,22 +1,32 @@
 //! The program's top call.
 
-ghost use Rattle.std.specs.Prelude.{◌≡◌, ◌≢◌, IsErr, Ok, map, string_bytes};
+ghost use Rattle.std.specs.Prelude.{◌≡◌, ◌≢◌, IsErr, Ok, Some, map, string_bytes};
 ghost use Rattle.std.specs.Io.KnownBytes.{Appends};
+ghost use Rattle.consumer_cli.specs.Consumers.{copy_run, link_run};
+ghost use Rattle.consumer_cli.specs.SyncLines.{sync_status, sync_text};
+ghost use Rattle.consumer_cli.specs.Syncs.{IsSyncOf};
+ghost use Rattle.consumer_cli.specs.Tasks.{Task};
+ghost use Rattle.exchange_link.specs.declared.answer.SyncAnswer.{SyncAnswer as SyncAnswerValue};
 ghost use Rattle.outside_ports.specs.Written.{AppendsPart};
 ghost use Rattle.roster_base.specs.Faults.{Rose};
 ghost use Rattle.hub_cli.specs.Answers.{status_of, text_of};
 ghost use Rattle.hub_cli.specs.Outside.{Faults, faults_of, outside_of};
 ghost use Rattle.hub_cli.specs.Runs.{IsAnswer, IsShowAnswer, LeadsFrom, Writes};
-ghost use Rattle.hub_cli.specs.Words.{split};
+ghost use Rattle.hub_cli.specs.Words.{command_in, split};
 ghost use Rattle.hub_cli.specs.declared.answer.Answer.{Answer as AnswerValue};
+ghost use Rattle.hub_cli.specs.declared.words.Command.TheVariants.{Sync};
 
 use crate::answer::{Answer, End};
 use crate::ask::ask;
 use crate::grant::grant;
+use crate::list::list;
 use crate::printing::tell;
 use crate::publish::publish;
 use crate::show::show;
+use crate::sync::sync;
 use crate::words::{Command, Parsed, split_words};
+use copy_keeper::CopyKeeper;
+use exchange_link::Link;
 use keeper_memory::HubKeeper;
 use outside_ports::{Clock, Folder, Sink};
 use roster_base::{NoMemory, Refusal};
@@ -34,15 +44,21 @@ fn shown<F: Folder, K: Clock>(alloc: Global, kind: Kind, folder: &mut F, clock: 
 }
 
 // Runs a command. What `ask` answers is written as it goes, and what another answers at its end.
-fn run_command<F: Folder, H: HubKeeper, K: Clock, O: Sink>(
+fn run_command<F: Folder, H: HubKeeper, C: CopyKeeper, L: Link, K: Clock, O: Sink>(
     alloc: Global,
     parsed: &Parsed,
     folder: &mut F,
     keeper: &mut H,
+    copy: &mut C,
+    link: &mut L,
     clock: &K,
     out: &mut O,
 ) -> u8
-    ensures { Writes result (O.written out.old) (O.written out.new) (O.faults out.old) (O.faults out.new) (λ a. LeadsFrom (H.stands_for keeper.old) (H.stands_for keeper.new) (IsAnswer (Ok parsed.now) (outside_of (F.files folder.old) (K.moment clock.now) (faults_of (F.faults folder.old) (F.faults folder.new)) (faults_of (H.fault_count keeper.old) (H.fault_count keeper.new))) a)) }
+    ensures { Writes result (O.written out.old) (O.written out.new) (O.faults out.old) (O.faults out.new) (λ a. LeadsFrom (H.stands_for keeper.old) (H.stands_for keeper.new) (IsAnswer (Ok parsed.now)
+        (outside_of (F.files folder.old) (K.moment clock.now) (faults_of (F.faults folder.old) (F.faults folder.new)) (faults_of (H.fault_count keeper.old) (H.fault_count keeper.new)))
+        (copy_run (C.stands_for copy.old) (C.stands_for copy.new) (C.fault_count copy.old) (C.fault_count copy.new) (copy.new ≡ copy.old))
+        (link_run (L.tells link.old) (L.tells link.new) (L.asked link.old) (L.asked link.new) (L.missed link.new) (L.kept link.new) (L.fault_count link.old) (L.fault_count link.new) (link.new ≡ link.old))
+        a)) }
 {
     match &parsed.command {
         Command::Show { kind } => tell(alloc, shown(alloc, *kind, folder, clock), out),
@@ -51,23 +67,31 @@ fn run_command<F: Folder, H: HubKeeper, K: Clock, O: Sink>(
         }
         Command::Grant { file } => tell(alloc, grant(alloc, file, folder, keeper, clock), out),
         Command::Ask { file } => ask(alloc, file, folder, keeper, clock, out),
+        Command::Sync { task } => tell(alloc, sync(alloc, task, copy, link), out),
+        Command::ListHeld { kind } => tell(alloc, list(alloc, *kind, copy), out),
     }
 }
 
 // Runs what any words spell.
-fn run_words<F: Folder, H: HubKeeper, K: Clock, O: Sink>(
+fn run_words<F: Folder, H: HubKeeper, C: CopyKeeper, L: Link, K: Clock, O: Sink>(
     alloc: Global,
     words: &[String],
     folder: &mut F,
     keeper: &mut H,
+    copy: &mut C,
+    link: &mut L,
     clock: &K,
     out: &mut O,
 ) -> u8
-    ensures { Writes result (O.written out.old) (O.written out.new) (O.faults out.old) (O.faults out.new) (λ a. LeadsFrom (H.stands_for keeper.old) (H.stands_for keeper.new) (IsAnswer (split (map string_bytes words.now)) (outside_of (F.files folder.old) (K.moment clock.now) (faults_of (F.faults folder.old) (F.faults folder.new)) (faults_of (H.fault_count keeper.old) (H.fault_count keeper.new))) a)) }
+    ensures { Writes result (O.written out.old) (O.written out.new) (O.faults out.old) (O.faults out.new) (λ a. LeadsFrom (H.stands_for keeper.old) (H.stands_for keeper.new) (IsAnswer (split (map string_bytes words.now))
+        (outside_of (F.files folder.old) (K.moment clock.now) (faults_of (F.faults folder.old) (F.faults folder.new)) (faults_of (H.fault_count keeper.old) (H.fault_count keeper.new)))
+        (copy_run (C.stands_for copy.old) (C.stands_for copy.new) (C.fault_count copy.old) (C.fault_count copy.new) (copy.new ≡ copy.old))
+        (link_run (L.tells link.old) (L.tells link.new) (L.asked link.old) (L.asked link.new) (L.missed link.new) (L.kept link.new) (L.fault_count link.old) (L.fault_count link.new) (link.new ≡ link.old))
+        a)) }
 {
     match split_words(alloc, words) {
         Ok(parsed) => {
-            let status = run_command(alloc, &parsed, folder, keeper, clock, out);
+            let status = run_command(alloc, &parsed, folder, keeper, copy, link, clock, out);
             drop(parsed);
             status
         }
@@ -78,7 +102,8 @@ fn run_words<F: Folder, H: HubKeeper, K: Clock, O: Sink>(
     }
 }
 
-/// Runs the command that the words spell over the hub that a keeper keeps, and gives the status of the process:
+/// Runs the command that the words spell, over the hub that a keeper keeps or over a consumer's copy and the link to its hub, and gives the
+/// status of the process:
 ///
 /// - 0: done; the command's output is written;
 /// - 1: the sink failed, which goes before every other status;
@@ -86,26 +111,45 @@ fn run_words<F: Folder, H: HubKeeper, K: Clock, O: Sink>(
 /// - 3: the folder failed;
 /// - 4: the input is refused; the line names its first fault;
 /// - 5: the hub's keeper failed;
+/// - 6: the copy's keeper failed;
+/// - 7 to 9, 12 to 16: the synchronisation ended before the copy was whole; the line tells its answer;
 /// - 17: memory ran out, which says nothing of the input.
-pub fn run_hub<F: Folder, H: HubKeeper, K: Clock, O: Sink>(
+pub fn run_hub<F: Folder, H: HubKeeper, C: CopyKeeper, L: Link, K: Clock, O: Sink>(
     alloc: Global,
     words: &[String],
     folder: &mut F,
     keeper: &mut H,
+    copy: &mut C,
+    link: &mut L,
     clock: &K,
     out: &mut O,
 ) -> u8
     // What is written is the text of an answer to the words, and nothing else. The answer leads from a state of the hub to another; where
     // the keeper tells, from one for which it stood to the one for which it stands.
-    ensures done { result ≢ 1 → (a : AnswerValue) × LeadsFrom (H.stands_for keeper.old) (H.stands_for keeper.new) (IsAnswer (split (map string_bytes words.now)) (outside_of (F.files folder.old) (K.moment clock.now) (faults_of (F.faults folder.old) (F.faults folder.new)) (faults_of (H.fault_count keeper.old) (H.fault_count keeper.new))) a) × (result ≡ status_of a.end) × Appends (O.written out.old) (O.written out.new) (text_of a) }
+    ensures done { result ≢ 1 → (a : AnswerValue) × LeadsFrom (H.stands_for keeper.old) (H.stands_for keeper.new) (IsAnswer (split (map string_bytes words.now))
+        (outside_of (F.files folder.old) (K.moment clock.now) (faults_of (F.faults folder.old) (F.faults folder.new)) (faults_of (H.fault_count keeper.old) (H.fault_count keeper.new)))
+        (copy_run (C.stands_for copy.old) (C.stands_for copy.new) (C.fault_count copy.old) (C.fault_count copy.new) (copy.new ≡ copy.old))
+        (link_run (L.tells link.old) (L.tells link.new) (L.asked link.old) (L.asked link.new) (L.missed link.new) (L.kept link.new) (L.fault_count link.old) (L.fault_count link.new) (link.new ≡ link.old))
+        a) × (result ≡ status_of a.end) × Appends (O.written out.old) (O.written out.new) (text_of a) }
     // Where the sink failed, a front of such a text is written.
-    ensures part { result ≡ 1 → (a : AnswerValue) × LeadsFrom (H.stands_for keeper.old) (H.stands_for keeper.new) (IsAnswer (split (map string_bytes words.now)) (outside_of (F.files folder.old) (K.moment clock.now) (faults_of (F.faults folder.old) (F.faults folder.new)) (faults_of (H.fault_count keeper.old) (H.fault_count keeper.new))) a) × AppendsPart (O.written out.old) (O.written out.new) (text_of a) }
+    ensures part { result ≡ 1 → (a : AnswerValue) × LeadsFrom (H.stands_for keeper.old) (H.stands_for keeper.new) (IsAnswer (split (map string_bytes words.now))
+        (outside_of (F.files folder.old) (K.moment clock.now) (faults_of (F.faults folder.old) (F.faults folder.new)) (faults_of (H.fault_count keeper.old) (H.fault_count keeper.new)))
+        (copy_run (C.stands_for copy.old) (C.stands_for copy.new) (C.fault_count copy.old) (C.fault_count copy.new) (copy.new ≡ copy.old))
+        (link_run (L.tells link.old) (L.tells link.new) (L.asked link.old) (L.asked link.new) (L.missed link.new) (L.kept link.new) (L.fault_count link.old) (L.fault_count link.new) (link.new ≡ link.old))
+        a) × AppendsPart (O.written out.old) (O.written out.new) (text_of a) }
+    // Where the words spell `sync`, and neither the sink failed nor memory ran out, line and status are those of a synchronisation, of which
+    // all holds that is promised of one.
+    ensures synchronised { (task : Task) → command_in (split (map string_bytes words.now)) ≡ Some (Sync task) → result ≢ 1 → result ≢ 17 → (a : SyncAnswerValue) × IsSyncOf task a
+        (copy_run (C.stands_for copy.old) (C.stands_for copy.new) (C.fault_count copy.old) (C.fault_count copy.new) (copy.new ≡ copy.old))
+        (link_run (L.tells link.old) (L.tells link.new) (L.asked link.old) (L.asked link.new) (L.missed link.new) (L.kept link.new) (L.fault_count link.old) (L.fault_count link.new) (link.new ≡ link.old))
+        × (result ≡ sync_status a) × Appends (O.written out.old) (O.written out.new) (sync_text a) }
     ensures words_are_bad { result ≡ 2 → IsErr (split (map string_bytes words.now)) }
     ensures bad_words { IsErr (split (map string_bytes words.now)) → result ≢ 1 → result ≢ 17 → result ≡ 2 }
     ensures folder_failed { result ≡ 3 → Rose (F.faults folder.old) (F.faults folder.new) }
     ensures keeper_failed { result ≡ 5 → Rose (H.fault_count keeper.old) (H.fault_count keeper.new) }
+    ensures copy_failed { result ≡ 6 → Rose (C.fault_count copy.old) (C.fault_count copy.new) }
     ensures sink_failed { result ≡ 1 → Rose (O.faults out.old) (O.faults out.new) }
     ensures sink_stood { result ≢ 1 → O.faults out.new ≡ O.faults out.old }
 {
-    run_words(alloc, words, folder, keeper, clock, out)
+    run_words(alloc, words, folder, keeper, copy, link, clock, out)
 }

@@ -1,14 +1,15 @@
 //! The words of the command line.
 
-ghost use Rattle.std.specs.Prelude.{◌≡◌, ◌+◌, ◌<◌, ◌^◌, ℕ, IfOk, List, Ok, length, map, string_bytes};
+ghost use Rattle.std.specs.Prelude.{◌≡◌, ◌+◌, ◌<◌, ◌≤◌, ◌^◌, ℕ, IfOk, IfSome, List, Ok, length, map, string_bytes};
 ghost use Rattle.roster_base.specs.Reading.{Gives};
-ghost use Rattle.hub_cli.specs.Words.{command_words, ended, feed_in, feed_of, feed_words, file_words, in_bounds, is_file_word, keep_in, no_options, number_in, option_of, option_words, publish_words, root_in, set_option, show_words, split, store_in, with_folder, with_keep, with_options, with_store};
+ghost use Rattle.hub_cli.specs.Words.{command_words, ended, feed_in, feed_of, feed_words, file_words, is_file_word, keep_in, kind_words, largest_keep, limit_words, no_options, number_in, number_to, option_of, option_words, peer_in, publish_words, root_in, set_option, split, store_in, sync_words, tries_words, with_folder, with_keep, with_options, with_peer, with_store};
 ghost use Rattle.hub_cli.specs.declared.words.Command.{Command as CommandValue};
-ghost use Rattle.hub_cli.specs.declared.words.Command.TheVariants.{Ask, Grant};
+ghost use Rattle.hub_cli.specs.declared.words.Command.TheVariants.{Ask, Grant, ListHeld, Show};
 
+use consumer_cli::SyncTask;
 use roster_base::{Items, NoMemory, Refusal, Text};
-use roster_texts::Name;
 use roster_texts::digits::number;
+use roster_texts::{Name, Token};
 use roster_values::Kind;
 use std::alloc::Global;
 
@@ -30,6 +31,10 @@ pub enum Command {
     Grant { file: Text },
     /// Answers the requests of a file's bytes.
     Ask { file: Text },
+    /// Copies what a token sees of the hub at the address of the words.
+    Sync { task: SyncTask },
+    /// Prints the rows of a kind that the copy holds.
+    ListHeld { kind: Kind },
 }
 
 /// An option, whose value is the word behind it.
@@ -37,6 +42,7 @@ pub enum Command {
 pub enum OptionWord {
     Folder,
     Store,
+    Peer,
     Keep,
 }
 
@@ -47,6 +53,8 @@ pub struct Options {
     pub folder: Option<Text>,
     /// The folder of the hub's store, where one is named.
     pub store: Option<Text>,
+    /// The address of the hub that is copied, where one is named.
+    pub peer: Option<Text>,
     /// How many versions a new keeper keeps beside the newest.
     pub keep: Option<u32>,
 }
@@ -58,15 +66,22 @@ pub struct Parsed {
     pub folder: Option<Text>,
     /// The folder of the hub's store, where one is named.
     pub store: Option<Text>,
+    /// The address of the hub that is copied, where one is named.
+    pub peer: Option<Text>,
     /// How many versions a new keeper keeps beside the newest, where the words say so: 1 to 100,000.
     pub keep: Option<u32>,
     pub command: Command,
 }
 
 /// How many versions a new keeper keeps beside the newest at most, and where the words don't say.
-const LARGEST_KEEP: u64 = 100_000;
+const LARGEST_KEEP: u32 = 100_000;
 
 const USUAL_KEEP: u32 = 10_000;
+
+/// How many rows a page has at most, and how often a request is tried, at most.
+const LARGEST_LIMIT: u32 = 1_000;
+
+const LARGEST_TRIES: u32 = 100;
 
 /// Why words are no command: the place, from 0, of the first word that no command continues, or the number of words
 /// where one is missing.
@@ -84,13 +99,26 @@ fn end(place: usize, command: Command, words: &[String]) -> Result<Command, Word
 
 fn show(place: usize, words: &[String]) -> Result<Command, WordError>
     requires { place + length words.now < 2 ^ 63 }
-    ensures { Gives (λ c. c) result (show_words place (map string_bytes words.now)) }
+    ensures { Gives (λ c. c) result (kind_words place Show (map string_bytes words.now)) }
 {
     let Some((word, words)) = words.split_first() else {
         return Err(Refusal::Fault(place));
     };
     match Kind::read(word.as_str()) {
         Some(kind) => end(place + 1, Command::Show { kind }, words),
+        None => Err(Refusal::Fault(place)),
+    }
+}
+
+fn list(place: usize, words: &[String]) -> Result<Command, WordError>
+    requires { place + length words.now < 2 ^ 63 }
+    ensures { Gives (λ c. c) result (kind_words place ListHeld (map string_bytes words.now)) }
+{
+    let Some((word, words)) = words.split_first() else {
+        return Err(Refusal::Fault(place));
+    };
+    match Kind::read(word.as_str()) {
+        Some(kind) => end(place + 1, Command::ListHeld { kind }, words),
         None => Err(Refusal::Fault(place)),
     }
 }
@@ -188,6 +216,73 @@ fn ask(alloc: Global, place: usize, words: &[String]) -> Result<Command, WordErr
     Ok(Command::Ask { file })
 }
 
+// The number that a word writes, without a zero in front.
+#[tactic(auto, unfolding(crate::specs::Words::number_in))]
+fn number_in(word: &str) -> Option<u64>
+    ensures { result ≡ number_in word.now }
+{
+    let digits = word.as_bytes();
+    match digits.first() {
+        None | Some(b'0') => None,
+        Some(_) if digits.len() > 12 => None,
+        Some(_) => number(digits),
+    }
+}
+
+// The number from 1 to the most that a word writes.
+fn number_to(most: u32, word: &str) -> Option<u32>
+    ensures value { result ≡ number_to most word.now }
+    ensures some { IfSome result (λ n. 0 < n) }
+    ensures few { IfSome result (λ n. n ≤ most) }
+{
+    match number_in(word) {
+        Some(n) if 1 <= n && n <= most as u64 => Some(n as u32),
+        _ => None,
+    }
+}
+
+fn tries_at(place: usize, token: Token, limit: u32, words: &[String]) -> Result<Command, WordError>
+    requires place { place + length words.now < 2 ^ 63 }
+    requires some { 0 < limit }
+    requires few { limit ≤ LARGEST_LIMIT }
+    ensures { Gives (λ c. c) result (tries_words place token limit (map string_bytes words.now)) }
+{
+    let Some((word, words)) = words.split_first() else {
+        return Err(Refusal::Fault(place));
+    };
+    let Some(tries) = number_to(LARGEST_TRIES, word.as_str()) else {
+        return Err(Refusal::Fault(place));
+    };
+    let task = SyncTask::new(token, limit, tries);
+    end(place + 1, Command::Sync { task }, words)
+}
+
+fn limit_at(place: usize, token: Token, words: &[String]) -> Result<Command, WordError>
+    requires { place + length words.now < 2 ^ 63 }
+    ensures { Gives (λ c. c) result (limit_words place token (map string_bytes words.now)) }
+{
+    let Some((word, words)) = words.split_first() else {
+        return Err(Refusal::Fault(place));
+    };
+    match number_to(LARGEST_LIMIT, word.as_str()) {
+        Some(limit) => tries_at(place + 1, token, limit, words),
+        None => Err(Refusal::Fault(place)),
+    }
+}
+
+fn sync(alloc: Global, place: usize, words: &[String]) -> Result<Command, WordError>
+    requires { place + length words.now < 2 ^ 63 }
+    ensures { Gives (λ c. c) result (sync_words place (map string_bytes words.now)) }
+{
+    let Some((word, words)) = words.split_first() else {
+        return Err(Refusal::Fault(place));
+    };
+    match Token::read(alloc, word.as_str())? {
+        Some(token) => limit_at(place + 1, token, words),
+        None => Err(Refusal::Fault(place)),
+    }
+}
+
 // The command of the words from a place on.
 fn command_at(alloc: Global, place: usize, words: &[String]) -> Result<Command, WordError>
     requires { place + length words.now < 2 ^ 63 }
@@ -198,6 +293,8 @@ fn command_at(alloc: Global, place: usize, words: &[String]) -> Result<Command, 
         Some((word, words)) if word.as_str() == "publish" => publish(alloc, place + 1, words),
         Some((word, words)) if word.as_str() == "grant" => grant(alloc, place + 1, words),
         Some((word, words)) if word.as_str() == "ask" => ask(alloc, place + 1, words),
+        Some((word, words)) if word.as_str() == "sync" => sync(alloc, place + 1, words),
+        Some((word, words)) if word.as_str() == "list" => list(place + 1, words),
         _ => Err(Refusal::Fault(place)),
     }
 }
@@ -216,11 +313,13 @@ fn with_command(
     let Options {
         folder,
         store,
+        peer,
         keep,
     } = options;
     Ok(Parsed {
         folder,
         store,
+        peer,
         keep,
         command,
     })
@@ -237,33 +336,13 @@ fn option_of(options: &Options, word: &str) -> Option<OptionWord>
     if word == "--store" && options.store.is_none() {
         return Some(OptionWord::Store);
     }
+    if word == "--peer" && options.peer.is_none() {
+        return Some(OptionWord::Peer);
+    }
     if word == "--keep" && options.keep.is_none() {
         return Some(OptionWord::Keep);
     }
     None
-}
-
-// The number that a word writes, without a zero in front.
-#[tactic(auto, unfolding(crate::specs::Words::number_in))]
-fn number_in(word: &str) -> Option<u64>
-    ensures { result ≡ number_in word.now }
-{
-    let digits = word.as_bytes();
-    match digits.first() {
-        None | Some(b'0') => None,
-        Some(_) if digits.len() > 12 => None,
-        Some(_) => number(digits),
-    }
-}
-
-// How many versions a word wants to be kept beside the newest.
-fn keep_word(word: &str) -> Option<u32>
-    ensures { result ≡ in_bounds (number_in word.now) }
-{
-    match number_in(word) {
-        Some(keep) if 1 <= keep && keep <= LARGEST_KEEP => Some(keep as u32),
-        _ => None,
-    }
 }
 
 // The options with the folder that a word names.
@@ -298,11 +377,27 @@ fn with_store(
     Ok(Options { store, ..options })
 }
 
+// The options with the address that a word names.
+fn with_peer(
+    alloc: Global,
+    place: usize,
+    options: Options,
+    value: &str,
+) -> Result<Options, WordError>
+    ensures { Gives (λ o. o) result (with_peer place options value.now) }
+{
+    if value.is_empty() {
+        return Err(Refusal::Fault(place));
+    }
+    let peer = Some(Text::new(alloc, value)?);
+    Ok(Options { peer, ..options })
+}
+
 // The options with as many versions to keep as a word says.
 fn with_keep(place: usize, options: Options, value: &str) -> Result<Options, WordError>
-    ensures { Gives (λ o. o) result (with_keep place options (in_bounds (number_in value.now))) }
+    ensures { Gives (λ o. o) result (with_keep place options (number_to largest_keep value.now)) }
 {
-    match keep_word(value) {
+    match number_to(LARGEST_KEEP, value) {
         Some(keep) => Ok(Options {
             keep: Some(keep),
             ..options
@@ -324,6 +419,7 @@ fn set_option(
     match option {
         OptionWord::Folder => with_folder(alloc, place, options, value),
         OptionWord::Store => with_store(alloc, place, options, value),
+        OptionWord::Peer => with_peer(alloc, place, options, value),
         OptionWord::Keep => with_keep(place, options, value),
     }
 }
@@ -358,6 +454,7 @@ pub fn split_words(alloc: Global, words: &[String]) -> Result<Parsed, WordError>
     let none = Options {
         folder: None,
         store: None,
+        peer: None,
         keep: None,
     };
     options_at(alloc, 0, none, words)
@@ -370,10 +467,12 @@ fn folder_in(alloc: Global, parsed: Parsed) -> String
     let Parsed {
         folder,
         store,
+        peer,
         command,
         ..
     } = parsed;
     drop(store);
+    drop(peer);
     drop(command);
     match folder {
         Some(folder) => folder.into_string(),
@@ -411,10 +510,12 @@ fn store_folder(parsed: Parsed) -> Option<Text>
     let Parsed {
         folder,
         store,
+        peer,
         command,
         ..
     } = parsed;
     drop(folder);
+    drop(peer);
     drop(command);
     store
 }
@@ -425,6 +526,34 @@ pub fn store_of(alloc: Global, words: &[String]) -> Result<Option<Text>, NoMemor
 {
     match split_words(alloc, words) {
         Ok(parsed) => Ok(store_folder(parsed)),
+        Err(Refusal::Fault(_)) => Ok(None),
+        Err(Refusal::NoMemory) => Err(NoMemory),
+    }
+}
+
+// The address that parsed words name.
+fn peer_address(parsed: Parsed) -> Option<Text>
+    ensures { result ≡ peer_in (Ok parsed) }
+{
+    let Parsed {
+        folder,
+        store,
+        peer,
+        command,
+        ..
+    } = parsed;
+    drop(folder);
+    drop(store);
+    drop(command);
+    peer
+}
+
+/// The address of the hub that is copied, where the words name one.
+pub fn peer_of(alloc: Global, words: &[String]) -> Result<Option<Text>, NoMemory>
+    ensures { IfOk result (λ p. p ≡ peer_in (split (map string_bytes words.now))) }
+{
+    match split_words(alloc, words) {
+        Ok(parsed) => Ok(peer_address(parsed)),
         Err(Refusal::Fault(_)) => Ok(None),
         Err(Refusal::NoMemory) => Err(NoMemory),
     }

@@ -1,8 +1,10 @@
 //! What a run of a test is given, and what it left.
 
+use copy_keeper::MemCopy;
 use hub_cli::run_hub;
 use keeper_memory::MemHub;
 use outside_ports::{FixedClock, MemFolder, MemSink};
+use peer_links::{NoLink, PeerLink};
 use std::alloc::Global;
 use std::process::Abort;
 use std::test::Fail;
@@ -36,7 +38,7 @@ pub fn push_file(
     Ok(())
 }
 
-/// Runs the words between spaces over a folder, a keeper and a sink, at noon.
+/// Runs the words between spaces over a folder, a keeper and a sink, at noon, with a new copy and no hub to be copied.
 pub fn run_over(
     alloc: Global,
     line: &str,
@@ -46,7 +48,61 @@ pub fn run_over(
 ) -> Result<u8, Fail> {
     let words = words_of(alloc, line)?;
     let clock = FixedClock::at(NOON);
-    Ok(run_hub(alloc, words.as_slice(), folder, keeper, &clock, sink))
+    let mut copy = MemCopy::new(alloc);
+    let mut link = NoLink::new();
+    let status = run_hub(
+        alloc,
+        words.as_slice(),
+        folder,
+        keeper,
+        &mut copy,
+        &mut link,
+        &clock,
+        sink,
+    );
+    drop(copy);
+    Ok(status)
+}
+
+/// Runs the words between spaces over a keeper, a copy, a link and a sink, with no files.
+pub fn run_between(
+    alloc: Global,
+    line: &str,
+    keeper: &mut MemHub,
+    copy: &mut MemCopy,
+    link: &mut PeerLink,
+    sink: &mut MemSink,
+) -> Result<u8, Fail> {
+    let words = words_of(alloc, line)?;
+    let clock = FixedClock::at(NOON);
+    let mut folder = MemFolder::new(Vec::new(alloc), Vec::new(alloc));
+    Ok(run_hub(
+        alloc,
+        words.as_slice(),
+        &mut folder,
+        keeper,
+        copy,
+        link,
+        &clock,
+        sink,
+    ))
+}
+
+/// The status and the text of the words between spaces over a copy and these replies.
+pub fn run_with_copy(
+    alloc: Global,
+    line: &str,
+    copy: &mut MemCopy,
+    replies: Vec<Option<Vec<u8>>>,
+) -> Result<(u8, String), Fail> {
+    let mut keeper = MemHub::new(alloc, 2);
+    let mut link = PeerLink::new(alloc, replies);
+    let mut sink = MemSink::new(alloc, 8192, Vec::new(alloc))?;
+    let status = run_between(alloc, line, &mut keeper, copy, &mut link, &mut sink)?;
+    Ok((
+        status,
+        String::from_str(alloc, str::from_utf8(sink.written())?)?,
+    ))
 }
 
 /// The same, over a new keeper.

@@ -6,7 +6,7 @@ use std::alloc::Global;
 use std::test::Fail;
 
 // Words, and the line that names the first bad one.
-static BAD_WORDS: [(&str, &str); 29] = [
+static BAD_WORDS: [(&str, &str); 52] = [
     ("", "bad word 0\n"),
     ("hide", "bad word 0\n"),
     ("--help", "bad word 0\n"),
@@ -36,6 +36,32 @@ static BAD_WORDS: [(&str, &str); 29] = [
     ("--keep 5 --keep 5 show orgs", "bad word 2\n"),
     ("--keep 5 --folder lake", "bad word 4\n"),
     ("--folder lake --keep 5 show org", "bad word 5\n"),
+    ("--peer", "bad word 1\n"),
+    ("--peer hub:80", "bad word 2\n"),
+    ("--peer hub:80 --peer hub:80 list orgs", "bad word 2\n"),
+    (
+        "--peer hub:80 --folder lake --store st list org",
+        "bad word 7\n",
+    ),
+    ("sync", "bad word 1\n"),
+    ("sync tok,e", "bad word 1\n"),
+    ("sync tok-e", "bad word 2\n"),
+    ("sync tok-e 0", "bad word 2\n"),
+    ("sync tok-e 01", "bad word 2\n"),
+    ("sync tok-e 1001 1", "bad word 2\n"),
+    ("sync tok-e +1 1", "bad word 2\n"),
+    ("sync tok-e 100", "bad word 3\n"),
+    ("sync tok-e 1000 0", "bad word 3\n"),
+    ("sync tok-e 1 101", "bad word 3\n"),
+    ("sync tok-e 1 1x", "bad word 3\n"),
+    ("sync tok-e 1 01", "bad word 3\n"),
+    ("sync tok-e 1 100 1", "bad word 4\n"),
+    ("--keep 5 sync tok-e 1001 1", "bad word 4\n"),
+    ("list", "bad word 1\n"),
+    ("list org", "bad word 1\n"),
+    ("list orgs orgs", "bad word 2\n"),
+    ("list orgs --peer hub:80", "bad word 2\n"),
+    ("lists orgs", "bad word 0\n"),
 ];
 
 #[test]

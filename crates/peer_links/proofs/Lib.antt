@@ -1,1 +1,1 @@
-mod OwnLemmas
+pub mod OwnLemmas

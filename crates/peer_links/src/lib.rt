@@ -6,8 +6,9 @@ pub mod no_link;
 mod own;
 pub mod peer_link;
 pub mod socket_link;
-mod tally;
+pub mod tally;
 
 pub use no_link::NoLink;
 pub use peer_link::PeerLink;
 pub use socket_link::SocketLink;
+pub use tally::Tally;

@@ -1,20 +1,23 @@
 //! The counts of a link.
 
-ghost use Rattle.std.specs.Prelude.{◌≡◌, ◌≤◌, ◌+◌, ◌-◌, ◌^◌, IsTrue, min};
+ghost use Rattle.std.specs.Prelude.{◌≡◌, ◌≤◌, ◌+◌, ◌-◌, ◌^◌, IsTrue, false, min};
 ghost use Rattle.exchange_link.specs.Exchanges.{Misses};
 ghost use Rattle.roster_base.specs.Faults.{Rose};
 
-// How many exchanges were made, how many of them since the last at which the count of faults didn't rise, and how many failed or brought
-// another reply. The counts stay at the end of `u64`.
+/// How many exchanges were made, how many of them since the last at which the count of faults didn't rise, and how many failed or brought
+/// another reply. The counts stay at the end of `u64`.
 #[derive(Drop)]
-pub(crate) struct Tally {
-    pub(crate) asked: u64,
-    pub(crate) missed: u64,
-    pub(crate) faults: u64,
+pub struct Tally {
+    pub asked: u64,
+    pub missed: u64,
+    pub faults: u64,
 }
 
 impl Tally {
-    pub(crate) fn new() -> Tally {
+    /// No exchange was made yet.
+    pub fn new() -> Tally
+        ensures { result ≡ record { asked = 0; missed = 0; faults = 0 } }
+    {
         Tally {
             asked: 0,
             missed: 0,
@@ -22,12 +25,13 @@ impl Tally {
         }
     }
 
-    // Counts an exchange, and a fault where it has one. Where the count of faults stands at its end, each exchange counts as one that missed.
-    pub(crate) fn count(&mut self, has_fault: bool)
+    /// Counts an exchange, and a fault where it has one. Where the count of faults stands at its end, each exchange counts as one that missed.
+    pub fn count(&mut self, has_fault: bool)
         ensures asked { self.new.asked ≡ min (self.old.asked + 1) (2 ^ 64 - 1) }
         ensures missed { Misses (Rose self.old.faults self.new.faults) self.old.missed self.new.missed }
         ensures later { self.old.faults ≤ self.new.faults }
         ensures rose { IsTrue has_fault → Rose self.old.faults self.new.faults }
+        ensures quiet { has_fault ≡ false → self.new.faults ≡ self.old.faults }
     {
         self.asked = self.asked.saturating_add(1);
         if has_fault {

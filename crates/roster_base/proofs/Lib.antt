@@ -1,2 +1,3 @@
 pub mod ListSteps
+pub mod Rising
 pub mod Sorting

@@ -1,9 +1,9 @@
 -- Lists in ascending order of their items' keys.
-use Rattle.std.specs.Prelude.{◌≡◌, ℕ, List, [], ◌∷◌, map, String, string_bytes, string_cmp}
+use Rattle.std.specs.Prelude.{◌≡◌, ℕ, Bool, true, List, [], ◌∷◌, Option, Some, None, map, String, string_bytes, string_cmp}
 use Rattle.std.specs.Cmp.Lexicographic.{slice_cmp}
 use Rattle.std.specs.BTreeMap.{insert_entry}
 use Rattle.std.specs.List.Sorted.{IsStrictlySortedBy}
-use Rattle.std.specs.Ordering.{match_ordering, nat_cmp}
+use Rattle.std.specs.Ordering.{is_lt, match_ordering, nat_cmp}
 use Rattle.std.specs.declared.alloc.Global.{Global}
 
 -- an item at its place among others that are in order: one with the same key gives way
@@ -15,6 +15,11 @@ placed key x (y ∷ ys) = match_ordering (slice_cmp nat_cmp (key x) (key y)) (x 
 abbrev pub in_order : {A : Type 0} → (A → List ℕ) → List A → List A
 in_order key [] = []
 in_order key (x ∷ xs) = placed key x (in_order key xs)
+
+-- a key that nothing or a lower key goes before
+abbrev pub is_below : Option (List ℕ) → List ℕ → Bool
+is_below None key = true
+is_below (Some last) key = is_lt (slice_cmp nat_cmp last key)
 
 -- each key is below those after it
 abbrev pub RiseBy : {A : Type 0} → (A → List ℕ) → List A → Type 0

@@ -1,10 +1,10 @@
 //! Lists in ascending order of their items' keys.
 
-ghost use Rattle.std.specs.Prelude.{◌≡◌, ℕ, List, [], map, IfOk, OnOk, bytes_eq};
+ghost use Rattle.std.specs.Prelude.{◌≡◌, ℕ, List, [], map, true, option_copied, IfOk, OnOk, bytes_eq};
 ghost use Rattle.std.specs.BTreeMap.{values};
 ghost use Rattle.std.specs.List.{IsDistinct};
 ghost use Rattle.std.specs.List.Sorted.{IsPermutation};
-ghost use Rattle.roster_base.specs.Order.{PutsAtKey, RiseBy, in_order};
+ghost use Rattle.roster_base.specs.Order.{PutsAtKey, RiseBy, in_order, is_below};
 
 use crate::memory::NoMemory;
 use std::alloc::Global;
@@ -17,6 +17,29 @@ pub trait Keyed {
     /// The text by which the value is put in order.
     fn key(&self) -> &str
         ensures { result.now ≡ key_of self.now };
+}
+
+fn is_below(last: Option<&str>, key: &str) -> bool
+    ensures { result ≡ is_below (option_copied last.entry) key.now }
+{
+    match last {
+        None => true,
+        Some(last) => last.cmp(key).is_lt(),
+    }
+}
+
+// Whether each key is below the one behind it, as most lists come.
+fn is_in_order<T: Keyed>(items: &[T]) -> bool
+    ensures { result ≡ true → in_order T.key_of items.now ≡ items.now }
+{
+    let mut below = None;
+    for item in items {
+        if !is_below(below, item.key()) {
+            return false;
+        }
+        below = Some(item.key());
+    }
+    true
 }
 
 // Puts an item at its key.
@@ -59,6 +82,9 @@ pub fn sorted<T: Keyed + Drop>(alloc: Global, items: Vec<T>) -> Result<Vec<T>, N
     ensures rise { IfOk result (λ v. RiseBy T.key_of v.items) }
     ensures all { IsDistinct bytes_eq (map T.key_of items.items) → IfOk result (λ v. IsPermutation items.items v.items) }
 {
+    if is_in_order(&items) {
+        return Ok(items);
+    }
     let entries = by_key(alloc, items)?;
     values_of(alloc, entries)
 }

@@ -1,9 +1,11 @@
 //! Words that are run over a keeper, and the files that they name.
 
 use crate::tables::push_keeper;
+use copy_keeper::MemCopy;
 use hub_cli::run_hub;
 use keeper_memory::HubKeeper;
 use outside_ports::{FixedClock, MemFolder, MemSink};
+use peer_links::NoLink;
 use roster_base::NoMemory;
 use std::alloc::Global;
 
@@ -97,14 +99,19 @@ fn run_line<H: HubKeeper>(alloc: Global, line: &str, keeper: &mut H) -> Result<S
     let mut folder = folder(alloc)?;
     let mut sink = MemSink::new(alloc, 1024, Vec::new(alloc))?;
     let clock = FixedClock::at(NOON);
+    let mut copy = MemCopy::new(alloc);
+    let mut link = NoLink::new();
     let status = run_hub(
         alloc,
         words.as_slice(),
         &mut folder,
         keeper,
+        &mut copy,
+        &mut link,
         &clock,
         &mut sink,
     );
+    drop(copy);
     let text = str::from_utf8(sink.written()).unwrap_or("no text");
     Ok(format!(in alloc; "{status} {text}")?)
 }

@@ -1,10 +1,19 @@
-use Rattle.std.proofs.Common.{sym, ◌∙◌}
+use Rattle.std.proofs.Common.{List, subst, sym, ◌∙◌}
 use Rattle.std.proofs.lemmas.Bool.{not-false, not-true}
 use Rattle.std.proofs.lemmas.Result.{err_from_is_err_and}
 use Rattle.csv.specs.Records.{fields_of}
-use Rattle.csv_sets.proofs.FileSteps.{leads_end, leads_fail, leads_on, leads_repeated}
+use Rattle.csv_sets.proofs.FileSteps.{Leads, leads_end, leads_fail, leads_on, leads_repeated, leads_start}
+use Rattle.roster_types.specs.declared.set_row.SetRow.{SetRow}
+use Rattle.csv_sets.proofs.RisingIds.{none_rise}
 use Rattle.csv_sets.proofs.RecordSteps.{found_first, found_none}
 use Rattle.csv_sets.proofs.file.rows_under.Goals as goal
+
+pub loop-cells-init : goal.loop-cells-init
+loop-cells-init c = record {
+  leads = subst (λ (rows : List SetRow). Leads c.args.kind c.args.mode c.args.header.now rows 2 c.args.reader.now c.args.reader.now) (sym c.new-rows.ensures.items)
+      (leads_start c.args.kind c.args.mode c.args.header.now c.args.reader.now c.requires.text);
+  ids = none_rise c.new-rows.result.items c.new-rows.ensures.items;
+}
 
 pub returns-in_err-row : goal.returns-in_err-row
 returns-in_err-row c =

@@ -1,0 +1,13 @@
+-- A synchronisation as it was asked for.
+use Rattle.std.proofs.Common.{◌≡◌, ℕ, List, refl, subst}
+use Rattle.consumer_cli.specs.Consumers.{CopyRun, LinkRun}
+use Rattle.consumer_cli.specs.Syncs.{IsSyncOf}
+use Rattle.consumer_cli.specs.Tasks.{Task}
+use Rattle.exchange_link.specs.declared.answer.SyncAnswer.{SyncAnswer}
+
+module _ (task : Task) (token : List ℕ) (limit tries : ℕ) (a : token ≡ task.token) (b : limit ≡ task.limit) (c : tries ≡ task.tries) where
+  same_task : record { token = token; limit = limit; tries = tries } ≡ task
+  same_task = rw (a, b, c) refl
+
+  pub synced_as : (answer : SyncAnswer) (copies : CopyRun) (link : LinkRun) → IsSyncOf (record { token = token; limit = limit; tries = tries }) answer copies link → IsSyncOf task answer copies link
+  synced_as answer copies link = subst (λ (t : Task). IsSyncOf t answer copies link) same_task

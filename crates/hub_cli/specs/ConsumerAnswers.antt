@@ -1,0 +1,32 @@
+-- What `sync` and `list` answer.
+use Rattle.std.specs.Prelude.{◌≡◌, ◌⊎◌, []}
+use Rattle.consumer_cli.specs.Consumers.{CopyRun, LinkRun}
+use Rattle.consumer_cli.specs.Held.{IsHeldText}
+use Rattle.consumer_cli.specs.Syncs.{IsSyncOf}
+use Rattle.consumer_cli.specs.Tasks.{Task}
+use Rattle.copy_keeper.specs.Copies.{Copy}
+use Rattle.exchange_link.specs.declared.answer.SyncAnswer.{SyncAnswer}
+use Rattle.roster_base.specs.Faults.{Rose}
+use Rattle.roster_values.specs.declared.kind.Kind.{Kind}
+use Rattle.hub_cli.specs.declared.answer.Answer.{Answer}
+use Rattle.hub_cli.specs.declared.answer.End.TheVariants.{CopyFailed, Done, NoMemory, Synced}
+
+-- the answer of `sync`: that of a synchronisation between copy and link, of which all holds that is promised of one; memory may run out
+-- for its line
+abbrev pub IsSyncAnswer : Task → CopyRun → LinkRun → Answer → Type 0
+IsSyncAnswer task copy link answer = (answer.done ≡ []) × (a : SyncAnswer) × IsSyncOf task a copy link × ((answer.end ≡ Synced a) ⊎ (answer.end ≡ NoMemory))
+
+-- each copy for which the keeper stands is one for which it stood
+abbrev pub CopyStays : CopyRun → Type 0
+CopyStays copy = (c : Copy) → copy.stands c → copy.stood c
+
+-- how `list` ends: with the text of the rows, by a failure of the keeper, whose count of faults rose, or for want of memory
+abbrev pub ListEnds : Kind → CopyRun → Answer → Type 0
+ListEnds kind copy answer =
+    ((answer.end ≡ Done) × IsHeldText kind copy.stands answer.done × (copy.faults_now ≡ copy.faults_before))
+    ⊎ ((answer.end ≡ CopyFailed) × (answer.done ≡ []) × Rose copy.faults_before copy.faults_now)
+    ⊎ ((answer.end ≡ NoMemory) × (answer.done ≡ []))
+
+-- the answer of `list`, which leaves the copy as it is
+abbrev pub IsListAnswer : Kind → CopyRun → Answer → Type 0
+IsListAnswer kind copy answer = CopyStays copy × ListEnds kind copy answer

@@ -1,0 +1,26 @@
+//! The command `list`.
+
+ghost use Rattle.std.specs.Prelude.{◌≡◌};
+ghost use Rattle.consumer_cli.specs.Consumers.{copy_run};
+ghost use Rattle.hub_cli.specs.ConsumerAnswers.{IsListAnswer};
+
+use crate::answer::{Answer, End};
+use consumer_cli::held_text;
+use copy_keeper::CopyKeeper;
+use roster_base::{KeeperError, Text};
+use roster_values::Kind;
+use std::alloc::Global;
+
+/// Prints the rows of a kind that a copy holds.
+pub fn list<C: CopyKeeper>(alloc: Global, kind: Kind, copy: &mut C) -> Answer
+    ensures { IsListAnswer kind (copy_run (C.stands_for copy.old) (C.stands_for copy.new) (C.fault_count copy.old) (C.fault_count copy.new) (copy.new ≡ copy.old)) result }
+{
+    match held_text(alloc, copy, kind) {
+        Ok(text) => Answer {
+            done: Text::from_string(text),
+            end: End::Done,
+        },
+        Err(KeeperError::Failed) => Answer::nothing_done(alloc, End::CopyFailed),
+        Err(KeeperError::NoMemory) => Answer::nothing_done(alloc, End::NoMemory),
+    }
+}

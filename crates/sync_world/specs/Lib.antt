@@ -1,0 +1,4 @@
+pub mod Links
+pub mod Own
+pub mod Rows
+pub mod Worlds

@@ -1,0 +1,16 @@
+//! A link to a hub in the same program, which tells all of it, and the synchronisation over it.
+#![tactic(auto)]
+
+mod delivery;
+mod gone;
+mod own_text;
+mod readable;
+mod reading;
+mod rows;
+pub mod syncing;
+pub mod world;
+pub mod world_link;
+
+pub use syncing::sync_over;
+pub use world::World;
+pub use world_link::WorldLink;

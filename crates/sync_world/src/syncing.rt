@@ -1,0 +1,56 @@
+//! The synchronisation over a world.
+
+ghost use Rattle.std.specs.Prelude.{◌≡◌, ◌≢◌, ℕ, ◌+◌, ◌<◌, ◌≤◌, Some};
+ghost use Rattle.copy_keeper.specs.HeldCopy.{empty_copy};
+ghost use Rattle.copy_keeper.specs.States.{stage_of};
+ghost use Rattle.exchange_link.specs.Agreement.{StageAgrees};
+ghost use Rattle.exchange_link.specs.Bounds.{Bounded, IsCallPin};
+ghost use Rattle.exchange_link.specs.Causes.{ToldCause};
+ghost use Rattle.exchange_link.specs.Completeness.{IsDone, StandsAt, first_pin};
+ghost use Rattle.exchange_link.specs.Synchronised.{Synchronised, held_at, own_state};
+ghost use Rattle.roster_base.specs.Faults.{Rose};
+ghost use Rattle.sync_world.specs.Links.{fresh_link, told_by};
+ghost use Rattle.version_core.specs.HubStates.{HubState};
+
+use crate::world_link::WorldLink;
+use consumer_sync::sync;
+use copy_keeper::{CopyKeeper, LAST, MemCopy};
+use exchange_link::{Link, SyncAnswer};
+use roster_texts::Token;
+use std::alloc::Global;
+
+/// Copies what the token sees of the world's newest version into a copy in memory, or goes on with the stage that stands under the token.
+pub fn sync_over(
+    alloc: Global,
+    copy: &mut MemCopy,
+    link: &mut WorldLink,
+    token: &Token,
+    limit: u32,
+    tries: u32,
+) -> SyncAnswer
+    requires limit { (0 < limit) × (limit ≤ 1000) }
+    requires tries { (0 < tries) × (tries ≤ 100) }
+    requires agree { StageAgrees copy.old.copy (told_by link.old) }
+    // Copy and world agree again, and the copy has become what a synchronisation promises.
+    ensures synchronised { Synchronised token.now result copy.old.copy (told_by link.old) copy.new.copy (told_by link.new) }
+    // `Complete` leaves exactly what the token sees of that version of the hub.
+    ensures exact { (version : ℕ) → result ≡ SyncAnswer.Complete version → copy.new.copy.held ≡ Some (held_at version token.now link.new.hub) }
+    // Where nothing fails, and pin and token stand, nothing but want of memory keeps it from being complete.
+    ensures complete { ¬ Rose link.old.faults link.new.faults → ¬ Rose link.old.hub_faults link.new.hub_faults → ¬ Rose copy.old.plan.faults copy.new.plan.faults
+        → copy.old.copy.run ≢ LAST → StandsAt (first_pin (own_state token.now (stage_of copy.old.copy)) link.old.hub) token.now link.new.hub → IsDone result }
+    // The exchanges are no more than the pages missing and the kinds left, each with its tries.
+    ensures bound { (n : ℕ) × (link.new.asked ≤ link.old.asked + n)
+        × Bounded n tries limit token.now (own_state token.now (stage_of copy.old.copy)) (λ version. IsCallPin result copy.new.copy.stage version) link.new.hub }
+    ensures cause { ToldCause token.now (told_by link.old) (told_by link.new) result }
+{
+    let answer = sync(alloc, copy, link, token, limit, tries);
+    // Read for what they keep.
+    let _ = copy.faults();
+    let _ = link.faults();
+    answer
+}
+
+/// An empty copy agrees with a link over which nothing was sent.
+pub fn nothing_sent_agrees()
+    ensures { (hub : HubState) (hub_faults : ℕ) → StageAgrees empty_copy (told_by (fresh_link hub hub_faults)) }
+{}

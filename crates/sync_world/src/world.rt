@@ -1,0 +1,165 @@
+//! A hub over its keeper in memory.
+
+ghost use Rattle.std.specs.Prelude.{◌≡◌, ℕ, [], IfOk, OnOk, false, true};
+ghost use Rattle.hub_requests.specs.Requests.{wanted_by};
+ghost use Rattle.hub_rules.specs.Runs.{Replied, Steps, Take};
+ghost use Rattle.hub_rules.specs.States.{IsHub};
+ghost use Rattle.hub_rules.specs.Wanted.{is_write};
+ghost use Rattle.keeper_memory.specs.Kept.{oldest_kept};
+ghost use Rattle.keeper_memory.specs.Parts.{IsPartOf};
+ghost use Rattle.rest_provider.specs.Steps.{CountsFailed};
+ghost use Rattle.sync_world.specs.Worlds.{IsWhole, all_of};
+ghost use Rattle.hub_core.specs.Steps.{CountsFault};
+
+use crate::gone::hold_oldest;
+use crate::rows::read_tables;
+use hub_core::{Hub, HubError};
+use hub_paths::PathRouter;
+use keeper_memory::{HubKeeper, MemHub};
+use rest_provider::answer;
+use rest_provider::answering::failing;
+use roster_base::KeeperError;
+use roster_texts::Moment;
+use status_info::{Reply, Request, Verb};
+use std::alloc::Global;
+use std::marker::Model;
+use version_core::change::BaseVersion;
+use version_core::hub_tables::tables_stand_for_states;
+
+/// A hub over its keeper in memory, and copies of the versions that the keeper lets go. A clause sees the state with all versions that
+/// were ever published, and how many calls of the keeper failed.
+#[derive(Drop)]
+pub struct World {
+    router: PathRouter,
+    hub: Hub,
+    keeper: MemHub,
+    // Versions from 0 on, at least all that the keeper keeps no longer.
+    gone: Vec<BaseVersion>,
+}
+
+impl Model for World {
+    ghost use Rattle.sync_world.specs.Worlds.{HeldWorld, IsWorld, world_in};
+
+    ghost Value = { HeldWorld };
+
+    ghost view = { world_in };
+
+    ghost invariant = { IsWorld };
+}
+
+fn is_write(verb: Verb) -> bool
+    ensures { result ≡ is_write verb }
+{
+    match verb {
+        Verb::Put | Verb::Delete => true,
+        _ => false,
+    }
+}
+
+// Has a keeper tell what it keeps, of which all rows are read.
+fn read_keeper(alloc: Global, keeper: &mut MemHub) -> Result<(), HubError>
+    requires { (oldest_kept keeper.old.kept.versions).number ≡ 0 }
+    ensures kept { keeper.new.kept ≡ keeper.old.kept }
+    ensures whole { OnOk result (IsWhole [] keeper.old.kept) }
+    ensures cause { CountsFault keeper.old.plan.faults keeper.new.plan.faults result }
+{
+    let tables = keeper.load(alloc)?;
+    read_tables(&tables);
+    tables_stand_for_states();
+    drop(tables);
+    Ok(())
+}
+
+impl World {
+    /// A hub of what this keeper keeps, which is all that was ever published.
+    pub fn over(alloc: Global, keeper: MemHub) -> Result<World, HubError>
+        requires { (oldest_kept keeper.kept.versions).number ≡ 0 }
+        ensures { IfOk result (λ world. world.state ≡ all_of keeper.kept) }
+    {
+        let mut keeper = keeper;
+        let router = PathRouter::new(alloc)?;
+        read_keeper(alloc, &mut keeper)?;
+        let hub = Hub::open(alloc, &mut keeper)?;
+        Ok(World {
+            router,
+            hub,
+            keeper,
+            gone: Vec::new(alloc),
+        })
+    }
+
+    // The hub's reply to a read.
+    fn take_read(&mut self, alloc: Global, request: &Request, at: Moment) -> Reply
+        requires { is_write request.now.verb ≡ false }
+        ensures { (failed : ℕ) × CountsFailed self.old.faults self.new.faults failed × Steps (Take (wanted_by request.now) at) self.old.state (Replied result) self.new.state failed }
+    {
+        answer(
+            alloc,
+            &self.router,
+            &mut self.hub,
+            &mut self.keeper,
+            request,
+            at,
+        )
+    }
+
+    // The hub's reply to a write. The oldest version is held before, which the keeper may let go then.
+    fn take_write(&mut self, alloc: Global, request: &Request, at: Moment) -> Reply
+        ensures { (failed : ℕ) × CountsFailed self.old.faults self.new.faults failed × Steps (Take (wanted_by request.now) at) self.old.state (Replied result) self.new.state failed }
+    {
+        match hold_oldest(alloc, &mut self.keeper, &mut self.gone) {
+            Err(error) => failing(alloc, request, HubError::from(error)),
+            Ok(()) => answer(
+                alloc,
+                &self.router,
+                &mut self.hub,
+                &mut self.keeper,
+                request,
+                at,
+            ),
+        }
+    }
+
+    /// Has the hub take a request at a moment, and gives its reply.
+    pub fn take(&mut self, alloc: Global, request: &Request, at: Moment) -> Reply
+        ensures { (failed : ℕ) × CountsFailed self.old.faults self.new.faults failed × Steps (Take (wanted_by request.now) at) self.old.state (Replied result) self.new.state failed }
+    {
+        if is_write(request.verb) {
+            self.take_write(alloc, request, at)
+        } else {
+            self.take_read(alloc, request, at)
+        }
+    }
+
+    /// How many calls of the keeper failed.
+    pub fn faults(&self) -> u64
+        ensures faults { result ≡ self.now.faults }
+        ensures hub { IsHub self.now.state }
+    {
+        let _ = &self.gone;
+        self.keeper.faults()
+    }
+
+    /// The keeper, which keeps its part of the state.
+    pub fn into_keeper(self) -> MemHub
+        ensures { IsPartOf result.kept self.state }
+    {
+        let World {
+            router: _,
+            hub: _,
+            keeper,
+            gone: _,
+        } = self;
+        keeper
+    }
+}
+
+/// Whether a keeper keeps all versions from 0 on.
+pub fn keeps_all(alloc: Global, keeper: &mut MemHub) -> Result<bool, KeeperError>
+    ensures { IfOk result (λ all. all ≡ true → (oldest_kept keeper.new.kept.versions).number ≡ 0) }
+{
+    let tables = keeper.load(alloc)?;
+    let first = tables.base.number;
+    drop(tables);
+    Ok(first == 0)
+}
