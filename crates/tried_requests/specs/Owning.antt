@@ -14,26 +14,28 @@ use Rattle.status_info.specs.declared.reply.Reply.{Reply}
 use Rattle.status_info.specs.declared.request.Echo.{Echo}
 use Rattle.status_info.specs.declared.request.Request.{Request}
 use Rattle.version_core.specs.HubStates.{HubState}
-use Rattle.consumer_sync.specs.Requests.{IfOwn}
-use Rattle.consumer_sync.specs.declared.ask.Outcome.{Outcome}
-use Rattle.consumer_sync.specs.declared.ask.Outcome.TheVariants as outcome
+use Rattle.tried_requests.specs.Requests.{IfOwn}
+use Rattle.tried_requests.specs.declared.asking.Outcome.{Outcome}
+use Rattle.tried_requests.specs.declared.asking.Outcome.TheVariants as outcome
 
--- what the hub gives at a state: 503 where memory wants, 500 where the count of its keeper rose, or its answer
-pub data Gives (h : HubState) (q : Request) (rose : Type 0) (r : Reply) : Type 0 where
-  Wants : status_of r.cause ≡ 503 → Gives h q rose r
-  Broke : status_of r.cause ≡ 500 → rose → Gives h q rose r
-  Answers : (at : ℤ) (left : HubState) → AnswersRequest h q at r left → Gives h q rose r
+-- what the hub gives at a state, which it leaves in another: 503 where memory wants, 500 where the count of its keeper rose, or its answer
+pub data Gives (h left : HubState) (q : Request) (rose : Type 0) (r : Reply) : Type 0 where
+  Wants : status_of r.cause ≡ 503 → Gives h left q rose r
+  Broke : status_of r.cause ≡ 500 → rose → Gives h left q rose r
+  Answers : (at : ℤ) → AnswersRequest h q at r left → Gives h left q rose r
 
--- the reply to this request, at some state between
+-- the reply to this request, which the hub took at some state between
 pub record IsOwnRead (before after : Told) (q : Request) (w : WireReply) : Type 0 where
   pub reply : Reply
   pub seen : seen_of reply ≡ w
   pub says : is_utf8 (body_text reply) ≡ true
   pub mid : HubState
+  pub left : HubState
   pub is_hub : IsHub mid
   pub from : Grew before.hub mid
-  pub to : Grew mid after.hub
-  pub gives : Gives mid q (Rose before.hub_faults after.hub_faults) reply
+  pub step : Grew mid left
+  pub to : Grew left after.hub
+  pub gives : Gives mid left q (Rose before.hub_faults after.hub_faults) reply
 
 -- a reply to a request that was sent earlier
 pub record IsLateRead (sent : List Request) (w : WireReply) : Type 0 where

@@ -1,6 +1,7 @@
 -- How a run of exchanges goes on.
-use Rattle.std.proofs.Common.{◌≡◌, ◌≢◌, ◌<◌, ◌≤◌, ◌⊎◌, inl, inr, ⊎_elim, ℕ, ℤ, List, [], ◌∷◌, Some, Ok, Err, refl, sym, ◌∙◌, ap, subst, arith}
+use Rattle.std.proofs.Common.{◌≡◌, ◌≢◌, ◌<◌, ◌≤◌, ◌⊎◌, inl, inr, ⊎_elim, ℕ, ℤ, List, [], ◌∷◌, ◌++◌, Some, Ok, Err, refl, sym, ◌∙◌, ap, subst, arith, append_assoc}
 use Rattle.std.specs.Prelude.{Result}
+use Rattle.std.proofs.lemmas.List.Elements.{All-append, All-cons, All-nil, All-weaker}
 use Rattle.exchange_link.specs.Agreement.{NotSent}
 use Rattle.exchange_link.specs.Exchanges.{Exchanged, IsLate, IsOwn, SentAs, Told}
 use Rattle.hub_requests.specs.Requests.{AnswersRequest, wanted_by}
@@ -17,14 +18,14 @@ use Rattle.status_info.specs.declared.reply.Reply.{Reply}
 use Rattle.status_info.specs.declared.request.Echo.{Echo}
 use Rattle.status_info.specs.declared.request.Request.{Request}
 use Rattle.version_core.specs.HubStates.{HubState}
-use Rattle.consumer_sync.specs.Owning.{Answers, Broke, Gives, IsLateRead, IsOwnRead, Tries, Wants}
+use Rattle.tried_requests.specs.Owning.{Answers, Broke, Gives, IsLateRead, IsOwnRead, Tries, Wants}
 use Rattle.roster_base.specs.Faults.{Rose}
 use Rattle.status_info.specs.Causes.{status_of}
-use Rattle.consumer_sync.specs.Requests.{AllSpent, Asks, IfOwn, IsReady, Moved}
+use Rattle.tried_requests.specs.Requests.{Adds, AllSpent, Asks, IfOwn, IsReady, Moved}
 use Rattle.exchange_link.specs.Causes.{IsLast}
-use Rattle.consumer_sync.specs.declared.ask.Outcome.{Outcome}
-use Rattle.consumer_sync.specs.declared.ask.Outcome.TheVariants as outcome
-use Rattle.consumer_sync.proofs.TextLemmas.{text_read, text_seen}
+use Rattle.tried_requests.specs.declared.asking.Outcome.{Outcome}
+use Rattle.tried_requests.specs.declared.asking.Outcome.TheVariants as outcome
+use Rattle.tried_requests.proofs.TextLemmas.{text_read, text_seen}
 
 pub grew_refl : (h : HubState) → Grew h h
 grew_refl h = Grew-refl h
@@ -47,9 +48,9 @@ same_reply : {a b : Reply} → Replied a ≡ Replied b → a ≡ b
 same_reply e = cc
 
 -- what a step that takes the request replies
-step_gives : (q : Request) (at : ℤ) (mid left : HubState) (r : Reply) (failed : ℕ) (rose : Type 0) → Steps (Take (wanted_by q) at) mid (Replied r) left failed → (failed ≡ 1 → rose) → Gives mid q rose r
-step_gives q at mid left r failed rose step broke = elim step as (λ _. Gives mid q rose r) [
-  | Acts does none ↦ Answers at left (subst (λ x. AnswersRequest mid q at x left) (sym (same_reply does.2)) does.1)
+step_gives : (q : Request) (at : ℤ) (mid left : HubState) (r : Reply) (failed : ℕ) (rose : Type 0) → Steps (Take (wanted_by q) at) mid (Replied r) left failed → (failed ≡ 1 → rose) → Gives mid left q rose r
+step_gives q at mid left r failed rose step broke = elim step as (λ _. Gives mid left q rose r) [
+  | Acts does none ↦ Answers at (subst (λ x. AnswersRequest mid q at x left) (sym (same_reply does.2)) does.1)
   | Fails acted told once ↦ Broke (ap (λ (x : Reply). status_of x.cause) (same_reply told)) (broke once)
   | WantsMemory wants told none ↦ Wants (ap (λ (x : Reply). status_of x.cause) (same_reply told))
 ]
@@ -60,9 +61,11 @@ own_read before after q text w x is = record {
   seen = text_seen text x.reply w x.text_is x.read is;
   says = x.says;
   mid = x.taken_at;
+  left = x.left;
   is_hub = x.is_hub;
   from = x.from;
-  to = Grew-trans x.taken_at x.left after.hub (step_goes (Take (wanted_by q) x.at) x.taken_at (Replied x.reply) x.left x.failed x.step).grew x.to;
+  step = (step_goes (Take (wanted_by q) x.at) x.taken_at (Replied x.reply) x.left x.failed x.step).grew;
+  to = x.to;
   gives = step_gives q x.at x.taken_at x.left x.reply x.failed (Rose before.hub_faults after.hub_faults) x.step x.broke;
 }
 
@@ -129,26 +132,54 @@ ready_more run n m q before after e eq lt h = subst (λ s. IsReady run m s) (sym
 ready_kept : (run n m : ℕ) (before after : List Request) → after ≡ before → n ≤ m → IsReady run n before → IsReady run m after
 ready_kept run n m before after e le h = subst (λ s. IsReady run m s) (sym e) (record { differ = h.differ; spent = spent_more run n m before le h.spent })
 
-pub asks_on : (run from n m : ℕ) (q : Request) (result : Outcome) (a b c : Told) → q.echo ≡ Some (record { run = run; count = m }) → n < m
-    → Asks run from n a b → Tries q result b c → Asks run from m a c
-asks_on run from n m q result a b c eq lt x y = record {
+-- ---- what was sent
+
+pub adds_refl : (may : Request → Type 0) (sent : List Request) → Adds may sent sent
+adds_refl may sent = ([], refl, All-nil may)
+
+pub adds_trans : (may : Request → Type 0) (a b c : List Request) → Adds may a b → Adds may b c → Adds may a c
+adds_trans may a b c x y = (y.0 ++ x.0, y.1 ∙ ap (λ s. y.0 ++ s) x.1 ∙ sym (append_assoc y.0 x.0 a), All-append may y.0 x.0 y.2 x.2)
+
+adds_next : (may : Request → Type 0) (q : Request) (result : Outcome) (b c : Told) → may q → Tries q result b c → Adds may b.sent c.sent
+adds_next may q result b c m y = ⊎_elim
+    (λ (e : c.sent ≡ q ∷ b.sent). (q ∷ [], e, All-cons may q [] m (All-nil may)))
+    (λ (e : (result ≡ outcome.NoMemory) × (c.sent ≡ b.sent)). ([], e.1, All-nil may)) y.sent
+
+-- ---- exchanges of a run
+
+pub asks_refl : (run n : ℕ) (may : Request → Type 0) (t : Told) → Asks run n n may t t
+asks_refl run n may t = record { moved = moved_refl t; ready = λ r. r; adds = adds_refl may t.sent }
+
+pub asks_trans : (run from mid to : ℕ) (may : Request → Type 0) (a b c : Told) → Asks run from mid may a b → Asks run mid to may b c → Asks run from to may a c
+asks_trans run from mid to may a b c x y = record { moved = moved_on x.moved y.moved; ready = λ r. y.ready (x.ready r); adds = adds_trans may a.sent b.sent c.sent x.adds y.adds }
+
+-- of these requests, so of those
+pub asks_weaker : (run from to : ℕ) (may other : Request → Type 0) (a b : Told) → ((q : Request) → may q → other q) → Asks run from to may a b → Asks run from to other a b
+asks_weaker run from to may other a b f x = let y = x.adds in record { moved = x.moved; ready = x.ready; adds = (y.0, y.1, All-weaker may other f y.0 y.2) }
+
+pub asks_on : (run from n m : ℕ) (may : Request → Type 0) (q : Request) (result : Outcome) (a b c : Told) → q.echo ≡ Some (record { run = run; count = m }) → n < m → may q
+    → Asks run from n may a b → Tries q result b c → Asks run from m may a c
+asks_on run from n m may q result a b c eq lt is x y = record {
   moved = record { grew = grew_on x.moved.grew y.grew; counts = omega (arith, x.moved.counts, y.counts) };
   ready = λ r. ⊎_elim (λ (e : c.sent ≡ q ∷ b.sent). ready_more run n m q b.sent c.sent e eq lt (x.ready r)) (λ e. ready_kept run n m b.sent c.sent (e.1) (omega (arith, lt)) (x.ready r)) y.sent;
+  adds = adds_trans may a.sent b.sent c.sent x.adds (adds_next may q result b c is y);
 }
 
-gives_more : {h : HubState} {q : Request} {r : Reply} {a b : Type 0} → (a → b) → Gives h q a r → Gives h q b r
-gives_more f g = elim g [ Wants s ↦ Wants s | Broke s x ↦ Broke s (f x) | Answers at left s ↦ Answers at left s ]
+gives_more : {h left : HubState} {q : Request} {r : Reply} {a b : Type 0} → (a → b) → Gives h left q a r → Gives h left q b r
+gives_more f g = elim g [ Wants s ↦ Wants s | Broke s x ↦ Broke s (f x) | Answers at s ↦ Answers at s ]
 
-own_step : (run from n m : ℕ) (q : Request) (a b c : Told) (w : WireReply) → q.echo ≡ Some (record { run = run; count = m }) → n < m
-    → Asks run from n a b → IsReady run from a.sent → w.echo ≡ Some (record { run = run; count = m }) → IsOwnRead b c q w ⊎ IsLateRead b.sent w → IsOwnRead a c q w
-own_step run from n m q a b c w eq lt x ready echo y = ⊎_elim
+own_step : (run from n m : ℕ) (may : Request → Type 0) (q : Request) (a b c : Told) (w : WireReply) → q.echo ≡ Some (record { run = run; count = m }) → n < m
+    → Asks run from n may a b → IsReady run from a.sent → w.echo ≡ Some (record { run = run; count = m }) → IsOwnRead b c q w ⊎ IsLateRead b.sent w → IsOwnRead a c q w
+own_step run from n m may q a b c w eq lt x ready echo y = ⊎_elim
     (λ (own : IsOwnRead b c q w). record {
       reply = own.reply;
       seen = own.seen;
       says = own.says;
       mid = own.mid;
+      left = own.left;
       is_hub = own.is_hub;
       from = grew_on x.moved.grew own.from;
+      step = own.step;
       to = own.to;
       gives = gives_more (λ rose. omega (arith, rose, x.moved.counts)) own.gives;
     })
@@ -156,12 +187,12 @@ own_step run from n m q a b c w eq lt x ready echo y = ⊎_elim
     (subst (λ k. SentAs k b.sent) (some_echo (sym late.echo ∙ echo)) late.was_sent)))
     y
 
-pub own_on : (run from n m : ℕ) (q : Request) (result : Outcome) (a b c : Told) → q.echo ≡ Some (record { run = run; count = m }) → n < m
-    → Asks run from n a b → Tries q result b c → IsReady run from a.sent → IfOwn result (λ w. w.echo ≡ Some (record { run = run; count = m })) → IfOwn result (λ w. IsOwnRead a c q w)
-own_on run from n m q (outcome.Own w) a b c eq lt x y ready echo = own_step run from n m q a b c w eq lt x ready echo y.own
-own_on run from n m q outcome.NoReply a b c eq lt x y ready echo = tt
-own_on run from n m q outcome.Missed a b c eq lt x y ready echo = tt
-own_on run from n m q outcome.NoMemory a b c eq lt x y ready echo = tt
+pub own_on : (run from n m : ℕ) (may : Request → Type 0) (q : Request) (result : Outcome) (a b c : Told) → q.echo ≡ Some (record { run = run; count = m }) → n < m
+    → Asks run from n may a b → Tries q result b c → IsReady run from a.sent → IfOwn result (λ w. w.echo ≡ Some (record { run = run; count = m })) → IfOwn result (λ w. IsOwnRead a c q w)
+own_on run from n m may q (outcome.Own w) a b c eq lt x y ready echo = own_step run from n m may q a b c w eq lt x ready echo y.own
+own_on run from n m may q outcome.NoReply a b c eq lt x y ready echo = tt
+own_on run from n m may q outcome.Missed a b c eq lt x y ready echo = tt
+own_on run from n m may q outcome.NoMemory a b c eq lt x y ready echo = tt
 
 pub own_map : (result : Outcome) (P Q : WireReply → Type 0) → ((w : WireReply) → P w → Q w) → IfOwn result P → IfOwn result Q
 own_map (outcome.Own w) P Q f x = f w x
