@@ -1,11 +1,11 @@
 -- A walk over entries in the order of their numbers, and the entries as they are settled.
-use Rattle.std.proofs.Common.{◌≡◌, ◌+◌, ◌-◌, ◌<◌, ◌≤◌, ℕ, Bool, true, false, cond, nat_lt, List, [], ◌∷◌, ◌++◌, length, length-append, All, Some, None, refl, sym, ◌∙◌, ap, subst, arith}
-use Rattle.std.specs.Prelude.{filter, is_none}
+use Rattle.std.proofs.Common.{◌≡◌, ◌+◌, ◌-◌, ◌<◌, ◌≤◌, ℕ, Bool, true, false, cond, nat_lt, List, [], ◌∷◌, ◌++◌, length, length-append, All, Option, Some, None, refl, sym, ◌∙◌, ap, subst, arith}
+use Rattle.std.specs.Prelude.{MatchOption, filter, is_none}
 use Rattle.std.specs.List.{AllByRecursion}
 use Rattle.std.proofs.lemmas.Bool.Decides.{nat_tests}
 use Rattle.std.proofs.lemmas.List.Elements.{All-head, All-tail}
 use Rattle.copy_keeper.specs.Changes.{settled_first}
-use Rattle.copy_keeper.specs.Copies.{NumbersRise, entry_after, first_unsettled}
+use Rattle.copy_keeper.specs.Copies.{NumbersRise, SettledFirst, entry_after, first_unsettled}
 use Rattle.copy_keeper.specs.declared.entry.OutEntry.{OutEntry}
 use Rattle.copy_keeper.specs.declared.entry.Settled.{Settled}
 use Rattle.exchange_link.specs.Sent.{SettlesMore, settled_by, unsettled}
@@ -60,6 +60,31 @@ walk_goes n at (x ∷ xs) entry s rise e done to = by (nat_lt at x.number) refl 
         let same : x ≡ entry = cc in
         ((λ yet. absurd (let closed = ap (λ (y : OutEntry). is_none y.settled) same ∙ ap is_none done in cc)), subst (λ (y : OutEntry). SettledTo y.number xs) same (rise_above x.number xs rise.1))
     by false t e rest = ((λ yet. absurd (false_true (passed at x.number (is_none x.settled) t to.0) yet)), rest e done to.1)
+
+abbrev AreOpen : List OutEntry → Type 0
+AreOpen entries = All (λ (e : OutEntry). e.settled ≡ None) entries
+
+-- among entries that aren't settled none is found that is
+found_open : (at : ℕ) (entries : List OutEntry) (entry : OutEntry) → AreOpen entries → entry_after at entries ≡ Some entry → entry.settled ≡ None
+found_open at [] entry free e = cc
+found_open at (x ∷ xs) entry free e = by (nat_lt at x.number) e (found_open at xs entry (All-tail (λ (y : OutEntry). y.settled ≡ None) x xs free))
+  where
+    by : (t : Bool) → cond t (Some x) (entry_after at xs) ≡ Some entry → (entry_after at xs ≡ Some entry → entry.settled ≡ None) → entry.settled ≡ None
+    by true e rest = let same : x ≡ entry = cc in subst (λ (y : OutEntry). y.settled ≡ None) same (All-head (λ (y : OutEntry). y.settled ≡ None) x xs free)
+    by false e rest = rest e
+
+-- where settled entries stand in front, all up to one that is settled are
+pub settled_up_to : (n at : ℕ) (entries : List OutEntry) (entry : OutEntry) (s : Settled) → NumbersRise n entries → SettledFirst entries → entry_after at entries ≡ Some entry → entry.settled ≡ Some s → SettledTo entry.number entries
+settled_up_to n at [] entry s rise front e done = tt
+settled_up_to n at (x ∷ xs) entry s rise front e done = by (nat_lt at x.number) e x.settled refl front (settled_up_to x.number at xs entry s rise.1)
+  where
+    by : (t : Bool) → cond t (Some x) (entry_after at xs) ≡ Some entry → (o : Option Settled) → x.settled ≡ o → MatchOption o (AreOpen xs) (λ _. SettledFirst xs)
+        → (SettledFirst xs → entry_after at xs ≡ Some entry → entry.settled ≡ Some s → SettledTo entry.number xs) → SettledTo entry.number (x ∷ xs)
+    by true e o is front rest =
+        let same : x ≡ entry = cc in
+        ((λ yet. absurd (let closed = ap (λ (y : OutEntry). is_none y.settled) same ∙ ap is_none done in cc)), subst (λ (y : OutEntry). SettledTo y.number xs) same (rise_above x.number xs rise.1))
+    by false e None is front rest = absurd (let free = found_open at xs entry front e in cc)
+    by false e (Some t) is front rest = ((λ yet. absurd (let closed = ap is_none is in cc)), rest front e done)
 
 -- behind the last number no entry follows
 pub walk_over : (at last most : ℕ) (entries : List OutEntry) → most ≤ at → last ≤ most → All (λ (e : OutEntry). e.number ≤ last) entries → SettledTo at entries → first_unsettled entries ≡ None

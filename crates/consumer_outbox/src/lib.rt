@@ -2,6 +2,7 @@
 #![tactic(auto)]
 
 mod entering;
+mod halves;
 mod outbox;
 mod request;
 mod sending;

@@ -58,6 +58,14 @@ pub fn send<C: CopyKeeper, L: Link>(
 {
     match begin_run(alloc, copy) {
         Err(why) => not_begun(why),
-        Ok(state) => send_all(alloc, copy, link, state.run, token, tries as u64),
+        Ok(state) => send_all(
+            alloc,
+            copy,
+            link,
+            state.run,
+            state.last_number,
+            token,
+            tries as u64,
+        ),
     }
 }

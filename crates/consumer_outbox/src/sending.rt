@@ -21,6 +21,7 @@ ghost use Rattle.version_core.specs.HubStates.{newest_number};
 ghost use Rattle.consumer_outbox.specs.Sends.{Carries, CauseIf, EndsIf, ExactIf, Goes, IsBroken, IsFineIf, Ready, SettledTo, SoFar, Takes, ToldIf, answer_of, broken_answer, request_of};
 ghost use Rattle.consumer_outbox.specs.Verdicts.{does_settle, verdict_of};
 
+use crate::halves::settled_from;
 use crate::request::request_for;
 use crate::verdict::{Verdict, judge};
 use copy_keeper::{CopyChange, CopyKeeper, LAST, OutEntry};
@@ -174,11 +175,12 @@ fn send_entry<C: CopyKeeper, L: Link>(
     }
 }
 
-// The first entry that isn't settled; those up to `after` are.
+// The first entry that isn't settled; those up to `after` are. Settled ones behind it are passed over by halves, up to `last`.
 fn next_unsettled<C: CopyKeeper>(
     alloc: Global,
     copy: &mut C,
     after: u64,
+    last: u64,
 ) -> Result<Option<OutEntry>, SendAnswer>
     requires { (c : Copy) → C.stands_for copy.old c → SettledTo after c.entries }
     ensures next { IfOk result (λ entry. (c : Copy) → C.stands_for copy.new c → first_unsettled c.entries ≡ entry) }
@@ -194,19 +196,23 @@ fn next_unsettled<C: CopyKeeper>(
             Ok(None) => return Ok(None),
             Ok(Some(entry)) => match entry.settled {
                 None => return Ok(Some(entry)),
-                Some(_) => at = entry.number,
+                Some(_) => match settled_from(alloc, copy, entry.number, last) {
+                    Err(error) => return Err(broken(error)),
+                    Ok(number) => at = number,
+                },
             },
         }
     }
     Ok(None)
 }
 
-/// Sends the entries that aren't settled, in order, until one isn't settled by its reply.
+/// Sends the entries that aren't settled, in order, until one isn't settled by its reply. `last`: the number of the last entry.
 pub fn send_all<C: CopyKeeper, L: Link>(
     alloc: Global,
     copy: &mut C,
     link: &mut L,
     run: u64,
+    last: u64,
     token: &Token,
     tries: u64,
 ) -> SendAnswer
@@ -238,7 +244,7 @@ pub fn send_all<C: CopyKeeper, L: Link>(
     let mut after: u64 = 0;
     let mut settled: u64 = 0;
     'entries: while after < LAST {
-        match next_unsettled(alloc, copy, after) {
+        match next_unsettled(alloc, copy, after, last) {
             Err(answer) => return answer,
             Ok(None) => return SendAnswer::Settled { count: settled },
             Ok(Some(entry)) => {

@@ -22,9 +22,13 @@ pub settled-preserved : goal.settled-preserved
 settled-preserved g c =
     let can : CanBeEntry c.settled.at c.in-Ok-Some.entry = subst (λ (o : Option OutEntry). IfSome o (CanBeEntry c.settled.at)) c.in-Ok-Some.field-0-is c.in-Ok-Some.ensures.any in
     record {
-      same = λ d stands. c.settled.invariant.same d (c.entry.ensures.same d stands);
-      walked = λ d stands. walk_goes 0 c.settled.at d.entries c.in-Ok-Some.entry c.in-Some.field-0 (g.met.C.CopyKeeper.is_copy c.entry.new.self d stands).entries.rise
-          (sym (c.in-Ok-Some.ensures.shown d stands) ∙ c.in-Ok-Some.field-0-is) c.in-Some.is (c.settled.invariant.walked d (c.entry.ensures.same d stands));
-      low = omega (arith, can.above, c.settled.invariant.low);
-      later = omega (arith, c.settled.invariant.later, c.entry.ensures.later);
+      same = λ d stands. c.settled.invariant.same d (c.entry.ensures.same d (c.settled_from.ensures.same d stands));
+      walked = c.in-Ok.ensures.settled;
+      low = omega (arith, can.above, c.settled.invariant.low, c.in-Ok.ensures.above);
+      later = omega (arith, c.settled.invariant.later, c.entry.ensures.later, c.settled_from.ensures.later);
     }
+
+pub settled_from-requires : goal.settled_from-requires
+settled_from-requires g c d stands =
+    walk_goes 0 c.settled.at d.entries c.in-Ok-Some.entry c.in-Some.field-0 (g.met.C.CopyKeeper.is_copy c.entry.new.self d stands).entries.rise
+    (sym (c.in-Ok-Some.ensures.shown d stands) ∙ c.in-Ok-Some.field-0-is) c.in-Some.is (c.settled.invariant.walked d (c.entry.ensures.same d stands))
