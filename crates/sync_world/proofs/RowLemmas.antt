@@ -1,9 +1,9 @@
 -- Versions that hold rows.
-use Rattle.std.proofs.Common.{◌≡◌, List, [], ◌∷◌, refl}
+use Rattle.std.proofs.Common.{List, [], ◌∷◌}
 use Rattle.std.specs.List.{AllByRecursion}
 use Rattle.std.specs.declared.cmp.Ordering.TheVariants.{Less, Equal, Greater}
 use Rattle.hub_rules.specs.States.{HoldsRows}
-use Rattle.roster_types.specs.Keys.{Key, key_cmp}
+use Rattle.roster_types.specs.Keys.{key_cmp}
 use Rattle.version_core.specs.Changes.{change_key}
 use Rattle.version_core.specs.Order.{by_order, overlaid, put}
 use Rattle.version_core.specs.Version.{after, versions_from}

@@ -7,6 +7,7 @@ ghost use Rattle.exchange_link.specs.Agreement.{StageAgrees};
 ghost use Rattle.exchange_link.specs.Bounds.{Bounded, IsCallPin};
 ghost use Rattle.exchange_link.specs.Causes.{ToldCause};
 ghost use Rattle.exchange_link.specs.Completeness.{IsDone, StandsAt, first_pin};
+ghost use Rattle.exchange_link.specs.Marks.{Agree, MarksTold};
 ghost use Rattle.exchange_link.specs.Synchronised.{Synchronised, held_at, own_state};
 ghost use Rattle.roster_base.specs.Faults.{Rose};
 ghost use Rattle.sync_world.specs.Links.{fresh_link, told_by};
@@ -42,6 +43,8 @@ pub fn sync_over(
     ensures bound { (n : ℕ) × (link.new.asked ≤ link.old.asked + n)
         × Bounded n tries limit token.now (own_state token.now (stage_of copy.old.copy)) (λ version. IsCallPin result copy.new.copy.stage version) link.new.hub }
     ensures cause { ToldCause token.now (told_by link.old) (told_by link.new) result }
+    // What the entries of the copy and the marks of the hub agree on stays so.
+    ensures marks { MarksTold copy.old.copy (told_by link.old) → MarksTold copy.new.copy (told_by link.new) }
 {
     let answer = sync(alloc, copy, link, token, limit, tries);
     // Read for what they keep.
@@ -52,5 +55,5 @@ pub fn sync_over(
 
 /// An empty copy agrees with a link over which nothing was sent.
 pub fn nothing_sent_agrees()
-    ensures { (hub : HubState) (hub_faults : ℕ) → StageAgrees empty_copy (told_by (fresh_link hub hub_faults)) }
+    ensures { (hub : HubState) (hub_faults : ℕ) → Agree empty_copy (told_by (fresh_link hub hub_faults)) }
 {}

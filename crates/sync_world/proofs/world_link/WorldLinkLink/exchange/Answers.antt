@@ -1,4 +1,4 @@
-use Rattle.std.proofs.Common.{◌⊎◌, inl, inr, Ok, Err, [], List, ap, reverse, refl, subst}
+use Rattle.std.proofs.Common.{inl, inr, Ok, Err, [], ap, reverse, refl, subst}
 use Rattle.std.specs.Prelude.{IsTrue}
 use Rattle.outside_ports.specs.declared.failed.IoError.TheVariants as io_error
 use Rattle.sync_world.specs.Links.{told_world}
