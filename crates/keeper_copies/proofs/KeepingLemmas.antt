@@ -1,9 +1,9 @@
 -- Stores whose items keep a copy, before and after a call.
-use Rattle.std.proofs.Common.{◌≡◌, ◌⊎◌, ◌+◌, ◌<◌, ◌≤◌, ◌^◌, ℕ, List, [], ◌∷◌, Option, None, Some, min, Result, Ok, Err, IfOk, OnOk, OnErr, inl, inr, map, refl, sym, ap, subst, ◌∙◌, arith}
+use Rattle.std.proofs.Common.{◌≡◌, ◌<◌, ◌≤◌, ◌^◌, ℕ, List, [], ◌∷◌, Result, Ok, Err, inl, inr, sym, ap, subst, ◌∙◌, arith}
 use Rattle.roster_base.specs.Faults.{CountsFailure}
 use Rattle.roster_base.specs.declared.keeper.KeeperError.{KeeperError}
 use Rattle.roster_base.specs.declared.keeper.KeeperError.TheVariants.{Failed, NoMemory}
-use Rattle.item_maps.specs.Edits.{after, entry_of}
+use Rattle.item_maps.specs.Edits.{after}
 use Rattle.item_maps.specs.Items.{Items, listed, no_items}
 use Rattle.item_maps.specs.declared.item.Edit.{Edit}
 use Rattle.copy_keeper.proofs.CopyLemmas.{empty_is}
@@ -15,7 +15,7 @@ use Rattle.hub_items.specs.Format.{Entry, format_entry}
 use Rattle.copy_items.proofs.Changing.{Keep-change, first_kept}
 use Rattle.copy_items.proofs.Once.{kept_once}
 use Rattle.copy_items.proofs.Told.{format_told}
-use Rattle.copy_items.specs.Edits.{edits, first_edits}
+use Rattle.copy_items.specs.Edits.{first_edits}
 use Rattle.copy_items.specs.Format.{Keep}
 use Rattle.keeper_items.proofs.KeepingLemmas.{none_listed}
 use Rattle.keeper_items.proofs.TellingLemmas.{Came}

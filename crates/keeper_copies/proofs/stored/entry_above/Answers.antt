@@ -1,4 +1,3 @@
-use Rattle.std.proofs.Common.{◌∙◌}
 use Rattle.keeper_copies.proofs.EntryLemmas.{no_item, one_item}
 use Rattle.keeper_copies.proofs.stored.entry_above.Goals as goal
 

@@ -1,5 +1,4 @@
 use Rattle.std.proofs.Common.{◌∙◌, ap, sym, subst, arith}
-use Rattle.copy_items.specs.Edits.{edits}
 use Rattle.copy_keeper.specs.Copies.{entry_after}
 use Rattle.copy_keeper.specs.declared.change.CopyChange.TheVariants.{Settle}
 use Rattle.keeper_copies.specs.Keeping.{AreEditsOf}
