@@ -24,7 +24,8 @@ pub(crate) fn number_bytes(alloc: Global, n: u64) -> Result<Vec<u8>, NoMemory>
     Ok(bytes)
 }
 
-fn put_format(alloc: Global) -> Result<Edit, NoMemory>
+/// The edit that stores the number of the format.
+pub fn put_format(alloc: Global) -> Result<Edit, NoMemory>
     ensures { IfOk result (λ edit. edit ≡ put_at 0 format_entry) }
 {
     Ok(Edit::Put {

@@ -12,10 +12,13 @@ mod read_state;
 mod reading;
 mod writing;
 
-pub use edits::first_edits;
+pub use edits::{first_edits, put_format};
+pub use pieces::{kind_byte, push_number, push_sized};
 pub use plan::{Oldest, commit_edits, lets_go};
-pub use read_grants::grants_of;
-pub use read_marks::marks_of;
+pub use read_grants::{grants_of, id_at};
+pub use read_marks::{marks_of, write_of};
 pub use read_rows::rows_of;
 pub use read_state::{state_of, version_of};
-pub use reading::{Format, format_of, only_body, state_parts};
+pub use reading::{
+    Format, format_of, number_at, only_body, only_number, sized_at, state_parts,
+};

@@ -14,7 +14,7 @@ use roster_types::owner::Owner;
 use roster_values::Kind;
 
 /// A number in 8 bytes.
-pub(crate) fn push_number(to: &mut Vec<u8>, n: u64) -> Result<(), NoMemory>
+pub fn push_number(to: &mut Vec<u8>, n: u64) -> Result<(), NoMemory>
     ensures { OnOk result (to.new.items ≡ to.old.items ++ number n) }
 {
     to.extend_from_slice(&n.to_be_bytes())?;
@@ -31,7 +31,7 @@ pub(crate) fn push_moment(to: &mut Vec<u8>, at: Moment) -> Result<(), NoMemory>
 }
 
 /// Bytes behind their length.
-pub(crate) fn push_sized(to: &mut Vec<u8>, text: &[u8]) -> Result<(), NoMemory>
+pub fn push_sized(to: &mut Vec<u8>, text: &[u8]) -> Result<(), NoMemory>
     ensures bytes { OnOk result (to.new.items ≡ to.old.items ++ sized text.now) }
     ensures fits { IsSized text.now }
 {
@@ -58,7 +58,7 @@ pub(crate) fn push_owner(to: &mut Vec<u8>, owner: &Owner) -> Result<(), NoMemory
 }
 
 /// The byte of a kind.
-pub(crate) fn kind_byte(kind: Kind) -> u8
+pub fn kind_byte(kind: Kind) -> u8
     ensures { result ≡ place_of_kind kind }
 {
     match kind {

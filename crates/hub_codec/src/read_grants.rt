@@ -28,8 +28,8 @@ fn caller_in(label: &[u8]) -> Option<&[u8]>
     if *zero == 0 { Some(caller) } else { None }
 }
 
-// The id in front, without its length, and what stands behind it.
-fn id_at(alloc: Global, bytes: &[u8]) -> Result<Option<(Id, &[u8])>, NoMemory>
+/// The id in front, without its length, and what stands behind it.
+pub fn id_at(alloc: Global, bytes: &[u8]) -> Result<Option<(Id, &[u8])>, NoMemory>
     ensures id { IfOk result (λ o. IfSome o (λ p. bytes.now ≡ sized p.0 ++ p.1.now)) }
     ensures small { IfOk result (λ o. IfSome o (λ p. IsSized p.0)) }
 {

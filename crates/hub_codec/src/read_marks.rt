@@ -57,8 +57,8 @@ fn delete_of(byte: u8) -> Option<bool>
     }
 }
 
-// The write of these parts.
-fn write_of(
+/// The write of these parts: 1 where it deletes and else 0, the byte of its kind, its id, and its own body.
+pub fn write_of(
     alloc: Global,
     delete: u8,
     kind: u8,

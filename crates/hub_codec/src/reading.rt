@@ -21,16 +21,16 @@ fn number_of(bytes: [u8; 8]) -> u64
     u64::from_be_bytes(bytes)
 }
 
-// The number in front, and what stands behind it.
-pub(crate) fn number_at(bytes: &[u8]) -> Option<(u64, &[u8])>
+/// The number in front, and what stands behind it.
+pub fn number_at(bytes: &[u8]) -> Option<(u64, &[u8])>
     ensures { IfSome result (λ r. bytes.now ≡ number r.0 ++ r.1.now) }
 {
     let (first, rest) = bytes.split_first_chunk::<8>()?;
     Some((number_of(*first), rest))
 }
 
-// The only number.
-pub(crate) fn only_number(bytes: &[u8]) -> Option<u64>
+/// The only number.
+pub fn only_number(bytes: &[u8]) -> Option<u64>
     ensures { IfSome result (λ n. bytes.now ≡ number n) }
 {
     let (n, rest) = number_at(bytes)?;
@@ -47,8 +47,8 @@ pub(crate) fn behind(bytes: &[u8], skip: usize) -> &[u8]
     &bytes[skip..]
 }
 
-// The text in front, without its length, and what stands behind it.
-pub(crate) fn sized_at(bytes: &[u8]) -> Option<(&[u8], &[u8])>
+/// The text in front, without its length, and what stands behind it.
+pub fn sized_at(bytes: &[u8]) -> Option<(&[u8], &[u8])>
     ensures text { IfSome result (λ r. bytes.now ≡ sized r.0.now ++ r.1.now) }
     ensures small { IfSome result (λ r. IsSized r.0.now) }
 {

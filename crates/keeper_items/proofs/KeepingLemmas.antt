@@ -42,7 +42,7 @@ tables_of stand state this = record { stands = subst stand this.kept.stored this
 pub tables_stay : (old new : Items → Type 0) (t : HubTables) → Stay old new → HasTables old t → HasTables new t
 tables_stay old new t stay has = record { stands = stay (items_of t) has.stands; are = has.are; fit = has.fit }
 
-pub keeps_on : (keep : Items → KeptState → Type 0) (old new : Items → Type 0) (state : KeptState) (this : Keeps keep old state) → new this.items → Keeps keep new state
+pub keeps_on : {X : Type 0} (keep : Items → X → Type 0) (old new : Items → Type 0) (state : X) (this : Keeps keep old state) → new this.items → Keeps keep new state
 keeps_on keep old new state this stands = record { items = this.items; stands = stands; kept = this.kept }
 
 pub keeps_or_new : (keep : ℕ) (stand : Items → Type 0) (state : KeptState) → Keeps Keep stand state → Keeps (KeepOrNew keep) stand state

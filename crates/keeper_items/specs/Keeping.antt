@@ -12,7 +12,7 @@ abbrev pub KeepOrNew : ℕ → Items → KeptState → Type 0
 KeepOrNew keep items state = Keep items state ⊎ ((items ≡ no_items) × (state ≡ kept_by (new_tables keep)))
 
 -- a store that stands for items which keep this state
-pub record Keeps (keep : Items → KeptState → Type 0) (stand : Items → Type 0) (state : KeptState) : Type 0 where
+pub record Keeps {X : Type 0} (keep : Items → X → Type 0) (stand : Items → Type 0) (state : X) : Type 0 where
   pub items : Items
   pub stands : stand items
   pub kept : keep items state

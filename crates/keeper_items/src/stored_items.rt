@@ -1,6 +1,6 @@
 //! Stores of items.
 
-ghost use Rattle.std.specs.Prelude.{◌≡◌, ℕ, IfOk, OnErr, OnOk, map};
+ghost use Rattle.std.specs.Prelude.{◌≡◌, ℕ, IfOk, OnErr, OnOk, map, option_map, slice_get};
 ghost use Rattle.roster_base.specs.Faults.{CountsError, CountsFailure};
 ghost use Rattle.roster_base.specs.declared.keeper.KeeperError.TheVariants as keeper;
 ghost use Rattle.item_maps.specs.Edits.{after, entry_of};
@@ -13,7 +13,7 @@ use std::alloc::Global;
 
 /// Items that a store keeps. What the clauses say of items holds as long as the store can be trusted.
 pub trait StoredItems: Drop {
-    ghost use Rattle.std.specs.Prelude.{◌≡◌, ℕ, IfOk, OnErr, OnOk, map};
+    ghost use Rattle.std.specs.Prelude.{◌≡◌, ℕ, IfOk, OnErr, OnOk, map, option_map, slice_get};
     ghost use Rattle.roster_base.specs.Faults.{CountsError, CountsFailure};
     ghost use Rattle.roster_base.specs.declared.keeper.KeeperError.TheVariants as keeper;
     ghost use Rattle.item_maps.specs.Edits.{after, entry_of};
@@ -39,6 +39,20 @@ pub trait StoredItems: Drop {
         to: &[u8],
     ) -> Result<Vec<Item>, KeeperError>
         ensures items { (m : Items) → stands_for self.old m → is_trusted self.new → IfOk result (λ items. map entry_of items.items ≡ listed area from.now to.now m) }
+        ensures same { Stay (stands_for self.old) (stands_for self.new) }
+        ensures cause { CountsFailure (fault_count self.old) (fault_count self.new) result }
+        ensures trust { is_trusted self.new → is_trusted self.old };
+
+    /// The first item of the area whose label is at least `from` and below `to`, in the order of label bytes. The items stay as they
+    /// are.
+    fn first_of(
+        &mut self,
+        alloc: Global,
+        area: u32,
+        from: &[u8],
+        to: &[u8],
+    ) -> Result<Option<Item>, KeeperError>
+        ensures item { (m : Items) → stands_for self.old m → is_trusted self.new → IfOk result (λ item. option_map entry_of item ≡ slice_get (listed area from.now to.now m) 0) }
         ensures same { Stay (stands_for self.old) (stands_for self.new) }
         ensures cause { CountsFailure (fault_count self.old) (fault_count self.new) result }
         ensures trust { is_trusted self.new → is_trusted self.old };

@@ -1,11 +1,14 @@
 //! A store that couldn't be opened.
 
-ghost use Rattle.std.specs.Prelude.{◌≡◌, Err};
+ghost use Rattle.std.specs.Prelude.{◌≡◌, ◌≤◌, Err};
 ghost use Rattle.roster_base.specs.Faults.{CountsError, CountsFailure};
 ghost use Rattle.roster_base.specs.declared.keeper.KeeperError.TheVariants as keeper;
 
+use copy_keeper::{CopyChange, CopyKeeper, CopyState, OutEntry};
 use keeper_memory::{HubCommit, HubKeeper};
-use roster_base::KeeperError;
+use roster_base::{Items, KeeperError};
+use roster_types::row::Row;
+use roster_values::Kind;
 use std::alloc::Global;
 use version_core::hub_tables::HubTables;
 
@@ -27,6 +30,7 @@ impl ClosedStore {
     fn fail(&mut self) -> KeeperError
         ensures counted { CountsError self.old.faults self.new.faults result }
         ensures failed { result ≡ keeper.Failed }
+        ensures later { self.old.faults ≤ self.new.faults }
     {
         self.faults = self.faults.saturating_add(1);
         KeeperError::Failed
@@ -52,6 +56,57 @@ impl HubKeeper for ClosedStore {
     {
         let _ = alloc;
         let _ = commit;
+        Err(self.fail())
+    }
+
+    fn faults(&self) -> u64 {
+        self.faults
+    }
+}
+
+impl CopyKeeper for ClosedStore {
+    ghost stands_for = { λ _ _. ⊥ };
+
+    ghost fault_count = { λ store. store.faults };
+
+    ghost is_copy = { λ _ _ none. absurd none };
+
+    fn state(&mut self, alloc: Global) -> Result<CopyState, KeeperError>
+        ensures later { self.old.faults ≤ self.new.faults }
+        ensures cause { CountsFailure self.old.faults self.new.faults result }
+        ensures failed { result ≡ Err keeper.Failed }
+    {
+        let _ = alloc;
+        Err(self.fail())
+    }
+
+    fn held(&mut self, alloc: Global, kind: Kind) -> Result<Items<Row>, KeeperError>
+        ensures later { self.old.faults ≤ self.new.faults }
+        ensures cause { CountsFailure self.old.faults self.new.faults result }
+        ensures failed { result ≡ Err keeper.Failed }
+    {
+        let _ = alloc;
+        let _ = kind;
+        Err(self.fail())
+    }
+
+    fn entry(&mut self, alloc: Global, after: u64) -> Result<Option<OutEntry>, KeeperError>
+        ensures later { self.old.faults ≤ self.new.faults }
+        ensures cause { CountsFailure self.old.faults self.new.faults result }
+        ensures failed { result ≡ Err keeper.Failed }
+    {
+        let _ = alloc;
+        let _ = after;
+        Err(self.fail())
+    }
+
+    fn commit(&mut self, alloc: Global, change: CopyChange) -> Result<(), KeeperError>
+        ensures later { self.old.faults ≤ self.new.faults }
+        ensures cause { CountsFailure self.old.faults self.new.faults result }
+        ensures failed { result ≡ Err keeper.Failed }
+    {
+        let _ = alloc;
+        drop(change);
         Err(self.fail())
     }
 

@@ -1,6 +1,6 @@
 //! Whole ranges of items.
 
-ghost use Rattle.std.specs.Prelude.{◌≡◌, IfOk, map};
+ghost use Rattle.std.specs.Prelude.{◌≡◌, IfOk, map, option_map, slice_get};
 ghost use Rattle.sqlite.specs.Held.{state};
 ghost use Rattle.roster_base.specs.Faults.{CountsFailure};
 ghost use Rattle.item_maps.specs.Edits.{entry_of};
@@ -35,4 +35,22 @@ pub fn all_of<S: Alter>(
         return Err(store.refuse_items());
     }
     Ok(items)
+}
+
+/// The first item of the area whose label is at least `from` and below `to`, in the order of label bytes.
+pub fn first_of<S: Alter>(
+    alloc: Global,
+    store: &mut ItemStore<S>,
+    area: u32,
+    from: &[u8],
+    to: &[u8],
+) -> Result<Option<Item>, KeeperError>
+    ensures item { (m : Items) → StandsFor (state S.Store store.old.connection) m → IsTrusted (state S.Store store.new.connection)
+        → IfOk result (λ item. option_map entry_of item ≡ slice_get (listed area from.now to.now m) 0) }
+    ensures same { (m : Items) → StandsFor (state S.Store store.old.connection) m → StandsFor (state S.Store store.new.connection) m }
+    ensures cause { CountsFailure store.old.faults store.new.faults result }
+    ensures trust { IsTrusted (state S.Store store.new.connection) → IsTrusted (state S.Store store.old.connection) }
+{
+    let mut items = store.range(alloc, area, from, to, 1)?;
+    Ok(items.pop())
 }

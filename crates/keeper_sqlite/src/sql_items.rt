@@ -5,7 +5,7 @@ ghost use Rattle.sqlite.specs.Held.{state};
 ghost use Rattle.item_sql.specs.Stands.{StandsFor};
 ghost use Rattle.keeper_sqlite.specs.Trust.{IsTrusted};
 
-use crate::ranges::all_of;
+use crate::ranges::{all_of, first_of};
 use item_store::{Edit, Item, ItemStore};
 use keeper_items::StoredItems;
 use roster_base::KeeperError;
@@ -57,6 +57,16 @@ impl<S: Alter + Drop> StoredItems for SqlItems<S> {
         to: &[u8],
     ) -> Result<Vec<Item>, KeeperError> {
         all_of(alloc, &mut self.store, area, from, to)
+    }
+
+    fn first_of(
+        &mut self,
+        alloc: Global,
+        area: u32,
+        from: &[u8],
+        to: &[u8],
+    ) -> Result<Option<Item>, KeeperError> {
+        first_of(alloc, &mut self.store, area, from, to)
     }
 
     fn commit(&mut self, edits: &[Edit]) -> Result<(), KeeperError> {

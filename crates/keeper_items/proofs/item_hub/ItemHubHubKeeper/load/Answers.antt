@@ -1,3 +1,5 @@
+use Rattle.std.proofs.Common.{◌≡◌}
+use Rattle.keeper_memory.specs.Kept.{kept_by}
 use Rattle.keeper_items.specs.Keeping.{KeepOrNew}
 use Rattle.keeper_items.proofs.ReadLemmas.{each_shown, still_kept, told_before}
 use Rattle.keeper_items.proofs.TellingLemmas.{one_state}
@@ -22,4 +24,4 @@ returns-clause-shown g c =
     let s = g.S.StoredItems in
     let old = c.self.inside in
     each_shown (KeepOrNew old.keep) (s.stands_for old.origin.value) (s.stands_for old.store) (s.stands_for c.load_from.new.store) (s.is_trusted old.store) (s.is_trusted c.load_from.new.store)
-    c.self.invariant c.load_from.ensures.trust c.load_from.ensures.kept (g.met.S.StoredItems.one c.load_from.new.store) (one_state old.keep) c.load_from.result c.load_from.ensures.shown
+    c.self.invariant c.load_from.ensures.trust c.load_from.ensures.kept (g.met.S.StoredItems.one c.load_from.new.store) (one_state old.keep) (λ state tables. state ≡ kept_by tables) c.load_from.result c.load_from.ensures.shown

@@ -1,0 +1,4 @@
+pub mod OutReading
+pub mod PageLemmas
+pub mod RowReading
+pub mod StageReading

@@ -1,0 +1,22 @@
+//! Labels and bodies of a copy's items, written and read, and the edits of a change.
+#![tactic(auto)]
+
+mod edits;
+mod pieces;
+mod read_outs;
+mod read_rows;
+mod read_stage;
+mod reading;
+mod root;
+mod staging;
+mod writing;
+
+pub use edits::{
+    begin_edits, drop_edits, enter_edits, first_edits, page_edits, run_edits, settle_edits,
+    swap_edits,
+};
+pub use read_outs::out_of;
+pub use read_rows::rows_of;
+pub use read_stage::stage_of;
+pub use root::{CopyRoot, root_of};
+pub use writing::row_area;
