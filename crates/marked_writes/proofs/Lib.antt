@@ -1,0 +1,6 @@
+pub mod AgreeLemmas
+pub mod AnswerLemmas
+pub mod JudgeLemmas
+pub mod PathLemmas
+pub mod SendLemmas
+pub mod ShowLemmas
