@@ -1,4 +1,5 @@
 pub mod AgreeLemmas
+pub mod AloneLemmas
 pub mod AnswerLemmas
 pub mod JudgeLemmas
 pub mod PathLemmas

@@ -3,12 +3,13 @@
 ghost use Rattle.std.specs.Prelude.{◌≡◌, ◌≤◌, ◌++◌, ℕ, ℤ, true, List, Option, Some, IfSome};
 ghost use Rattle.std.specs.List.{AllByRecursion};
 ghost use Rattle.std.specs.Str.{is_utf8};
-ghost use Rattle.copy_keeper.specs.Copies.{IsGradebook};
+ghost use Rattle.copy_keeper.specs.Copies.{IsGradebook, NumbersRise};
 ghost use Rattle.copy_keeper.specs.declared.entry.OutEntry.{OutEntry};
 ghost use Rattle.hub_rules.specs.Answers.{Answers};
 ghost use Rattle.hub_rules.specs.Growth.{Grew};
 ghost use Rattle.hub_rules.specs.Wanted.{Wanted};
-ghost use Rattle.marked_writes.specs.Agreement.{IsOfEntry, MarksAgree};
+ghost use Rattle.marked_writes.specs.Agreement.{IsCaller, IsOfEntry, MarksAgree};
+ghost use Rattle.marked_writes.specs.Alone.{NoMarkBehind, OnlySent};
 ghost use Rattle.marked_writes.specs.Answering.{SaysWrite};
 ghost use Rattle.marked_writes.specs.Marked.{Marked, marked_by, marked_in};
 ghost use Rattle.marked_writes.specs.Sending.{write_request};
@@ -36,4 +37,10 @@ pub fn traffic_keeps_the_agreement()
     ensures { (entries : List OutEntry) (last : ℕ) (before after : HubState) (more sent : List Request) → Grew before after
         → AllByRecursion (λ request. IfSome (marked_by request) (λ marked. IsOfEntry marked entries × (marked.number ≤ last))) more
         → MarksAgree entries last before sent → MarksAgree entries last after (more ++ sent) }
+{}
+
+/// Where nobody else marks writes for a caller, no mark is held for an entry behind the first that isn't settled.
+pub fn no_mark_is_held_behind_the_first()
+    ensures { (caller : List ℕ) (entries : List OutEntry) (last : ℕ) (state : HubState) (sent : List Request) → NumbersRise 0 entries → MarksAgree entries last state sent
+        → IsCaller caller state sent → OnlySent caller state sent → NoMarkBehind state caller entries }
 {}

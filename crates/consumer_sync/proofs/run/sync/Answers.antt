@@ -18,6 +18,7 @@ use Rattle.consumer_sync.proofs.FillLemmas.{small_fits, small_own}
 use Rattle.consumer_sync.proofs.BoundLemmas.{bounded_map, bounded_zero, swap_pin}
 use Rattle.consumer_sync.proofs.CauseLemmas.{exact_page}
 use Rattle.consumer_sync.proofs.DoneLemmas.{start_told}
+use Rattle.consumer_sync.proofs.MarkLemmas.{marks_asked, marks_dropped, marks_kept}
 use Rattle.consumer_sync.proofs.SyncLemmas.{begun_is, cause_whole, drop_done, drop_sync, enter_cause, enter_done, enter_leaves, enter_sync, entry, fill_leaves, fill_sync, finish_by, finish_other, last_dropped, last_ended, last_entered, last_low, own_few, own_token, start_cause, start_on, swap_leaves, swap_run, swap_sync}
 use Rattle.consumer_sync.specs.Starting.{StartCause, unentered}
 use Rattle.tried_requests.proofs.RunLemmas.{ready_from}
@@ -357,3 +358,26 @@ returns-in-Some-stage-clause-last_run g c after stands =
     let y = c.in-Ok-drop_other.ensures.told z.0 z.1 in
     let x = c.in-Ok.ensures.told y.0 y.1 in
     (x.0, x.1, last_low c.finish.result x.0 after c.in-Ok.state.run (finish_other c.finish.result c.in-Some-stage.s.pin c.finish.ensures.answers) (x.2).0 c.in-Ok.ensures.run.1)
+
+pub returns-in-Err-clause-marks : goal.returns-in-Err-clause-marks
+returns-in-Err-clause-marks g c agree after tells stands told =
+    let x = returns-in-Err-clause-copy g c after stands in
+    marks_kept c.args.token.now _ x.0 after tells x.2 (agree x.0 tells x.1 told)
+
+pub returns-in-Err-drop_other-clause-marks : goal.returns-in-Err-drop_other-clause-marks
+returns-in-Err-drop_other-clause-marks g c agree after tells stands told =
+    let y = c.in-Err-drop_other.ensures.told after stands in
+    let x = c.in-Ok.ensures.told y.0 y.1 in
+    marks_dropped c.args.token.now c.in-Ok.state c.in-Err-drop_other.answer x.0 y.0 after tells x.2 y.2 (agree x.0 tells x.1 told)
+
+pub returns-in-Some-clause-marks : goal.returns-in-Some-clause-marks
+returns-in-Some-clause-marks g c agree after tells stands told =
+    let x = returns-in-Some-clause-copy g c after stands in
+    let l = c.fill.ensures.link tells told in
+    marks_kept c.args.token.now _ x.0 after tells x.2 (marks_asked c.in-Ok.state.run l.2 x.0 l.0 tells l.3 (agree x.0 l.0 x.1 l.1))
+
+pub returns-in-Some-stage-clause-marks : goal.returns-in-Some-stage-clause-marks
+returns-in-Some-stage-clause-marks g c agree after tells stands told =
+    let x = returns-in-Some-stage-clause-copy g c after stands in
+    let l = c.fill.ensures.link tells told in
+    marks_kept c.args.token.now _ x.0 after tells x.2 (marks_asked c.in-Ok.state.run l.2 x.0 l.0 tells l.3 (agree x.0 l.0 x.1 l.1))
