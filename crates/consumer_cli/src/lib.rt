@@ -6,6 +6,7 @@ pub mod line;
 pub mod outbox;
 pub mod outbox_lines;
 mod run;
+mod sending;
 pub mod task;
 
 pub use held::held_text;
@@ -13,4 +14,5 @@ pub use line::{COPY_FAILED, sync_line, sync_status};
 pub use outbox::outbox_text;
 pub use outbox_lines::{enter_line, enter_status, entered_line, send_line, send_status};
 pub use run::synchronise;
+pub use sending::{enter_write, send_writes};
 pub use task::{GradebookObject, SendTask, SyncTask, is_gradebook};
