@@ -19,6 +19,4 @@ pub use read_grants::{grants_of, id_at};
 pub use read_marks::{marks_of, write_of};
 pub use read_rows::rows_of;
 pub use read_state::{state_of, version_of};
-pub use reading::{
-    Format, format_of, number_at, only_body, only_number, sized_at, state_parts,
-};
+pub use reading::{Format, format_of, number_at, only_body, only_number, sized_at, state_parts};
