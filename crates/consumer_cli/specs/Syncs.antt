@@ -8,6 +8,7 @@ use Rattle.exchange_link.specs.Bounds.{Bounded, IsCallPin}
 use Rattle.exchange_link.specs.Causes.{Caused, LastLaw, RoseBy, ToldCause}
 use Rattle.exchange_link.specs.Completeness.{IsDone, StandsAt, first_pin}
 use Rattle.exchange_link.specs.Exchanges.{Told}
+use Rattle.exchange_link.specs.Marks.{MarksTold}
 use Rattle.exchange_link.specs.Synchronised.{Leaves, Synchronised, own_state}
 use Rattle.exchange_link.specs.declared.answer.SyncAnswer.{SyncAnswer}
 use Rattle.roster_base.specs.Faults.{Rose}
@@ -37,3 +38,6 @@ pub record IsSyncOf (task : Task) (a : SyncAnswer) (copies : CopyRun) (link : Li
       → (after : Copy) (tells : Told) → copies.stands after → link.tells tells
       → (before : Copy) × (told : Told) × copies.stood before × link.told told
       × (before.run ≢ LAST → ¬ Rose told.hub_faults tells.hub_faults → StandsAt (first_pin (own_state task.token (stage_of before)) told.hub) task.token tells.hub → IsDone a)
+  -- where they agreed on marks
+  pub marks : ((c : Copy) (t : Told) → copies.stood c → link.told t → MarksTold c t)
+      → (after : Copy) (tells : Told) → copies.stands after → link.tells tells → MarksTold after tells

@@ -1,12 +1,18 @@
-//! What the program makes of a consumer's synchronisation and of what its copy holds: answers, lines, statuses.
+//! What the program makes of a consumer's synchronisation, of its outbox and of what its copy holds: answers, lines, statuses.
 #![tactic(auto)]
 
 pub mod held;
 pub mod line;
+pub mod outbox;
+pub mod outbox_lines;
 mod run;
+mod sending;
 pub mod task;
 
 pub use held::held_text;
 pub use line::{COPY_FAILED, sync_line, sync_status};
+pub use outbox::outbox_text;
+pub use outbox_lines::{enter_line, enter_status, entered_line, send_line, send_status};
 pub use run::synchronise;
-pub use task::SyncTask;
+pub use sending::{enter_write, send_writes};
+pub use task::{GradebookObject, SendTask, SyncTask, is_gradebook};

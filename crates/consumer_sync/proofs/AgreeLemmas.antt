@@ -11,7 +11,7 @@ use Rattle.copy_keeper.specs.States.{stage_of, state_of}
 use Rattle.copy_keeper.specs.declared.state.StageState.{StageState}
 use Rattle.exchange_link.specs.Agreement.{FitsVersion, IsFrontOf, StageFits, StageFitsIf}
 use Rattle.exchange_link.specs.Exchanges.{Told}
-use Rattle.consumer_sync.specs.Owning.Gives.{Wants as GivesWant, Broke as GivesFault, Answers as GivesAnswer}
+use Rattle.tried_requests.specs.Owning.Gives.{Wants as GivesWant, Broke as GivesFault, Answers as GivesAnswer}
 use Rattle.exchange_link.specs.Sayings.{IsRead, Tells, knows, list_of}
 use Rattle.hub_views.specs.Cuts.{cut}
 use Rattle.hub_rules.specs.Checks.{version_at}
@@ -33,11 +33,12 @@ use Rattle.version_core.specs.HubStates.{HubState, newest_number}
 use Rattle.version_core.specs.declared.change.BaseVersion.{BaseVersion}
 use Rattle.consumer_sync.specs.Filling.{HasToken, request_of}
 use Rattle.consumer_sync.specs.Judging.{judged}
-use Rattle.consumer_sync.specs.Owning.{IsOwnRead}
-use Rattle.consumer_sync.specs.Requests.{number}
+use Rattle.tried_requests.specs.Owning.{IsOwnRead}
+use Rattle.tried_requests.specs.Requests.{number}
 use Rattle.consumer_sync.specs.Staging.{Performs, Taking, taking}
 use Rattle.consumer_sync.specs.Staging.Adds.{Stays, Opened, Takes}
 use Rattle.consumer_sync.specs.Staging.Performs.{Kept, Grown, Cleared}
+use Rattle.tried_requests.proofs.AskLemmas.{grew_on}
 use Rattle.consumer_sync.proofs.JudgeLemmas.{IsListed, IsPage, IsShut, taken_page}
 use Rattle.consumer_sync.proofs.KindLemmas.{place_at}
 
@@ -63,12 +64,12 @@ said_of a b stage run count token limit w can own = record {
   mid = own.mid;
   is_hub = own.is_hub;
   from = own.from;
-  to = own.to;
+  to = grew_on own.step own.to;
   reply = elim own.gives as (λ _. Given own.mid (next_page token limit stage) (Rose a.hub_faults b.hub_faults) w) [
     | GivesWant s ↦ Wants (ap (λ (r : WireReply). r.status) (sym own.seen) ∙ s)
     | GivesFault s x ↦ Broke (ap (λ (r : WireReply). r.status) (sym own.seen) ∙ s) x
-    | GivesAnswer at left s ↦ Answers (subst (λ r. Tells own.mid (next_page token limit stage) r) own.seen
-        (told_of own.mid own.is_hub (next_page token limit stage) (number run count) at own.reply left can own.says s))
+    | GivesAnswer at s ↦ Answers (subst (λ r. Tells own.mid (next_page token limit stage) r) own.seen
+        (told_of own.mid own.is_hub (next_page token limit stage) (number run count) at own.reply own.left can own.says s))
   ];
 }
 
@@ -242,7 +243,7 @@ taken_agrees (Some s) a h token limit k et x y = after_agrees s h limit k x
 -- whatever a reply makes of the copy, its stage agrees
 pub performs_agrees : (c after : Copy) (a b : Told) (stage : Option StageState) (token : List ℕ) (limit : ℕ) (w : WireReply) (result : Option SyncAnswer) → stage_of c ≡ stage → HasToken token stage → StageFitsIf c.stage b.hub
     → IsSaid a b (next_page token limit stage) w → kinds_of stage < kind_count → Performs (judged stage limit w) token result c after → StageFitsIf after.stage b.hub
-performs_agrees c after a b stage token limit w result e et x own lt (Kept n h) = subst (λ (d : Copy). StageFitsIf d.stage b.hub) (sym h) x
+performs_agrees c after a b stage token limit w result e et x own lt (Kept n known h) = subst (λ (d : Copy). StageFitsIf d.stage b.hub) (sym h) x
 performs_agrees c after a b stage token limit w result e et x own lt (Cleared n m h) = subst (λ (d : Copy). StageFitsIf d.stage b.hub) (sym h) tt
 performs_agrees c after a b stage token limit w result e et x own lt (Grown k t g) =
     let y = subst (λ st. StandsIn st a.hub b.hub token limit k) (sym e) (own_page a b stage token limit w k own lt t) in

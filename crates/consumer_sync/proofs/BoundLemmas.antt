@@ -150,7 +150,7 @@ abbrev pub PinLeft : Option SyncAnswer → ℕ → Option Stage → Type 0
 PinLeft result pin stage = HasPin pin stage ⊎ (MayEnd result × (stage ≡ None))
 
 pub pin_performs : (a : Act) (token : List ℕ) (result : Option SyncAnswer) (c after : Copy) (stage : Option StageState) → stage_of c ≡ stage → Performs a token result c after → (s : StageState) → stage ≡ Some s → PinLeft result s.pin after.stage
-pin_performs a token result c after stage e (Kept n h) s f = subst (λ (d : Copy). PinLeft result s.pin d.stage) (sym h) (inl (pin_same c.stage stage e s f))
+pin_performs a token result c after stage e (Kept n known h) s f = subst (λ (d : Copy). PinLeft result s.pin d.stage) (sym h) (inl (pin_same c.stage stage e s f))
 pin_performs a token result c after stage e (Cleared n m h) s f = subst (λ (d : Copy). PinLeft result s.pin d.stage) (sym h) (inr (m, refl))
 pin_performs a token result c after stage e (Grown k t g) s f = inl (elim g as (λ _. HasPin s.pin after.stage) [
   | Stays n h ↦ subst (λ (d : Copy). HasPin s.pin d.stage) (sym h) (pin_same c.stage stage e s f)

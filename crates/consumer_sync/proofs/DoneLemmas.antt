@@ -37,11 +37,11 @@ use Rattle.version_core.specs.declared.change.BaseVersion.{BaseVersion}
 use Rattle.version_core.specs.declared.grant_row.GrantRow.{GrantRow}
 use Rattle.consumer_sync.specs.Filling.{HasToken, IsDoneIf, PinLaw, ToldIf}
 use Rattle.consumer_sync.specs.Judging.{agrees, by_status, gone_act, judged, listed_act, page_act, read_act, shut_act}
-use Rattle.consumer_sync.specs.Requests.{Moved}
+use Rattle.tried_requests.specs.Requests.{Moved}
 use Rattle.consumer_sync.specs.Staging.{IsBroken, answer_of}
 use Rattle.consumer_sync.specs.declared.judging.Act.{Act}
 use Rattle.consumer_sync.specs.declared.judging.Act.TheVariants as act
-use Rattle.consumer_sync.proofs.AskLemmas.{grew_on}
+use Rattle.tried_requests.proofs.AskLemmas.{grew_on}
 use Rattle.consumer_sync.proofs.KindLemmas.{place_at}
 use Rattle.consumer_sync.proofs.AgreeLemmas.{IsSaid, agrees_if_on}
 use Rattle.consumer_sync.proofs.AgreeLemmas.Given.{Wants, Broke, Answers}

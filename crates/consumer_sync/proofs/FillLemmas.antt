@@ -8,7 +8,6 @@ use Rattle.copy_keeper.specs.Lists.{kind_count}
 use Rattle.copy_keeper.specs.declared.state.StageState.{StageState}
 use Rattle.exchange_link.proofs.CutLemmas.{list_good}
 use Rattle.exchange_link.specs.Agreement.{IsFrontOf, StageFitsIf}
-use Rattle.exchange_link.specs.Exchanges.{Told}
 use Rattle.hub_rules.specs.Growth.{Grew}
 use Rattle.exchange_link.specs.Pages.{asked_by}
 use Rattle.exchange_link.specs.Places.{kinds_of, next_page}
@@ -26,19 +25,14 @@ use Rattle.exchange_link.specs.declared.answer.SyncAnswer.TheVariants as answer
 use Rattle.roster_types.specs.Records.{Record}
 use Rattle.version_core.specs.HubStates.{HubState}
 use Rattle.version_core.specs.Version.{row_limit}
-use Rattle.consumer_sync.specs.Filling.{Ends, Fills, HasToken, IsSmall, PinLaw, weight}
+use Rattle.consumer_sync.specs.Filling.{Ends, Fills, StageEnds, HasToken, IsSmall, PinLaw, weight}
 use Rattle.consumer_sync.specs.Judging.{opened, paged}
-use Rattle.consumer_sync.specs.Requests.{Asks}
-use Rattle.consumer_sync.specs.Staging.{IsBroken, Performs, Taking, open_copy, taken}
+use Rattle.consumer_sync.specs.Staging.{IsBroken, IsNotGone, MayEnd, Performs, Taking, open_copy, taken}
 use Rattle.consumer_sync.specs.Staging.Adds.{Stays, Opened, Takes}
 use Rattle.consumer_sync.specs.Staging.Performs.{Kept, Grown, Cleared}
 use Rattle.consumer_sync.specs.declared.judging.Act.{Act}
-use Rattle.consumer_sync.proofs.AskLemmas.{moved_on}
 use Rattle.consumer_sync.proofs.JudgeLemmas.{IsListed, IsPage, IsShut}
 use Rattle.consumer_sync.proofs.AgreeLemmas.{PinIs}
-
-pub asks_trans : (run from mid to : ℕ) (a b c : Told) → Asks run from mid a b → Asks run mid to b c → Asks run from to a c
-asks_trans run from mid to a b c x y = record { moved = moved_on x.moved y.moved; ready = λ r. y.ready (x.ready r) }
 
 -- the weight falls with each page
 falls : (s : StageState) (limit : ℕ) (rows : List Record) (total : ℕ) (done d : Bool) → 0 < limit → s.kinds_done < kind_count → total ≤ row_limit → length rows ≡ min limit (total - s.staged)
@@ -169,7 +163,7 @@ not_broken b = ⊎_elim (λ (e : None ≡ Some answer.KeeperFault). cc) (λ (e :
 
 -- where the call goes on, the page is staged
 fills_none : (token : List ℕ) (a : Act) (before mid after : Copy) → Fills token before mid → Performs a token None mid after → Fills token before after
-fills_none token a before mid after f (Kept n h) = absurd (n refl)
+fills_none token a before mid after f (Kept n known h) = absurd (n refl)
 fills_none token a before mid after f (Cleared g n h) = absurd n
 fills_none token a before mid after f (Grown k t g) = elim g as (λ _. Fills token before after) [
   | Stays b h ↦ absurd (not_broken b)
@@ -180,17 +174,37 @@ fills_none token a before mid after f (Grown k t g) = elim g as (λ _. Fills tok
 pub fills_on : (token : List ℕ) (a : Act) (result : Option SyncAnswer) (before mid after : Copy) → result ≡ None → Fills token before mid → Performs a token result mid after → Fills token before after
 fills_on token a result before mid after e f p = fills_none token a before mid after f (subst (λ r. Performs a token r mid after) e p)
 
-pub fills_end : (token : List ℕ) (result : Option SyncAnswer) (before after : Copy) → Fills token before after → Ends token result before after
-fills_end token result before after f = record { run = f.run; held = f.held; entries = f.entries; last_number = f.last_number; stage = inl f.stage }
+stands_end : (token : List ℕ) (result : Option SyncAnswer) (old new : Option Stage) → IsNotGone result → StageOn token old new → StageEnds token result old new
+stands_end token None old new n x = x
+stands_end token (Some (answer.PinGone pin oldest)) old new n x = absurd n
+stands_end token (Some answer.KeeperFault) old new n x = inl x
+stands_end token (Some a) old new n x = x
+
+gone_ends : (token : List ℕ) (result : Option SyncAnswer) (old : Option Stage) → MayEnd result → StageEnds token result old None
+gone_ends token None old m = absurd m
+gone_ends token (Some (answer.PinGone pin oldest)) old m = refl
+gone_ends token (Some answer.KeeperFault) old m = inr refl
+gone_ends token (Some a) old m = absurd m
+
+broken_known : (result : Option SyncAnswer) → IsBroken result → IsNotGone result
+broken_known result b = ⊎_elim
+    (λ (e : result ≡ Some answer.KeeperFault). subst (λ r. IsNotGone r) (sym e) tt)
+    (λ (e : result ≡ Some answer.NoMemory). subst (λ r. IsNotGone r) (sym e) tt) b
+
+taken_known : (result : Option SyncAnswer) → (result ≡ None) ⊎ IsBroken result → IsNotGone result
+taken_known result b = ⊎_elim (λ (e : result ≡ None). subst (λ r. IsNotGone r) (sym e) tt) (λ (x : IsBroken result). broken_known result x) b
+
+pub fills_end : (token : List ℕ) (result : Option SyncAnswer) (before after : Copy) → IsNotGone result → Fills token before after → Ends token result before after
+fills_end token result before after n f = record { run = f.run; held = f.held; entries = f.entries; last_number = f.last_number; stage = stands_end token result before.stage after.stage n f.stage }
 
 -- where it ends
 pub ends_on : (token : List ℕ) (a : Act) (result : Option SyncAnswer) (before mid after : Copy) → Fills token before mid → Performs a token result mid after → Ends token result before after
-ends_on token a result before mid after f (Kept n h) = subst (λ d. Ends token result before d) (sym h) (fills_end token result before mid f)
-ends_on token a result before mid after f (Cleared g n h) = subst (λ d. Ends token result before d) (sym h) (record { run = f.run; held = f.held; entries = f.entries; last_number = f.last_number; stage = inr (n, refl) })
+ends_on token a result before mid after f (Kept n known h) = subst (λ d. Ends token result before d) (sym h) (fills_end token result before mid known f)
+ends_on token a result before mid after f (Cleared g n h) = subst (λ d. Ends token result before d) (sym h) (record { run = f.run; held = f.held; entries = f.entries; last_number = f.last_number; stage = gone_ends token result before.stage n })
 ends_on token a result before mid after f (Grown k t g) = elim g as (λ _. Ends token result before after) [
-  | Stays b h ↦ subst (λ d. Ends token result before d) (sym h) (fills_end token result before mid f)
-  | Opened b h ↦ subst (λ d. Ends token result before d) (sym h) (fills_end token result before _ (fills_open token k.pin before mid f))
-  | Takes b h ↦ subst (λ d. Ends token result before d) (sym h) (fills_end token result before _ (fills_taken token k before mid f))
+  | Stays b h ↦ subst (λ d. Ends token result before d) (sym h) (fills_end token result before mid (broken_known result b) f)
+  | Opened b h ↦ subst (λ d. Ends token result before d) (sym h) (fills_end token result before _ (broken_known result b) (fills_open token k.pin before mid f))
+  | Takes b h ↦ subst (λ d. Ends token result before d) (sym h) (fills_end token result before _ (taken_known result b) (fills_taken token k before mid f))
 ]
 
 token-paged : (s : StageState) (rows : List Record) (total : ℕ) (d : Bool) → (paged s rows total d).token ≡ s.token

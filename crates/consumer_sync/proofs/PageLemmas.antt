@@ -16,7 +16,8 @@ use Rattle.roster_values.specs.Kinds.{plural_of}
 use Rattle.roster_values.specs.declared.kind.Kind.{Kind}
 use Rattle.roster_values.specs.declared.kind.Kind.TheVariants.{Orgs, AcademicSessions, Courses, Classes, Users, Enrollments, Demographics, Categories, LineItems, Results}
 use Rattle.status_info.specs.declared.request.Echo.{Echo}
-use Rattle.consumer_sync.specs.Requests.{numbered, unnumbered}
+use Rattle.tried_requests.specs.Requests.{numbered}
+use Rattle.consumer_sync.specs.Requests.{unnumbered}
 
 or_left : (a b : Bool) → a ≡ true → (a || b) ≡ true
 or_left true b e = refl

@@ -1,6 +1,6 @@
 -- The parts of a synchronisation make the whole.
-use Rattle.std.proofs.Common.{◌≡◌, ◌≢◌, ◌+◌, ◌<◌, ◌≤◌, ◌⊎◌, inl, inr, ⊎_elim, ℕ, Bool, true, false, List, [], ◌∷◌, length, Option, Some, None, Ok, Err, refl, sym, ◌∙◌, ap, subst, arith}
-use Rattle.std.specs.Prelude.{if◌then◌else◌, option_map, Result, bytes_eq}
+use Rattle.std.proofs.Common.{◌≡◌, ◌≢◌, ◌+◌, ◌≤◌, ◌⊎◌, inl, inr, ⊎_elim, ℕ, Bool, true, false, List, length, Option, Some, None, Ok, Err, refl, sym, ◌∙◌, ap, subst, arith}
+use Rattle.std.specs.Prelude.{if◌then◌else◌, option_map, bytes_eq}
 use Rattle.std.proofs.lemmas.List.{take_all}
 use Rattle.std.proofs.lemmas.Slice.Eq.{bytes_eq-Decides}
 use Rattle.copy_keeper.specs.Changes.{copy_after, held_of, swapped}
@@ -11,7 +11,7 @@ use Rattle.copy_keeper.specs.declared.change.CopyChange.TheVariants.{Run, Drop, 
 use Rattle.copy_keeper.specs.declared.state.CopyState.{CopyState}
 use Rattle.copy_keeper.specs.declared.state.StageState.{StageState}
 use Rattle.copy_keeper.specs.declared.state.TheConstants.{LAST}
-use Rattle.exchange_link.specs.Agreement.{Differ, NoneAbove, StageAgrees, StageFits, StageFitsIf}
+use Rattle.exchange_link.specs.Agreement.{NoneAbove, StageAgrees, StageFits, StageFitsIf}
 use Rattle.exchange_link.specs.Causes.{AsksOn, CauseOf, LastLaw, IsAside}
 use Rattle.exchange_link.specs.Completeness.{IsDone}
 use Rattle.exchange_link.specs.Exchanges.{Told}
@@ -24,28 +24,15 @@ use Rattle.exchange_link.specs.declared.answer.SyncAnswer.{SyncAnswer}
 use Rattle.exchange_link.specs.declared.answer.SyncAnswer.TheVariants as answer
 use Rattle.exchange_link.proofs.CutLemmas.{cut_whole}
 use Rattle.roster_types.specs.Records.{Record}
-use Rattle.status_info.specs.declared.request.Request.{Request}
 use Rattle.version_core.specs.HubStates.{HubState}
-use Rattle.consumer_sync.specs.Filling.{CauseIf, Ends, HasToken, IsEnd, IsEndIf, PinLaw}
-use Rattle.consumer_sync.specs.Requests.{AllSpent, Asks, IsReady}
-use Rattle.consumer_sync.specs.Staging.{MayEnd}
-use Rattle.consumer_sync.specs.Starting.{Aborts, Drops, Enters, EntersRun, StartCause, SwapsIn, without_other}
-
-above_more : (a b : ℕ) (sent : List Request) → a ≤ b → NoneAbove a sent → NoneAbove b sent
-above_more a b [] le h = tt
-above_more a b (q ∷ qs) le h = (λ n e. let x = h.0 n e in omega (arith, le, x), above_more a b qs le h.1)
-
-spent_from : (r run : ℕ) (sent : List Request) → run ≡ r + 1 → NoneAbove r sent → AllSpent run 0 sent
-spent_from r run [] e h = tt
-spent_from r run (q ∷ qs) e h = (λ n f. let x = h.0 n f in inl (omega (arith, e, x)), spent_from r run qs e h.1)
-
-below_from : (run n : ℕ) (sent : List Request) → AllSpent run n sent → NoneAbove run sent
-below_from run n [] h = tt
-below_from run n (q ∷ qs) h = (λ k f. ⊎_elim (λ (x : k.run < run). omega (arith, x)) (λ (x : (k.run ≡ run) × (k.count ≤ n)). omega (arith, x.0)) (h.0 k f), below_from run n qs h.1)
-
--- before the first exchange of a run each number of it is new
-pub ready_from : (r run : ℕ) (sent : List Request) → run ≡ r + 1 → Differ sent → NoneAbove r sent → IsReady run 0 sent
-ready_from r run sent e d h = record { differ = d; spent = spent_from r run sent e h }
+use Rattle.tried_requests.proofs.RunLemmas.{above_more, below_from, ready_from}
+use Rattle.tried_requests.specs.Beginning.{Enters, EntersRun}
+use Rattle.tried_requests.specs.declared.begin.NoRun.{NoRun}
+use Rattle.tried_requests.specs.declared.begin.NoRun.TheVariants as no_run
+use Rattle.consumer_sync.specs.Filling.{CauseIf, Ends, HasToken, IsEnd, IsEndIf, PinLaw, StageEnds}
+use Rattle.tried_requests.specs.Requests.{Asks, IsReady}
+use Rattle.consumer_sync.specs.Requests.{IsUnmarked}
+use Rattle.consumer_sync.specs.Starting.{Aborts, Drops, StartCause, SwapsIn, unentered, without_other}
 
 -- a beginning that failed
 fail_agree : (token : List ℕ) (b a : Copy) (t : Told) → Aborts token b a → StageAgrees b t → StageAgrees a t
@@ -82,11 +69,21 @@ last_sync token b a t e h = subst (λ (d : Copy). Synchronised token answer.Last
     (record { leaves = record { run = inl refl; entries = refl; last_number = refl; held = refl; stage = refl }; agree = h; held = refl })
 
 -- the run isn't entered
-pub enter_sync : (token : List ℕ) (e : SyncAnswer) (b a : Copy) (t : Told) (K : Type 0) → StartCause K e → Enters (Err e) b a → StageAgrees b t → Synchronised token e b t a t
-enter_sync token answer.LastRun b a t K k x h = last_sync token b a t x.1 h
-enter_sync token answer.KeeperFault b a t K k x h = fail_sync token answer.KeeperFault b a t tt (enter_fails token b a x) h
-enter_sync token answer.NoMemory b a t K k x h = fail_sync token answer.NoMemory b a t tt (enter_fails token b a x) h
-enter_sync token e b a t K k x h = absurd k
+pub enter_sync : (token : List ℕ) (e : NoRun) (b a : Copy) (t : Told) → Enters (Err e) b a → StageAgrees b t → Synchronised token (unentered e) b t a t
+enter_sync token no_run.LastRun b a t x h = last_sync token b a t x.1 h
+enter_sync token no_run.KeeperFault b a t x h = fail_sync token answer.KeeperFault b a t tt (enter_fails token b a x) h
+enter_sync token no_run.NoMemory b a t x h = fail_sync token answer.NoMemory b a t tt (enter_fails token b a x) h
+
+pub enter_leaves : (token : List ℕ) (e : NoRun) (b a : Copy) → Enters (Err e) b a → Leaves token (unentered e) b a
+enter_leaves token no_run.LastRun b a x = subst (λ (d : Copy). Leaves token answer.LastRun b d) (sym x.1) (record { run = inl refl; entries = refl; last_number = refl; held = refl; stage = refl })
+enter_leaves token no_run.KeeperFault b a x = fail_leaves token answer.KeeperFault b a tt (enter_fails token b a x)
+enter_leaves token no_run.NoMemory b a x = fail_leaves token answer.NoMemory b a tt (enter_fails token b a x)
+
+-- its cause
+pub enter_cause : (K : Type 0) (e : NoRun) → (e ≡ no_run.KeeperFault → K) → StartCause K (unentered e)
+enter_cause K no_run.LastRun k = tt
+enter_cause K no_run.KeeperFault k = k refl
+enter_cause K no_run.NoMemory k = tt
 
 stay_from : (K : Type 0) (e : SyncAnswer) → e ≢ answer.LastRun → StartCause K e → MayStay e
 stay_from K answer.LastRun n k = absurd (n refl)
@@ -120,12 +117,12 @@ begun_is token b m a s o x y = y ∙ ap (without_other token) x.1
 pub entry : (token : List ℕ) (run : ℕ) (b a : Copy) (t : Told) → a ≡ without_other token (copy_after (Run (b.run + 1)) b) → run ≡ b.run + 1 → StageAgrees b t → StageFitsIf a.stage t.hub × IsReady run 0 t.sent
 entry token run b a t e er h = (subst (λ (d : Copy). StageFitsIf d.stage t.hub) (sym e) (own_agrees token b.stage t.hub h.stage), ready_from b.run run t.sent er h.differ h.below)
 
-fill_stage : (token : List ℕ) (e : SyncAnswer) (old new : Option Stage) → IsEnd e → StageOn token (own_stage token old) new ⊎ (MayEnd (Some e) × (new ≡ None)) → StageLaw token e old new
+fill_stage : (token : List ℕ) (e : SyncAnswer) (old new : Option Stage) → IsEnd e → StageEnds token (Some e) (own_stage token old) new → StageLaw token e old new
 fill_stage token (answer.Complete v) old new c x = absurd c
 fill_stage token answer.LastRun old new c x = absurd c
-fill_stage token (answer.PinGone p o) old new c x = ⊎_elim (λ y. inl y) (λ y. inr (inl (tt, y.1))) x
-fill_stage token answer.KeeperFault old new c x = ⊎_elim (λ y. inl y) (λ y. inr (inl (tt, y.1))) x
-fill_stage token e old new c x = ⊎_elim (λ y. inl y) (λ y. absurd y.0) x
+fill_stage token (answer.PinGone p o) old new c x = x
+fill_stage token answer.KeeperFault old new c x = ⊎_elim (λ y. inl y) (λ y. inr (inl (tt, y))) x
+fill_stage token e old new c x = inl x
 
 fill_held : (e : SyncAnswer) (b a : Copy) → IsEnd e → a.held ≡ b.held → HeldLaw e b a
 fill_held (answer.Complete v) b a c x = absurd c
@@ -143,14 +140,14 @@ fill_leaves token e b d a ed c x =
     let y : Ends token (Some e) (without_other token (copy_after (Run (b.run + 1)) b)) a = subst (λ (d : Copy). Ends token (Some e) d a) ed x in
     record { run = inr y.run; entries = y.entries; last_number = y.last_number; held = fill_held e b a c y.held; stage = fill_stage token e b.stage a.stage c y.stage }
 
-agree_after : (token : List ℕ) (run n : ℕ) (r : Option SyncAnswer) (b a : Copy) (t u : Told) → Ends token r (without_other token (copy_after (Run (b.run + 1)) b)) a → run ≡ b.run + 1 → Asks run 0 n t u → StageAgrees b t → StageFitsIf a.stage u.hub → StageAgrees a u
+agree_after : (token : List ℕ) (run n : ℕ) (r : Option SyncAnswer) (b a : Copy) (t u : Told) → Ends token r (without_other token (copy_after (Run (b.run + 1)) b)) a → run ≡ b.run + 1 → Asks run 0 n IsUnmarked t u → StageAgrees b t → StageFitsIf a.stage u.hub → StageAgrees a u
 agree_after token run n r b a t u y er asks h s =
     let ready = asks.ready (ready_from b.run run t.sent er h.differ h.below) in
     record { differ = ready.differ; below = subst (λ x. NoneAbove x u.sent) (er ∙ sym y.run) (below_from run n u.sent ready.spent); stage = s }
 
 -- and over one that tells
 pub fill_sync : (token : List ℕ) (run n : ℕ) (e : SyncAnswer) (b d a : Copy) (t u : Told) → d ≡ without_other token (copy_after (Run (b.run + 1)) b) → IsEnd e → Ends token (Some e) d a → run ≡ b.run + 1
-    → Asks run 0 n t u → StageAgrees b t → StageFitsIf a.stage u.hub → Synchronised token e b t a u
+    → Asks run 0 n IsUnmarked t u → StageAgrees b t → StageFitsIf a.stage u.hub → Synchronised token e b t a u
 fill_sync token run n e b d a t u ed c x er asks h s =
     let y : Ends token (Some e) (without_other token (copy_after (Run (b.run + 1)) b)) a = subst (λ (d : Copy). Ends token (Some e) d a) ed x in
     record { leaves = fill_leaves token e b d a ed c x; agree = agree_after token run n (Some e) b a t u y er asks h s; held = fill_told token e b a t u c y.held }
@@ -204,17 +201,14 @@ pub record Ready (token : List ℕ) (run n : ℕ) (b c : Copy) (st : StageState)
   pub state : stage_of c ≡ Some st
   pub all : st.kinds_done ≡ kind_count
   pub run_is : run ≡ b.run + 1
-  pub asks : Asks run 0 n t u
+  pub asks : Asks run 0 n IsUnmarked t u
   pub agree : StageAgrees b t
   pub stage : StageFitsIf c.stage u.hub
   pub law : PinLaw (own_state token (stage_of b)) t.hub (Some st)
 
-on_of : (token : List ℕ) (o n : Option Stage) → StageOn token o n ⊎ (MayEnd None × (n ≡ None)) → StageOn token o n
-on_of token o n x = ⊎_elim (λ y. y) (λ y. absurd y.0) x
-
 swap_complete : (token : List ℕ) (run n : ℕ) (b c : Copy) (st : StageState) (t u : Told) (s : Stage) → Ready token run n b c st t u → c.stage ≡ Some s → state_of s ≡ st → CompleteAt st.pin token b t (swapped_in c s) u
 swap_complete token run n b c st t u s r e es =
-    let on : StageOn token (own_stage token b.stage) (Some s) = subst (λ o. StageOn token (own_stage token b.stage) o) e (on_of token _ _ (r.ends).stage) in
+    let on : StageOn token (own_stage token b.stage) (Some s) = subst (λ o. StageOn token (own_stage token b.stage) o) e (r.ends).stage in
     let ag : StageFits s u.hub = subst (λ o. StageFitsIf o u.hub) e r.stage in
     let all : length s.done ≡ kind_count = ap (λ (x : StageState). x.kinds_done) es ∙ r.all in
     let p : st.pin ≡ s.pin = ap (λ (x : StageState). x.pin) (sym es) in
@@ -255,12 +249,12 @@ swap_broken token run n b c st t u s r e es = record {
 
 kept_sync : (token : List ℕ) (run n : ℕ) (b c : Copy) (st : StageState) (t u : Told) (e : SyncAnswer) → MayStay e → Ready token run n b c st t u → Synchronised token e b t c u
 kept_sync token run n b c st t u answer.KeeperFault m r = record {
-  leaves = record { run = inr (r.ends).run; entries = (r.ends).entries; last_number = (r.ends).last_number; held = inl (r.ends).held; stage = inl (on_of token _ _ (r.ends).stage) };
+  leaves = record { run = inr (r.ends).run; entries = (r.ends).entries; last_number = (r.ends).last_number; held = inl (r.ends).held; stage = inl (r.ends).stage };
   agree = agree_after token run n None b c t u r.ends r.run_is r.asks r.agree r.stage;
   held = inl (r.ends).held;
 }
 kept_sync token run n b c st t u answer.NoMemory m r = record {
-  leaves = record { run = inr (r.ends).run; entries = (r.ends).entries; last_number = (r.ends).last_number; held = (r.ends).held; stage = inl (on_of token _ _ (r.ends).stage) };
+  leaves = record { run = inr (r.ends).run; entries = (r.ends).entries; last_number = (r.ends).last_number; held = (r.ends).held; stage = inl (r.ends).stage };
   agree = agree_after token run n None b c t u r.ends r.run_is r.asks r.agree r.stage;
   held = (r.ends).held;
 }
@@ -283,11 +277,10 @@ swap_sync token run n b c a st t u answer.NoMemory r x = subst (λ (d : Copy). S
 swap_sync token run n b c a st t u e r x = absurd x
 
 -- completeness at the beginning
-pub enter_done : (e : SyncAnswer) (b a : Copy) (K : Type 0) → StartCause K e → Enters (Err e) b a → (K → ⊥) → (b.run ≡ LAST → ⊥) → IsDone e
-enter_done answer.LastRun b a K k x quiet low = absurd (low x.0)
-enter_done answer.KeeperFault b a K k x quiet low = absurd (quiet k)
-enter_done answer.NoMemory b a K k x quiet low = tt
-enter_done e b a K k x quiet low = absurd k
+pub enter_done : (e : NoRun) (b a : Copy) (K : Type 0) → (e ≡ no_run.KeeperFault → K) → Enters (Err e) b a → (K → ⊥) → (b.run ≡ LAST → ⊥) → IsDone (unentered e)
+enter_done no_run.LastRun b a K k x quiet low = absurd (low x.0)
+enter_done no_run.KeeperFault b a K k x quiet low = absurd (quiet (k refl))
+enter_done no_run.NoMemory b a K k x quiet low = tt
 
 pub drop_done : (e : SyncAnswer) (K : Type 0) → (e ≢ answer.LastRun) × StartCause K e → (K → ⊥) → IsDone e
 drop_done answer.LastRun K k quiet = absurd (k.0 refl)
@@ -311,7 +304,7 @@ swap_leaves token b d c a st (answer.Complete v) ed x0 state all x =
 swap_leaves token b d c a st answer.KeeperFault ed x0 state all x =
     let y : Ends token None (without_other token (copy_after (Run (b.run + 1)) b)) c = subst (λ (d : Copy). Ends token None d c) ed x0 in
     let s = stage_some c.stage st state in
-    ⊎_elim (λ (h : a ≡ c). subst (λ (d : Copy). Leaves token answer.KeeperFault b d) (sym h) (record { run = inr y.run; entries = y.entries; last_number = y.last_number; held = inl y.held; stage = inl (on_of token _ _ y.stage) }))
+    ⊎_elim (λ (h : a ≡ c). subst (λ (d : Copy). Leaves token answer.KeeperFault b d) (sym h) (record { run = inr y.run; entries = y.entries; last_number = y.last_number; held = inl y.held; stage = inl y.stage }))
     (λ (h : a ≡ copy_after Swap c). subst (λ (d : Copy). Leaves token answer.KeeperFault b d) (sym (h ∙ swap_to c s.0 s.1)) (record {
       run = inr y.run;
       entries = y.entries;
@@ -321,7 +314,7 @@ swap_leaves token b d c a st answer.KeeperFault ed x0 state all x =
     })) x
 swap_leaves token b d c a st answer.NoMemory ed x0 state all x =
     let y : Ends token None (without_other token (copy_after (Run (b.run + 1)) b)) c = subst (λ (d : Copy). Ends token None d c) ed x0 in
-    subst (λ (d : Copy). Leaves token answer.NoMemory b d) (sym x) (record { run = inr y.run; entries = y.entries; last_number = y.last_number; held = y.held; stage = inl (on_of token _ _ y.stage) })
+    subst (λ (d : Copy). Leaves token answer.NoMemory b d) (sym x) (record { run = inr y.run; entries = y.entries; last_number = y.last_number; held = y.held; stage = inl y.stage })
 swap_leaves token b d c a st e ed x0 state all x = absurd x
 
 -- an answer of the pages is one of their own
@@ -398,11 +391,10 @@ start_aside broke answer.KeeperFault k = inr tt
 start_aside broke answer.NoMemory k = inr tt
 start_aside broke e k = absurd k
 
-only_entered : (e : SyncAnswer) (b a : Copy) → Enters (Err e) b a → e ≡ answer.LastRun → (b.run ≡ LAST) × (a ≡ b)
-only_entered e b a x h = subst (λ (e : SyncAnswer). (let r : Result CopyState SyncAnswer = Err e in Enters r b a)) h x
-
-pub last_entered : (e : SyncAnswer) (b a : Copy) (broke : Type 0) → StartCause broke e → Enters (Err e) b a → LastLaw e b a
-last_entered e b a broke k x = record { only = only_entered e b a x; exact = λ _. start_aside broke e k }
+pub last_entered : (e : NoRun) (b a : Copy) → Enters (Err e) b a → LastLaw (unentered e) b a
+last_entered no_run.LastRun b a x = record { only = λ h. x; exact = λ _. inl refl }
+last_entered no_run.KeeperFault b a x = record { only = λ h. cc; exact = λ _. inr tt }
+last_entered no_run.NoMemory b a x = record { only = λ h. cc; exact = λ _. inr tt }
 
 pub last_dropped : (e : SyncAnswer) (b a : Copy) (broke : Type 0) → (e ≢ answer.LastRun) × StartCause broke e → LastLaw e b a
 last_dropped e b a broke k = record { only = λ h. absurd (k.0 h); exact = λ _. start_aside broke e k.1 }

@@ -18,8 +18,7 @@ use Rattle.http_wire.specs.declared.answer.WireReply.{WireReply}
 use Rattle.status_info.specs.declared.request.Request.{Request}
 use Rattle.version_core.specs.HubStates.{HubState, newest_number}
 use Rattle.version_core.specs.Version.{row_limit}
-use Rattle.consumer_sync.specs.Requests.{number}
-use Rattle.consumer_sync.specs.Staging.{MayEnd}
+use Rattle.tried_requests.specs.Requests.{number}
 
 -- the request for the next page of a stage
 abbrev pub request_of : Option StageState → ℕ → ℕ → List ℕ → ℕ → Request
@@ -50,13 +49,19 @@ pub record Fills (token : List ℕ) (before after : Copy) : Type 0 where
   pub last_number : after.last_number ≡ before.last_number
   pub stage : StageOn token before.stage after.stage
 
--- the same at an answer, where the stage may be gone only where that answer allows it
+-- the stage at an answer: it is gone where its pin is, may be gone where the keeper failed, and else stands
+abbrev pub StageEnds : List ℕ → Option SyncAnswer → Option Stage → Option Stage → Type 0
+StageEnds token (Some (answer.PinGone pin oldest)) old new = new ≡ None
+StageEnds token (Some answer.KeeperFault) old new = StageOn token old new ⊎ (new ≡ None)
+StageEnds token r old new = StageOn token old new
+
+-- the same at an answer
 pub record Ends (token : List ℕ) (result : Option SyncAnswer) (before after : Copy) : Type 0 where
   pub run : after.run ≡ before.run
   pub held : after.held ≡ before.held
   pub entries : after.entries ≡ before.entries
   pub last_number : after.last_number ≡ before.last_number
-  pub stage : StageOn token before.stage after.stage ⊎ (MayEnd result × (after.stage ≡ None))
+  pub stage : StageEnds token result before.stage after.stage
 
 -- the rounds that a stage may still take, at least
 abbrev pub weight : Option StageState → ℕ

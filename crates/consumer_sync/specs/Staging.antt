@@ -76,6 +76,11 @@ pub data Adds (k : Taking) (token : List ℕ) (result : Option SyncAnswer) (befo
   Opened : IsBroken result → after ≡ open_copy k.pin token before → Adds k token result before after
   Takes : ((result ≡ None) ⊎ IsBroken result) → after ≡ taken k token before → Adds k token result before after
 
+-- any answer but that of a pin that is gone
+abbrev pub IsNotGone : Option SyncAnswer → Type 0
+IsNotGone (Some (answer.PinGone pin oldest)) = ⊥
+IsNotGone r = Unit {0}
+
 -- the answers under which a stage may be gone
 abbrev pub MayEnd : Option SyncAnswer → Type 0
 MayEnd (Some (answer.PinGone pin oldest)) = Unit {0}
@@ -84,7 +89,7 @@ MayEnd r = ⊥
 
 -- what the copy is after a reply, by what the reply means
 pub data Performs (a : Act) (token : List ℕ) (result : Option SyncAnswer) (before after : Copy) : Type 0 where
-  Kept : (result ≢ None) → after ≡ before → Performs a token result before after
+  Kept : (result ≢ None) → IsNotGone result → after ≡ before → Performs a token result before after
   Grown : (k : Taking) → taking a ≡ Some k → Adds k token result before after → Performs a token result before after
   Cleared : IsGone a → MayEnd result → after ≡ copy_after Drop before → Performs a token result before after
 

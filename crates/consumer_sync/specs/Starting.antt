@@ -2,23 +2,19 @@
 use Rattle.std.specs.Prelude.{◌≡◌, ◌⊎◌, ℕ, ◌+◌, List, Option, None, Result, Ok, Err}
 use Rattle.copy_keeper.specs.Changes.{copy_after}
 use Rattle.copy_keeper.specs.Copies.{Copy}
-use Rattle.copy_keeper.specs.declared.change.CopyChange.TheVariants.{Run, Drop, Swap}
-use Rattle.copy_keeper.specs.declared.state.CopyState.{CopyState}
+use Rattle.copy_keeper.specs.declared.change.CopyChange.TheVariants.{Drop, Swap}
 use Rattle.copy_keeper.specs.declared.state.StageState.{StageState}
-use Rattle.copy_keeper.specs.declared.state.TheConstants.{LAST}
 use Rattle.exchange_link.specs.Synchronised.{own_stage}
 use Rattle.exchange_link.specs.declared.answer.SyncAnswer.{SyncAnswer}
 use Rattle.exchange_link.specs.declared.answer.SyncAnswer.TheVariants as answer
+use Rattle.tried_requests.specs.declared.begin.NoRun.{NoRun}
+use Rattle.tried_requests.specs.declared.begin.NoRun.TheVariants as no_run
 
--- the run number as before, or the next one
-abbrev pub EntersRun : Copy → Copy → Type 0
-EntersRun before after = (after ≡ before) ⊎ (after ≡ copy_after (Run (before.run + 1)) before)
-
--- entering a run: at Ok it is entered, with this small part
-abbrev pub Enters : Result CopyState SyncAnswer → Copy → Copy → Type 0
-Enters (Ok s) before after = (s.run ≡ before.run + 1) × (after ≡ copy_after (Run (before.run + 1)) before)
-Enters (Err answer.LastRun) before after = (before.run ≡ LAST) × (after ≡ before)
-Enters (Err e) before after = EntersRun before after
+-- the answer where no run was entered
+abbrev pub unentered : NoRun → SyncAnswer
+unentered no_run.LastRun = answer.LastRun
+unentered no_run.KeeperFault = answer.KeeperFault
+unentered no_run.NoMemory = answer.NoMemory
 
 -- letting a stage under another token go
 abbrev pub without_other : List ℕ → Copy → Copy

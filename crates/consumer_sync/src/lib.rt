@@ -1,7 +1,6 @@
 //! The consumer's synchronisation: page after page of what a token sees of one version of its hub, staged and swapped in.
 #![tactic(auto)]
 
-mod ask;
 mod fill;
 mod judging;
 mod page;

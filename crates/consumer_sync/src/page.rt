@@ -1,20 +1,30 @@
-//! The requests for pages.
+//! The requests for pages, and their replies.
 
-ghost use Rattle.std.specs.Prelude.{◌≡◌, ◌<◌, ◌++◌, IfOk, codes, string_bytes};
+ghost use Rattle.std.specs.Prelude.{◌≡◌, ◌≢◌, ◌+◌, ◌-◌, ◌*◌, ◌<◌, ◌≤◌, ◌++◌, IfOk, Some, codes, string_bytes};
 ghost use Rattle.copy_keeper.specs.Lists.{kind_count};
+ghost use Rattle.copy_keeper.specs.declared.state.TheConstants.{LAST};
+ghost use Rattle.exchange_link.specs.Causes.{IsLast, IsMore, IsOwnReply, RoseBy};
+ghost use Rattle.exchange_link.specs.Exchanges.{Told};
 ghost use Rattle.exchange_link.specs.Places.{kinds_of, next_page};
 ghost use Rattle.hub_requests.specs.PageRequests.{page_path, page_query, pin_text};
+ghost use Rattle.http_wire.specs.Answers.{IsNoReply, IsReplyText};
 ghost use Rattle.http_wire.specs.Sending.{CanSend, IsSentEcho};
+ghost use Rattle.http_wire.specs.declared.answer.WireReply.{WireReply as Reply};
 ghost use Rattle.status_info.specs.declared.request.Echo.{Echo as Number};
-ghost use Rattle.consumer_sync.specs.Requests.{numbered, unnumbered};
+ghost use Rattle.tried_requests.specs.Owning.{IsOwnRead};
+ghost use Rattle.tried_requests.specs.Requests.{Asks, IfOwn, IsReady, number, numbered};
+ghost use Rattle.consumer_sync.specs.Filling.{request_of};
+ghost use Rattle.consumer_sync.specs.Requests.{IsUnmarked, unnumbered};
 
 use crate::judging::{kind, pin, staged};
 use copy_keeper::StageState;
+use exchange_link::Link;
 use roster_base::{Bytes, NoMemory, Text, TryCopy};
 use roster_texts::Token;
 use roster_values::Kind;
 use status_info::{MarkField, Request, Verb};
 use std::alloc::Global;
+use tried_requests::{Outcome, ask};
 
 #[tactic(auto, unfolding(hub_requests::specs::PageRequests::page_path))]
 fn path_text(alloc: Global, kind: Kind) -> Result<String, NoMemory>
@@ -88,4 +98,38 @@ pub fn page_request(
     let pin = pin(stage);
     let request = request_for(alloc, token, kind, limit, offset, pin)?;
     Ok(request)
+}
+
+/// The request for the next page of a stage, tried at most so often, each time under the next count of its run.
+pub fn fetch<L: Link>(
+    alloc: Global,
+    link: &mut L,
+    stage: &Option<StageState>,
+    run: u64,
+    token: &Token,
+    limit: u64,
+    count: &mut u64,
+    tries: u64,
+) -> Outcome
+    requires room { kinds_of stage.now < kind_count }
+    requires run { (1 ≤ run) × (run ≤ LAST) }
+    requires tries { (0 < tries) × (tries ≤ 100) }
+    requires few { count.old + tries ≤ 100 * LAST }
+    ensures count { (count.old ≤ count.new) × (count.new ≤ count.old + tries) }
+    ensures asked { IsMore (L.asked link.old) (count.new - count.old) (L.asked link.new) }
+    ensures later { L.fault_count link.old ≤ L.fault_count link.new }
+    ensures own { IfOwn result (λ w. IsOwnReply (L.kept link.new) run count.new w) }
+    ensures none { result ≡ Outcome.NoReply → (1 ≤ count.new) × IsNoReply (L.kept link.new) × ((after : Told) → L.tells link.new after → ⊥) }
+    ensures missed { result ≡ Outcome.Missed → (count.new ≡ count.old + tries) × (tries ≤ L.missed link.new)
+        × RoseBy tries (L.fault_count link.old) (L.fault_count link.new)
+        × ((w : Reply) → IsReplyText (L.kept link.new) w → w.echo ≡ Some (number run count.new) → ⊥) }
+    ensures told { (after : Told) → L.tells link.new after → (before : Told) × L.tells link.old before
+        × Asks run count.old count.new IsUnmarked before after
+        × (IsReady run count.old before.sent → IfOwn result (λ w. IsOwnRead before after (request_of stage.now run count.new token.now limit) w)) }
+    ensures last { result ≢ Outcome.NoMemory → (after : Told) → L.tells link.new after → IsLast (request_of stage.now run count.new token.now limit) after.sent }
+{
+    match page_request(alloc, token, limit, stage) {
+        Ok(request) => ask(alloc, link, request, run, count, tries),
+        Err(_) => Outcome::NoMemory,
+    }
 }

@@ -2,8 +2,14 @@ pub mod Agreement
 pub mod Bounds
 pub mod Causes
 pub mod Completeness
+pub mod Entering
 pub mod Exchanges
+pub mod Marks
 pub mod Pages
 pub mod Places
 pub mod Sayings
+pub mod SendCauses
+pub mod SendCompleteness
+pub mod Sent
+pub mod SentTold
 pub mod Synchronised

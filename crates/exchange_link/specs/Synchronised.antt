@@ -41,9 +41,8 @@ StageOn token None (Some s) = s.token ≡ token
 StageOn token (Some old) (Some new) = Grows old new
 StageOn token (Some old) None = ⊥
 
--- the answers that end a stage
+-- the answers with which a stage may end
 abbrev pub MayFinish : SyncAnswer → Type 0
-MayFinish (answer.PinGone pin oldest) = Unit {0}
 MayFinish answer.KeeperFault = Unit {0}
 MayFinish (answer.Complete v) = Unit {0}
 MayFinish a = ⊥
@@ -54,9 +53,10 @@ MayStay answer.KeeperFault = Unit {0}
 MayStay answer.NoMemory = Unit {0}
 MayStay a = ⊥
 
--- a stage under this token keeps its pin and only grows; one under another is let go
+-- a stage under this token keeps its pin and only grows, and ends where its pin is gone; one under another is let go
 abbrev pub StageLaw : List ℕ → SyncAnswer → Option Stage → Option Stage → Type 0
 StageLaw token answer.LastRun old new = new ≡ old
+StageLaw token (answer.PinGone pin oldest) old new = new ≡ None
 StageLaw token a old new = StageOn token (own_stage token old) new ⊎ ((MayFinish a × (new ≡ None)) ⊎ (MayStay a × (new ≡ old)))
 
 -- ---- what is held

@@ -3,6 +3,8 @@
 
 pub mod answer;
 pub mod link;
+pub mod send_answer;
 
 pub use answer::SyncAnswer;
 pub use link::Link;
+pub use send_answer::{EnterError, SendAnswer};

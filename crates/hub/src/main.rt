@@ -14,12 +14,23 @@ const HELP: &str = "\
 hub [--store DIR] [--folder DIR] [--peer HOST:PORT] [--keep N] COMMAND
 
 ask FILE      answers the HTTP requests in FILE, one behind another, and prints their replies
+enter put KIND ID FILE
+              puts a write into the outbox of the consumer's copy: that the row of KIND with this ID
+              be as the body in FILE says, of 131072 bytes at most; prints the number of the entry
+enter delete KIND ID
+              puts a write into the outbox: that the row be deleted; prints the number of the entry
+              KIND is one of categories, lineItems, results
 grant FILE    gives each caller what FILE asks for, in place of all grants, and prints the version
               that this leads to
 list KIND     prints the rows of KIND that the consumer's copy holds, in order of id, as JSON
+outbox        prints the entries of the outbox: of each its number, and the status and the version of
+              the hub's reply, or that it waits
 publish FEED=DIR ..
               publishes the set in each folder DIR as the feed FEED, one after another, and
               prints the version that each leads to
+send TOKEN TRIES
+              sends the entries that wait to the hub at the peer's address, one after another, under
+              TOKEN, and tries each request TRIES times, 1 to 100; prints how many were settled
 show KIND     prints the rows of KIND.csv, in order of id, as JSON
               KIND is one of orgs, academicSessions, courses, classes, users, enrollments,
               demographics, categories, lineItems, results
@@ -37,10 +48,12 @@ sync TOKEN LIMIT TRIES
 
 The status is 0 where the command is done, 1 where the output could not be written, 2 where the
 words are no command, 3 where the folder failed, 4 where the input is refused, 5 where the hub's
-store failed, 6 where the copy's store failed and 17 where memory ran out. Where a copy isn't made it
-is 7 where the peer wasn't reached, 8 where it keeps the version no longer, 9 where it doesn't know
-the token, 12 where its reply is none that a hub gives, 13 where it has too many rows, 14 where it
-failed, 15 where it had no memory and 16 at the last run. All lines go to standard output.
+store failed, 6 where the copy's store failed and 17 where memory ran out. Where a copy isn't made, or
+an entry isn't settled, it is 7 where the peer wasn't reached, 8 where it keeps the version no longer,
+9 where it doesn't know the token, 10 where it doesn't open the write to the token, 11 where it has
+taken another write under the entry's number, 12 where its reply is none that a hub gives, 13 where it
+has too many rows, 14 where it failed, 15 where it had no memory and 16 at the last run or entry. All
+lines go to standard output.
 ";
 
 const VERSION: &str = "hub 0.1.0\n";

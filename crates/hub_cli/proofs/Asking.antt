@@ -33,7 +33,7 @@ use Rattle.hub_cli.specs.Runs.{LeadsFrom, Writes}
 use Rattle.hub_cli.specs.Steps.{end_of_error}
 use Rattle.hub_cli.specs.declared.answer.Answer.{Answer}
 use Rattle.hub_cli.specs.declared.answer.End.{End}
-use Rattle.hub_cli.specs.declared.answer.End.TheVariants.{BadWord, CopyFailed, Done, FileTooLarge, FolderFailed, GrantsRefused, HubFailed, MissingFile, NoMemory, NotPublished, Refused, RequestRefused, Synced}
+use Rattle.hub_cli.specs.declared.answer.End.TheVariants.{BadRow, BadWord, CopyFailed, Done, FileNotUtf8, FileTooLarge, FolderFailed, GrantsRefused, HubFailed, MissingFile, NoMemory, NotEntered, NotPublished, Refused, RequestRefused, Sent, Synced}
 
 some_same : {A : Type 0} {x y : A} → Some x ≡ Some y → x ≡ y
 some_same is = cc is
@@ -57,6 +57,10 @@ ends-wants bytes xs done (FileTooLarge name) is other = absurd is
 ends-wants bytes xs done (GrantsRefused f) is other = absurd is
 ends-wants bytes xs done (NotPublished f) is other = absurd is
 ends-wants bytes xs done (Synced a) is other = absurd is
+ends-wants bytes xs done (NotEntered a) is other = absurd is
+ends-wants bytes xs done (Sent a) is other = absurd is
+ends-wants bytes xs done (FileNotUtf8 a) is other = absurd is
+ends-wants bytes xs done (BadRow a) is other = absurd is
 ends-wants bytes xs done CopyFailed is other = absurd is
 
 is_some : (b : ℕ) (bytes : List ℕ) → (length (b ∷ bytes) == 0) ≡ false
@@ -238,6 +242,10 @@ module _ (o : Outside) (file : List ℕ) where
   stops-says (RequestRefused n f) stops = file-says (RequestRefused n f) stops.0
   stops-says (NotPublished f) stops = file-says (NotPublished f) stops.0
   stops-says (Synced a) stops = file-says (Synced a) stops.0
+  stops-says (NotEntered a) stops = file-says (NotEntered a) stops.0
+  stops-says (Sent a) stops = file-says (Sent a) stops.0
+  stops-says (FileNotUtf8 a) stops = file-says (FileNotUtf8 a) stops.0
+  stops-says (BadRow a) stops = file-says (BadRow a) stops.0
   stops-says CopyFailed stops = file-says CopyFailed stops.0
 
   ends-says : (bytes : List ℕ) (xs : List Exchange) (done : List ℕ) (end : End) → StreamEnds bytes xs done end → Says o end
@@ -253,6 +261,10 @@ module _ (o : Outside) (file : List ℕ) where
   ends-says bytes xs done (GrantsRefused f) is = absurd is
   ends-says bytes xs done (NotPublished f) is = absurd is
   ends-says bytes xs done (Synced a) is = absurd is
+  ends-says bytes xs done (NotEntered a) is = absurd is
+  ends-says bytes xs done (Sent a) is = absurd is
+  ends-says bytes xs done (FileNotUtf8 a) is = absurd is
+  ends-says bytes xs done (BadRow a) is = absurd is
   ends-says bytes xs done CopyFailed is = absurd is
 
   pub ask-says : (done : List ℕ) (end : End) (before after : KeptState) → IsAskAnswer o file done end before after → Says o end
@@ -295,6 +307,10 @@ module _ (files : Option (List Stored)) (moment : Option ℤ) (folder : Faults) 
   read_stops keeper (RequestRefused n f) is = (is.0, record { folder = is.1; keeper = refl })
   read_stops keeper (NotPublished f) is = (is.0, record { folder = is.1; keeper = refl })
   read_stops keeper (Synced a) is = (is.0, record { folder = is.1; keeper = refl })
+  read_stops keeper (NotEntered a) is = (is.0, record { folder = is.1; keeper = refl })
+  read_stops keeper (Sent a) is = (is.0, record { folder = is.1; keeper = refl })
+  read_stops keeper (FileNotUtf8 a) is = (is.0, record { folder = is.1; keeper = refl })
+  read_stops keeper (BadRow a) is = (is.0, record { folder = is.1; keeper = refl })
   read_stops keeper CopyFailed is = (is.0, record { folder = is.1; keeper = refl })
 
   -- an end before which nothing was done, and of which a line is printed

@@ -3,19 +3,36 @@ use Rattle.std.proofs.Common.{◌≡◌, ◌≢◌, ◌⊎◌, ℕ, ℤ, List, [
 use Rattle.consumer_cli.specs.Consumers.{CopyRun, LinkRun}
 use Rattle.consumer_cli.specs.SyncLines.{sync_status, sync_text}
 use Rattle.consumer_cli.specs.Syncs.{IsSyncOf}
-use Rattle.consumer_cli.specs.Tasks.{Task}
+use Rattle.consumer_cli.specs.Tasks.{Object, Sending, Task}
+use Rattle.consumer_cli.specs.Held.{IsHeldText}
+use Rattle.consumer_cli.specs.Outbox.{IsOutboxText}
+use Rattle.consumer_cli.specs.Sends.{IsEnterOf, IsSendOf}
 use Rattle.csv_sets.specs.declared.fault.SetFault.{SetFault}
 use Rattle.csv_sets.specs.Files as files
 use Rattle.exchange_link.specs.declared.answer.SyncAnswer.{SyncAnswer}
 use Rattle.exchange_link.specs.declared.answer.SyncAnswer.TheVariants as sync
+use Rattle.exchange_link.specs.declared.send_answer.EnterError.{EnterError}
+use Rattle.exchange_link.specs.declared.send_answer.EnterError.TheVariants as enter
+use Rattle.exchange_link.specs.declared.send_answer.SendAnswer.{SendAnswer}
+use Rattle.exchange_link.specs.declared.send_answer.SendAnswer.TheVariants as send
+use Rattle.outside_ports.specs.declared.folder.FileRead.{FileRead}
+use Rattle.outside_ports.specs.declared.folder.FileRead.TheVariants.{Absent, Bytes, TooLong}
+use Rattle.outside_ports.specs.Files.{Stored}
+use Rattle.roster_types.specs.Records.{Record}
+use Rattle.row_json.specs.Puts.{put_of}
+use Rattle.row_json.specs.declared.fault.JsonFault.{JsonFault}
+use Rattle.std.specs.Prelude.{true, false, if◌then◌else◌}
+use Rattle.std.specs.Str.{is_utf8}
+use Rattle.version_core.specs.declared.mark.Write.{Write}
 use Rattle.keeper_memory.specs.Kept.{KeptState}
 use Rattle.roster_base.specs.Faults.{Rose}
 use Rattle.roster_types.specs.declared.set_row.SetRow.{SetRow}
 use Rattle.roster_values.specs.declared.kind.Kind.{Kind}
 use Rattle.roster_values.specs.declared.mode.Mode.TheVariants.{Bulk}
 use Rattle.hub_cli.specs.Answers.{IsPrinted, status_of, text_of}
-use Rattle.hub_cli.specs.ConsumerAnswers.{IsListAnswer, IsSyncAnswer, ListEnds}
-use Rattle.hub_cli.specs.Outside.{HaveRisen, NothingFailed, Outside}
+use Rattle.hub_cli.specs.ConsumerAnswers.{IsListAnswer, IsSyncAnswer, ReadEnds}
+use Rattle.hub_cli.specs.OutboxAnswers.{IsEnterAnswer, IsEntered, IsOutboxAnswer, IsSendAnswer, IsWriteOf, ReadsWrite, or_bad_row, put_in}
+use Rattle.hub_cli.specs.Outside.{HaveRisen, HaveStood, NothingFailed, Outside}
 use Rattle.hub_cli.specs.Runs.{ConsumerRests, IsAnswer, IsCommandAnswer, IsShowAnswer, LeadsFrom, WantsMemory}
 use Rattle.hub_cli.specs.Shows.{IsShown, answer_of_file, answer_of_rows}
 use Rattle.hub_cli.specs.Words.{command_in}
@@ -23,7 +40,9 @@ use Rattle.hub_cli.specs.declared.answer.Answer.{Answer}
 use Rattle.hub_cli.specs.declared.answer.End.{End}
 use Rattle.hub_cli.specs.declared.answer.End.TheVariants as ends
 use Rattle.hub_cli.specs.declared.words.Command.{Command}
-use Rattle.hub_cli.specs.declared.words.Command.TheVariants.{Ask, Grant, ListHeld, Publish, Show, Sync}
+use Rattle.hub_cli.specs.declared.words.Command.TheVariants.{Ask, Enter, Grant, ListHeld, Outbox, Publish, Send, Show, Sync}
+use Rattle.hub_cli.specs.declared.words.EnterTask.{EnterTask}
+use Rattle.hub_cli.specs.declared.words.EnterTask.TheVariants.{Delete, Put}
 use Rattle.hub_cli.specs.declared.words.Parsed.{Parsed}
 use Rattle.hub_cli.proofs.Asking.{ask-says, ask-wants}
 use Rattle.hub_cli.proofs.Granting.{grant-says, grant-wants}
@@ -55,10 +74,22 @@ module _ (copy : CopyRun) (link : LinkRun) where
   sync-wants : (task : Task) (a : Answer) → IsSyncAnswer task copy link a → IsSyncAnswer task copy link (record a { end = ends.NoMemory })
   sync-wants task a (none, s, is, how) = (none, s, is, inr refl)
 
-  list-wants : (kind : Kind) (a : Answer) → ListEnds kind copy a → a.end ≢ ends.Done → ListEnds kind copy (record a { end = ends.NoMemory })
-  list-wants kind a (inl told) other = absurd (other told.0)
-  list-wants kind a (inr (inl failed)) other = inr (inr (refl, failed.1))
-  list-wants kind a (inr (inr wants)) other = inr (inr (refl, wants.1))
+  read-wants : (is_text : List ℕ → Type 0) (a : Answer) → ReadEnds is_text copy a → a.end ≢ ends.Done → ReadEnds is_text copy (record a { end = ends.NoMemory })
+  read-wants is_text a (inl told) other = absurd (other told.0)
+  read-wants is_text a (inr (inl failed)) other = inr (inr (refl, failed.1))
+  read-wants is_text a (inr (inr wants)) other = inr (inr (refl, wants.1))
+
+  send-wants : (task : Sending) (a : Answer) → IsSendAnswer task copy link a → IsSendAnswer task copy link (record a { end = ends.NoMemory })
+  send-wants task a (none, s, is, how) = (none, s, is, inr refl)
+
+  entered-wants : (r : Result ℕ EnterError) (a : Answer) → IsEntered r a → a.end ≢ ends.Done → IsEntered r (record a { end = ends.NoMemory })
+  entered-wants (Ok number) a (inl told) other = absurd (other told.1)
+  entered-wants (Ok number) a (inr wants) other = inr (wants.0, refl)
+  entered-wants (Err error) a is other = (is.0, inr refl)
+
+  enter-wants : (task : EnterTask) (o : Outside) (a : Answer) → IsEnterAnswer task o copy a → a.end ≢ ends.Done → IsEnterAnswer task o copy (record a { end = ends.NoMemory })
+  enter-wants task o a (inl (end, same, reads, is)) other = inl (ends.NoMemory, same, tt, ap (λ (x : Answer). record x { end = ends.NoMemory }) is)
+  enter-wants task o a (inr (write, r, reads, is, entered)) other = inr (write, r, reads, is, entered-wants r a entered other)
 
   command-wants : (command : Command) (o : Outside) (a : Answer) (before after : KeptState) → IsCommandAnswer command o copy link a before after → a.end ≢ ends.Done
       → IsCommandAnswer command o copy link (record a { end = ends.NoMemory }) before after ⊎ (ConsumerRests copy link × (after ≡ before) × WantsMemory (record a { end = ends.NoMemory }))
@@ -68,7 +99,10 @@ module _ (copy : CopyRun) (link : LinkRun) where
   command-wants (Grant file) o a before after is other = inl (is.0, grant-wants o file a.done a.end before after is.1 other)
   command-wants (Ask file) o a before after is other = inl (is.0, ask-wants o file a.done a.end before after is.1 other)
   command-wants (Sync task) o a before after is other = inl (is.0, is.1, sync-wants task a is.2)
-  command-wants (ListHeld kind) o a before after is other = inl (is.0, is.1, is.2, (is.3.0, list-wants kind a is.3.1 other))
+  command-wants (Enter task) o a before after is other = inl (is.0, is.1, is.2, enter-wants task o a is.3 other)
+  command-wants (Send task) o a before after is other = inl (is.0, is.1, send-wants task a is.2)
+  command-wants Outbox o a before after is other = inl (is.0, is.1, is.2, (is.3.0, read-wants (IsOutboxText copy.stands) a is.3.1 other))
+  command-wants (ListHeld kind) o a before after is other = inl (is.0, is.1, is.2, (is.3.0, read-wants (IsHeldText kind copy.stands) a is.3.1 other))
 
   answer-wants : (r : Result Parsed ℕ) (o : Outside) (a : Answer) (before after : KeptState) → IsAnswer r o copy link a before after → a.end ≢ ends.Done → IsAnswer r o copy link (record a { end = ends.NoMemory }) before after
   answer-wants (Err place) o a before after (rests, same, inl bad) other = (rests, same, inr (ap (λ (x : Answer). x.done) bad.0, refl))
@@ -113,6 +147,36 @@ module _ (o : Outside) where
   show-says kind a (inr (inl shown)) = subst (λ (x : Answer). Says o x.end) (sym shown.0.is) (file-says kind shown.0.at shown.0.file)
   show-says kind a (inr (inr wants)) = says_memory a.end wants.1
 
+-- what refuses the file of a body
+or-bad-row : (name : List ℕ) (object : Object) (body : List ℕ) (r : Result Record JsonFault) (end : End) → or_bad_row name object body r ≡ Err end → status_of end ≡ 4
+or-bad-row name object body (Ok row) end e = absurd (cc e)
+or-bad-row name object body (Err fault) end e = ap status_of (other (sym e))
+  where
+    other : {a b : End} → (let r : Result Write End = Err a in r ≡ Err b) → a ≡ b
+    other e = cc
+
+put-refused : (object : Object) (at : ℤ) (name : List ℕ) (read : FileRead) (end : End) → put_in object at name read ≡ Err end → status_of end ≡ 4
+put-refused object at name Absent end e = ap status_of (other (sym e))
+  where
+    other : {a b : End} → (let r : Result Write End = Err a in r ≡ Err b) → a ≡ b
+    other e = cc
+put-refused object at name TooLong end e = ap status_of (other (sym e))
+  where
+    other : {a b : End} → (let r : Result Write End = Err a in r ≡ Err b) → a ≡ b
+    other e = cc
+put-refused object at name (Bytes bytes) end e =
+    elim (is_utf8 bytes) as (λ b. (if b then or_bad_row name object bytes (put_of object.kind object.id at bytes) else Err (ends.FileNotUtf8 name)) ≡ Err end → status_of end ≡ 4) [
+      | true ↦ λ same. or-bad-row name object bytes (put_of object.kind object.id at bytes) end same
+      | false ↦ λ same. ap status_of (other (sym same))
+    ] e
+  where
+    other : {a b : End} → (let r : Result Write End = Err a in r ≡ Err b) → a ≡ b
+    other e = cc
+
+write-refused : (files : Option (List Stored)) (moment : Option ℤ) (task : EnterTask) (end : End) → IsWriteOf files moment task (Err end) → status_of end ≡ 4
+write-refused files moment (Put object file) end (read, at, is, reads, same) = put-refused object at file read end same
+write-refused files moment (Delete object) end same = absurd (cc same)
+
 module _ (o : Outside) (copy : CopyRun) (link : LinkRun) where
   -- what the status of an end says of all outside
   record Tells (end : End) : Type 0 where
@@ -144,10 +208,47 @@ module _ (o : Outside) (copy : CopyRun) (link : LinkRun) where
   sync-tells task a (none, s, is, inl same) = subst Tells (sym same) (synced-tells task s is)
   sync-tells task a (none, s, is, inr same) = tells a.end (says_memory o a.end same)
 
-  list-tells : (kind : Kind) (a : Answer) → ListEnds kind copy a → Tells a.end
-  list-tells kind a (inl told) = subst Tells (sym told.0) (tells ends.Done (says_done o ends.Done refl))
-  list-tells kind a (inr (inl failed)) = subst Tells (sym failed.0) (record { words = λ e. cc e; folder = λ e. cc e; keeper = λ e. cc e; copy_says = λ e. failed.2 })
-  list-tells kind a (inr (inr wants)) = tells a.end (says_memory o a.end wants.0)
+  read-tells : (is_text : List ℕ → Type 0) (a : Answer) → ReadEnds is_text copy a → Tells a.end
+  read-tells is_text a (inl told) = subst Tells (sym told.0) (tells ends.Done (says_done o ends.Done refl))
+  read-tells is_text a (inr (inl failed)) = subst Tells (sym failed.0) (record { words = λ e. cc e; folder = λ e. cc e; keeper = λ e. cc e; copy_says = λ e. failed.2 })
+  read-tells is_text a (inr (inr wants)) = tells a.end (says_memory o a.end wants.0)
+
+  sent-tells : (task : Sending) (s : SendAnswer) → IsSendOf task s copy link → Tells (ends.Sent s)
+  sent-tells task (send.Settled count) is = tells_sync _ 0 refl (λ e. cc e) (λ e. cc e) (λ e. cc e) (λ e. cc e)
+  sent-tells task (send.Interrupted number) is = tells_sync _ 7 refl (λ e. cc e) (λ e. cc e) (λ e. cc e) (λ e. cc e)
+  sent-tells task send.UnknownToken is = tells_sync _ 9 refl (λ e. cc e) (λ e. cc e) (λ e. cc e) (λ e. cc e)
+  sent-tells task (send.NoScope number) is = tells_sync _ 10 refl (λ e. cc e) (λ e. cc e) (λ e. cc e) (λ e. cc e)
+  sent-tells task (send.MarkTaken number) is = tells_sync _ 11 refl (λ e. cc e) (λ e. cc e) (λ e. cc e) (λ e. cc e)
+  sent-tells task (send.BadReply number) is = tells_sync _ 12 refl (λ e. cc e) (λ e. cc e) (λ e. cc e) (λ e. cc e)
+  sent-tells task (send.HubFault number) is = tells_sync _ 14 refl (λ e. cc e) (λ e. cc e) (λ e. cc e) (λ e. cc e)
+  sent-tells task (send.HubNoMemory number) is = tells_sync _ 15 refl (λ e. cc e) (λ e. cc e) (λ e. cc e) (λ e. cc e)
+  sent-tells task send.LastRun is = tells_sync _ 16 refl (λ e. cc e) (λ e. cc e) (λ e. cc e) (λ e. cc e)
+  sent-tells task send.NoMemory is = tells_sync _ 17 refl (λ e. cc e) (λ e. cc e) (λ e. cc e) (λ e. cc e)
+  sent-tells task send.KeeperFault is = record { words = λ e. cc e; folder = λ e. cc e; keeper = λ e. cc e; copy_says = λ e. is.cause.only }
+
+  send-tells : (task : Sending) (a : Answer) → IsSendAnswer task copy link a → Tells a.end
+  send-tells task a (none, s, is, inl same) = subst Tells (sym same) (sent-tells task s is)
+  send-tells task a (none, s, is, inr same) = tells a.end (says_memory o a.end same)
+
+  not-entered-tells : (write : Write) (error : EnterError) → IsEnterOf write (Err error) copy → Tells (ends.NotEntered error)
+  not-entered-tells write enter.LastNumber is = tells_sync _ 16 refl (λ e. cc e) (λ e. cc e) (λ e. cc e) (λ e. cc e)
+  not-entered-tells write enter.NoMemory is = tells_sync _ 17 refl (λ e. cc e) (λ e. cc e) (λ e. cc e) (λ e. cc e)
+  not-entered-tells write enter.KeeperFault is = record { words = λ e. cc e; folder = λ e. cc e; keeper = λ e. cc e; copy_says = λ e. is.cause refl }
+
+  entered-tells : (write : Write) (r : Result ℕ EnterError) (a : Answer) → IsEnterOf write r copy → IsEntered r a → Tells a.end
+  entered-tells write (Ok number) a is (inl told) = subst Tells (sym told.1) (tells ends.Done (says_done o ends.Done refl))
+  entered-tells write (Ok number) a is (inr wants) = tells a.end (says_memory o a.end wants.1)
+  entered-tells write (Err error) a is (none, inl same) = subst Tells (sym same) (not-entered-tells write error is)
+  entered-tells write (Err error) a is (none, inr same) = tells a.end (says_memory o a.end same)
+
+  stop-tells : (task : EnterTask) (end : End) → ReadsWrite o task (Err end) → Tells end
+  stop-tells task ends.FolderFailed reads = record { words = λ e. cc e; folder = λ e. reads; keeper = λ e. cc e; copy_says = λ e. cc e }
+  stop-tells task ends.NoMemory reads = tells ends.NoMemory (says_memory o ends.NoMemory refl)
+  stop-tells task end reads = tells end (says_refused o end (write-refused o.files o.moment task end reads.0))
+
+  enter-tells : (task : EnterTask) (a : Answer) → IsEnterAnswer task o copy a → Tells a.end
+  enter-tells task a (inl (end, same, reads, is)) = subst (λ (x : Answer). Tells x.end) (sym is) (stop-tells task end reads)
+  enter-tells task a (inr (write, r, reads, is, entered)) = entered-tells write r a is entered
 
   command-tells : (command : Command) (a : Answer) (before after : KeptState) → IsCommandAnswer command o copy link a before after → Tells a.end
   command-tells (Show kind) a before after is = tells a.end (show-says o kind a is.2)
@@ -157,7 +258,10 @@ module _ (o : Outside) (copy : CopyRun) (link : LinkRun) where
   command-tells (Grant file) a before after is = tells a.end (grant-says o file a.done a.end before after is.1)
   command-tells (Ask file) a before after is = tells a.end (ask-says o file a.done a.end before after is.1)
   command-tells (Sync task) a before after is = sync-tells task a is.2
-  command-tells (ListHeld kind) a before after is = list-tells kind a is.3.1
+  command-tells (Enter task) a before after is = enter-tells task a is.3
+  command-tells (Send task) a before after is = send-tells task a is.2
+  command-tells Outbox a before after is = read-tells (IsOutboxText copy.stands) a is.3.1
+  command-tells (ListHeld kind) a before after is = read-tells (IsHeldText kind copy.stands) a is.3.1
 
   -- status 2 comes only with bad words
   answer-words : (r : Result Parsed ℕ) (a : Answer) (before after : KeptState) → IsAnswer r o copy link a before after → status_of a.end ≡ 2 → IsErr r
@@ -243,6 +347,21 @@ module _ (o : Outside) (copy : CopyRun) (link : LinkRun) where
       → LeadsFrom stands stands (IsAnswer (Ok parsed) o copy link a)
   leads-synchronised stands parsed task same nothing answer is =
       leads-told stands stands parsed (Sync task) same answer (leads-nowhere stands (IsCommandAnswer (Sync task) o copy link answer) (λ kept. (refl, nothing, is)))
+
+  pub leads-entered : (stands : KeptState → Type 0) (parsed : Parsed) (task : EnterTask) → parsed.command ≡ Enter task → HaveStood o.keeper → link.same → (answer : Answer) → IsEnterAnswer task o copy answer → (a : Answer) → IsPrinted answer a
+      → LeadsFrom stands stands (IsAnswer (Ok parsed) o copy link a)
+  leads-entered stands parsed task same stood rests answer is =
+      leads-told stands stands parsed (Enter task) same answer (leads-nowhere stands (IsCommandAnswer (Enter task) o copy link answer) (λ kept. (refl, stood, rests, is)))
+
+  pub leads-sent : (stands : KeptState → Type 0) (parsed : Parsed) (task : Sending) → parsed.command ≡ Send task → NothingFailed o → (answer : Answer) → IsSendAnswer task copy link answer → (a : Answer) → IsPrinted answer a
+      → LeadsFrom stands stands (IsAnswer (Ok parsed) o copy link a)
+  leads-sent stands parsed task same nothing answer is =
+      leads-told stands stands parsed (Send task) same answer (leads-nowhere stands (IsCommandAnswer (Send task) o copy link answer) (λ kept. (refl, nothing, is)))
+
+  pub leads-outbox : (stands : KeptState → Type 0) (parsed : Parsed) → parsed.command ≡ Outbox → NothingFailed o → link.same → (answer : Answer) → IsOutboxAnswer copy answer → (a : Answer) → IsPrinted answer a
+      → LeadsFrom stands stands (IsAnswer (Ok parsed) o copy link a)
+  leads-outbox stands parsed same nothing rests answer is =
+      leads-told stands stands parsed Outbox same answer (leads-nowhere stands (IsCommandAnswer Outbox o copy link answer) (λ kept. (refl, nothing, rests, is)))
 
   pub leads-listed : (stands : KeptState → Type 0) (parsed : Parsed) (kind : Kind) → parsed.command ≡ ListHeld kind → NothingFailed o → link.same → (answer : Answer) → IsListAnswer kind copy answer → (a : Answer) → IsPrinted answer a
       → LeadsFrom stands stands (IsAnswer (Ok parsed) o copy link a)

@@ -22,7 +22,7 @@ use Rattle.hub_cli.proofs.Publishing.{Says, rose}
 use Rattle.hub_streams.specs.Moments.{IsMomentOf}
 use Rattle.hub_cli.specs.declared.answer.Answer.{Answer}
 use Rattle.hub_cli.specs.declared.answer.End.{End}
-use Rattle.hub_cli.specs.declared.answer.End.TheVariants.{BadWord, CopyFailed, Done, FileTooLarge, FolderFailed, GrantsRefused, HubFailed, MissingFile, NoMemory, NotPublished, Refused, RequestRefused, Synced}
+use Rattle.hub_cli.specs.declared.answer.End.TheVariants.{BadRow, BadWord, CopyFailed, Done, FileNotUtf8, FileTooLarge, FolderFailed, GrantsRefused, HubFailed, MissingFile, NoMemory, NotEntered, NotPublished, Refused, RequestRefused, Sent, Synced}
 use Rattle.hub_cli.specs.GrantAnswers.{GivesGrants, GrantsFile, IsGrantAnswer, IsGrantsOf, IsTold, ReadsGrants, SetsGrants, StopsGrant, grants_in, or_refused}
 use Rattle.hub_cli.specs.Outside.{Faults, HaveStood, Outside, faults_of, outside_of}
 use Rattle.hub_cli.specs.Runs.{LeadsFrom}
@@ -63,6 +63,10 @@ module _ (files : Option (List Stored)) (before now : ℕ) (name : List ℕ) (re
   reads_grants (Err (NotPublished f)) gives = ((read, told, gives), same)
   reads_grants (Err HubFailed) gives = ((read, told, gives), same)
   reads_grants (Err (Synced a)) gives = ((read, told, gives), same)
+  reads_grants (Err (NotEntered a)) gives = ((read, told, gives), same)
+  reads_grants (Err (Sent a)) gives = ((read, told, gives), same)
+  reads_grants (Err (FileNotUtf8 a)) gives = ((read, told, gives), same)
+  reads_grants (Err (BadRow a)) gives = ((read, told, gives), same)
   reads_grants (Err CopyFailed) gives = ((read, told, gives), same)
 
 -- ---- what the hub makes of it
@@ -84,6 +88,10 @@ module _ (files : Option (List Stored)) (moment : Option ℤ) (folder keeper : F
   end_of_grants (RequestRefused n f) kept is quiet = (is.0, record { folder = is.1; keeper = quiet }, refl)
   end_of_grants (NotPublished f) kept is quiet = absurd (refused_file file is.0.0 (NotPublished f) is.0.2)
   end_of_grants (Synced a) kept is quiet = (is.0, record { folder = is.1; keeper = quiet }, refl)
+  end_of_grants (NotEntered a) kept is quiet = (is.0, record { folder = is.1; keeper = quiet }, refl)
+  end_of_grants (Sent a) kept is quiet = (is.0, record { folder = is.1; keeper = quiet }, refl)
+  end_of_grants (FileNotUtf8 a) kept is quiet = (is.0, record { folder = is.1; keeper = quiet }, refl)
+  end_of_grants (BadRow a) kept is quiet = (is.0, record { folder = is.1; keeper = quiet }, refl)
   end_of_grants CopyFailed kept is quiet = (is.0, record { folder = is.1; keeper = quiet }, refl)
   end_of_grants NoMemory kept is quiet = inl refl
 
@@ -116,6 +124,10 @@ module _ (o : Outside) (file : List ℕ) where
   stopped (RequestRefused n f) before after stops = (refl, stops)
   stopped (NotPublished f) before after stops = (refl, stops)
   stopped (Synced a) before after stops = (refl, stops)
+  stopped (NotEntered a) before after stops = (refl, stops)
+  stopped (Sent a) before after stops = (refl, stops)
+  stopped (FileNotUtf8 a) before after stops = (refl, stops)
+  stopped (BadRow a) before after stops = (refl, stops)
   stopped CopyFailed before after stops = (refl, stops)
   stopped NoMemory before after stops = (refl, stops)
 
@@ -152,6 +164,10 @@ module _ (o : Outside) (file : List ℕ) where
   grant-wants done (RequestRefused n f) before after is other = (is.0, inl is.1.2)
   grant-wants done (NotPublished f) before after is other = (is.0, inl is.1.0.4.1)
   grant-wants done (Synced a) before after is other = (is.0, inl is.1.2)
+  grant-wants done (NotEntered a) before after is other = (is.0, inl is.1.2)
+  grant-wants done (Sent a) before after is other = (is.0, inl is.1.2)
+  grant-wants done (FileNotUtf8 a) before after is other = (is.0, inl is.1.2)
+  grant-wants done (BadRow a) before after is other = (is.0, inl is.1.2)
   grant-wants done CopyFailed before after is other = (is.0, inl is.1.2)
   grant-wants done NoMemory before after is other = is
 
@@ -168,6 +184,10 @@ module _ (o : Outside) (file : List ℕ) where
   grant-says done (RequestRefused n f) before after is = record { words = λ e. cc e; folder = λ e. cc e; keeper = λ e. cc e; copy = λ e. cc e }
   grant-says done (NotPublished f) before after is = record { words = λ e. cc e; folder = λ e. cc e; keeper = λ e. cc e; copy = λ e. cc e }
   grant-says done (Synced a) before after is = absurd (refused_file file is.1.0.0 (Synced a) is.1.0.2)
+  grant-says done (NotEntered a) before after is = absurd (refused_file file is.1.0.0 (NotEntered a) is.1.0.2)
+  grant-says done (Sent a) before after is = absurd (refused_file file is.1.0.0 (Sent a) is.1.0.2)
+  grant-says done (FileNotUtf8 a) before after is = absurd (refused_file file is.1.0.0 (FileNotUtf8 a) is.1.0.2)
+  grant-says done (BadRow a) before after is = absurd (refused_file file is.1.0.0 (BadRow a) is.1.0.2)
   grant-says done CopyFailed before after is = absurd (refused_file file is.1.0.0 CopyFailed is.1.0.2)
   grant-says done NoMemory before after is = record { words = λ e. cc e; folder = λ e. cc e; keeper = λ e. cc e; copy = λ e. cc e }
 

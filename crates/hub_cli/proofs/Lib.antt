@@ -1,5 +1,6 @@
 mod Asking
 mod Ending
+mod Entering
 mod FeedWords
 mod Granting
 mod Leading

@@ -25,7 +25,7 @@ use Rattle.hub_cli.specs.Runs.{IsPublishAnswer, LeadsFrom}
 use Rattle.hub_cli.specs.Steps.{PublishesFeed, ReadsSet, end_of, end_of_error}
 use Rattle.hub_cli.specs.declared.answer.Answer.{Answer}
 use Rattle.hub_cli.specs.declared.answer.End.{End}
-use Rattle.hub_cli.specs.declared.answer.End.TheVariants.{BadWord, CopyFailed, Done, FileTooLarge, FolderFailed, GrantsRefused, HubFailed, MissingFile, NoMemory, NotPublished, Refused, RequestRefused, Synced}
+use Rattle.hub_cli.specs.declared.answer.End.TheVariants.{BadRow, BadWord, CopyFailed, Done, FileNotUtf8, FileTooLarge, FolderFailed, GrantsRefused, HubFailed, MissingFile, NoMemory, NotEntered, NotPublished, Refused, RequestRefused, Sent, Synced}
 use Rattle.hub_cli.specs.declared.words.Feed.{Feed}
 use Rattle.hub_cli.proofs.Leading.{leads-nowhere, leads-on, leads-standing}
 
@@ -54,6 +54,10 @@ module _ (o : Outside) where
   stop-wants feed (GrantsRefused f) before after stops = absurd stops
   stop-wants feed (RequestRefused n f) before after stops = absurd stops
   stop-wants feed (Synced a) before after stops = absurd stops
+  stop-wants feed (NotEntered a) before after stops = absurd stops
+  stop-wants feed (Sent a) before after stops = absurd stops
+  stop-wants feed (FileNotUtf8 a) before after stops = absurd stops
+  stop-wants feed (BadRow a) before after stops = absurd stops
   stop-wants feed CopyFailed before after stops = absurd stops
 
   pub run-wants : (feeds : List Feed) (done : List ℕ) (end : End) (before after : KeptState) → IsRunOf o feeds done end before after → IsRunOf o feeds done NoMemory before after
@@ -85,6 +89,10 @@ module _ (o : Outside) where
   stop-says feed (GrantsRefused f) before after stops = absurd stops
   stop-says feed (RequestRefused n f) before after stops = absurd stops
   stop-says feed (Synced a) before after stops = absurd stops
+  stop-says feed (NotEntered a) before after stops = absurd stops
+  stop-says feed (Sent a) before after stops = absurd stops
+  stop-says feed (FileNotUtf8 a) before after stops = absurd stops
+  stop-says feed (BadRow a) before after stops = absurd stops
   stop-says feed CopyFailed before after stops = absurd stops
   stop-says feed NoMemory before after stops = record { words = λ e. cc e; folder = λ e. cc e; keeper = λ e. cc e; copy = λ e. cc e }
 
@@ -264,6 +272,10 @@ module _ (files : Option (List Stored)) (moment : Option ℤ) (folder keeper : F
   end_of_set (GrantsRefused f) kept empty quiet = absurd empty
   end_of_set (RequestRefused n f) kept empty quiet = absurd empty
   end_of_set (Synced a) kept empty quiet = absurd empty
+  end_of_set (NotEntered a) kept empty quiet = absurd empty
+  end_of_set (Sent a) kept empty quiet = absurd empty
+  end_of_set (FileNotUtf8 a) kept empty quiet = absurd empty
+  end_of_set (BadRow a) kept empty quiet = absurd empty
   end_of_set CopyFailed kept empty quiet = absurd empty
   end_of_set NoMemory kept is quiet = inl refl
 

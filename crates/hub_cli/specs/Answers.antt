@@ -1,9 +1,10 @@
 -- What a command answers: its status and its text are functions of the answer alone.
 use Rattle.std.specs.Prelude.{◌≡◌, ◌≢◌, ◌⊎◌, ℕ, ◌++◌, List, [], codes}
+use Rattle.consumer_cli.specs.SendLines.{enter_status, enter_text, send_status, send_text}
 use Rattle.consumer_cli.specs.SyncLines.{sync_status, sync_text}
 use Rattle.hub_cli.specs.declared.answer.Answer.{Answer}
 use Rattle.hub_cli.specs.declared.answer.End.{End}
-use Rattle.hub_cli.specs.declared.answer.End.TheVariants.{BadWord, CopyFailed, Done, FileTooLarge, FolderFailed, GrantsRefused, HubFailed, MissingFile, NoMemory, NotPublished, Refused, RequestRefused, Synced}
+use Rattle.hub_cli.specs.declared.answer.End.TheVariants.{BadRow, BadWord, CopyFailed, Done, FileNotUtf8, FileTooLarge, FolderFailed, GrantsRefused, HubFailed, MissingFile, NoMemory, NotEntered, NotPublished, Refused, RequestRefused, Sent, Synced}
 use Rattle.hub_cli.specs.Lines.{bad_word_text, copy_failed, fault_text, folder_failed, grants_fault_text, hub_failed, named_file_text, no_memory, publish_fault_text, request_text}
 
 abbrev pub status_of : End → ℕ
@@ -13,11 +14,15 @@ status_of FolderFailed = 3
 status_of (Refused fault) = 4
 status_of (MissingFile name) = 4
 status_of (FileTooLarge name) = 4
+status_of (FileNotUtf8 name) = 4
+status_of (BadRow name) = 4
 status_of (GrantsRefused fault) = 4
 status_of (RequestRefused number fault) = 4
 status_of (NotPublished fault) = 4
 status_of HubFailed = 5
 status_of (Synced answer) = sync_status answer
+status_of (NotEntered error) = enter_status error
+status_of (Sent answer) = send_status answer
 status_of CopyFailed = 6
 status_of NoMemory = 17
 
@@ -29,11 +34,15 @@ end_text FolderFailed = folder_failed
 end_text (Refused fault) = fault_text fault
 end_text (MissingFile name) = named_file_text name (codes ": missing file\n")
 end_text (FileTooLarge name) = named_file_text name (codes ": too large\n")
+end_text (FileNotUtf8 name) = named_file_text name (codes ": not UTF-8\n")
+end_text (BadRow name) = named_file_text name (codes ": bad row\n")
 end_text (GrantsRefused fault) = grants_fault_text fault
 end_text (RequestRefused number fault) = request_text number fault
 end_text (NotPublished fault) = publish_fault_text fault
 end_text HubFailed = hub_failed
 end_text (Synced answer) = sync_text answer
+end_text (NotEntered error) = enter_text error
+end_text (Sent answer) = send_text answer
 end_text CopyFailed = copy_failed
 end_text NoMemory = no_memory
 

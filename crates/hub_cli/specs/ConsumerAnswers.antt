@@ -1,5 +1,5 @@
 -- What `sync` and `list` answer.
-use Rattle.std.specs.Prelude.{◌≡◌, ◌⊎◌, []}
+use Rattle.std.specs.Prelude.{◌≡◌, ◌⊎◌, ℕ, List, []}
 use Rattle.consumer_cli.specs.Consumers.{CopyRun, LinkRun}
 use Rattle.consumer_cli.specs.Held.{IsHeldText}
 use Rattle.consumer_cli.specs.Syncs.{IsSyncOf}
@@ -20,13 +20,14 @@ IsSyncAnswer task copy link answer = (answer.done ≡ []) × (a : SyncAnswer) ×
 abbrev pub CopyStays : CopyRun → Type 0
 CopyStays copy = (c : Copy) → copy.stands c → copy.stood c
 
--- how `list` ends: with the text of the rows, by a failure of the keeper, whose count of faults rose, or for want of memory
-abbrev pub ListEnds : Kind → CopyRun → Answer → Type 0
-ListEnds kind copy answer =
-    ((answer.end ≡ Done) × IsHeldText kind copy.stands answer.done × (copy.faults_now ≡ copy.faults_before))
+-- how a command ends that prints of the copy: with such a text, by a failure of the keeper, whose count of faults rose, or for want of
+-- memory
+abbrev pub ReadEnds : (List ℕ → Type 0) → CopyRun → Answer → Type 0
+ReadEnds is_text copy answer =
+    ((answer.end ≡ Done) × is_text answer.done × (copy.faults_now ≡ copy.faults_before))
     ⊎ ((answer.end ≡ CopyFailed) × (answer.done ≡ []) × Rose copy.faults_before copy.faults_now)
     ⊎ ((answer.end ≡ NoMemory) × (answer.done ≡ []))
 
--- the answer of `list`, which leaves the copy as it is
+-- the answer of `list`, which leaves the copy as it is: the text of the rows
 abbrev pub IsListAnswer : Kind → CopyRun → Answer → Type 0
-IsListAnswer kind copy answer = CopyStays copy × ListEnds kind copy answer
+IsListAnswer kind copy answer = CopyStays copy × ReadEnds (IsHeldText kind copy.stands) copy answer

@@ -3,6 +3,7 @@ pub mod AskAnswers
 pub mod ConsumerAnswers
 pub mod GrantAnswers
 pub mod Lines
+pub mod OutboxAnswers
 pub mod Outside
 pub mod Publishes
 pub mod Reads

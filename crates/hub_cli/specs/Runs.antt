@@ -10,12 +10,13 @@ use Rattle.hub_cli.specs.Answers.{status_of, text_of}
 use Rattle.hub_cli.specs.declared.answer.Answer.{Answer}
 use Rattle.hub_cli.specs.declared.answer.End.TheVariants.{BadWord, FolderFailed, HubFailed, NoMemory}
 use Rattle.hub_cli.specs.declared.words.Command.{Command}
-use Rattle.hub_cli.specs.declared.words.Command.TheVariants.{Ask, Grant, ListHeld, Publish, Show, Sync}
+use Rattle.hub_cli.specs.declared.words.Command.TheVariants.{Ask, Enter, Grant, ListHeld, Outbox, Publish, Send, Show, Sync}
 use Rattle.hub_cli.specs.declared.words.Feed.{Feed}
 use Rattle.hub_cli.specs.declared.words.Parsed.{Parsed}
 use Rattle.hub_cli.specs.AskAnswers.{IsAskAnswer}
 use Rattle.hub_cli.specs.ConsumerAnswers.{IsListAnswer, IsSyncAnswer}
 use Rattle.hub_cli.specs.GrantAnswers.{IsGrantAnswer}
+use Rattle.hub_cli.specs.OutboxAnswers.{IsEnterAnswer, IsOutboxAnswer, IsSendAnswer}
 use Rattle.hub_cli.specs.Outside.{HaveRisen, HaveStood, NothingFailed, Outside}
 use Rattle.hub_cli.specs.Publishes.{IsRunOf}
 use Rattle.hub_cli.specs.Shows.{IsShown}
@@ -51,6 +52,9 @@ IsCommandAnswer (Publish feeds) outside copy link answer before after = Consumer
 IsCommandAnswer (Grant file) outside copy link answer before after = ConsumerRests copy link × IsGrantAnswer outside file answer.done answer.end before after
 IsCommandAnswer (Ask file) outside copy link answer before after = ConsumerRests copy link × IsAskAnswer outside file answer.done answer.end before after
 IsCommandAnswer (Sync task) outside copy link answer before after = (after ≡ before) × NothingFailed outside × IsSyncAnswer task copy link answer
+IsCommandAnswer (Enter task) outside copy link answer before after = (after ≡ before) × HaveStood outside.keeper × link.same × IsEnterAnswer task outside copy answer
+IsCommandAnswer (Send task) outside copy link answer before after = (after ≡ before) × NothingFailed outside × IsSendAnswer task copy link answer
+IsCommandAnswer Outbox outside copy link answer before after = (after ≡ before) × NothingFailed outside × link.same × IsOutboxAnswer copy answer
 IsCommandAnswer (ListHeld kind) outside copy link answer before after = (after ≡ before) × NothingFailed outside × link.same × IsListAnswer kind copy answer
 
 -- the answer to words

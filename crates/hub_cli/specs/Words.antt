@@ -1,14 +1,16 @@
 -- The command that words spell, or the place of the first word that no command continues.
 use Rattle.std.specs.Prelude.{ℕ, ◌+◌, ◌==◌, ◌&&◌, ◌||◌, Bool, false, not, List, [], ◌∷◌, Option, None, Some, Result, Ok, Err, bytes_eq, codes, if◌then◌else◌, is_none, is_some, length, nat_le, nat_lt, unwrap_or}
 use Rattle.std.specs.List.{after_first, before_first}
+use Rattle.hub_paths.specs.Routes.{is_gradebook}
 use Rattle.roster_base.specs.Reading.{◌>>=◌}
 use Rattle.roster_texts.specs.Digits.{digits_value}
 use Rattle.roster_texts.specs.Signs.{digit_zero, dot}
-use Rattle.roster_texts.specs.Texts.{is_name, is_token}
+use Rattle.roster_texts.specs.Texts.{is_id, is_name, is_token}
 use Rattle.roster_values.specs.Kinds.{kind_of_word}
 use Rattle.roster_values.specs.declared.kind.Kind.{Kind}
 use Rattle.hub_cli.specs.declared.words.Command.{Command}
-use Rattle.hub_cli.specs.declared.words.Command.TheVariants.{Ask, Grant, ListHeld, Publish, Show, Sync}
+use Rattle.hub_cli.specs.declared.words.Command.TheVariants.{Ask, Enter, Grant, ListHeld, Outbox, Publish, Send, Show, Sync}
+use Rattle.hub_cli.specs.declared.words.EnterTask.TheVariants.{Delete, Put}
 use Rattle.hub_cli.specs.declared.words.Feed.{Feed}
 use Rattle.hub_cli.specs.declared.words.OptionWord.{OptionWord}
 use Rattle.hub_cli.specs.declared.words.OptionWord.TheVariants.{Folder, Keep, Peer, Store}
@@ -111,6 +113,64 @@ abbrev pub sync_words : ℕ → List (List ℕ) → Result Command ℕ
 sync_words place [] = Err place
 sync_words place (word ∷ words) = if is_token word then limit_words (place + 1) word words else Err place
 
+-- ---- the outbox
+
+abbrev pub only_gradebook : Option Kind → Option Kind
+only_gradebook None = None
+only_gradebook (Some kind) = if is_gradebook kind then Some kind else None
+
+-- the kind of the gradebook that a word names
+abbrev pub gradebook_kind : List ℕ → Option Kind
+gradebook_kind word = only_gradebook (kind_of_word word)
+
+-- an id and the name of a file, behind a kind
+abbrev pub put_id_words : ℕ → Kind → List (List ℕ) → Result Command ℕ
+put_id_words place kind [] = Err place
+put_id_words place kind (word ∷ words) =
+    if is_id word then file_words (place + 1) (λ file. Enter (Put (record { kind = kind; id = word }) file)) words else Err place
+
+abbrev pub put_of_kind : ℕ → Option Kind → List (List ℕ) → Result Command ℕ
+put_of_kind place None words = Err place
+put_of_kind place (Some kind) words = put_id_words (place + 1) kind words
+
+-- a kind of the gradebook, an id and the name of a file, behind `enter put`
+abbrev pub put_words : ℕ → List (List ℕ) → Result Command ℕ
+put_words place [] = Err place
+put_words place (word ∷ words) = put_of_kind place (gradebook_kind word) words
+
+-- an id, behind a kind
+abbrev pub delete_id_words : ℕ → Kind → List (List ℕ) → Result Command ℕ
+delete_id_words place kind [] = Err place
+delete_id_words place kind (word ∷ words) = if is_id word then ended (place + 1) (Enter (Delete (record { kind = kind; id = word }))) words else Err place
+
+abbrev pub delete_of_kind : ℕ → Option Kind → List (List ℕ) → Result Command ℕ
+delete_of_kind place None words = Err place
+delete_of_kind place (Some kind) words = delete_id_words (place + 1) kind words
+
+-- a kind of the gradebook and an id, behind `enter delete`
+abbrev pub delete_words : ℕ → List (List ℕ) → Result Command ℕ
+delete_words place [] = Err place
+delete_words place (word ∷ words) = delete_of_kind place (gradebook_kind word) words
+
+-- what is entered, behind `enter`
+abbrev pub enter_words : ℕ → List (List ℕ) → Result Command ℕ
+enter_words place [] = Err place
+enter_words place (word ∷ words) =
+    if bytes_eq word (codes "put") then put_words (place + 1) words
+    else if bytes_eq word (codes "delete") then delete_words (place + 1) words
+    else Err place
+
+abbrev pub send_tries_words : ℕ → List ℕ → List (List ℕ) → Result Command ℕ
+send_tries_words place token [] = Err place
+send_tries_words place token (word ∷ words) = do
+  tries ← or_bad place (number_to largest_tries word)
+  ended (place + 1) (Send (record { token = token; tries = tries })) words
+
+-- a token, and how often a request is tried, behind `send`
+abbrev pub send_words : ℕ → List (List ℕ) → Result Command ℕ
+send_words place [] = Err place
+send_words place (word ∷ words) = if is_token word then send_tries_words (place + 1) word words else Err place
+
 -- ---- the command
 
 -- the command from a place on
@@ -122,6 +182,9 @@ command_words place (word ∷ words) =
     else if bytes_eq word (codes "grant") then file_words (place + 1) Grant words
     else if bytes_eq word (codes "ask") then file_words (place + 1) Ask words
     else if bytes_eq word (codes "sync") then sync_words (place + 1) words
+    else if bytes_eq word (codes "enter") then enter_words (place + 1) words
+    else if bytes_eq word (codes "send") then send_words (place + 1) words
+    else if bytes_eq word (codes "outbox") then ended (place + 1) Outbox words
     else if bytes_eq word (codes "list") then kind_words (place + 1) ListHeld words
     else Err place
 

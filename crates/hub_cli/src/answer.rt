@@ -8,9 +8,11 @@ use crate::lines::{
     FOLDER_FAILED, HUB_FAILED, NO_MEMORY, bad_word_line, fault_line, grants_fault_line,
     named_file_line, publish_fault_lines, request_line,
 };
-use consumer_cli::{COPY_FAILED, sync_line, sync_status};
+use consumer_cli::{
+    COPY_FAILED, enter_line, enter_status, send_line, send_status, sync_line, sync_status,
+};
 use csv_sets::SetFault;
-use exchange_link::SyncAnswer;
+use exchange_link::{EnterError, SendAnswer, SyncAnswer};
 use grant_files::GrantFault;
 use hub_streams::RequestFault;
 use roster_base::{NoMemory, Text};
@@ -31,6 +33,10 @@ pub enum End {
     MissingFile(Text),
     /// A file that the words name has too many bytes.
     FileTooLarge(Text),
+    /// A file that the words name isn't UTF-8.
+    FileNotUtf8(Text),
+    /// A file that the words name says no row.
+    BadRow(Text),
     /// A file of grants is refused for this fault, its first.
     GrantsRefused(GrantFault),
     /// What stands behind the answered requests of a stream is refused, under the number of the next request.
@@ -41,10 +47,25 @@ pub enum End {
     HubFailed,
     /// A synchronisation ended with this answer.
     Synced(SyncAnswer),
+    /// A write wasn't entered, for this reason.
+    NotEntered(EnterError),
+    /// Sending the writes of the outbox ended with this answer.
+    Sent(SendAnswer),
     /// The copy's keeper failed, and its count of faults rose.
     CopyFailed,
     /// Memory ran out, which says nothing of the input.
     NoMemory,
+}
+
+impl From<NoMemory> for End {
+    ghost use Rattle.std.specs.Prelude.{◌≡◌};
+    ghost use Rattle.hub_cli.specs.declared.answer.End.TheVariants.{NoMemory};
+
+    ghost from_gives = { λ _ e. e ≡ NoMemory };
+
+    fn from(_error: NoMemory) -> End {
+        End::NoMemory
+    }
 }
 
 /// What a command came to: the text of what was done, and how it ended.
@@ -67,7 +88,7 @@ impl Answer {
 }
 
 impl End {
-    /// The status of the process: 0, 2 to 9, or 12 to 17.
+    /// The status of the process: 0, or 2 to 17.
     pub fn status(&self) -> u8
         ensures value { result ≡ answers.status_of self.now }
         ensures other { result ≢ 1 }
@@ -78,9 +99,11 @@ impl End {
             End::FolderFailed => 3,
             End::Refused(_) | End::NotPublished(_) => 4,
             End::MissingFile(_) | End::FileTooLarge(_) | End::GrantsRefused(_) => 4,
-            End::RequestRefused { .. } => 4,
+            End::FileNotUtf8(_) | End::BadRow(_) | End::RequestRefused { .. } => 4,
             End::HubFailed => 5,
             End::Synced(answer) => sync_status(*answer),
+            End::NotEntered(error) => enter_status(*error),
+            End::Sent(answer) => send_status(*answer),
             End::CopyFailed => 6,
             End::NoMemory => 17,
         }
@@ -98,11 +121,15 @@ impl End {
             End::Refused(fault) => fault_line(alloc, fault),
             End::MissingFile(name) => named_file_line(alloc, name.as_str(), ": missing file\n"),
             End::FileTooLarge(name) => named_file_line(alloc, name.as_str(), ": too large\n"),
+            End::FileNotUtf8(name) => named_file_line(alloc, name.as_str(), ": not UTF-8\n"),
+            End::BadRow(name) => named_file_line(alloc, name.as_str(), ": bad row\n"),
             End::GrantsRefused(fault) => grants_fault_line(alloc, *fault),
             End::RequestRefused { number, fault } => request_line(alloc, *number, *fault),
             End::NotPublished(fault) => publish_fault_lines(alloc, fault),
             End::HubFailed => Ok(String::from_str(alloc, HUB_FAILED)?),
             End::Synced(answer) => sync_line(alloc, *answer),
+            End::NotEntered(error) => enter_line(alloc, *error),
+            End::Sent(answer) => send_line(alloc, *answer),
             End::CopyFailed => Ok(String::from_str(alloc, COPY_FAILED)?),
             End::NoMemory => Ok(String::from_str(alloc, NO_MEMORY)?),
         }

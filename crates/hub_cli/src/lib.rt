@@ -4,12 +4,15 @@
 
 pub mod answer;
 mod ask;
+mod enter;
 mod grant;
 pub mod lines;
 mod list;
+mod outbox;
 mod printing;
 mod publish;
 pub mod run;
+mod send;
 mod show;
 mod sync;
 pub mod words;
@@ -18,6 +21,6 @@ pub use answer::{Answer, End};
 pub use printing::print;
 pub use run::run_hub;
 pub use words::{
-    Command, Feed, OptionWord, Options, Parsed, WordError, keep_of, peer_of, root_of, split_words,
-    store_of,
+    Command, EnterTask, Feed, OptionWord, Options, Parsed, WordError, keep_of, peer_of, root_of,
+    split_words, store_of,
 };

@@ -18,10 +18,13 @@ ghost use Rattle.hub_cli.specs.declared.words.Command.TheVariants.{Sync};
 
 use crate::answer::{Answer, End};
 use crate::ask::ask;
+use crate::enter::enter;
 use crate::grant::grant;
 use crate::list::list;
+use crate::outbox::outbox;
 use crate::printing::tell;
 use crate::publish::publish;
+use crate::send::send;
 use crate::show::show;
 use crate::sync::sync;
 use crate::words::{Command, Parsed, split_words};
@@ -68,6 +71,9 @@ fn run_command<F: Folder, H: HubKeeper, C: CopyKeeper, L: Link, K: Clock, O: Sin
         Command::Grant { file } => tell(alloc, grant(alloc, file, folder, keeper, clock), out),
         Command::Ask { file } => ask(alloc, file, folder, keeper, clock, out),
         Command::Sync { task } => tell(alloc, sync(alloc, task, copy, link), out),
+        Command::Enter { task } => tell(alloc, enter(alloc, task, folder, copy, clock), out),
+        Command::Send { task } => tell(alloc, send(alloc, task, copy, link), out),
+        Command::Outbox => tell(alloc, outbox(alloc, copy), out),
         Command::ListHeld { kind } => tell(alloc, list(alloc, *kind, copy), out),
     }
 }
@@ -112,7 +118,8 @@ fn run_words<F: Folder, H: HubKeeper, C: CopyKeeper, L: Link, K: Clock, O: Sink>
 /// - 4: the input is refused; the line names its first fault;
 /// - 5: the hub's keeper failed;
 /// - 6: the copy's keeper failed;
-/// - 7 to 9, 12 to 16: the synchronisation ended before the copy was whole; the line tells its answer;
+/// - 7 to 16: the synchronisation ended before the copy was whole, or the outbox before its writes were settled, or no write was entered;
+///   the line tells the answer;
 /// - 17: memory ran out, which says nothing of the input.
 pub fn run_hub<F: Folder, H: HubKeeper, C: CopyKeeper, L: Link, K: Clock, O: Sink>(
     alloc: Global,

@@ -1,15 +1,16 @@
 //! The words of the command line.
 
 ghost use Rattle.std.specs.Prelude.{◌≡◌, ◌+◌, ◌<◌, ◌≤◌, ◌^◌, ℕ, IfOk, IfSome, List, Ok, length, map, string_bytes};
+ghost use Rattle.copy_keeper.specs.Copies.{IsGradebook};
 ghost use Rattle.roster_base.specs.Reading.{Gives};
-ghost use Rattle.hub_cli.specs.Words.{command_words, ended, feed_in, feed_of, feed_words, file_words, is_file_word, keep_in, kind_words, largest_keep, limit_words, no_options, number_in, number_to, option_of, option_words, peer_in, publish_words, root_in, set_option, split, store_in, sync_words, tries_words, with_folder, with_keep, with_options, with_peer, with_store};
+ghost use Rattle.hub_cli.specs.Words.{command_words, delete_id_words, delete_words, ended, enter_words, feed_in, feed_of, feed_words, file_words, gradebook_kind, is_file_word, keep_in, kind_words, largest_keep, limit_words, no_options, number_in, number_to, option_of, option_words, peer_in, publish_words, put_id_words, put_words, root_in, send_tries_words, send_words, set_option, split, store_in, sync_words, tries_words, with_folder, with_keep, with_options, with_peer, with_store};
 ghost use Rattle.hub_cli.specs.declared.words.Command.{Command as CommandValue};
 ghost use Rattle.hub_cli.specs.declared.words.Command.TheVariants.{Ask, Grant, ListHeld, Show};
 
-use consumer_cli::SyncTask;
+use consumer_cli::{GradebookObject, SendTask, SyncTask, is_gradebook};
 use roster_base::{Items, NoMemory, Refusal, Text};
 use roster_texts::digits::number;
-use roster_texts::{Name, Token};
+use roster_texts::{Id, Name, Token};
 use roster_values::Kind;
 use std::alloc::Global;
 
@@ -18,6 +19,15 @@ use std::alloc::Global;
 pub struct Feed {
     pub name: Name,
     pub dir: Text,
+}
+
+/// What is put into the outbox.
+#[derive(Drop)]
+pub enum EnterTask {
+    /// That the row be put which the body in this file says.
+    Put { object: GradebookObject, file: Text },
+    /// That the row be deleted.
+    Delete { object: GradebookObject },
 }
 
 /// What the program is asked to do.
@@ -33,6 +43,12 @@ pub enum Command {
     Ask { file: Text },
     /// Copies what a token sees of the hub at the address of the words.
     Sync { task: SyncTask },
+    /// Puts a write into the outbox of the copy.
+    Enter { task: EnterTask },
+    /// Sends the writes of the outbox to the hub at the address of the words.
+    Send { task: SendTask },
+    /// Prints the entries of the outbox.
+    Outbox,
     /// Prints the rows of a kind that the copy holds.
     ListHeld { kind: Kind },
 }
@@ -283,6 +299,120 @@ fn sync(alloc: Global, place: usize, words: &[String]) -> Result<Command, WordEr
     }
 }
 
+// The kind of the gradebook that a word names.
+fn gradebook_kind(word: &str) -> Option<Kind>
+    ensures value { result ≡ gradebook_kind word.now }
+    ensures writes { IfSome result IsGradebook }
+{
+    match Kind::read(word) {
+        Some(kind) if is_gradebook(kind) => Some(kind),
+        _ => None,
+    }
+}
+
+fn put_id(alloc: Global, place: usize, kind: Kind, words: &[String]) -> Result<Command, WordError>
+    requires place { place + length words.now < 2 ^ 63 }
+    requires writes { IsGradebook kind }
+    ensures { Gives (λ c. c) result (put_id_words place kind (map string_bytes words.now)) }
+{
+    let Some((word, words)) = words.split_first() else {
+        return Err(Refusal::Fault(place));
+    };
+    let Some(id) = Id::read(alloc, word.as_str())? else {
+        return Err(Refusal::Fault(place));
+    };
+    let file = file_at(alloc, place + 1, words)?;
+    let object = GradebookObject::new(kind, id);
+    Ok(Command::Enter {
+        task: EnterTask::Put { object, file },
+    })
+}
+
+fn put(alloc: Global, place: usize, words: &[String]) -> Result<Command, WordError>
+    requires { place + length words.now < 2 ^ 63 }
+    ensures { Gives (λ c. c) result (put_words place (map string_bytes words.now)) }
+{
+    let Some((word, words)) = words.split_first() else {
+        return Err(Refusal::Fault(place));
+    };
+    match gradebook_kind(word.as_str()) {
+        Some(kind) => put_id(alloc, place + 1, kind, words),
+        None => Err(Refusal::Fault(place)),
+    }
+}
+
+fn delete_id(
+    alloc: Global,
+    place: usize,
+    kind: Kind,
+    words: &[String],
+) -> Result<Command, WordError>
+    requires place { place + length words.now < 2 ^ 63 }
+    requires writes { IsGradebook kind }
+    ensures { Gives (λ c. c) result (delete_id_words place kind (map string_bytes words.now)) }
+{
+    let Some((word, words)) = words.split_first() else {
+        return Err(Refusal::Fault(place));
+    };
+    let Some(id) = Id::read(alloc, word.as_str())? else {
+        return Err(Refusal::Fault(place));
+    };
+    let object = GradebookObject::new(kind, id);
+    let task = EnterTask::Delete { object };
+    end(place + 1, Command::Enter { task }, words)
+}
+
+fn delete(alloc: Global, place: usize, words: &[String]) -> Result<Command, WordError>
+    requires { place + length words.now < 2 ^ 63 }
+    ensures { Gives (λ c. c) result (delete_words place (map string_bytes words.now)) }
+{
+    let Some((word, words)) = words.split_first() else {
+        return Err(Refusal::Fault(place));
+    };
+    match gradebook_kind(word.as_str()) {
+        Some(kind) => delete_id(alloc, place + 1, kind, words),
+        None => Err(Refusal::Fault(place)),
+    }
+}
+
+fn enter(alloc: Global, place: usize, words: &[String]) -> Result<Command, WordError>
+    requires { place + length words.now < 2 ^ 63 }
+    ensures { Gives (λ c. c) result (enter_words place (map string_bytes words.now)) }
+{
+    match words.split_first() {
+        Some((word, words)) if word.as_str() == "put" => put(alloc, place + 1, words),
+        Some((word, words)) if word.as_str() == "delete" => delete(alloc, place + 1, words),
+        _ => Err(Refusal::Fault(place)),
+    }
+}
+
+fn send_tries(place: usize, token: Token, words: &[String]) -> Result<Command, WordError>
+    requires { place + length words.now < 2 ^ 63 }
+    ensures { Gives (λ c. c) result (send_tries_words place token (map string_bytes words.now)) }
+{
+    let Some((word, words)) = words.split_first() else {
+        return Err(Refusal::Fault(place));
+    };
+    let Some(tries) = number_to(LARGEST_TRIES, word.as_str()) else {
+        return Err(Refusal::Fault(place));
+    };
+    let task = SendTask::new(token, tries);
+    end(place + 1, Command::Send { task }, words)
+}
+
+fn send(alloc: Global, place: usize, words: &[String]) -> Result<Command, WordError>
+    requires { place + length words.now < 2 ^ 63 }
+    ensures { Gives (λ c. c) result (send_words place (map string_bytes words.now)) }
+{
+    let Some((word, words)) = words.split_first() else {
+        return Err(Refusal::Fault(place));
+    };
+    match Token::read(alloc, word.as_str())? {
+        Some(token) => send_tries(place + 1, token, words),
+        None => Err(Refusal::Fault(place)),
+    }
+}
+
 // The command of the words from a place on.
 fn command_at(alloc: Global, place: usize, words: &[String]) -> Result<Command, WordError>
     requires { place + length words.now < 2 ^ 63 }
@@ -294,6 +424,11 @@ fn command_at(alloc: Global, place: usize, words: &[String]) -> Result<Command, 
         Some((word, words)) if word.as_str() == "grant" => grant(alloc, place + 1, words),
         Some((word, words)) if word.as_str() == "ask" => ask(alloc, place + 1, words),
         Some((word, words)) if word.as_str() == "sync" => sync(alloc, place + 1, words),
+        Some((word, words)) if word.as_str() == "enter" => enter(alloc, place + 1, words),
+        Some((word, words)) if word.as_str() == "send" => send(alloc, place + 1, words),
+        Some((word, words)) if word.as_str() == "outbox" => {
+            end(place + 1, Command::Outbox, words)
+        }
         Some((word, words)) if word.as_str() == "list" => list(place + 1, words),
         _ => Err(Refusal::Fault(place)),
     }

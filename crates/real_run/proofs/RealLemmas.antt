@@ -3,11 +3,15 @@ use Rattle.std.proofs.Common.{◌≡◌, ℕ, List, [], Option, None, Some, Resu
 use Rattle.std.specs.Bool.{⊤}
 use Rattle.consumer_cli.specs.Consumers.{CopyRun, LinkRun, copy_run, link_run}
 use Rattle.consumer_cli.specs.Syncs.{IsSyncOf}
-use Rattle.consumer_cli.specs.Tasks.{Task}
+use Rattle.consumer_cli.specs.Sends.{IsEnterOf, IsSendOf}
+use Rattle.consumer_cli.specs.Tasks.{Sending, Task}
 use Rattle.copy_keeper.specs.Copies.{Copy, IsCopy}
 use Rattle.copy_keeper.specs.HeldCopy.{HeldCopy, empty_copy}
 use Rattle.exchange_link.specs.Exchanges.{Told}
 use Rattle.exchange_link.specs.declared.answer.SyncAnswer.{SyncAnswer}
+use Rattle.exchange_link.specs.declared.send_answer.EnterError.{EnterError}
+use Rattle.exchange_link.specs.declared.send_answer.SendAnswer.{SendAnswer}
+use Rattle.version_core.specs.declared.mark.Write.{Write}
 use Rattle.keeper_memory.proofs.KeptLemmas.{no_versions}
 use Rattle.keeper_memory.specs.Failures.{FailurePlan, planned}
 use Rattle.keeper_memory.specs.Kept.{IsKept, KeptState}
@@ -18,7 +22,7 @@ use Rattle.hub_cli.specs.Words.{keep_in, store_in}
 use Rattle.hub_cli.specs.declared.answer.Answer.{Answer}
 use Rattle.hub_cli.specs.declared.answer.End.TheVariants as ends
 use Rattle.hub_cli.specs.declared.words.Command.{Command}
-use Rattle.hub_cli.specs.declared.words.Command.TheVariants.{Ask, Grant, ListHeld, Publish, Show, Sync}
+use Rattle.hub_cli.specs.declared.words.Command.TheVariants.{Ask, Enter, Grant, ListHeld, Outbox, Publish, Send, Show, Sync}
 use Rattle.hub_cli.specs.declared.words.Parsed.{Parsed}
 use Rattle.real_run.specs.RealRuns.{AnswersFrom, AnswersOver, IsRealAnswer, RealConsumer, new_copy_run, new_hub, silent_link_run}
 
@@ -49,7 +53,14 @@ module _ (stood stands : Copy → Type 0) (before now : ℕ) (told tells : Told 
     bound = is.bound;
     cause_told = is.cause_told;
     complete = is.complete;
+    marks = is.marks;
   }
+
+  enter-more : (write : Write) (r : Result ℕ EnterError) → IsEnterOf write r copy_old → IsEnterOf write r copy_new
+  enter-more write r is = record { told = is.told; agree = is.agree; cause = is.cause }
+
+  send-more : (task : Sending) (a : SendAnswer) → IsSendOf task a copy_old link_old → IsSendOf task a copy_new link_new
+  send-more task a is = record { copy = is.copy; last_run = is.last_run; cause = is.cause; told = is.told; complete = is.complete }
 
   command-more : (command : Command) (o : Outside) (a : Answer) (from to : KeptState) → IsCommandAnswer command o copy_old link_old a from to → IsCommandAnswer command o copy_new link_new a from to
   command-more (Show kind) o a from to is = (rests-more is.0, is.1, is.2)
@@ -57,6 +68,10 @@ module _ (stood stands : Copy → Type 0) (before now : ℕ) (told tells : Told 
   command-more (Grant file) o a from to is = (rests-more is.0, is.1)
   command-more (Ask file) o a from to is = (rests-more is.0, is.1)
   command-more (Sync task) o a from to (same, nothing, (none, s, is, how)) = (same, nothing, (none, s, sync-more task s is, how))
+  command-more (Enter task) o a from to (same, stood, rests, inl (end, kept_same, reads, is)) = (same, stood, l rests, inl (end, c kept_same, reads, is))
+  command-more (Enter task) o a from to (same, stood, rests, inr (write, r, reads, is, entered)) = (same, stood, l rests, inr (write, r, reads, enter-more write r is, entered))
+  command-more (Send task) o a from to (same, nothing, (none, s, is, how)) = (same, nothing, (none, s, send-more task s is, how))
+  command-more Outbox o a from to is = (is.0, is.1, l is.2, is.3)
   command-more (ListHeld kind) o a from to is = (is.0, is.1, l is.2, is.3)
 
   answer-more : (r : Result Parsed ℕ) (o : Outside) (a : Answer) (from to : KeptState) → IsAnswer r o copy_old link_old a from to → IsAnswer r o copy_new link_new a from to

@@ -14,14 +14,14 @@ use Rattle.consumer_sync.specs.Filling.{BoundSoFar, HasToken, IsCallPinIf, IsDon
 use Rattle.consumer_sync.specs.Judging.{judged}
 use Rattle.consumer_sync.specs.Staging.{IsBroken, answer_of}
 use Rattle.consumer_sync.proofs.AgreeLemmas.{agrees_if_on, own_page, performs_agrees, said_of}
-use Rattle.consumer_sync.proofs.AskLemmas.{missed_other, own_other}
+use Rattle.tried_requests.proofs.AskLemmas.{asks_trans, missed_other, own_other}
 use Rattle.consumer_sync.proofs.BoundLemmas.{StandingIf, bound_done, bound_end, bound_on, call_pin, pin_performs, pin_same, standing_if}
 use Rattle.consumer_sync.proofs.CauseLemmas.{answer_cause, broken_cause, exact_own, page_status, performs_on}
 use Rattle.consumer_sync.proofs.DoneLemmas.{broken_told, own_done, own_told}
-use Rattle.consumer_sync.proofs.FillLemmas.{asks_trans, can_next, ends_on, fills_end, fills_on, kinds_on, pin_on, small_fits, small_on, token_on, weight_falls}
+use Rattle.consumer_sync.proofs.FillLemmas.{can_next, ends_on, fills_end, fills_on, kinds_on, pin_on, small_fits, small_on, token_on, weight_falls}
 use Rattle.consumer_sync.proofs.JudgeLemmas.{taken_page}
 use Rattle.consumer_sync.proofs.SyncLemmas.{cause_end}
-use Rattle.consumer_sync.proofs.TextLemmas.{version_low}
+use Rattle.tried_requests.proofs.TextLemmas.{version_low}
 use Rattle.consumer_sync.proofs.fill.fill.Goals as goal
 
 pub returns-in-NoReply-clause-holds : goal.returns-in-NoReply-clause-holds
@@ -34,13 +34,13 @@ returns-in-NoReply-clause-done g c e =
 
 pub returns-in-NoReply-clause-copy : goal.returns-in-NoReply-clause-copy
 returns-in-NoReply-clause-copy g c after stands =
-    let w = c.rounds.invariant.copy after stands in (w.0, w.1, fills_end _ _ _ _ w.2)
+    let w = c.rounds.invariant.copy after stands in (w.0, w.1, fills_end _ _ _ _ tt w.2)
 
 pub returns-in-NoReply-clause-link : goal.returns-in-NoReply-clause-link
 returns-in-NoReply-clause-link g c after tells =
     let y = c.fetch.ensures.told after tells in
     let z = c.rounds.invariant.link y.0 y.1 in
-    (z.0, z.1, c.fetch.new.count, asks_trans _ _ _ _ _ _ _ z.2 y.2, λ e. cc)
+    (z.0, z.1, c.fetch.new.count, asks_trans _ _ _ _ _ _ _ _ z.2 y.2, λ e. cc)
 
 pub returns-in-NoReply-clause-agree : goal.returns-in-NoReply-clause-agree
 returns-in-NoReply-clause-agree g c entry d t stands tells =
@@ -100,13 +100,13 @@ returns-in-Missed-clause-done g c e =
 
 pub returns-in-Missed-clause-copy : goal.returns-in-Missed-clause-copy
 returns-in-Missed-clause-copy g c after stands =
-    let w = c.rounds.invariant.copy after stands in (w.0, w.1, fills_end _ _ _ _ w.2)
+    let w = c.rounds.invariant.copy after stands in (w.0, w.1, fills_end _ _ _ _ tt w.2)
 
 pub returns-in-Missed-clause-link : goal.returns-in-Missed-clause-link
 returns-in-Missed-clause-link g c after tells =
     let y = c.fetch.ensures.told after tells in
     let z = c.rounds.invariant.link y.0 y.1 in
-    (z.0, z.1, c.fetch.new.count, asks_trans _ _ _ _ _ _ _ z.2 y.2, λ e. cc)
+    (z.0, z.1, c.fetch.new.count, asks_trans _ _ _ _ _ _ _ _ z.2 y.2, λ e. cc)
 
 pub returns-in-Missed-clause-agree : goal.returns-in-Missed-clause-agree
 returns-in-Missed-clause-agree g c entry d t stands tells =
@@ -167,13 +167,13 @@ returns-in-NoMemory-clause-done g c e =
 
 pub returns-in-NoMemory-clause-copy : goal.returns-in-NoMemory-clause-copy
 returns-in-NoMemory-clause-copy g c after stands =
-    let w = c.rounds.invariant.copy after stands in (w.0, w.1, fills_end _ _ _ _ w.2)
+    let w = c.rounds.invariant.copy after stands in (w.0, w.1, fills_end _ _ _ _ tt w.2)
 
 pub returns-in-NoMemory-clause-link : goal.returns-in-NoMemory-clause-link
 returns-in-NoMemory-clause-link g c after tells =
     let y = c.fetch.ensures.told after tells in
     let z = c.rounds.invariant.link y.0 y.1 in
-    (z.0, z.1, c.fetch.new.count, asks_trans _ _ _ _ _ _ _ z.2 y.2, λ e. cc)
+    (z.0, z.1, c.fetch.new.count, asks_trans _ _ _ _ _ _ _ _ z.2 y.2, λ e. cc)
 
 pub returns-in-NoMemory-clause-agree : goal.returns-in-NoMemory-clause-agree
 returns-in-NoMemory-clause-agree g c entry d t stands tells =
@@ -237,7 +237,7 @@ rounds-preserved g c =
           let z = c.rounds.invariant.link y.0 y.1 in (
             z.0,
             z.1,
-            asks_trans _ _ _ _ _ _ _ z.2 y.2,
+            asks_trans _ _ _ _ _ _ _ _ z.2 y.2,
             λ small ready.
                 let said = said_of y.0 after c.rounds.stage c.args.run c.fetch.new.count c.args.token.now c.args.limit c.in-Own.reply (can_next c.rounds.stage c.args.token.now c.args.limit c.requires.limit.0 c.requires.limit.1 (c.rounds.invariant.small small)) (y.3 (z.2.ready ready)) in
                 let p = own_page y.0 after c.rounds.stage c.args.token.now c.args.limit c.in-Own.reply on.0 said lt on.1 in
@@ -293,13 +293,13 @@ pub returns-in_default-clause-copy : goal.returns-in_default-clause-copy
 returns-in_default-clause-copy g c after stands =
     let x = c.take_reply.ensures.told after stands in
     let w = c.rounds.invariant.copy x.0 x.1 in
-    (w.0, w.1, ends_on _ _ _ _ _ _ w.2 x.2)
+    (w.0, w.1, ends_on c.args.token.now (judged c.rounds.stage c.args.limit c.in-Own.reply) c.take_reply.result w.0 x.0 after w.2 x.2)
 
 pub returns-in_default-clause-link : goal.returns-in_default-clause-link
 returns-in_default-clause-link g c after tells =
     let y = c.in-Own.ensures.told after tells in
     let z = c.rounds.invariant.link y.0 y.1 in
-    (z.0, z.1, c.fetch.new.count, asks_trans _ _ _ _ _ _ _ z.2 y.2, λ e. absurd (c.in_default.not-None e))
+    (z.0, z.1, c.fetch.new.count, asks_trans _ _ _ _ _ _ _ _ z.2 y.2, λ e. absurd (c.in_default.not-None e))
 
 pub returns-in_default-clause-agree : goal.returns-in_default-clause-agree
 returns-in_default-clause-agree g c entry d t stands tells =
@@ -393,14 +393,14 @@ returns-in_default-clause-cause g c =
           c.take_reply.ensures.answer,
       λ w other. exact_own c.rounds.stage c.args.limit _ _ _ c.in-Own.reply w (kind_at (kinds_of c.rounds.stage)) (staged_of c.rounds.stage) c.take_reply.result own other c.take_reply.ensures.answer,
       λ some ne t tells. c.fetch.ensures.last (λ e. own_other c.in-Own.reply (sym c.in-Own.is ∙ e)) t tells,
-      λ on. (own.from, λ d stands. let x = c.take_reply.ensures.told d stands in ap stage_of (performs_on _ _ _ _ _ x.2 on) ∙ c.rounds.invariant.holds x.0 x.1),
+      λ on. (own.from, λ d stands. let x = c.take_reply.ensures.told d stands in ap stage_of (performs_on (judged c.rounds.stage c.args.limit c.in-Own.reply) c.args.token.now c.take_reply.result x.0 d x.2 on) ∙ c.rounds.invariant.holds x.0 x.1),
     )
 
 pub returns-clause-holds : goal.returns-clause-holds
 returns-clause-holds g c e = c.rounds.invariant.holds
 
 pub returns-clause-copy : goal.returns-clause-copy
-returns-clause-copy g c after stands = let w = c.rounds.invariant.copy after stands in (w.0, w.1, fills_end _ _ _ _ w.2)
+returns-clause-copy g c after stands = let w = c.rounds.invariant.copy after stands in (w.0, w.1, fills_end _ _ _ _ tt w.2)
 
 pub returns-clause-link : goal.returns-clause-link
 returns-clause-link g c after tells =

@@ -10,7 +10,8 @@ use Rattle.http_wire.specs.declared.answer.WireReply.{WireReply}
 use Rattle.copy_keeper.specs.declared.state.StageState.{StageState}
 use Rattle.std.specs.Prelude.{Option}
 use Rattle.consumer_sync.specs.Filling.{BoundSoFar, Fills, HasToken, IsSmall, PinLaw, request_of, weight}
-use Rattle.consumer_sync.specs.Requests.{Asks, IsReady}
+use Rattle.tried_requests.specs.Requests.{Asks, IsReady}
+use Rattle.consumer_sync.specs.Requests.{IsUnmarked}
 use Rattle.consumer_sync.proofs.fill.fill.Given as goal
 
 abbrev pub invariant-rounds : goal.invariant-rounds
@@ -24,7 +25,7 @@ invariant-rounds g l =
       small : IsSmall l.fn.stage → IsSmall l.stage;
       room : l.count + 100 * weight l.stage ≤ 2000000000;
       copy : (after : Copy) → S l.copy after → (before : Copy) × S l.fn.copy before × Fills l.token before after;
-      link : (after : Told) → T l.link after → (before : Told) × T l.fn.link before × Asks l.run 0 l.count before after × (IsSmall l.fn.stage → IsReady l.run 0 before.sent → PinLaw l.fn.stage before.hub l.stage);
+      link : (after : Told) → T l.link after → (before : Told) × T l.fn.link before × Asks l.run 0 l.count IsUnmarked before after × (IsSmall l.fn.stage → IsReady l.run 0 before.sent → PinLaw l.fn.stage before.hub l.stage);
       agree : ((c : Copy) (t : Told) → S l.fn.copy c → T l.fn.link t → StageFitsIf c.stage t.hub × IsReady l.run 0 t.sent)
           → (c : Copy) (t : Told) → S l.copy c → T l.link t → StageFitsIf c.stage t.hub;
       asked : IsMore (g.L.Link.asked l.fn.link) l.count (g.L.Link.asked l.link);

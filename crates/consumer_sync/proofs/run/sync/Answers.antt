@@ -5,11 +5,11 @@ use Rattle.copy_keeper.specs.Lists.{kind_count}
 use Rattle.copy_keeper.specs.States.{stage_of}
 use Rattle.copy_keeper.specs.declared.state.StageState.{StageState}
 use Rattle.exchange_link.specs.Bounds.{Bounded, HasPin, IsCallPin}
-use Rattle.exchange_link.specs.Causes.{AnswersTo, AsksOn, CauseOf, IsAside, RoseBy, ToldCause}
+use Rattle.exchange_link.specs.Causes.{AnswersTo, AsksOn, CauseOf, IsAside, LastLaw, RoseBy, ToldCause}
 use Rattle.exchange_link.specs.Completeness.{IsDone, StandsAt, first_pin}
 use Rattle.exchange_link.specs.Exchanges.{Told}
 use Rattle.exchange_link.specs.Places.{kinds_of, pin_of}
-use Rattle.exchange_link.specs.Synchronised.{own_state}
+use Rattle.exchange_link.specs.Synchronised.{Leaves, Synchronised, own_state}
 use Rattle.exchange_link.specs.declared.answer.SyncAnswer.{SyncAnswer}
 use Rattle.exchange_link.specs.declared.answer.SyncAnswer.TheVariants as answer
 use Rattle.roster_base.specs.Faults.{Rose}
@@ -18,8 +18,16 @@ use Rattle.consumer_sync.proofs.FillLemmas.{small_fits, small_own}
 use Rattle.consumer_sync.proofs.BoundLemmas.{bounded_map, bounded_zero, swap_pin}
 use Rattle.consumer_sync.proofs.CauseLemmas.{exact_page}
 use Rattle.consumer_sync.proofs.DoneLemmas.{start_told}
-use Rattle.consumer_sync.proofs.SyncLemmas.{begun_is, cause_whole, drop_done, drop_sync, enter_done, enter_sync, entry, fill_leaves, fill_sync, finish_by, finish_other, last_dropped, last_ended, last_entered, last_low, own_few, own_token, ready_from, start_cause, start_on, swap_leaves, swap_run, swap_sync}
+use Rattle.consumer_sync.proofs.MarkLemmas.{marks_asked, marks_dropped, marks_kept}
+use Rattle.consumer_sync.proofs.SyncLemmas.{begun_is, cause_whole, drop_done, drop_sync, enter_cause, enter_done, enter_leaves, enter_sync, entry, fill_leaves, fill_sync, finish_by, finish_other, last_dropped, last_ended, last_entered, last_low, own_few, own_token, start_cause, start_on, swap_leaves, swap_run, swap_sync}
+use Rattle.consumer_sync.specs.Starting.{StartCause, unentered}
+use Rattle.tried_requests.proofs.RunLemmas.{ready_from}
+use Rattle.tried_requests.specs.declared.begin.NoRun.{NoRun}
+use Rattle.tried_requests.specs.declared.begin.NoRun.TheVariants as no_run
 use Rattle.consumer_sync.proofs.run.sync.Goals as goal
+
+start_of : {K : Type 0} {e : NoRun} {a : SyncAnswer} → a ≡ unentered e → (e ≡ no_run.KeeperFault → K) → StartCause K a
+start_of {K} {e} {a} is cause = subst (λ (a : SyncAnswer). StartCause K a) (sym is) (enter_cause K e cause)
 
 pub fill-requires-clause-token : goal.fill-requires-clause-token
 fill-requires-clause-token g c = subst (λ (o : Option StageState). HasToken c.args.token.now o) (sym c.in-Ok-drop_other.ensures.ok) (own_token c.args.token.now c.in-Ok.state.stage)
@@ -30,7 +38,12 @@ fill-requires-clause-few g c = subst (λ (o : Option StageState). kinds_of o ≤
 pub returns-in-Err-clause-told : goal.returns-in-Err-clause-told
 returns-in-Err-clause-told g c agree after tells stands told =
     let x = c.in-Err.ensures.told after stands in
-    (x.0, tells, x.1, told, enter_sync c.args.token.now c.in-Err.answer x.0 after tells _ c.in-Err.ensures.cause x.2 (agree x.0 tells x.1 told))
+    (x.0, tells, x.1, told, subst (λ (a : SyncAnswer). Synchronised c.args.token.now a x.0 tells after tells) (sym c.unentered.ensures) (enter_sync c.args.token.now c.in-Err.error x.0 after tells x.2 (agree x.0 tells x.1 told)))
+
+pub returns-in-Err-clause-copy : goal.returns-in-Err-clause-copy
+returns-in-Err-clause-copy g c after stands =
+    let x = c.in-Err.ensures.told after stands in
+    (x.0, x.1, subst (λ (a : SyncAnswer). Leaves c.args.token.now a x.0 after) (sym c.unentered.ensures) (enter_leaves c.args.token.now c.in-Err.error x.0 after x.2))
 
 pub returns-in-Err-drop_other-clause-told : goal.returns-in-Err-drop_other-clause-told
 returns-in-Err-drop_other-clause-told g c agree after tells stands told =
@@ -107,7 +120,7 @@ returns-in-Some-stage-clause-told g c agree after tells stands told =
 pub returns-in-Err-clause-bound : goal.returns-in-Err-clause-bound
 returns-in-Err-clause-bound g c agree after tells stands told =
     let x = c.in-Err.ensures.told after stands in
-    (x.0, x.1, 0, omega arith, bounded_zero c.args.tries c.args.limit c.args.token.now (own_state c.args.token.now (stage_of x.0)) (λ v. IsCallPin c.in-Err.answer after.stage v) tells.hub)
+    (x.0, x.1, 0, omega arith, bounded_zero c.args.tries c.args.limit c.args.token.now (own_state c.args.token.now (stage_of x.0)) (λ v. IsCallPin c.unentered.result after.stage v) tells.hub)
 
 pub returns-in-Err-drop_other-clause-bound : goal.returns-in-Err-drop_other-clause-bound
 returns-in-Err-drop_other-clause-bound g c agree after tells stands told =
@@ -162,13 +175,13 @@ returns-in-Some-stage-clause-bound g c agree after tells stands told =
 pub returns-in-Err-clause-complete : goal.returns-in-Err-clause-complete
 returns-in-Err-clause-complete g c agree link copy after tells stands told =
     let x = c.in-Err.ensures.told after stands in
-    (x.0, tells, x.1, told, λ low hub at. enter_done c.in-Err.answer x.0 after _ c.in-Err.ensures.cause x.2 copy low)
+    (x.0, tells, x.1, told, λ low hub at. subst (λ (a : SyncAnswer). IsDone a) (sym c.unentered.ensures) (enter_done c.in-Err.error x.0 after _ c.in-Err.ensures.cause x.2 copy low))
 
 pub returns-in-Err-drop_other-clause-complete : goal.returns-in-Err-drop_other-clause-complete
 returns-in-Err-drop_other-clause-complete g c agree link copy after tells stands told =
     let y = c.in-Err-drop_other.ensures.told after stands in
     let x = c.in-Ok.ensures.told y.0 y.1 in
-    (x.0, tells, x.1, told, λ low hub at. drop_done c.in-Err-drop_other.answer _ c.in-Err-drop_other.ensures.cause (λ rose. copy (omega (arith, rose, c.enter_run.ensures.later))))
+    (x.0, tells, x.1, told, λ low hub at. drop_done c.in-Err-drop_other.answer _ c.in-Err-drop_other.ensures.cause (λ rose. copy (omega (arith, rose, c.begin_run.ensures.later))))
 
 pub returns-in-Some-clause-complete : goal.returns-in-Some-clause-complete
 returns-in-Some-clause-complete g c agree link copy after tells stands told =
@@ -182,7 +195,7 @@ returns-in-Some-clause-complete g c agree link copy after tells stands told =
     let y2 = c.in-Ok-drop_other.ensures.told d sd in
     let x2 = c.in-Ok.ensures.told y2.0 y2.1 in
     entry c.args.token.now c.in-Ok.state.run x2.0 d t (begun_is c.args.token.now x2.0 y2.0 d c.in-Ok.state c.in-Ok-drop_other.begun x2.2 y2.2) (x2.2).0 (agree x2.0 t x2.1 tt))
-    link (λ rose. copy (omega (arith, rose, c.enter_run.ensures.later, c.drop_other.ensures.later)))
+    link (λ rose. copy (omega (arith, rose, c.begin_run.ensures.later, c.drop_other.ensures.later)))
     after tells stands told in
     (x.0, n.0, x.1, n.1, λ low hub at. n.2 hub (subst (λ (o : Option StageState). StandsAt (first_pin o (n.0).hub) c.args.token.now tells.hub) (sym stage_is) at))
 
@@ -200,7 +213,7 @@ returns-in-Some-stage-clause-complete g c agree link copy after tells stands tol
       λ low hub at. ⊎_elim
           (λ (e : c.finish.result ≡ answer.Complete c.in-Some-stage.s.pin). subst (λ (a : SyncAnswer). IsDone a) (sym e) tt)
           (λ h. ⊎_elim
-          (λ (e : c.finish.result ≡ answer.KeeperFault). absurd (copy (let rose = c.finish.ensures.cause e in omega (arith, rose, c.enter_run.ensures.later, c.drop_other.ensures.later, c.fill.ensures.later))))
+          (λ (e : c.finish.result ≡ answer.KeeperFault). absurd (copy (let rose = c.finish.ensures.cause e in omega (arith, rose, c.begin_run.ensures.later, c.drop_other.ensures.later, c.fill.ensures.later))))
           (λ (e : c.finish.result ≡ answer.NoMemory). subst (λ (a : SyncAnswer). IsDone a) (sym e) tt) h)
           c.finish.ensures.answers,
     )
@@ -218,7 +231,7 @@ returns-in-Some-stage-clause-copy g c after stands =
     )
 
 pub returns-in-Err-clause-cause_told : goal.returns-in-Err-clause-cause_told
-returns-in-Err-clause-cause_told g c agree after tells stands told = (tells, told, start_told c.args.token.now tells tells _ c.in-Err.answer c.in-Err.ensures.cause)
+returns-in-Err-clause-cause_told g c agree after tells stands told = (tells, told, start_told c.args.token.now tells tells _ c.unentered.result (start_of c.unentered.ensures c.in-Err.ensures.cause))
 
 pub returns-in-Err-drop_other-clause-cause_told : goal.returns-in-Err-drop_other-clause-cause_told
 returns-in-Err-drop_other-clause-cause_told g c agree after tells stands told = (tells, told, start_told c.args.token.now tells tells _ c.in-Err-drop_other.answer (c.in-Err-drop_other.ensures.cause).1)
@@ -253,10 +266,10 @@ returns-in-Err-clause-cause g c =
       asked = None;
       counts = record { least = omega arith; most = omega arith };
       runs = λ some. absurd (omega (arith, some));
-      only = start_cause c.args.limit _ _ _ _ c.in-Err.answer (λ k. k) c.in-Err.ensures.cause;
+      only = start_cause c.args.limit _ _ _ _ c.unentered.result (λ k. k) (start_of c.unentered.ensures c.in-Err.ensures.cause);
       exact = λ w own. absurd (let from = own.from in omega (arith, from));
       last = λ some. absurd (omega (arith, some));
-      on = λ on. absurd (start_on _ c.in-Err.answer c.in-Err.ensures.cause on);
+      on = λ on. absurd (start_on _ c.unentered.result (start_of c.unentered.ensures c.in-Err.ensures.cause) on);
     }
 
 pub returns-in-Err-drop_other-clause-cause : goal.returns-in-Err-drop_other-clause-cause
@@ -267,7 +280,7 @@ returns-in-Err-drop_other-clause-cause g c =
       asked = None;
       counts = record { least = omega arith; most = omega arith };
       runs = λ some. absurd (omega (arith, some));
-      only = start_cause c.args.limit _ _ _ _ c.in-Err-drop_other.answer (λ rose. omega (arith, rose, c.enter_run.ensures.later)) (c.in-Err-drop_other.ensures.cause).1;
+      only = start_cause c.args.limit _ _ _ _ c.in-Err-drop_other.answer (λ rose. omega (arith, rose, c.begin_run.ensures.later)) (c.in-Err-drop_other.ensures.cause).1;
       exact = λ w own. absurd (let from = own.from in omega (arith, from));
       last = λ some. absurd (omega (arith, some));
       on = λ on. absurd (start_on _ c.in-Err-drop_other.answer (c.in-Err-drop_other.ensures.cause).1 on);
@@ -291,7 +304,7 @@ returns-in-Some-clause-cause g c =
           let z = c.in-Some.ensures.copy d stands in
           let y = c.in-Ok-drop_other.ensures.told z.0 z.1 in
           (z.2).run ∙ ap (λ (e : Copy). e.run) y.2 ∙ (c.in-Ok.ensures.holds y.0 y.1).0;
-      only = cause_whole x.0 c.args.limit _ _ x.1 _ _ _ c.in-Some.answer (λ rose. omega (arith, rose, c.enter_run.ensures.later, c.drop_other.ensures.later)) x.3;
+      only = cause_whole x.0 c.args.limit _ _ x.1 _ _ _ c.in-Some.answer (λ rose. omega (arith, rose, c.begin_run.ensures.later, c.drop_other.ensures.later)) x.3;
       exact = x.4;
       last = λ some ne t tells. x.5 some (λ e. ne (some_answer e)) t tells;
       on = x.6;
@@ -313,7 +326,7 @@ returns-in-Some-stage-clause-cause g c =
       only = finish_by (λ a. CauseOf x.0 c.args.limit (g.L.Link.kept c.fill.new.link) c.in-Ok.state.run x.1
           ((c.args.tries ≤ g.L.Link.missed c.fill.new.link) × (c.args.tries ≤ x.1) × RoseBy c.args.tries (g.L.Link.fault_count c.args.link.now) (g.L.Link.fault_count c.fill.new.link))
           (Rose (g.C.CopyKeeper.fault_count c.args.copy.now) (g.C.CopyKeeper.fault_count c.finish.new.copy)) a) c.finish.result c.in-Some-stage.s.pin c.finish.ensures.answers tt
-          (λ e. let rose = c.finish.ensures.cause e in omega (arith, rose, c.enter_run.ensures.later, c.drop_other.ensures.later, c.fill.ensures.later)) tt;
+          (λ e. let rose = c.finish.ensures.cause e in omega (arith, rose, c.begin_run.ensures.later, c.drop_other.ensures.later, c.fill.ensures.later)) tt;
       exact = λ w own. finish_by (λ a. IsAside a ⊎ AnswersTo (pin_of x.0) w a) c.finish.result c.in-Some-stage.s.pin c.finish.ensures.answers
           (inr (exact_page (pin_of x.0) w (answer.Complete c.in-Some-stage.s.pin) (x.4 w own))) (λ e. inl tt) (inl tt);
       last = λ some ne t tells. x.5 some none_memory t tells;
@@ -323,7 +336,7 @@ returns-in-Some-stage-clause-cause g c =
 pub returns-in-Err-clause-last_run : goal.returns-in-Err-clause-last_run
 returns-in-Err-clause-last_run g c after stands =
     let x = c.in-Err.ensures.told after stands in
-    (x.0, x.1, last_entered c.in-Err.answer x.0 after _ c.in-Err.ensures.cause x.2)
+    (x.0, x.1, subst (λ (a : SyncAnswer). LastLaw a x.0 after) (sym c.unentered.ensures) (last_entered c.in-Err.error x.0 after x.2))
 
 pub returns-in-Err-drop_other-clause-last_run : goal.returns-in-Err-drop_other-clause-last_run
 returns-in-Err-drop_other-clause-last_run g c after stands =
@@ -345,3 +358,26 @@ returns-in-Some-stage-clause-last_run g c after stands =
     let y = c.in-Ok-drop_other.ensures.told z.0 z.1 in
     let x = c.in-Ok.ensures.told y.0 y.1 in
     (x.0, x.1, last_low c.finish.result x.0 after c.in-Ok.state.run (finish_other c.finish.result c.in-Some-stage.s.pin c.finish.ensures.answers) (x.2).0 c.in-Ok.ensures.run.1)
+
+pub returns-in-Err-clause-marks : goal.returns-in-Err-clause-marks
+returns-in-Err-clause-marks g c agree after tells stands told =
+    let x = returns-in-Err-clause-copy g c after stands in
+    marks_kept c.args.token.now _ x.0 after tells x.2 (agree x.0 tells x.1 told)
+
+pub returns-in-Err-drop_other-clause-marks : goal.returns-in-Err-drop_other-clause-marks
+returns-in-Err-drop_other-clause-marks g c agree after tells stands told =
+    let y = c.in-Err-drop_other.ensures.told after stands in
+    let x = c.in-Ok.ensures.told y.0 y.1 in
+    marks_dropped c.args.token.now c.in-Ok.state c.in-Err-drop_other.answer x.0 y.0 after tells x.2 y.2 (agree x.0 tells x.1 told)
+
+pub returns-in-Some-clause-marks : goal.returns-in-Some-clause-marks
+returns-in-Some-clause-marks g c agree after tells stands told =
+    let x = returns-in-Some-clause-copy g c after stands in
+    let l = c.fill.ensures.link tells told in
+    marks_kept c.args.token.now _ x.0 after tells x.2 (marks_asked c.in-Ok.state.run l.2 x.0 l.0 tells l.3 (agree x.0 l.0 x.1 l.1))
+
+pub returns-in-Some-stage-clause-marks : goal.returns-in-Some-stage-clause-marks
+returns-in-Some-stage-clause-marks g c agree after tells stands told =
+    let x = returns-in-Some-stage-clause-copy g c after stands in
+    let l = c.fill.ensures.link tells told in
+    marks_kept c.args.token.now _ x.0 after tells x.2 (marks_asked c.in-Ok.state.run l.2 x.0 l.0 tells l.3 (agree x.0 l.0 x.1 l.1))

@@ -1,6 +1,6 @@
 use Rattle.std.proofs.Common.{◌≡◌, refl}
 use Rattle.consumer_cli.specs.Consumers.{copy_run, link_run}
-use Rattle.hub_cli.proofs.Ending.{leads-command, leads-listed, leads-resting, leads-shown, leads-synchronised, leads-told}
+use Rattle.hub_cli.proofs.Ending.{leads-command, leads-entered, leads-listed, leads-outbox, leads-resting, leads-sent, leads-shown, leads-synchronised, leads-told}
 use Rattle.hub_cli.proofs.Telling.{writes_as}
 use Rattle.hub_cli.specs.Outside.{faults_of, outside_of}
 use Rattle.hub_cli.specs.declared.words.Command.TheVariants.{Ask, Grant, Publish}
@@ -70,6 +70,36 @@ returns-in-Sync g c =
     (link_run (g.L.Link.tells c.args.link.now) (g.L.Link.tells c.sync.new.link) (g.L.Link.asked c.args.link.now) (g.L.Link.asked c.sync.new.link) (g.L.Link.missed c.sync.new.link) (g.L.Link.kept c.sync.new.link) (g.L.Link.fault_count c.args.link.now) (g.L.Link.fault_count c.sync.new.link) (c.sync.new.link ≡ c.args.link.now))
     (g.H.HubKeeper.stands_for c.args.keeper.now) c.args.parsed.now c.in-Sync.task c.in-Sync.is (record { folder = refl; keeper = refl }) c.sync.result c.sync.ensures)
     c.tell-in-Sync.ensures
+
+pub returns-in-Enter : goal.returns-in-Enter
+returns-in-Enter g c =
+    writes_as _ _ _ _ _ _ _
+    (leads-entered
+    (outside_of (g.F.Folder.files c.args.folder.now) (g.K.Clock.moment c.args.clock.now) (faults_of (g.F.Folder.faults c.args.folder.now) (g.F.Folder.faults c.enter.new.folder)) (faults_of (g.H.HubKeeper.fault_count c.args.keeper.now) (g.H.HubKeeper.fault_count c.args.keeper.now)))
+    (copy_run (g.C.CopyKeeper.stands_for c.args.copy.now) (g.C.CopyKeeper.stands_for c.enter.new.copy) (g.C.CopyKeeper.fault_count c.args.copy.now) (g.C.CopyKeeper.fault_count c.enter.new.copy) (c.enter.new.copy ≡ c.args.copy.now))
+    (link_run (g.L.Link.tells c.args.link.now) (g.L.Link.tells c.args.link.now) (g.L.Link.asked c.args.link.now) (g.L.Link.asked c.args.link.now) (g.L.Link.missed c.args.link.now) (g.L.Link.kept c.args.link.now) (g.L.Link.fault_count c.args.link.now) (g.L.Link.fault_count c.args.link.now) (c.args.link.now ≡ c.args.link.now))
+    (g.H.HubKeeper.stands_for c.args.keeper.now) c.args.parsed.now c.in-Enter.task c.in-Enter.is refl refl c.enter.result (c.enter.ensures (faults_of (g.H.HubKeeper.fault_count c.args.keeper.now) (g.H.HubKeeper.fault_count c.args.keeper.now))))
+    c.tell-in-Enter.ensures
+
+pub returns-in-Send : goal.returns-in-Send
+returns-in-Send g c =
+    writes_as _ _ _ _ _ _ _
+    (leads-sent
+    (outside_of (g.F.Folder.files c.args.folder.now) (g.K.Clock.moment c.args.clock.now) (faults_of (g.F.Folder.faults c.args.folder.now) (g.F.Folder.faults c.args.folder.now)) (faults_of (g.H.HubKeeper.fault_count c.args.keeper.now) (g.H.HubKeeper.fault_count c.args.keeper.now)))
+    (copy_run (g.C.CopyKeeper.stands_for c.args.copy.now) (g.C.CopyKeeper.stands_for c.send.new.copy) (g.C.CopyKeeper.fault_count c.args.copy.now) (g.C.CopyKeeper.fault_count c.send.new.copy) (c.send.new.copy ≡ c.args.copy.now))
+    (link_run (g.L.Link.tells c.args.link.now) (g.L.Link.tells c.send.new.link) (g.L.Link.asked c.args.link.now) (g.L.Link.asked c.send.new.link) (g.L.Link.missed c.send.new.link) (g.L.Link.kept c.send.new.link) (g.L.Link.fault_count c.args.link.now) (g.L.Link.fault_count c.send.new.link) (c.send.new.link ≡ c.args.link.now))
+    (g.H.HubKeeper.stands_for c.args.keeper.now) c.args.parsed.now c.in-Send.task c.in-Send.is (record { folder = refl; keeper = refl }) c.send.result c.send.ensures)
+    c.tell-in-Send.ensures
+
+pub returns-in-Outbox : goal.returns-in-Outbox
+returns-in-Outbox g c =
+    writes_as _ _ _ _ _ _ _
+    (leads-outbox
+    (outside_of (g.F.Folder.files c.args.folder.now) (g.K.Clock.moment c.args.clock.now) (faults_of (g.F.Folder.faults c.args.folder.now) (g.F.Folder.faults c.args.folder.now)) (faults_of (g.H.HubKeeper.fault_count c.args.keeper.now) (g.H.HubKeeper.fault_count c.args.keeper.now)))
+    (copy_run (g.C.CopyKeeper.stands_for c.args.copy.now) (g.C.CopyKeeper.stands_for c.outbox.new.copy) (g.C.CopyKeeper.fault_count c.args.copy.now) (g.C.CopyKeeper.fault_count c.outbox.new.copy) (c.outbox.new.copy ≡ c.args.copy.now))
+    (link_run (g.L.Link.tells c.args.link.now) (g.L.Link.tells c.args.link.now) (g.L.Link.asked c.args.link.now) (g.L.Link.asked c.args.link.now) (g.L.Link.missed c.args.link.now) (g.L.Link.kept c.args.link.now) (g.L.Link.fault_count c.args.link.now) (g.L.Link.fault_count c.args.link.now) (c.args.link.now ≡ c.args.link.now))
+    (g.H.HubKeeper.stands_for c.args.keeper.now) c.args.parsed.now c.in-Outbox.is (record { folder = refl; keeper = refl }) refl c.outbox.result c.outbox.ensures)
+    c.tell-in-Outbox.ensures
 
 pub returns-in-ListHeld : goal.returns-in-ListHeld
 returns-in-ListHeld g c =

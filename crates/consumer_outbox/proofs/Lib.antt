@@ -1,0 +1,7 @@
+pub mod AllLemmas
+pub mod CallLemmas
+pub mod OwnLemmas
+pub mod RequestLemmas
+pub mod StepLemmas
+pub mod VerdictLemmas
+pub mod WalkLemmas

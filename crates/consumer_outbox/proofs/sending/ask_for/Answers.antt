@@ -1,0 +1,22 @@
+use Rattle.std.proofs.Common.{ap, subst, ◌∙◌}
+use Rattle.marked_writes.specs.Marked.{marked_by}
+use Rattle.status_info.specs.declared.request.Request.{Request}
+use Rattle.tried_requests.proofs.AskLemmas.{asks_refl, asks_weaker}
+use Rattle.tried_requests.specs.Owning.{IsOwnRead}
+use Rattle.tried_requests.specs.Requests.{IfOwn, IsNumbered, number, numbered}
+use Rattle.consumer_outbox.specs.Sends.{Carries}
+use Rattle.consumer_outbox.proofs.sending.ask_for.Goals as goal
+
+pub returns-in-Err-clause-told : goal.returns-in-Err-clause-told
+returns-in-Err-clause-told g c after tells = (after, tells, asks_refl c.args.run c.args.count.now (Carries c.args.token.now c.args.entry) after, λ ready. tt)
+
+pub returns-in-Ok-clause-told : goal.returns-in-Ok-clause-told
+returns-in-Ok-clause-told g c after tells =
+    let y = c.ask.ensures.told after tells in
+    let is = c.in-Ok.ensures.request in (
+      y.0,
+      y.1,
+      asks_weaker c.args.run c.args.count.now c.ask.new.count (IsNumbered c.in-Ok.request) (Carries c.args.token.now c.args.entry) y.0 after
+          (λ q n. (subst (λ (r : Request). IsNumbered r q) is n, ap marked_by n.1 ∙ c.in-Ok.ensures.read n.0)) y.2,
+      λ ready. subst (λ (r : Request). IfOwn c.ask.result (λ w. IsOwnRead y.0 after (numbered r (number c.args.run c.ask.new.count)) w)) is (y.3 ready),
+    )

@@ -1,0 +1,32 @@
+use Rattle.std.proofs.Common.{◌-◌, ◌*◌, ◌≤◌}
+use Rattle.copy_keeper.specs.Copies.{Copy}
+use Rattle.copy_keeper.specs.declared.state.TheConstants.{LAST}
+use Rattle.exchange_link.specs.Causes.{IsMore, IsOwnReply}
+use Rattle.exchange_link.specs.Exchanges.{Told}
+use Rattle.http_wire.specs.declared.answer.WireReply.{WireReply}
+use Rattle.tried_requests.specs.Requests.{Moved}
+use Rattle.consumer_outbox.specs.Sends.{Ready, SettledTo, SoFar}
+use Rattle.consumer_outbox.specs.Verdicts.{Settled}
+use Rattle.consumer_outbox.proofs.sending.send_all.Given as goal
+
+abbrev pub invariant-entries : goal.invariant-entries
+invariant-entries g l =
+    let S = g.C.CopyKeeper.stands_for in
+    let T = g.L.Link.tells in
+    record {
+      walked : (c : Copy) → S l.copy c → SettledTo l.after c.entries;
+      few : l.settled ≤ l.after;
+      room : l.count ≤ 100 * l.settled;
+      bound : l.count ≤ l.tries * l.settled;
+      asked : IsMore (g.L.Link.asked l.fn.link) l.count (g.L.Link.asked l.link);
+      kept : (w : WireReply) → IsOwnReply (g.L.Link.kept l.link) l.run l.count w → Settled w;
+      copy : (after : Copy) → S l.copy after → (before : Copy) × S l.fn.copy before × SoFar l.settled before after;
+      link : (after : Told) → T l.link after → (before : Told) × T l.fn.link before × Moved before after;
+      agree : ((c : Copy) (t : Told) → S l.fn.copy c → T l.fn.link t → Ready l.run 0 c t)
+          → (c : Copy) (t : Told) → S l.copy c → T l.link t → Ready l.run l.count c t;
+      heard : g.L.Link.fault_count l.fn.link ≤ g.L.Link.fault_count l.link;
+      later : g.C.CopyKeeper.fault_count l.fn.copy ≤ g.C.CopyKeeper.fault_count l.copy;
+    }
+
+abbrev pub decreases-entries : goal.decreases-entries
+decreases-entries g l = LAST - l.after

@@ -1,0 +1,97 @@
+use Rattle.std.proofs.Common.{◌≡◌, refl, subst}
+use Rattle.std.specs.Prelude.{is_none}
+use Rattle.copy_keeper.specs.declared.entry.OutEntry.{OutEntry}
+use Rattle.grant_changes.proofs.Finding.{found_passes}
+use Rattle.http_wire.proofs.AnswerLemmas.{one_answer}
+use Rattle.http_wire.specs.declared.answer.WireReply.{WireReply}
+use Rattle.marked_writes.specs.Marked.{mark_of}
+use Rattle.status_info.specs.declared.request.Request.{Request}
+use Rattle.tried_requests.proofs.AskLemmas.{own_other}
+use Rattle.tried_requests.specs.Requests.{number, numbered}
+use Rattle.consumer_outbox.specs.Sends.{ExactIf, request_of}
+use Rattle.consumer_outbox.proofs.OwnLemmas.{ready_asked, ready_taken, said_of, taken_fine, taken_told}
+use Rattle.consumer_outbox.proofs.StepLemmas.{carries_first, stays_first, takes_goes}
+use Rattle.consumer_outbox.proofs.VerdictLemmas.{exact_of, taken_cause}
+use Rattle.consumer_outbox.proofs.sending.send_entry.Goals as goal
+
+pub returns-in-Own-clause-copy : goal.returns-in-Own-clause-copy
+returns-in-Own-clause-copy g c after stands = let x = c.take_reply.ensures.told after stands in (x.0, x.1, takes_goes _ _ _ _ _ x.2)
+
+pub returns-in-Own-clause-agree : goal.returns-in-Own-clause-agree
+returns-in-Own-clause-agree g c entry d t stands tells =
+    let token = c.args.token.now in
+    let q : Request = numbered (request_of token c.args.entry) (number c.args.run c.ask_for.new.count) in
+    let x = c.take_reply.ensures.told d stands in
+    let y = c.in-Own.ensures.told t tells in
+    let ready = entry x.0 y.0 x.1 y.1 in
+    let first = c.requires.first x.0 x.1 in
+    let last = c.in-Own.ensures.last (own_other c.in-Own.reply) in
+    let said = said_of y.0 t q token (mark_of c.args.entry) c.in-Own.reply refl last.0 (y.3 ready.numbers) in
+    ready_taken y.0 t token c.args.entry c.in-Own.reply said c.args.run c.ask_for.new.count q c.take_reply.result x.0 d first refl last.0 (last.1 t tells) x.2
+    (ready_asked token c.args.entry c.args.run c.args.count.now c.ask_for.new.count x.0 y.0 t y.2 first (g.met.C.CopyKeeper.is_copy c.args.copy.now x.0 x.1) ready)
+
+pub returns-in-Own-clause-told : goal.returns-in-Own-clause-told
+returns-in-Own-clause-told g c entry d t stands tells =
+    let token = c.args.token.now in
+    let q : Request = numbered (request_of token c.args.entry) (number c.args.run c.ask_for.new.count) in
+    let x = c.take_reply.ensures.told d stands in
+    let y = c.in-Own.ensures.told t tells in
+    let ready = entry x.0 y.0 x.1 y.1 in
+    let last = c.in-Own.ensures.last (own_other c.in-Own.reply) in
+    let said = said_of y.0 t q token (mark_of c.args.entry) c.in-Own.reply refl last.0 (y.3 ready.numbers) in
+    (y.0, y.1, taken_told y.0 t token c.args.entry c.in-Own.reply said c.take_reply.result x.0 d (c.requires.first x.0 x.1) x.2 c.take_reply.ensures.answer)
+
+pub returns-in-Own-clause-complete : goal.returns-in-Own-clause-complete
+returns-in-Own-clause-complete g c entry link copy d t stands tells =
+    let token = c.args.token.now in
+    let q : Request = numbered (request_of token c.args.entry) (number c.args.run c.ask_for.new.count) in
+    let x = c.take_reply.ensures.told d stands in
+    let y = c.in-Own.ensures.told t tells in
+    let ready = entry x.0 y.0 x.1 y.1 in
+    let last = c.in-Own.ensures.last (own_other c.in-Own.reply) in
+    let said = said_of y.0 t q token (mark_of c.args.entry) c.in-Own.reply refl last.0 (y.3 ready.numbers) in
+    let yet = found_passes (λ (e : OutEntry). is_none e.settled) x.0.entries c.args.entry (c.requires.first x.0 x.1) in
+    (y.0, y.1, λ quiet can. taken_fine y.0 t token c.args.entry c.in-Own.reply said c.take_reply.result (g.met.L.Link.is_hub c.ask_for.new.link t tells) quiet can yet (λ e. copy (c.take_reply.ensures.cause e)) c.take_reply.ensures.answer)
+
+pub returns-in-Own-clause-cause : goal.returns-in-Own-clause-cause
+returns-in-Own-clause-cause g c = taken_cause c.args.entry.number c.in-Own.reply _ c.args.run c.ask_for.new.count _ _ c.take_reply.result c.in-Own.ensures.own c.take_reply.ensures.answer c.take_reply.ensures.cause
+
+pub returns-in-Own-clause-exact : goal.returns-in-Own-clause-exact
+returns-in-Own-clause-exact g c w own =
+    let same : c.in-Own.reply ≡ w = one_answer _ c.in-Own.reply w c.in-Own.ensures.own.text own.text in
+    subst (λ (r : WireReply). ExactIf r c.take_reply.result) same (exact_of c.args.entry.number c.in-Own.reply c.take_reply.result c.take_reply.ensures.answer)
+
+pub returns-in-Own-clause-stays : goal.returns-in-Own-clause-stays
+returns-in-Own-clause-stays g c d stands ends =
+    let x = c.take_reply.ensures.told d stands in
+    stays_first _ c.args.entry.number c.take_reply.result x.0 d c.args.entry x.2 ends (c.requires.first x.0 x.1)
+
+pub returns-in-Own-clause-last : goal.returns-in-Own-clause-last
+returns-in-Own-clause-last g c ends = (
+  c.in-Own.ensures.own.from,
+  λ d t stands tells.
+      let x = c.take_reply.ensures.told d stands in
+      let last = c.in-Own.ensures.last (own_other c.in-Own.reply) in
+      carries_first c.args.token.now (number c.args.run c.ask_for.new.count) d.entries t.sent c.args.entry (stays_first _ c.args.entry.number c.take_reply.result x.0 d c.args.entry x.2 ends (c.requires.first x.0 x.1)) (last.1 t tells) last.0,
+)
+
+pub returns-in-NoReply-clause-exact : goal.returns-in-NoReply-clause-exact
+returns-in-NoReply-clause-exact g c w own = absurd ((c.in-NoReply.ensures.none refl).1 w own.text)
+
+pub returns-in-Missed-clause-agree : goal.returns-in-Missed-clause-agree
+returns-in-Missed-clause-agree g c entry d t stands tells =
+    let y = c.ask_for.ensures.told t tells in
+    ready_asked c.args.token.now c.args.entry c.args.run c.args.count.now c.ask_for.new.count d y.0 t y.2 (c.requires.first d stands) (g.met.C.CopyKeeper.is_copy c.args.copy.now d stands) (entry d y.0 stands y.1)
+
+pub returns-in-Missed-clause-exact : goal.returns-in-Missed-clause-exact
+returns-in-Missed-clause-exact g c w own = absurd ((c.in-Missed.ensures.missed refl).3 w own.text own.number)
+
+pub returns-in-NoMemory-clause-agree : goal.returns-in-NoMemory-clause-agree
+returns-in-NoMemory-clause-agree g c entry d t stands tells =
+    let y = c.ask_for.ensures.told t tells in
+    ready_asked c.args.token.now c.args.entry c.args.run c.args.count.now c.ask_for.new.count d y.0 t y.2 (c.requires.first d stands) (g.met.C.CopyKeeper.is_copy c.args.copy.now d stands) (entry d y.0 stands y.1)
+
+pub returns-in-NoMemory-clause-complete : goal.returns-in-NoMemory-clause-complete
+returns-in-NoMemory-clause-complete g c entry link copy d t stands tells =
+    let y = c.ask_for.ensures.told t tells in
+    (y.0, y.1, λ quiet can. tt)

@@ -1,0 +1,63 @@
+//! The entries of the outbox are sent.
+
+ghost use Rattle.std.specs.Prelude.{◌≡◌, ◌≢◌, ◌+◌, ◌*◌, ◌<◌, ◌≤◌};
+ghost use Rattle.copy_keeper.specs.Copies.{Copy};
+ghost use Rattle.copy_keeper.specs.declared.state.TheConstants.{LAST};
+ghost use Rattle.exchange_link.specs.Causes.{RoseBy};
+ghost use Rattle.exchange_link.specs.Exchanges.{Told};
+ghost use Rattle.exchange_link.specs.Marks.{Agree};
+ghost use Rattle.exchange_link.specs.SendCauses.{SendCaused, SendLastLaw};
+ghost use Rattle.exchange_link.specs.SendCompleteness.{CanSendAll, IsFine};
+ghost use Rattle.exchange_link.specs.Sent.{SendLeaves, unsettled};
+ghost use Rattle.exchange_link.specs.SentTold.{WasSent};
+ghost use Rattle.roster_base.specs.Faults.{Rose};
+ghost use Rattle.version_core.specs.HubStates.{newest_number};
+ghost use Rattle.consumer_outbox.specs.Sends.{not_begun};
+
+use crate::sending::send_all;
+use copy_keeper::CopyKeeper;
+use exchange_link::{Link, SendAnswer};
+use roster_texts::Token;
+use std::alloc::Global;
+use tried_requests::{NoRun, begin_run};
+
+fn not_begun(why: NoRun) -> SendAnswer
+    ensures { result ≡ not_begun why }
+{
+    match why {
+        NoRun::LastRun => SendAnswer::LastRun,
+        NoRun::KeeperFault => SendAnswer::KeeperFault,
+        NoRun::NoMemory => SendAnswer::NoMemory,
+    }
+}
+
+/// Sends the entries that aren't settled, in the order of their numbers and marked with them, until one isn't settled by its reply.
+pub fn send<C: CopyKeeper, L: Link>(
+    alloc: Global,
+    copy: &mut C,
+    link: &mut L,
+    token: &Token,
+    tries: u32,
+) -> SendAnswer
+    requires tries { (0 < tries) × (tries ≤ 100) }
+    // Over any link.
+    ensures copy { (after : Copy) → C.stands_for copy.new after → (before : Copy) × C.stands_for copy.old before × SendLeaves result before after
+        × (L.asked link.new ≤ L.asked link.old + tries * unsettled before.entries) }
+    ensures last_run { (after : Copy) → C.stands_for copy.new after → (before : Copy) × C.stands_for copy.old before × SendLastLaw result before after }
+    ensures cause { SendCaused token.now (C.stands_for copy.new) (L.tells link.new) (L.asked link.old) (L.asked link.new) (L.kept link.new)
+        (λ n. (tries ≤ L.missed link.new) × (tries ≤ n) × RoseBy tries (L.fault_count link.old) (L.fault_count link.new)) (Rose (C.fault_count copy.old) (C.fault_count copy.new)) result }
+    // Over one that tells, where copy and link agree.
+    ensures told { ((c : Copy) (t : Told) → C.stands_for copy.old c → L.tells link.old t → Agree c t)
+        → (after : Copy) (tells : Told) → C.stands_for copy.new after → L.tells link.new tells
+        → (before : Copy) × (told : Told) × C.stands_for copy.old before × L.tells link.old told × WasSent token.now result before told after tells }
+    ensures complete { ((c : Copy) (t : Told) → C.stands_for copy.old c → L.tells link.old t → Agree c t)
+        → ¬ Rose (L.fault_count link.old) (L.fault_count link.new) → ¬ Rose (C.fault_count copy.old) (C.fault_count copy.new)
+        → (after : Copy) (tells : Told) → C.stands_for copy.new after → L.tells link.new tells
+        → (before : Copy) × (told : Told) × C.stands_for copy.old before × L.tells link.old told
+        × (before.run ≢ LAST → ¬ Rose told.hub_faults tells.hub_faults → CanSendAll token.now (newest_number told.hub) before.entries tells.hub → IsFine result) }
+{
+    match begin_run(alloc, copy) {
+        Err(why) => not_begun(why),
+        Ok(state) => send_all(alloc, copy, link, state.run, token, tries as u64),
+    }
+}

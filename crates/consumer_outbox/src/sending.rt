@@ -1,0 +1,257 @@
+//! Entry after entry, until one isn't settled by its reply.
+
+ghost use Rattle.std.specs.Prelude.{◌≡◌, ◌≢◌, ◌⊎◌, ℕ, [], ◌∷◌, ◌+◌, ◌*◌, ◌-◌, ◌<◌, ◌≤◌, true, IfErr, IfOk, IfSome, IsSomeAnd, None, Some};
+ghost use Rattle.copy_keeper.specs.Copies.{Copy, IsOutWrite, first_unsettled};
+ghost use Rattle.copy_keeper.specs.States.{CanBeEntry};
+ghost use Rattle.copy_keeper.specs.declared.state.TheConstants.{LAST};
+ghost use Rattle.exchange_link.specs.Causes.{IsLast, IsMore, IsOwnReply, RoseBy};
+ghost use Rattle.exchange_link.specs.Exchanges.{Told};
+ghost use Rattle.exchange_link.specs.SendCauses.{CarriesFirst, EndsAtEntry, IsSendAside, AnswersSend, SendCauseOf, SendToldCause};
+ghost use Rattle.exchange_link.specs.SendCompleteness.{CanSendAll, IsFine};
+ghost use Rattle.exchange_link.specs.Sent.{AllSettled, NamesFirst, number_in, unsettled};
+ghost use Rattle.http_wire.specs.Answers.{IsNoReply, IsReplyText};
+ghost use Rattle.http_wire.specs.declared.answer.WireReply.{WireReply as Reply};
+ghost use Rattle.marked_writes.specs.Answering.{CanSendWrite};
+ghost use Rattle.marked_writes.specs.Marked.{mark_of, marked_by};
+ghost use Rattle.roster_base.specs.Faults.{Rose};
+ghost use Rattle.status_info.specs.declared.request.Echo.{Echo as Number};
+ghost use Rattle.tried_requests.specs.Owning.{IsOwnRead};
+ghost use Rattle.tried_requests.specs.Requests.{Asks, IfOwn, IsReady, Moved, number, numbered};
+ghost use Rattle.version_core.specs.HubStates.{newest_number};
+ghost use Rattle.consumer_outbox.specs.Sends.{Carries, CauseIf, EndsIf, ExactIf, Goes, IsBroken, IsFineIf, Ready, SettledTo, SoFar, Takes, ToldIf, answer_of, broken_answer, request_of};
+ghost use Rattle.consumer_outbox.specs.Verdicts.{does_settle, verdict_of};
+
+use crate::request::request_for;
+use crate::verdict::{Verdict, judge};
+use copy_keeper::{CopyChange, CopyKeeper, LAST, OutEntry};
+use exchange_link::{Link, SendAnswer};
+use http_wire::WireReply;
+use roster_base::KeeperError;
+use roster_texts::Token;
+use std::alloc::Global;
+use tried_requests::{Outcome, ask};
+
+fn broken(error: KeeperError) -> SendAnswer
+    ensures { result ≡ broken_answer error }
+{
+    match error {
+        KeeperError::Failed => SendAnswer::KeeperFault,
+        KeeperError::NoMemory => SendAnswer::NoMemory,
+    }
+}
+
+// Settles the first entry that isn't.
+fn settle<C: CopyKeeper>(
+    alloc: Global,
+    copy: &mut C,
+    number: u64,
+    status: u16,
+    version: u64,
+) -> Option<SendAnswer>
+    requires { (c : Copy) → C.stands_for copy.old c → IsSomeAnd (first_unsettled c.entries) (λ entry. entry.number ≡ number) }
+    ensures told { (after : Copy) → C.stands_for copy.new after → (before : Copy) × C.stands_for copy.old before × Takes (Verdict.Settles status version) number result before after }
+    ensures broken { (result ≡ None) ⊎ IsBroken result }
+    ensures later { C.fault_count copy.old ≤ C.fault_count copy.new }
+    ensures cause { result ≡ Some SendAnswer.KeeperFault → Rose (C.fault_count copy.old) (C.fault_count copy.new) }
+{
+    match copy.commit(
+        alloc,
+        CopyChange::Settle {
+            number,
+            status,
+            version,
+        },
+    ) {
+        Ok(()) => None,
+        Err(error) => Some(broken(error)),
+    }
+}
+
+// What the own reply does to the entry that was sent, and the answer that ends the call, if it does.
+fn take_reply<C: CopyKeeper>(
+    alloc: Global,
+    copy: &mut C,
+    number: u64,
+    reply: &WireReply,
+) -> Option<SendAnswer>
+    requires { (c : Copy) → C.stands_for copy.old c → IsSomeAnd (first_unsettled c.entries) (λ entry. entry.number ≡ number) }
+    ensures told { (after : Copy) → C.stands_for copy.new after → (before : Copy) × C.stands_for copy.old before × Takes (verdict_of number reply.now) number result before after }
+    ensures answer { (result ≡ answer_of (verdict_of number reply.now) number) ⊎ (IsBroken result × (does_settle (verdict_of number reply.now) ≡ true)) }
+    ensures later { C.fault_count copy.old ≤ C.fault_count copy.new }
+    ensures cause { result ≡ Some SendAnswer.KeeperFault → Rose (C.fault_count copy.old) (C.fault_count copy.new) }
+{
+    match judge(number, reply) {
+        Verdict::Settles { status, version } => settle(alloc, copy, number, status, version),
+        Verdict::UnknownToken => Some(SendAnswer::UnknownToken),
+        Verdict::NoScope => Some(SendAnswer::NoScope { number }),
+        Verdict::MarkTaken => Some(SendAnswer::MarkTaken { number }),
+        Verdict::BadReply => Some(SendAnswer::BadReply { number }),
+        Verdict::HubFault => Some(SendAnswer::HubFault { number }),
+        Verdict::HubNoMemory => Some(SendAnswer::HubNoMemory { number }),
+    }
+}
+
+// The entry's request, tried at most so often.
+fn ask_for<L: Link>(
+    alloc: Global,
+    link: &mut L,
+    entry: OutEntry,
+    run: u64,
+    token: &Token,
+    count: &mut u64,
+    tries: u64,
+) -> Outcome
+    requires write { IsOutWrite entry.write }
+    requires number { (1 ≤ entry.number) × (entry.number ≤ LAST) }
+    requires run { (1 ≤ run) × (run ≤ LAST) }
+    requires tries { (0 < tries) × (tries ≤ 100) }
+    requires few { count.old + tries ≤ 100 * LAST }
+    ensures count { (count.old ≤ count.new) × (count.new ≤ count.old + tries) }
+    ensures asked { IsMore (L.asked link.old) (count.new - count.old) (L.asked link.new) }
+    ensures later { L.fault_count link.old ≤ L.fault_count link.new }
+    ensures own { IfOwn result (λ w. IsOwnReply (L.kept link.new) run count.new w) }
+    ensures none { result ≡ Outcome.NoReply → (1 ≤ count.new) × IsNoReply (L.kept link.new) × ((after : Told) → L.tells link.new after → ⊥) }
+    ensures missed { result ≡ Outcome.Missed → (count.new ≡ count.old + tries) × (tries ≤ L.missed link.new)
+        × RoseBy tries (L.fault_count link.old) (L.fault_count link.new)
+        × ((w : Reply) → IsReplyText (L.kept link.new) w → w.echo ≡ Some (number run count.new) → ⊥) }
+    ensures told { (after : Told) → L.tells link.new after → (before : Told) × L.tells link.old before
+        × Asks run count.old count.new (Carries token.now entry) before after
+        × (IsReady run count.old before.sent → IfOwn result (λ w. IsOwnRead before after (numbered (request_of token.now entry) (number run count.new)) w)) }
+    ensures last { result ≢ Outcome.NoMemory → (marked_by (numbered (request_of token.now entry) (number run count.new)) ≡ Some (mark_of entry))
+        × ((after : Told) → L.tells link.new after → IsLast (numbered (request_of token.now entry) (number run count.new)) after.sent) }
+{
+    match request_for(alloc, token, entry) {
+        Ok(request) => ask(alloc, link, request, run, count, tries),
+        Err(_) => Outcome::NoMemory,
+    }
+}
+
+// Sends the first entry that isn't settled. `None`: it is settled by its reply.
+fn send_entry<C: CopyKeeper, L: Link>(
+    alloc: Global,
+    copy: &mut C,
+    link: &mut L,
+    entry: OutEntry,
+    run: u64,
+    token: &Token,
+    count: &mut u64,
+    tries: u64,
+) -> Option<SendAnswer>
+    requires first { (c : Copy) → C.stands_for copy.old c → first_unsettled c.entries ≡ Some entry }
+    requires write { IsOutWrite entry.write }
+    requires number { (1 ≤ entry.number) × (entry.number ≤ LAST) }
+    requires run { (1 ≤ run) × (run ≤ LAST) }
+    requires tries { (0 < tries) × (tries ≤ 100) }
+    requires few { count.old + tries ≤ 100 * LAST }
+    ensures count { (count.old ≤ count.new) × (count.new ≤ count.old + tries) }
+    ensures asked { IsMore (L.asked link.old) (count.new - count.old) (L.asked link.new) }
+    ensures heard { L.fault_count link.old ≤ L.fault_count link.new }
+    ensures later { C.fault_count copy.old ≤ C.fault_count copy.new }
+    ensures copy { (after : Copy) → C.stands_for copy.new after → (before : Copy) × C.stands_for copy.old before × Goes entry.number result before after }
+    ensures link { (after : Told) → L.tells link.new after → (before : Told) × L.tells link.old before × Moved before after }
+    ensures agree { ((c : Copy) (t : Told) → C.stands_for copy.old c → L.tells link.old t → Ready run count.old c t)
+        → (c : Copy) (t : Told) → C.stands_for copy.new c → L.tells link.new t → Ready run count.new c t }
+    ensures told { ((c : Copy) (t : Told) → C.stands_for copy.old c → L.tells link.old t → Ready run count.old c t)
+        → (c : Copy) (t : Told) → C.stands_for copy.new c → L.tells link.new t
+        → (before : Told) × L.tells link.old before × ToldIf token.now before t c.entries result }
+    ensures complete { ((c : Copy) (t : Told) → C.stands_for copy.old c → L.tells link.old t → Ready run count.old c t)
+        → ¬ Rose (L.fault_count link.old) (L.fault_count link.new) → ¬ Rose (C.fault_count copy.old) (C.fault_count copy.new)
+        → (c : Copy) (t : Told) → C.stands_for copy.new c → L.tells link.new t
+        → (before : Told) × L.tells link.old before
+        × (¬ Rose before.hub_faults t.hub_faults → CanSendAll token.now (newest_number before.hub) (entry ∷ []) t.hub → IsFineIf result) }
+    ensures cause { CauseIf (L.kept link.new) run count.new ((tries ≤ L.missed link.new) × (tries ≤ count.new) × RoseBy tries (L.fault_count link.old) (L.fault_count link.new)) (Rose (C.fault_count copy.old) (C.fault_count copy.new)) result }
+    ensures exact { (w : Reply) → IsOwnReply (L.kept link.new) run count.new w → ExactIf w result }
+    ensures names { IfSome result (λ a. IfSome (number_in a) (λ n. n ≡ entry.number)) }
+    ensures stays { (c : Copy) → C.stands_for copy.new c → EndsIf result → first_unsettled c.entries ≡ Some entry }
+    ensures last { EndsIf result → (1 ≤ count.new) × ((c : Copy) (t : Told) → C.stands_for copy.new c → L.tells link.new t → CarriesFirst token.now (number run count.new) c.entries t.sent) }
+{
+    let number = entry.number;
+    match ask_for(alloc, link, entry, run, token, count, tries) {
+        Outcome::Own(reply) => take_reply(alloc, copy, number, &reply),
+        Outcome::NoReply => Some(SendAnswer::BadReply { number }),
+        Outcome::Missed => Some(SendAnswer::Interrupted { number }),
+        Outcome::NoMemory => Some(SendAnswer::NoMemory),
+    }
+}
+
+// The first entry that isn't settled; those up to `after` are.
+fn next_unsettled<C: CopyKeeper>(
+    alloc: Global,
+    copy: &mut C,
+    after: u64,
+) -> Result<Option<OutEntry>, SendAnswer>
+    requires { (c : Copy) → C.stands_for copy.old c → SettledTo after c.entries }
+    ensures next { IfOk result (λ entry. (c : Copy) → C.stands_for copy.new c → first_unsettled c.entries ≡ entry) }
+    ensures any { IfOk result (λ o. IfSome o (CanBeEntry after)) }
+    ensures same { (c : Copy) → C.stands_for copy.new c → C.stands_for copy.old c }
+    ensures later { C.fault_count copy.old ≤ C.fault_count copy.new }
+    ensures cause { IfErr result (λ a. IsSendAside a × (a ≡ SendAnswer.KeeperFault → Rose (C.fault_count copy.old) (C.fault_count copy.new))) }
+{
+    let mut at = after;
+    'settled: while at < LAST {
+        match copy.entry(alloc, at) {
+            Err(error) => return Err(broken(error)),
+            Ok(None) => return Ok(None),
+            Ok(Some(entry)) => match entry.settled {
+                None => return Ok(Some(entry)),
+                Some(_) => at = entry.number,
+            },
+        }
+    }
+    Ok(None)
+}
+
+/// Sends the entries that aren't settled, in order, until one isn't settled by its reply.
+pub fn send_all<C: CopyKeeper, L: Link>(
+    alloc: Global,
+    copy: &mut C,
+    link: &mut L,
+    run: u64,
+    token: &Token,
+    tries: u64,
+) -> SendAnswer
+    requires run { (1 ≤ run) × (run ≤ LAST) }
+    requires tries { (0 < tries) × (tries ≤ 100) }
+    ensures copy { (after : Copy) → C.stands_for copy.new after → (before : Copy) × C.stands_for copy.old before
+        × ((settled : ℕ) × SoFar settled before after × AllSettled result settled after.entries)
+        × (L.asked link.new ≤ L.asked link.old + tries * unsettled before.entries) }
+    ensures link { (after : Told) → L.tells link.new after → (before : Told) × L.tells link.old before × Moved before after }
+    ensures agree { ((c : Copy) (t : Told) → C.stands_for copy.old c → L.tells link.old t → Ready run 0 c t)
+        → (c : Copy) (t : Told) → C.stands_for copy.new c → L.tells link.new t → (count : ℕ) × Ready run count c t }
+    ensures told { ((c : Copy) (t : Told) → C.stands_for copy.old c → L.tells link.old t → Ready run 0 c t)
+        → (c : Copy) (t : Told) → C.stands_for copy.new c → L.tells link.new t
+        → (before : Told) × L.tells link.old before × SendToldCause token.now before t c.entries result }
+    ensures complete { ((c : Copy) (t : Told) → C.stands_for copy.old c → L.tells link.old t → Ready run 0 c t)
+        → ¬ Rose (L.fault_count link.old) (L.fault_count link.new) → ¬ Rose (C.fault_count copy.old) (C.fault_count copy.new)
+        → (c : Copy) (t : Told) → C.stands_for copy.new c → L.tells link.new t
+        → (b : Copy) × (before : Told) × C.stands_for copy.old b × L.tells link.old before
+        × (¬ Rose before.hub_faults t.hub_faults → CanSendAll token.now (newest_number before.hub) b.entries t.hub → IsFine result) }
+    ensures later { C.fault_count copy.old ≤ C.fault_count copy.new }
+    ensures not_last { result ≢ SendAnswer.LastRun }
+    ensures cause { (n : ℕ) × IsMore (L.asked link.old) n (L.asked link.new)
+        × SendCauseOf (L.kept link.new) run n ((tries ≤ L.missed link.new) × (tries ≤ n) × RoseBy tries (L.fault_count link.old) (L.fault_count link.new)) (Rose (C.fault_count copy.old) (C.fault_count copy.new)) result
+        × ((w : Reply) → IsOwnReply (L.kept link.new) run n w → IsSendAside result ⊎ AnswersSend w result)
+        × ((c : Copy) → C.stands_for copy.new c → NamesFirst result c.entries)
+        × (EndsAtEntry result → (1 ≤ n) × ((c : Copy) (t : Told) → C.stands_for copy.new c → L.tells link.new t → CarriesFirst token.now (number run n) c.entries t.sent)) }
+{
+    let mut count: u64 = 0;
+    let mut after: u64 = 0;
+    let mut settled: u64 = 0;
+    'entries: while after < LAST {
+        match next_unsettled(alloc, copy, after) {
+            Err(answer) => return answer,
+            Ok(None) => return SendAnswer::Settled { count: settled },
+            Ok(Some(entry)) => {
+                let number = entry.number;
+                match send_entry(alloc, copy, link, entry, run, token, &mut count, tries) {
+                    Some(answer) => return answer,
+                    None => {
+                        settled += 1;
+                        after = number;
+                    }
+                }
+            }
+        }
+    }
+    SendAnswer::Settled { count: settled }
+}

@@ -1,0 +1,20 @@
+use Rattle.std.proofs.Common.{◌∙◌, ap, subst}
+use Rattle.status_info.specs.declared.request.Request.{Request}
+use Rattle.tried_requests.proofs.AskLemmas.{asks_refl, asks_weaker}
+use Rattle.tried_requests.specs.Owning.{IsOwnRead}
+use Rattle.tried_requests.specs.Requests.{IfOwn, IsNumbered, number, numbered}
+use Rattle.consumer_sync.specs.Requests.{IsUnmarked}
+use Rattle.consumer_sync.proofs.page.fetch.Goals as goal
+
+pub returns-in-Err-clause-told : goal.returns-in-Err-clause-told
+returns-in-Err-clause-told g c after tells = (after, tells, asks_refl c.args.run c.args.count.now IsUnmarked after, λ ready. tt)
+
+pub returns-in-Ok-clause-told : goal.returns-in-Ok-clause-told
+returns-in-Ok-clause-told g c after tells =
+    let y = c.ask.ensures.told after tells in
+    let is = c.in-Ok.ensures.request in (
+      y.0,
+      y.1,
+      asks_weaker _ _ _ (IsNumbered c.in-Ok.request) IsUnmarked _ _ (λ q n. ap (λ (p : Request). p.mark) n.1 ∙ ap (λ (p : Request). p.mark) is) y.2,
+      λ ready. subst (λ (q : Request). IfOwn c.ask.result (λ w. IsOwnRead y.0 after (numbered q (number c.args.run c.ask.new.count)) w)) is (y.3 ready),
+    )

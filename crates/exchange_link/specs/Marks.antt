@@ -1,0 +1,14 @@
+-- What a copy and what a link tells agree on, the marks of writes with it.
+use Rattle.copy_keeper.specs.Copies.{Copy}
+use Rattle.marked_writes.specs.Agreement.{MarksAgree}
+use Rattle.exchange_link.specs.Agreement.{StageAgrees}
+use Rattle.exchange_link.specs.Exchanges.{Told}
+
+-- the entries of the copy agree with the marks that the hub keeps and with the requests that were sent
+abbrev pub MarksTold : Copy → Told → Type 0
+MarksTold c told = MarksAgree c.entries c.last_number told.hub told.sent
+
+-- no number is used twice, the stage is what it says, and so are the entries
+pub record Agree (c : Copy) (told : Told) : Type 0 where
+  pub stage : StageAgrees c told
+  pub marks : MarksTold c told

@@ -1,0 +1,25 @@
+//! The command `outbox`.
+
+ghost use Rattle.std.specs.Prelude.{◌≡◌};
+ghost use Rattle.consumer_cli.specs.Consumers.{copy_run};
+ghost use Rattle.hub_cli.specs.OutboxAnswers.{IsOutboxAnswer};
+
+use crate::answer::{Answer, End};
+use consumer_cli::outbox_text;
+use copy_keeper::CopyKeeper;
+use roster_base::{KeeperError, Text};
+use std::alloc::Global;
+
+/// Prints the entries of the outbox.
+pub fn outbox<C: CopyKeeper>(alloc: Global, copy: &mut C) -> Answer
+    ensures { IsOutboxAnswer (copy_run (C.stands_for copy.old) (C.stands_for copy.new) (C.fault_count copy.old) (C.fault_count copy.new) (copy.new ≡ copy.old)) result }
+{
+    match outbox_text(alloc, copy) {
+        Ok(text) => Answer {
+            done: Text::from_string(text),
+            end: End::Done,
+        },
+        Err(KeeperError::Failed) => Answer::nothing_done(alloc, End::CopyFailed),
+        Err(KeeperError::NoMemory) => Answer::nothing_done(alloc, End::NoMemory),
+    }
+}

@@ -1,0 +1,7 @@
+pub mod AgreeLemmas
+pub mod AloneLemmas
+pub mod AnswerLemmas
+pub mod JudgeLemmas
+pub mod PathLemmas
+pub mod SendLemmas
+pub mod ShowLemmas

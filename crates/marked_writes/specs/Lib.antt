@@ -1,0 +1,5 @@
+pub mod Agreement
+pub mod Alone
+pub mod Answering
+pub mod Marked
+pub mod Sending
