@@ -10,9 +10,7 @@ ghost use Rattle.copy_codec.specs.Roots.{root_in};
 
 use crate::root::CopyRoot;
 use crate::staging::{new_stage, staged_more};
-use crate::writing::{
-    push_clear_side, push_clear_stage, put_out, put_root, put_rows, put_stage, row_area,
-};
+use crate::writing::{push_clear_stage, put_out, put_root, put_rows, put_stage, row_area};
 use copy_keeper::{OutEntry, Settled, StageState};
 use hub_codec::put_format;
 use item_maps::Edit;
