@@ -21,7 +21,35 @@ struct Case {
 const NO_ORGS: &str =
     "HTTP/1.1 200 OK\r\nX-Total-Count: 0\r\nX-Hub-Version: 2\r\nX-Hub-Exchange: 1.1\r\nContent-Length: 11\r\n\r\n{\"orgs\":[]}";
 
-static CASES: [Case; 9] = [
+static CASES: [Case; 13] = [
+    // without a version
+    Case {
+        first: "HTTP/1.1 200 OK\r\nX-Total-Count: 0\r\nX-Hub-Exchange: 1.1\r\nContent-Length: 11\r\n\r\n{\"orgs\":[]}",
+        second: "",
+        status: 12,
+        line: "bad reply orgs 0\n",
+    },
+    // without a row that is due
+    Case {
+        first: "HTTP/1.1 200 OK\r\nX-Total-Count: 1\r\nX-Hub-Version: 2\r\nX-Hub-Exchange: 1.1\r\nContent-Length: 11\r\n\r\n{\"orgs\":[]}",
+        second: "",
+        status: 12,
+        line: "bad reply orgs 0\n",
+    },
+    // with a status that says nothing
+    Case {
+        first: "HTTP/1.1 302 Found\r\nX-Hub-Exchange: 1.1\r\nContent-Length: 0\r\n\r\n",
+        second: "",
+        status: 12,
+        line: "bad reply orgs 0\n",
+    },
+    // that the pin is gone, where none was asked for
+    Case {
+        first: "HTTP/1.1 404 Not Found\r\nX-Hub-Oldest: 3\r\nX-Hub-Exchange: 1.1\r\nContent-Length: 0\r\n\r\n",
+        second: "",
+        status: 12,
+        line: "bad reply orgs 0\n",
+    },
     // no bytes at all
     Case {
         first: "",

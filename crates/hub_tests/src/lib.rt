@@ -12,6 +12,8 @@ mod lake;
 #[cfg(test)]
 mod lists;
 #[cfg(test)]
+mod outbox;
+#[cfg(test)]
 mod outside;
 #[cfg(test)]
 mod paging;

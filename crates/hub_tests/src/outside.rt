@@ -64,7 +64,31 @@ pub fn run_over(
     Ok(status)
 }
 
-/// Runs the words between spaces over a keeper, a copy, a link and a sink, with no files.
+/// Runs the words between spaces over a folder, a keeper, a copy, a link and a sink.
+pub fn run_among(
+    alloc: Global,
+    line: &str,
+    folder: &mut MemFolder,
+    keeper: &mut MemHub,
+    copy: &mut MemCopy,
+    link: &mut PeerLink,
+    sink: &mut MemSink,
+) -> Result<u8, Fail> {
+    let words = words_of(alloc, line)?;
+    let clock = FixedClock::at(NOON);
+    Ok(run_hub(
+        alloc,
+        words.as_slice(),
+        folder,
+        keeper,
+        copy,
+        link,
+        &clock,
+        sink,
+    ))
+}
+
+/// The same, with no files.
 pub fn run_between(
     alloc: Global,
     line: &str,
@@ -73,19 +97,8 @@ pub fn run_between(
     link: &mut PeerLink,
     sink: &mut MemSink,
 ) -> Result<u8, Fail> {
-    let words = words_of(alloc, line)?;
-    let clock = FixedClock::at(NOON);
     let mut folder = MemFolder::new(Vec::new(alloc), Vec::new(alloc));
-    Ok(run_hub(
-        alloc,
-        words.as_slice(),
-        &mut folder,
-        keeper,
-        copy,
-        link,
-        &clock,
-        sink,
-    ))
+    run_among(alloc, line, &mut folder, keeper, copy, link, sink)
 }
 
 /// The status and the text of the words between spaces over a copy and these replies.

@@ -6,7 +6,7 @@ use std::alloc::Global;
 use std::test::Fail;
 
 // Words, and the line that names the first bad one.
-static BAD_WORDS: [(&str, &str); 52] = [
+static BAD_WORDS: [(&str, &str); 74] = [
     ("", "bad word 0\n"),
     ("hide", "bad word 0\n"),
     ("--help", "bad word 0\n"),
@@ -57,6 +57,28 @@ static BAD_WORDS: [(&str, &str); 52] = [
     ("sync tok-e 1 01", "bad word 3\n"),
     ("sync tok-e 1 100 1", "bad word 4\n"),
     ("--keep 5 sync tok-e 1001 1", "bad word 4\n"),
+    ("enter", "bad word 1\n"),
+    ("enter post categories c2 c2.json", "bad word 1\n"),
+    ("enter put", "bad word 2\n"),
+    ("enter put orgs d1 d1.json", "bad word 2\n"),
+    ("enter put categories", "bad word 3\n"),
+    ("enter put categories ,", "bad word 3\n"),
+    ("enter put categories c2", "bad word 4\n"),
+    ("enter put categories c2 .c2", "bad word 4\n"),
+    ("enter put categories c2 c2.json c2.json", "bad word 5\n"),
+    ("enter delete", "bad word 2\n"),
+    ("enter delete users u1", "bad word 2\n"),
+    ("enter delete results", "bad word 3\n"),
+    ("enter delete results r1 r1.json", "bad word 4\n"),
+    ("send", "bad word 1\n"),
+    ("send tok,e", "bad word 1\n"),
+    ("send tok-e", "bad word 2\n"),
+    ("send tok-e 0", "bad word 2\n"),
+    ("send tok-e 101", "bad word 2\n"),
+    ("send tok-e 1 1", "bad word 3\n"),
+    ("outbox 1", "bad word 1\n"),
+    ("--keep 5 outbox 1", "bad word 3\n"),
+    ("outboxes", "bad word 0\n"),
     ("list", "bad word 1\n"),
     ("list org", "bad word 1\n"),
     ("list orgs orgs", "bad word 2\n"),

@@ -1,53 +1,45 @@
-//! Calls over a world, by what they answer and how many exchanges they make.
+//! Runs of `sync` over a world, by what they print and how many exchanges they make.
 
-use crate::worlds::{token, world};
-use consumer_sync::sync;
+use crate::runs::run;
+use crate::worlds::world;
 use copy_keeper::{CopyKeeper, MemCopy};
-use exchange_link::SyncAnswer;
 use roster_values::Kind;
 use std::alloc::Global;
 use std::process::Abort;
 use std::test::Fail;
-use sync_world::WorldLink;
 
-// The answers of two calls, how many exchanges they made in all, and how many rows of each kind are held then.
-type Told = (SyncAnswer, SyncAnswer, u64, [usize; 10]);
+// What two runs of the words print, how many exchanges they make in all, and how many rows of each kind are held then.
+type Told = ((u8, String), (u8, String), u64, [usize; 10]);
 
-// How many rows a call takes at once, the number of the exchange whose reply is lost or 0, and what comes of it.
+// The words, the number of the exchange whose reply is lost or 0, and what comes of it.
 struct Case {
-    limit: u32,
+    line: &'static str,
     lost: u64,
-    told: Told,
+    first: (u8, &'static str),
+    asked: u64,
 }
-
-const WHOLE: SyncAnswer = SyncAnswer::Complete { version: 2 };
 
 const ROWS: [usize; 10] = [2, 3, 1, 1, 3, 1, 1, 1, 1, 1];
 
-// The second call asks for all once more, since a copy that is whole has no stage.
+// The second run asks for all once more, since a copy that is whole has no stage; behind an exchange that was lost it goes on.
 static CASES: [Case; 3] = [
     Case {
-        limit: 100,
+        line: "sync tok-e 100 1",
         lost: 0,
-        told: (WHOLE, WHOLE, 20, ROWS),
+        first: (0, "complete 2\n"),
+        asked: 20,
     },
     Case {
-        limit: 1,
+        line: "sync tok-e 1 1",
         lost: 0,
-        told: (WHOLE, WHOLE, 30, ROWS),
+        first: (0, "complete 2\n"),
+        asked: 30,
     },
     Case {
-        limit: 100,
+        line: "sync tok-e 100 1",
         lost: 3,
-        told: (
-            SyncAnswer::Interrupted {
-                kind: Kind::Courses,
-                offset: 0,
-            },
-            WHOLE,
-            11,
-            ROWS,
-        ),
+        first: (7, "interrupted courses 0\n"),
+        asked: 11,
     },
 ];
 
@@ -62,26 +54,13 @@ fn counts(alloc: Global, copy: &mut MemCopy) -> Result<[usize; 10], Fail> {
     Ok(counts)
 }
 
-fn answers(
-    rt: &impl Abort,
-    alloc: Global,
-    copy: &mut MemCopy,
-    link: &mut WorldLink,
-    limit: u32,
-) -> Result<(SyncAnswer, SyncAnswer), Fail> {
-    let token = token(rt, alloc)?;
-    let limit = limit.clamp(1, 1000);
-    let first = sync(alloc, copy, link, &token, limit, 1);
-    let second = sync(alloc, copy, link, &token, limit, 1);
-    Ok((first, second))
-}
-
 fn told(rt: &impl Abort, alloc: Global, case: &Case) -> Result<Told, Fail> {
     let mut lost = Vec::new(alloc);
     lost.push(case.lost)?;
     let mut link = world(rt, alloc, Vec::new(alloc), lost)?;
     let mut copy = MemCopy::new(alloc);
-    let (first, second) = answers(rt, alloc, &mut copy, &mut link, case.limit)?;
+    let first = run(alloc, case.line, &mut copy, &mut link)?;
+    let second = run(alloc, case.line, &mut copy, &mut link)?;
     let asked = link.asked();
     drop(link);
     let counts = counts(alloc, &mut copy)?;
@@ -90,10 +69,20 @@ fn told(rt: &impl Abort, alloc: Global, case: &Case) -> Result<Told, Fail> {
 }
 
 #[test]
-fn calls_are_answered(rt: HostRuntime) -> Result<(), Fail> {
+fn runs_are_answered(rt: HostRuntime) -> Result<(), Fail> {
     for case in &CASES {
-        let told = told(&rt, rt.alloc(), case)?;
-        assert_eq!(rt; told, case.told, "{}", case.limit);
+        let (first, second, asked, counts) = told(&rt, rt.alloc(), case)?;
+        assert_eq!(rt;
+            (
+                (first.0, first.1.as_str()),
+                (second.0, second.1.as_str()),
+                asked,
+                counts
+            ),
+            (case.first, (0, "complete 2\n"), case.asked, ROWS),
+            "{}",
+            case.line
+        );
     }
     Ok(())
 }

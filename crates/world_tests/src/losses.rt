@@ -25,9 +25,9 @@ fn number(alloc: Global, number: u64) -> Result<Vec<u64>, Fail> {
     Ok(numbers)
 }
 
-fn copy_with(alloc: Global, failing: Failing) -> Result<MemCopy, Fail> {
+/// The copy, of which a commit fails.
+pub fn failing_copy(alloc: Global, copy: MemCopy, failing: Failing) -> Result<MemCopy, Fail> {
     let none = Vec::new(alloc);
-    let copy = MemCopy::new(alloc);
     Ok(match failing {
         Failing::Before(n) => copy.with_failures(number(alloc, n)?, none, Vec::new(alloc)),
         Failing::After(n) => copy.with_failures(none, number(alloc, n)?, Vec::new(alloc)),
@@ -35,7 +35,8 @@ fn copy_with(alloc: Global, failing: Failing) -> Result<MemCopy, Fail> {
     })
 }
 
-fn world_with(rt: &impl Abort, alloc: Global, failing: Failing) -> Result<WorldLink, Fail> {
+/// A world, of whose exchanges one is lost.
+pub fn failing_world(rt: &impl Abort, alloc: Global, failing: Failing) -> Result<WorldLink, Fail> {
     let none = Vec::new(alloc);
     match failing {
         Failing::Request(n) => world(rt, alloc, number(alloc, n)?, none),
@@ -63,8 +64,8 @@ pub fn behind(
     alloc: Global,
     failing: Failing,
 ) -> Result<(MemCopy, WorldLink, SyncAnswer, SyncAnswer), Fail> {
-    let mut copy = copy_with(alloc, failing)?;
-    let mut link = world_with(rt, alloc, failing)?;
+    let mut copy = failing_copy(alloc, MemCopy::new(alloc), failing)?;
+    let mut link = failing_world(rt, alloc, failing)?;
     let (first, second) = answers(rt, alloc, &mut copy, &mut link)?;
     Ok((copy, link, first, second))
 }

@@ -1,11 +1,9 @@
 //! Worlds of the example district.
 
-ghost use Rattle.hub_core.specs.Standing.{KeeperFits};
-
-use crate::lake::{grants, moment, set};
-use hub_core::Hub;
-use keeper_memory::{HubKeeper, MemHub};
-use roster_texts::Token;
+use crate::lake::folder;
+use crate::runs::{NOON, run_hub_over};
+use keeper_memory::MemHub;
+use roster_texts::{Moment, Token};
 use std::alloc::Global;
 use std::process::Abort;
 use std::test::Fail;
@@ -13,32 +11,19 @@ use sync_world::WorldLink;
 use sync_world::world::keeps_all;
 
 // Rows in version 1, grants in version 2.
-fn fill<H: HubKeeper>(
-    rt: &impl Abort,
-    alloc: Global,
-    hub: &mut Hub,
-    keeper: &mut H,
-) -> Result<(), Fail>
-    requires { KeeperFits (H.stands_for keeper.old) hub.old }
-{
-    let set = set(rt, alloc)?;
-    let list = grants(rt, alloc)?;
-    let published = hub.publish(alloc, keeper, set, moment(rt));
-    drop(published);
-    let granted = hub.set_grants(alloc, keeper, &list, moment(rt));
-    drop(granted);
+fn fill(rt: &impl Abort, alloc: Global, keeper: &mut MemHub) -> Result<(), Fail> {
+    let mut folder = folder(alloc)?;
+    for line in &["publish sis=lake", "grant g.csv"] {
+        let status = run_hub_over(alloc, line, &mut folder, keeper)?;
+        assert_eq!(rt; status, 0, "{line}");
+    }
     Ok(())
 }
 
-// A keeper of all versions of the district.
-fn keeper(rt: &impl Abort, alloc: Global) -> Result<MemHub, Fail> {
-    let mut keeper = MemHub::new(alloc, 8);
-    match Hub::open(alloc, &mut keeper) {
-        Ok(mut hub) => {
-            fill(rt, alloc, &mut hub, &mut keeper)?;
-            Ok(keeper)
-        }
-        Err(_) => panic!(rt; "no hub"),
+fn noon(rt: &impl Abort) -> Moment {
+    match Moment::at(NOON) {
+        Some(at) => at,
+        None => panic!(rt; "no moment"),
     }
 }
 
@@ -49,11 +34,12 @@ pub fn world(
     requests: Vec<u64>,
     replies: Vec<u64>,
 ) -> Result<WorldLink, Fail> {
-    let mut keeper = keeper(rt, alloc)?;
+    let mut keeper = MemHub::new(alloc, 8);
+    fill(rt, alloc, &mut keeper)?;
     if !keeps_all(alloc, &mut keeper)? {
         panic!(rt; "not from version 0 on");
     }
-    match WorldLink::over(alloc, keeper, moment(rt)) {
+    match WorldLink::over(alloc, keeper, noon(rt)) {
         Ok(link) => Ok(link.with_losses(requests, replies)),
         Err(_) => panic!(rt; "no world"),
     }
