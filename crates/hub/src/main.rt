@@ -38,7 +38,7 @@ sync TOKEN LIMIT TRIES
               copies what TOKEN sees of the hub at the peer's address, in pages of LIMIT rows, 1 to
               1000, and tries each request TRIES times, 1 to 100; prints the version of the copy
 
---store DIR   the folder where the hub's store is kept, in place of memory
+--store DIR   the folder where the stores of the hub and of the copy are kept, in place of memory
 --folder DIR  the folder where the command finds its files, in place of the working folder
 --peer HOST:PORT
               the address of the hub that is copied; without it each try fails

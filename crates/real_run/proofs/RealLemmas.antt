@@ -1,5 +1,6 @@
 -- Answers over the real folder and clock, from answers over a keeper.
-use Rattle.std.proofs.Common.{◌≡◌, ℕ, List, [], Option, None, Some, Result, Ok, Err, IfNone, IsSome, refl, sym, ◌∙◌, ap, subst, inl, inr}
+use Rattle.std.proofs.Common.{◌≡◌, ◌≢◌, ℕ, List, [], Option, None, Some, Result, Ok, Err, IfNone, IsSome, refl, sym, ◌∙◌, ap, subst, inl, inr, arith}
+use Rattle.std.specs.Io.KnownBytes.{Appends}
 use Rattle.std.specs.Bool.{⊤}
 use Rattle.consumer_cli.specs.Consumers.{CopyRun, LinkRun, copy_run, link_run}
 use Rattle.consumer_cli.specs.Syncs.{IsSyncOf}
@@ -7,7 +8,9 @@ use Rattle.consumer_cli.specs.Sends.{IsEnterOf, IsSendOf}
 use Rattle.consumer_cli.specs.Tasks.{Sending, Task}
 use Rattle.copy_keeper.specs.Copies.{Copy, IsCopy}
 use Rattle.copy_keeper.specs.HeldCopy.{HeldCopy, empty_copy}
+use Rattle.exchange_link.specs.Causes.{Caused}
 use Rattle.exchange_link.specs.Exchanges.{Told}
+use Rattle.exchange_link.specs.SendCauses.{SendCaused}
 use Rattle.exchange_link.specs.declared.answer.SyncAnswer.{SyncAnswer}
 use Rattle.exchange_link.specs.declared.send_answer.EnterError.{EnterError}
 use Rattle.exchange_link.specs.declared.send_answer.SendAnswer.{SendAnswer}
@@ -16,6 +19,12 @@ use Rattle.keeper_memory.proofs.KeptLemmas.{no_versions}
 use Rattle.keeper_memory.specs.Failures.{FailurePlan, planned}
 use Rattle.keeper_memory.specs.Kept.{IsKept, KeptState}
 use Rattle.version_core.proofs.MarkLemmas.{no_marks}
+use Rattle.outside_ports.specs.Written.{AppendsPart}
+use Rattle.roster_base.specs.Faults.{Rose}
+use Rattle.roster_values.specs.declared.kind.Kind.{Kind}
+use Rattle.hub_cli.specs.Answers.{text_of}
+use Rattle.hub_cli.specs.ConsumerAnswers.{CopyStays, IsListAnswer}
+use Rattle.hub_cli.specs.OutboxAnswers.{IsOutboxAnswer}
 use Rattle.hub_cli.specs.Outside.{Faults, Outside, faults_of, outside_of}
 use Rattle.hub_cli.specs.Runs.{ConsumerRests, IsAnswer, IsCommandAnswer, LeadsFrom}
 use Rattle.hub_cli.specs.Words.{keep_in, store_in}
@@ -24,16 +33,18 @@ use Rattle.hub_cli.specs.declared.answer.End.TheVariants as ends
 use Rattle.hub_cli.specs.declared.words.Command.{Command}
 use Rattle.hub_cli.specs.declared.words.Command.TheVariants.{Ask, Enter, Grant, ListHeld, Outbox, Publish, Send, Show, Sync}
 use Rattle.hub_cli.specs.declared.words.Parsed.{Parsed}
-use Rattle.real_run.specs.RealRuns.{AnswersFrom, AnswersOver, IsRealAnswer, RealConsumer, new_copy_run, new_hub, silent_link_run}
+use Rattle.real_run.specs.RealRuns.{AnswersFrom, AnswersOver, IsRealAnswer, RealCopy, RealLink, Runs, new_copy_run, new_hub, real_copy_run, silent_link_run, stored_copy_run}
 
--- ---- that copy and link are as they were, said more weakly
+-- ---- what is told of copy and link, said more weakly
 
-module _ (stood stands : Copy → Type 0) (before now : ℕ) (told tells : Told → Type 0) (asked asked_now missed : ℕ) (kept : List ℕ) (failed failed_now : ℕ) (copy_same copy_more link_same link_more : Type 0) (c : copy_same → copy_more) (l : link_same → link_more) where
+-- of the copy no more is told than was, and that it and the link are as they were is said more weakly
+module _ (stood stands stood_more stands_more : Copy → Type 0) (before now : ℕ) (told tells : Told → Type 0) (asked asked_now missed : ℕ) (kept : List ℕ) (failed failed_now : ℕ) (copy_same copy_more link_same link_more : Type 0)
+    (down : (a : Copy) → stands_more a → (b : Copy) → stood b → stood_more b) (on : (a : Copy) → stands_more a → stands a) (c : copy_same → copy_more) (l : link_same → link_more) where
   abbrev copy_old : CopyRun
   copy_old = copy_run stood stands before now copy_same
 
   abbrev copy_new : CopyRun
-  copy_new = copy_run stood stands before now copy_more
+  copy_new = copy_run stood_more stands_more before now copy_more
 
   abbrev link_old : LinkRun
   link_old = link_run told tells asked asked_now missed kept failed failed_now link_same
@@ -44,23 +55,77 @@ module _ (stood stands : Copy → Type 0) (before now : ℕ) (told tells : Told 
   rests-more : ConsumerRests copy_old link_old → ConsumerRests copy_new link_new
   rests-more is = (c is.0, l is.1)
 
+  -- what holds of all copies and links for which both stood, where more is told
+  met : (meets : Copy → Told → Type 0) (a : Copy) → stands_more a → ((b : Copy) (t : Told) → stood_more b → told t → meets b t) → (b : Copy) (t : Told) → stood b → told t → meets b t
+  met meets a s agreed b t is tell = agreed b t (down a s b is) tell
+
+  -- a copy for which the keeper stood
+  stood-before : (leaves : Copy → Type 0) (a : Copy) → stands_more a → ((b : Copy) × stood b × leaves b) → (b : Copy) × stood_more b × leaves b
+  stood-before leaves a s (b, is, left) = (b, down a s b is, left)
+
+  caused-more : (token : List ℕ) (limit : ℕ) (how : ℕ → Type 0) (broke : Type 0) (a : SyncAnswer) → Caused token limit stands tells asked asked_now kept how broke a → Caused token limit stands_more tells asked asked_now kept how broke a
+  caused-more token limit how broke a is = record {
+    run = is.run;
+    count = is.count;
+    asked = is.asked;
+    counts = is.counts;
+    runs = λ some b s. is.runs some b (on b s);
+    only = is.only;
+    exact = is.exact;
+    last = is.last;
+    on = λ asks. let o = is.on asks in (o.0, λ b s. o.1 b (on b s));
+  }
+
   sync-more : (task : Task) (a : SyncAnswer) → IsSyncOf task a copy_old link_old → IsSyncOf task a copy_new link_new
   sync-more task a is = record {
-    copy = is.copy;
-    last_run = is.last_run;
-    cause = is.cause;
-    told = is.told;
-    bound = is.bound;
-    cause_told = is.cause_told;
-    complete = is.complete;
-    marks = is.marks;
+    copy = λ b s. stood-before _ b s (is.copy b (on b s));
+    last_run = λ b s. stood-before _ b s (is.last_run b (on b s));
+    cause = caused-more task.token task.limit _ _ a is.cause;
+    told = λ agreed b t s tell. let (x, y, z, w, v) = is.told (met _ b s agreed) b t (on b s) tell in (x, y, down b s x z, w, v);
+    bound = λ agreed b t s tell. let (x, z, n, few, bound) = is.bound (met _ b s agreed) b t (on b s) tell in (x, down b s x z, n, few, bound);
+    cause_told = λ agreed b t s tell. is.cause_told (met _ b s agreed) b t (on b s) tell;
+    complete = λ agreed link copy b t s tell. let (x, y, z, w, v) = is.complete (met _ b s agreed) link copy b t (on b s) tell in (x, y, down b s x z, w, v);
+    marks = λ agreed b t s tell. is.marks (met _ b s agreed) b t (on b s) tell;
   }
 
   enter-more : (write : Write) (r : Result ℕ EnterError) → IsEnterOf write r copy_old → IsEnterOf write r copy_new
-  enter-more write r is = record { told = is.told; agree = is.agree; cause = is.cause }
+  enter-more write r is = record {
+    told = λ b s. stood-before _ b s (is.told b (on b s));
+    agree = λ t agreed b s. is.agree t (λ x stood. agreed x (down b s x stood)) b (on b s);
+    cause = is.cause;
+  }
+
+  sent-more : (token : List ℕ) (how : ℕ → Type 0) (broke : Type 0) (a : SendAnswer) → SendCaused token stands tells asked asked_now kept how broke a → SendCaused token stands_more tells asked asked_now kept how broke a
+  sent-more token how broke a is = record {
+    run = is.run;
+    count = is.count;
+    counts = is.counts;
+    runs = λ some b s. is.runs some b (on b s);
+    only = is.only;
+    exact = is.exact;
+    names = λ b s. is.names b (on b s);
+    last = λ ends. let e = is.last ends in (e.0, λ b t s tell. e.1 b t (on b s) tell);
+  }
 
   send-more : (task : Sending) (a : SendAnswer) → IsSendOf task a copy_old link_old → IsSendOf task a copy_new link_new
-  send-more task a is = record { copy = is.copy; last_run = is.last_run; cause = is.cause; told = is.told; complete = is.complete }
+  send-more task a is = record {
+    copy = λ b s. let (x, z, left, few) = is.copy b (on b s) in (x, down b s x z, left, few);
+    last_run = λ b s. stood-before _ b s (is.last_run b (on b s));
+    cause = sent-more task.token _ _ a is.cause;
+    told = λ agreed b t s tell. let (x, y, z, w, v) = is.told (met _ b s agreed) b t (on b s) tell in (x, y, down b s x z, w, v);
+    complete = λ agreed link copy b t s tell. let (x, y, z, w, v) = is.complete (met _ b s agreed) link copy b t (on b s) tell in (x, y, down b s x z, w, v);
+  }
+
+  stays-more : CopyStays copy_old → CopyStays copy_new
+  stays-more is b s = down b s b (is b (on b s))
+
+  list-more : (kind : Kind) (a : Answer) → IsListAnswer kind copy_old a → IsListAnswer kind copy_new a
+  list-more kind a (stays, inl (done, t, same)) = (stays-more stays, inl (done, record { rows = t.rows; list = t.list; held = λ b s. t.held b (on b s); is = t.is }, same))
+  list-more kind a (stays, inr how) = (stays-more stays, inr how)
+
+  outbox-more : (a : Answer) → IsOutboxAnswer copy_old a → IsOutboxAnswer copy_new a
+  outbox-more a (stays, inl (done, t, same)) = (stays-more stays, inl (done, record { entries = t.entries; rise = t.rise; held = λ b s. t.held b (on b s); is = t.is }, same))
+  outbox-more a (stays, inr how) = (stays-more stays, inr how)
 
   command-more : (command : Command) (o : Outside) (a : Answer) (from to : KeptState) → IsCommandAnswer command o copy_old link_old a from to → IsCommandAnswer command o copy_new link_new a from to
   command-more (Show kind) o a from to is = (rests-more is.0, is.1, is.2)
@@ -71,58 +136,40 @@ module _ (stood stands : Copy → Type 0) (before now : ℕ) (told tells : Told 
   command-more (Enter task) o a from to (same, stood, rests, inl (end, kept_same, reads, is)) = (same, stood, l rests, inl (end, c kept_same, reads, is))
   command-more (Enter task) o a from to (same, stood, rests, inr (write, r, reads, is, entered)) = (same, stood, l rests, inr (write, r, reads, enter-more write r is, entered))
   command-more (Send task) o a from to (same, nothing, (none, s, is, how)) = (same, nothing, (none, s, send-more task s is, how))
-  command-more Outbox o a from to is = (is.0, is.1, l is.2, is.3)
-  command-more (ListHeld kind) o a from to is = (is.0, is.1, l is.2, is.3)
+  command-more Outbox o a from to is = (is.0, is.1, l is.2, outbox-more a is.3)
+  command-more (ListHeld kind) o a from to is = (is.0, is.1, l is.2, list-more kind a is.3)
 
   answer-more : (r : Result Parsed ℕ) (o : Outside) (a : Answer) (from to : KeptState) → IsAnswer r o copy_old link_old a from to → IsAnswer r o copy_new link_new a from to
   answer-more (Err place) o a from to is = (rests-more is.0, is.1, is.2)
   answer-more (Ok parsed) o a from to (inl is) = inl (command-more parsed.command o a from to is)
   answer-more (Ok parsed) o a from to (inr is) = inr (rests-more is.0, is.1, is.2)
 
-  leads-more : (old new : KeptState → Type 0) (r : Result Parsed ℕ) (o : Outside) (a : Answer) → LeadsFrom old new (IsAnswer r o copy_old link_old a) → LeadsFrom old new (IsAnswer r o copy_new link_new a)
-  leads-more old new r o a from = record {
-    before = from.before;
-    after = from.after;
-    is = from.is;
-    some = answer-more r o a from.before from.after from.some;
-    told = λ now stands. let t = from.told now stands in (t.0, t.1, answer-more r o a t.0 now t.2);
-  }
+-- a relation that is said more weakly
+leads-on : (old new : KeptState → Type 0) (leads more : KeptState → KeptState → Type 0) → ((from to : KeptState) → leads from to → more from to) → LeadsFrom old new leads → LeadsFrom old new more
+leads-on old new leads more f from = record {
+  before = from.before;
+  after = from.after;
+  is = from.is;
+  some = f from.before from.after from.some;
+  told = λ now stands. let t = from.told now stands in (t.0, t.1, f t.0 now t.2);
+}
 
--- ---- a new copy, and a link that tells nothing
+-- ---- a link that tells nothing
 
-module _ (told tells : Told → Type 0) (asked asked_now missed : ℕ) (kept : List ℕ) (failed failed_now : ℕ) (same : Type 0) (old new : KeptState → Type 0) (parsed : Result Parsed ℕ) (answer : Answer) where
-  abbrev link : LinkRun
-  link = link_run told tells asked asked_now missed kept failed failed_now same
-
-  -- over a copy in memory that was new
-  pub real-over : (folder keeper : Faults) (start now : HeldCopy) → start.copy ≡ empty_copy → start.plan ≡ planned [] [] []
-      → LeadsFrom old new (IsAnswer parsed (outside_of None None folder keeper) (copy_run (λ copy. (copy ≡ start.copy) × IsCopy copy) (λ copy. (copy ≡ now.copy) × IsCopy copy) start.plan.faults now.plan.faults (now ≡ start)) link answer)
-      → AnswersOver old new link parsed answer
-  real-over folder keeper start now empty plan leads = record {
-    folder = folder;
-    keeper = keeper;
-    copy = now.copy;
-    copy_faults = now.plan.faults;
+pub real-silent : (stood stands : Copy → Type 0) (before now : ℕ) (rests : Type 0) (asked asked_now missed : ℕ) (kept : List ℕ) (failed failed_now : ℕ) (same : Type 0) (old new : KeptState → Type 0) (parsed : Result Parsed ℕ) (answer : Answer)
+    → AnswersOver old new (copy_run stood stands before now rests) (link_run (λ told. ⊥) (λ told. ⊥) asked asked_now missed kept failed failed_now same) parsed answer
+    → AnswersFrom old new (copy_run stood stands before now rests) parsed answer
+real-silent stood stands before now rests asked asked_now missed kept failed failed_now same old new parsed answer from = record {
+  link = record { asked_before = asked; asked_now = asked_now; missed = missed; kept = kept; faults_before = failed; faults_now = failed_now };
+  over = record {
+    folder = from.folder;
+    keeper = from.keeper;
     leads =
-        subst (λ (n : ℕ). Leads (λ copy. (copy ≡ empty_copy) × IsCopy copy) n (now.copy ≡ empty_copy)) (ap (λ (p : FailurePlan). p.faults) plan)
-        (subst (λ (k : Copy). Leads (λ copy. (copy ≡ k) × IsCopy copy) start.plan.faults (now.copy ≡ k)) empty
-        (leads-more (λ copy. (copy ≡ start.copy) × IsCopy copy) (λ copy. (copy ≡ now.copy) × IsCopy copy) start.plan.faults now.plan.faults told tells asked asked_now missed kept failed failed_now
-        (now ≡ start) (now.copy ≡ start.copy) same same (λ e. ap (λ (h : HeldCopy). h.copy) e) (λ s. s) old new parsed (outside_of None None folder keeper) answer leads));
-  }
-    where
-      Leads : (Copy → Type 0) → ℕ → Type 0 → Type 0
-      Leads stood before rests = LeadsFrom old new (IsAnswer parsed (outside_of None None folder keeper) (copy_run stood (λ copy. (copy ≡ now.copy) × IsCopy copy) before now.plan.faults rests) link answer)
-
--- over a link that tells nothing
-pub real-silent : (asked asked_now missed : ℕ) (kept : List ℕ) (failed failed_now : ℕ) (same : Type 0) (old new : KeptState → Type 0) (parsed : Result Parsed ℕ) (answer : Answer)
-    → AnswersOver old new (link_run (λ told. ⊥) (λ told. ⊥) asked asked_now missed kept failed failed_now same) parsed answer → AnswersFrom old new parsed answer
-real-silent asked asked_now missed kept failed failed_now same old new parsed answer from = record {
-  folder = from.folder;
-  keeper = from.keeper;
-  consumer = record { copy = from.copy; copy_faults = from.copy_faults; asked_before = asked; asked_now = asked_now; missed = missed; kept = kept; faults_before = failed; faults_now = failed_now };
-  leads =
-      leads-more (λ copy. (copy ≡ empty_copy) × IsCopy copy) (λ copy. (copy ≡ from.copy) × IsCopy copy) 0 from.copy_faults (λ told. ⊥) (λ told. ⊥) asked asked_now missed kept failed failed_now
-      (from.copy ≡ empty_copy) (from.copy ≡ empty_copy) same ⊤ (λ e. e) (λ s. tt) old new parsed (outside_of None None from.folder from.keeper) answer from.leads;
+        leads-on old new _ _
+        (answer-more stood stands stood stands before now (λ told. ⊥) (λ told. ⊥) asked asked_now missed kept failed failed_now rests rests same ⊤
+        (λ a s b is. is) (λ a s. s) (λ e. e) (λ e. tt) parsed (outside_of None None from.folder from.keeper) answer)
+        from.leads;
+  };
 }
 
 -- ---- the states of the hub
@@ -134,58 +181,137 @@ named : (store : Option (List ℕ)) (fact : Type 0) → IsSome store → IfNone 
 named (Some folder) fact is = tt
 named None fact is = cc is
 
--- where the words name a store, it stood for some state
-pub real-stored : (old new : KeptState → Type 0) (parsed : Result Parsed ℕ) (answer : Answer) → IsSome (store_in parsed) → AnswersFrom old new parsed answer → IsRealAnswer parsed answer
-real-stored old new parsed answer some from = record {
-  folder = from.folder;
-  keeper = from.keeper;
-  consumer = from.consumer;
-  before = from.leads.before;
-  after = from.leads.after;
-  is = from.leads.is;
-  new = named (store_in parsed) _ some;
-  some = from.leads.some;
-}
-
 given_new : (store : Option (List ℕ)) (fact : Type 0) → fact → IfNone store fact
 given_new (Some folder) fact is = tt
 given_new None fact is = is
 
--- a hub in memory is new
-pub real-new : (start now : KeptState) (keep : ℕ) (parsed : Result Parsed ℕ) (answer : Answer) → start ≡ new_hub keep → keep ≡ keep_in parsed → AnswersFrom (λ kept. kept ≡ start) (λ kept. kept ≡ now) parsed answer → IsRealAnswer parsed answer
-real-new start now keep parsed answer begins same from =
-    let told = from.leads.told now refl in
+-- ---- stores
+
+-- of a store's copy nothing is told
+untold : (store : Option (List ℕ)) (is : CopyRun → Type 0) (c : RealCopy) → IsSome store → is (stored_copy_run c.before c.faults) → is (real_copy_run store c)
+untold (Some folder) is c some this = this
+untold None is c some this = cc some
+
+-- where the words name a store, the hub stood for some state
+pub real-stored : (stood stands : Copy → Type 0) (before now : ℕ) (rests : Type 0) (old new : KeptState → Type 0) (parsed : Result Parsed ℕ) (answer : Answer)
+    → IsSome (store_in parsed) → (rests → now ≡ before) → AnswersFrom old new (copy_run stood stands before now rests) parsed answer → IsRealAnswer parsed answer
+real-stored stood stands before now rests old new parsed answer some same from =
+    let leads = from.over.leads in
+    let link = from.link in
+    let outside = outside_of None None from.over.folder from.over.keeper in
     record {
-      folder = from.folder;
-      keeper = from.keeper;
-      consumer = from.consumer;
+      folder = from.over.folder;
+      keeper = from.over.keeper;
+      copy = record { now = empty_copy; before = before; faults = now };
+      link = link;
+      before = leads.before;
+      after = leads.after;
+      is = leads.is;
+      new = named (store_in parsed) _ some;
+      some =
+          untold (store_in parsed) (λ (run : CopyRun). IsAnswer parsed outside run (silent_link_run link) answer leads.before leads.after) (record { now = empty_copy; before = before; faults = now }) some
+          (answer-more stood stands (λ copy. ⊥) (λ copy. ⊥) before now (λ told. ⊥) (λ told. ⊥) link.asked_before link.asked_now link.missed link.kept link.faults_before link.faults_now rests (now ≡ before) ⊤ ⊤
+          (λ a s b is. s) (λ a s. absurd s) same (λ e. e) parsed outside answer leads.before leads.after leads.some);
+    }
+
+-- ---- memory
+
+-- the copy is a new one where no store is named
+anew : (store : Option (List ℕ)) (is : CopyRun → Type 0) (c : RealCopy) → store ≡ None → is (new_copy_run c) → is (real_copy_run store c)
+anew store is c none this = subst (λ (s : Option (List ℕ)). is (real_copy_run s c)) (sym none) this
+
+-- a copy in memory is new
+new-copy : (start now : HeldCopy) (link : RealLink) (parsed : Result Parsed ℕ) (outside : Outside) (answer : Answer) (from to : KeptState) → start.copy ≡ empty_copy → start.plan ≡ planned [] [] []
+    → IsAnswer parsed outside (copy_run (λ copy. (copy ≡ start.copy) × IsCopy copy) (λ copy. (copy ≡ now.copy) × IsCopy copy) start.plan.faults now.plan.faults (now ≡ start)) (silent_link_run link) answer from to
+    → IsAnswer parsed outside (new_copy_run (record { now = now.copy; before = 0; faults = now.plan.faults })) (silent_link_run link) answer from to
+new-copy start now link parsed outside answer from to empty plan is =
+    subst (λ (n : ℕ). Is (λ copy. (copy ≡ empty_copy) × IsCopy copy) n (now.copy ≡ empty_copy)) (ap (λ (p : FailurePlan). p.faults) plan)
+    (subst (λ (k : Copy). Is (λ copy. (copy ≡ k) × IsCopy copy) start.plan.faults (now.copy ≡ k)) empty
+    (answer-more (λ copy. (copy ≡ start.copy) × IsCopy copy) (λ copy. (copy ≡ now.copy) × IsCopy copy) (λ copy. (copy ≡ start.copy) × IsCopy copy) (λ copy. (copy ≡ now.copy) × IsCopy copy) start.plan.faults now.plan.faults
+    (λ told. ⊥) (λ told. ⊥) link.asked_before link.asked_now link.missed link.kept link.faults_before link.faults_now (now ≡ start) (now.copy ≡ start.copy) ⊤ ⊤
+    (λ a s b is. is) (λ a s. s) (λ e. ap (λ (h : HeldCopy). h.copy) e) (λ e. e) parsed outside answer from to is))
+  where
+    Is : (Copy → Type 0) → ℕ → Type 0 → Type 0
+    Is stood before rests = IsAnswer parsed outside (copy_run stood (λ copy. (copy ≡ now.copy) × IsCopy copy) before now.plan.faults rests) (silent_link_run link) answer from to
+
+-- hub and copy in memory are new
+pub real-new : (start now : KeptState) (first then : HeldCopy) (keep : ℕ) (parsed : Result Parsed ℕ) (answer : Answer)
+    → start ≡ new_hub keep → first.copy ≡ empty_copy → first.plan ≡ planned [] [] [] → keep ≡ keep_in parsed → store_in parsed ≡ None
+    → AnswersFrom (λ kept. kept ≡ start) (λ kept. kept ≡ now) (copy_run (λ copy. (copy ≡ first.copy) × IsCopy copy) (λ copy. (copy ≡ then.copy) × IsCopy copy) first.plan.faults then.plan.faults (then ≡ first)) parsed answer
+    → IsRealAnswer parsed answer
+real-new start now first then keep parsed answer begins empty plan same none from =
+    let told = from.over.leads.told now refl in
+    let outside = outside_of None None from.over.folder from.over.keeper in
+    record {
+      folder = from.over.folder;
+      keeper = from.over.keeper;
+      copy = record { now = then.copy; before = 0; faults = then.plan.faults };
+      link = from.link;
       before = told.0;
       after = now;
       is = subst IsKept (sym (told.1 ∙ begins)) (new_is_kept keep);
       new = given_new (store_in parsed) _ (told.1 ∙ begins ∙ ap new_hub same);
-      some = told.2;
+      some =
+          anew (store_in parsed) (λ (run : CopyRun). IsAnswer parsed outside run (silent_link_run from.link) answer told.0 now) (record { now = then.copy; before = 0; faults = then.plan.faults }) none
+          (new-copy first then from.link parsed outside answer told.0 now empty plan told.2);
     }
 
-abbrev pub out_of_memory : Answer
+-- ---- want of memory
+
+abbrev out_of_memory : Answer
 out_of_memory = record { done = []; end = ends.NoMemory }
 
 -- no consumer is met
-abbrev idle : RealConsumer
-idle = record { copy = empty_copy; copy_faults = 0; asked_before = 0; asked_now = 0; missed = 0; kept = []; faults_before = 0; faults_now = 0 }
+abbrev idle_copy : RealCopy
+idle_copy = record { now = empty_copy; before = 0; faults = 0 }
 
-wants : (parsed : Result Parsed ℕ) (outside : Outside) (kept : KeptState) → IsAnswer parsed outside (new_copy_run empty_copy 0) (silent_link_run idle) out_of_memory kept kept
-wants (Err place) outside kept = ((refl, tt), refl, inr (refl, refl))
-wants (Ok parsed) outside kept = inr ((refl, tt), refl, (refl, refl))
+abbrev idle_link : RealLink
+idle_link = record { asked_before = 0; asked_now = 0; missed = 0; kept = []; faults_before = 0; faults_now = 0 }
+
+rests : (store : Option (List ℕ)) → ConsumerRests (real_copy_run store idle_copy) (silent_link_run idle_link)
+rests None = (refl, tt)
+rests (Some folder) = (refl, tt)
+
+wants : (parsed : Result Parsed ℕ) (store : Option (List ℕ)) (outside : Outside) (kept : KeptState) → IsAnswer parsed outside (real_copy_run store idle_copy) (silent_link_run idle_link) out_of_memory kept kept
+wants (Err place) store outside kept = (rests store, refl, inr (refl, refl))
+wants (Ok parsed) store outside kept = inr (rests store, refl, (refl, refl))
 
 -- memory may run out before a keeper is there
-pub real-wants : (parsed : Result Parsed ℕ) → IsRealAnswer parsed out_of_memory
+real-wants : (parsed : Result Parsed ℕ) → IsRealAnswer parsed out_of_memory
 real-wants parsed = record {
   folder = faults_of 0 0;
   keeper = faults_of 0 0;
-  consumer = idle;
+  copy = idle_copy;
+  link = idle_link;
   before = new_hub (keep_in parsed);
   after = new_hub (keep_in parsed);
   is = new_is_kept (keep_in parsed);
   new = given_new (store_in parsed) _ refl;
-  some = wants parsed (outside_of None None (faults_of 0 0) (faults_of 0 0)) (new_hub (keep_in parsed));
+  some = wants parsed (store_in parsed) (outside_of None None (faults_of 0 0) (faults_of 0 0)) (new_hub (keep_in parsed));
+}
+
+-- ---- whole runs
+
+pub runs-wanting : (parsed : Result Parsed ℕ) (status : ℕ) (old new : Option (List ℕ)) (before now : ℕ)
+    → (status ≢ 1 → (status ≡ 17) × Appends old new (text_of out_of_memory) × (now ≡ before)) → (status ≡ 1 → Rose before now × AppendsPart old new (text_of out_of_memory))
+    → Runs (IsRealAnswer parsed) parsed status old new before now
+runs-wanting parsed status old new before now done fault = record {
+  done = λ e. let d = done e in (out_of_memory, real-wants parsed, d.0, d.1);
+  part = λ e. (out_of_memory, real-wants parsed, (fault e).1);
+  words_are_bad = λ e. let d = done (λ f. omega (arith, e, f)) in absurd (omega (arith, e, d.0));
+  bad_words = λ bad not_one not_seventeen. absurd (not_seventeen (done not_one).0);
+  sink_failed = λ e. (fault e).0;
+  sink_stood = λ e. (done e).2;
+}
+
+-- a run whose answers are said otherwise
+pub runs-as : (is more : Answer → Type 0) (parsed : Result Parsed ℕ) (status : ℕ) (old new : Option (List ℕ)) (before now : ℕ) → ((a : Answer) → is a → more a)
+    → Runs is parsed status old new before now → Runs more parsed status old new before now
+runs-as is more parsed status old new before now f r = record {
+  done = λ e. let (a, so, status, told) = r.done e in (a, f a so, status, told);
+  part = λ e. let (a, so, told) = r.part e in (a, f a so, told);
+  words_are_bad = r.words_are_bad;
+  bad_words = r.bad_words;
+  sink_failed = r.sink_failed;
+  sink_stood = r.sink_stood;
 }

@@ -1,10 +1,11 @@
--- What a run over the real folder and clock answers, which tell nothing of files and moments, and over a new copy in memory.
-use Rattle.std.specs.Prelude.{◌≡◌, ⊤, ℕ, List, [], ◌∷◌, Option, None, Result, IfNone}
+-- What a run over the real folder, clock and stores answers, which tell nothing of files, moments and copies.
+use Rattle.std.specs.Prelude.{◌≡◌, ◌≢◌, ⊤, ℕ, List, [], ◌∷◌, Option, None, Some, Result, IsErr, IfNone}
 use Rattle.std.specs.Io.KnownBytes.{Appends}
 use Rattle.consumer_cli.specs.Consumers.{CopyRun, LinkRun, copy_run, link_run}
 use Rattle.copy_keeper.specs.Copies.{Copy, IsCopy}
 use Rattle.copy_keeper.specs.HeldCopy.{empty_copy}
 use Rattle.outside_ports.specs.Written.{AppendsPart}
+use Rattle.roster_base.specs.Faults.{Rose}
 use Rattle.keeper_memory.specs.Kept.{IsKept, KeptState}
 use Rattle.version_core.specs.Version.{empty_version}
 use Rattle.hub_cli.specs.Answers.{status_of, text_of}
@@ -18,23 +19,29 @@ use Rattle.hub_cli.specs.declared.words.Parsed.{Parsed}
 abbrev pub new_hub : ℕ → KeptState
 new_hub keep = record { keep = keep; versions = empty_version ∷ []; marks = [] }
 
+-- ---- what a run leaves of a consumer
+
+-- the copy of a keeper in memory, and the counts of its keeper's faults, before a run and after it
+pub record RealCopy : Type 0 where
+  pub now : Copy
+  pub before : ℕ
+  pub faults : ℕ
+
 -- the copy was empty, and nothing had failed
-abbrev pub new_copy_run : Copy → ℕ → CopyRun
-new_copy_run now faults = copy_run (λ copy. (copy ≡ empty_copy) × IsCopy copy) (λ copy. (copy ≡ now) × IsCopy copy) 0 faults (now ≡ empty_copy)
+abbrev pub new_copy_run : RealCopy → CopyRun
+new_copy_run c = copy_run (λ copy. (copy ≡ empty_copy) × IsCopy copy) (λ copy. (copy ≡ c.now) × IsCopy copy) 0 c.faults (c.now ≡ empty_copy)
 
--- an answer to words over keepers that stood for a state, and then for another, over a copy that was empty, and over a link
-pub record AnswersOver (old new : KeptState → Type 0) (link : LinkRun) (parsed : Result Parsed ℕ) (answer : Answer) : Type 0 where
-  pub folder : Faults
-  pub keeper : Faults
-  pub copy : Copy
-  pub copy_faults : ℕ
-  pub leads : LeadsFrom old new (IsAnswer parsed (outside_of None None folder keeper) (new_copy_run copy copy_faults) link answer)
+-- nothing is told of the copy in a store
+abbrev pub stored_copy_run : ℕ → ℕ → CopyRun
+stored_copy_run before faults = copy_run (λ copy. ⊥) (λ copy. ⊥) before faults (faults ≡ before)
 
--- what a run leaves of a consumer: its copy with the count of the keeper's faults, and the link's counts, before it and after it, and the
--- answer that the link keeps
-pub record RealConsumer : Type 0 where
-  pub copy : Copy
-  pub copy_faults : ℕ
+-- the copy is a new one where no store is named
+abbrev pub real_copy_run : Option (List ℕ) → RealCopy → CopyRun
+real_copy_run None c = new_copy_run c
+real_copy_run (Some folder) c = stored_copy_run c.before c.faults
+
+-- the link's counts, before a run and after it, and the answer that it keeps
+pub record RealLink : Type 0 where
   pub asked_before : ℕ
   pub asked_now : ℕ
   pub missed : ℕ
@@ -43,26 +50,34 @@ pub record RealConsumer : Type 0 where
   pub faults_now : ℕ
 
 -- the link tells nothing of a hub
-abbrev pub silent_link_run : RealConsumer → LinkRun
-silent_link_run c = link_run (λ told. ⊥) (λ told. ⊥) c.asked_before c.asked_now c.missed c.kept c.faults_before c.faults_now ⊤
+abbrev pub silent_link_run : RealLink → LinkRun
+silent_link_run l = link_run (λ told. ⊥) (λ told. ⊥) l.asked_before l.asked_now l.missed l.kept l.faults_before l.faults_now ⊤
 
--- an answer to words over keepers that stood for a state, and then for another
-pub record AnswersFrom (old new : KeptState → Type 0) (parsed : Result Parsed ℕ) (answer : Answer) : Type 0 where
+-- ---- answers
+
+-- an answer to words over keepers that stood for a state, and then for another, over a copy and over a link
+pub record AnswersOver (old new : KeptState → Type 0) (copy : CopyRun) (link : LinkRun) (parsed : Result Parsed ℕ) (answer : Answer) : Type 0 where
   pub folder : Faults
   pub keeper : Faults
-  pub consumer : RealConsumer
-  pub leads : LeadsFrom old new (IsAnswer parsed (outside_of None None folder keeper) (new_copy_run consumer.copy consumer.copy_faults) (silent_link_run consumer) answer)
+  pub leads : LeadsFrom old new (IsAnswer parsed (outside_of None None folder keeper) copy link answer)
 
--- an answer to words: it leads from a state of a hub to another, and from that of a new hub where no store is named
+-- an answer to words over keepers that stood for a state, and then for another, and over a copy
+pub record AnswersFrom (old new : KeptState → Type 0) (copy : CopyRun) (parsed : Result Parsed ℕ) (answer : Answer) : Type 0 where
+  pub link : RealLink
+  pub over : AnswersOver old new copy (silent_link_run link) parsed answer
+
+-- an answer to words: it leads from a state of a hub to another. Where no store is named, it leads from that of a new hub, and the
+-- consumer's copy is a new one
 pub record IsRealAnswer (parsed : Result Parsed ℕ) (answer : Answer) : Type 0 where
   pub folder : Faults
   pub keeper : Faults
-  pub consumer : RealConsumer
+  pub copy : RealCopy
+  pub link : RealLink
   pub before : KeptState
   pub after : KeptState
   pub is : IsKept before
   pub new : IfNone (store_in parsed) (before ≡ new_hub (keep_in parsed))
-  pub some : IsAnswer parsed (outside_of None None folder keeper) (new_copy_run consumer.copy consumer.copy_faults) (silent_link_run consumer) answer before after
+  pub some : IsAnswer parsed (outside_of None None folder keeper) (real_copy_run (store_in parsed) copy) (silent_link_run link) answer before after
 
 -- the status of such an answer is given, and its text is written
 abbrev pub Tells : (Answer → Type 0) → ℕ → Option (List ℕ) → Option (List ℕ) → Type 0
@@ -71,3 +86,12 @@ Tells is status old new = (a : Answer) × is a × (status ≡ status_of a.end) �
 -- a front of such an answer's text is written
 abbrev pub TellsPart : (Answer → Type 0) → Option (List ℕ) → Option (List ℕ) → Type 0
 TellsPart is old new = (a : Answer) × is a × AppendsPart old new (text_of a)
+
+-- what a run writes, with its status: the text of an answer of which this is so, or where the sink failed a front of such a text
+pub record Runs (is : Answer → Type 0) (parsed : Result Parsed ℕ) (status : ℕ) (old new : Option (List ℕ)) (faults_before faults_now : ℕ) : Type 0 where
+  pub done : status ≢ 1 → Tells is status old new
+  pub part : status ≡ 1 → TellsPart is old new
+  pub words_are_bad : status ≡ 2 → IsErr parsed
+  pub bad_words : IsErr parsed → status ≢ 1 → status ≢ 17 → status ≡ 2
+  pub sink_failed : status ≡ 1 → Rose faults_before faults_now
+  pub sink_stood : status ≢ 1 → faults_now ≡ faults_before

@@ -1,22 +1,23 @@
 //! Runs over the real folder, clock and store.
 
 ghost use Rattle.std.specs.Prelude.{◌≡◌, ◌≢◌, IfOk, IsErr, IsSome, None, map, string_bytes};
-ghost use Rattle.consumer_cli.specs.Consumers.{link_run};
+ghost use Rattle.consumer_cli.specs.Consumers.{copy_run, link_run};
 ghost use Rattle.roster_base.specs.Faults.{Rose};
 ghost use Rattle.hub_cli.specs.Words.{keep_in, split, store_in};
-ghost use Rattle.real_run.specs.RealRuns.{AnswersFrom, AnswersOver, IsRealAnswer, Tells, TellsPart};
+ghost use Rattle.real_run.specs.RealRuns.{AnswersFrom, AnswersOver, IsRealAnswer, Runs, Tells, TellsPart};
 
-use crate::store::open_store;
-use copy_keeper::MemCopy;
+use crate::store::{COPY_FILE, HUB_FILE, open_store};
+use copy_keeper::{CopyKeeper, MemCopy};
 use exchange_link::Link;
 use hub_cli::lines::NO_MEMORY;
-use hub_cli::{keep_of, peer_of, print, root_of, run_hub, store_of};
+use hub_cli::{Command, keep_of, peer_of, print, root_of, run_hub, split_words, store_of};
+use keeper_copies::ItemCopy;
 use keeper_items::ItemHub;
 use keeper_memory::{HubKeeper, MemHub};
 use keeper_sqlite::{ClosedStore, SqlItems};
 use outside_ports::{DirFolder, Sink, SystemClock};
 use peer_links::{NoLink, SocketLink};
-use roster_base::{NoMemory, Text};
+use roster_base::{NoMemory, Refusal, Text};
 use sqlite::{Connection, File, FileStore};
 use std::alloc::Global;
 
@@ -27,72 +28,57 @@ struct Surroundings {
     peer: Option<Text>,
 }
 
-// Runs the words over a keeper and a link, over the real folder and clock, and over a new copy in memory.
-fn run_between<H: HubKeeper, L: Link, O: Sink>(
+// Runs the words over keepers and a link, over the real folder and clock.
+fn run_between<H: HubKeeper, C: CopyKeeper, L: Link, O: Sink>(
     rt: HostRuntime,
     alloc: Global,
     words: &[String],
     root: String,
     keeper: &mut H,
+    copy: &mut C,
     link: &mut L,
     out: &mut O,
 ) -> u8
-    ensures done { result ≢ 1 → Tells (AnswersOver (H.stands_for keeper.old) (H.stands_for keeper.new) (link_run (L.tells link.old) (L.tells link.new) (L.asked link.old) (L.asked link.new) (L.missed link.new) (L.kept link.new) (L.fault_count link.old) (L.fault_count link.new) (link.new ≡ link.old)) (split (map string_bytes words.now))) result (O.written out.old) (O.written out.new) }
-    ensures part { result ≡ 1 → TellsPart (AnswersOver (H.stands_for keeper.old) (H.stands_for keeper.new) (link_run (L.tells link.old) (L.tells link.new) (L.asked link.old) (L.asked link.new) (L.missed link.new) (L.kept link.new) (L.fault_count link.old) (L.fault_count link.new) (link.new ≡ link.old)) (split (map string_bytes words.now))) (O.written out.old) (O.written out.new) }
-    ensures words_are_bad { result ≡ 2 → IsErr (split (map string_bytes words.now)) }
-    ensures bad_words { IsErr (split (map string_bytes words.now)) → result ≢ 1 → result ≢ 17 → result ≡ 2 }
-    ensures sink_failed { result ≡ 1 → Rose (O.faults out.old) (O.faults out.new) }
-    ensures sink_stood { result ≢ 1 → O.faults out.new ≡ O.faults out.old }
+    ensures { Runs (AnswersOver (H.stands_for keeper.old) (H.stands_for keeper.new)
+        (copy_run (C.stands_for copy.old) (C.stands_for copy.new) (C.fault_count copy.old) (C.fault_count copy.new) (copy.new ≡ copy.old))
+        (link_run (L.tells link.old) (L.tells link.new) (L.asked link.old) (L.asked link.new) (L.missed link.new) (L.kept link.new) (L.fault_count link.old) (L.fault_count link.new) (link.new ≡ link.old))
+        (split (map string_bytes words.now))) (split (map string_bytes words.now)) result (O.written out.old) (O.written out.new) (O.faults out.old) (O.faults out.new) }
 {
     let mut folder = DirFolder::new(rt, root);
     let clock = SystemClock::new(rt);
-    let mut copy = MemCopy::new(alloc);
-    let status = run_hub(
-        alloc,
-        words,
-        &mut folder,
-        keeper,
-        &mut copy,
-        link,
-        &clock,
-        out,
-    );
-    drop(copy);
-    status
+    run_hub(alloc, words, &mut folder, keeper, copy, link, &clock, out)
 }
 
-// Runs the words over a keeper, and over what surrounds the run: over a link to no hub, where the words name none.
-fn run_over<H: HubKeeper, O: Sink>(
+// Runs the words over keepers, and over what surrounds the run: over a link to no hub, where the words name none.
+fn run_over<H: HubKeeper, C: CopyKeeper, O: Sink>(
     rt: HostRuntime,
     alloc: Global,
     words: &[String],
     around: Surroundings,
     keeper: &mut H,
+    copy: &mut C,
     out: &mut O,
 ) -> u8
-    ensures done { result ≢ 1 → Tells (AnswersFrom (H.stands_for keeper.old) (H.stands_for keeper.new) (split (map string_bytes words.now))) result (O.written out.old) (O.written out.new) }
-    ensures part { result ≡ 1 → TellsPart (AnswersFrom (H.stands_for keeper.old) (H.stands_for keeper.new) (split (map string_bytes words.now))) (O.written out.old) (O.written out.new) }
-    ensures words_are_bad { result ≡ 2 → IsErr (split (map string_bytes words.now)) }
-    ensures bad_words { IsErr (split (map string_bytes words.now)) → result ≢ 1 → result ≢ 17 → result ≡ 2 }
-    ensures sink_failed { result ≡ 1 → Rose (O.faults out.old) (O.faults out.new) }
-    ensures sink_stood { result ≢ 1 → O.faults out.new ≡ O.faults out.old }
+    ensures { Runs (AnswersFrom (H.stands_for keeper.old) (H.stands_for keeper.new)
+        (copy_run (C.stands_for copy.old) (C.stands_for copy.new) (C.fault_count copy.old) (C.fault_count copy.new) (copy.new ≡ copy.old))
+        (split (map string_bytes words.now))) (split (map string_bytes words.now)) result (O.written out.old) (O.written out.new) (O.faults out.old) (O.faults out.new) }
 {
     let Surroundings { root, peer } = around;
     match peer {
         None => {
             let mut link = NoLink::new();
-            run_between(rt, alloc, words, root, keeper, &mut link, out)
+            run_between(rt, alloc, words, root, keeper, copy, &mut link, out)
         }
         Some(address) => {
             let mut link = SocketLink::to(alloc, rt, address.into_string());
-            let status = run_between(rt, alloc, words, root, keeper, &mut link, out);
+            let status = run_between(rt, alloc, words, root, keeper, copy, &mut link, out);
             drop(link);
             status
         }
     }
 }
 
-// Runs words that name no store over a hub in memory.
+// Runs words that name no store over a hub and a copy in memory.
 fn run_in_memory<O: Sink>(
     rt: HostRuntime,
     alloc: Global,
@@ -101,22 +87,56 @@ fn run_in_memory<O: Sink>(
     keep: u32,
     out: &mut O,
 ) -> u8
-    requires { keep ≡ keep_in (split (map string_bytes words.now)) }
-    ensures done { result ≢ 1 → Tells (IsRealAnswer (split (map string_bytes words.now))) result (O.written out.old) (O.written out.new) }
-    ensures part { result ≡ 1 → TellsPart (IsRealAnswer (split (map string_bytes words.now))) (O.written out.old) (O.written out.new) }
-    ensures words_are_bad { result ≡ 2 → IsErr (split (map string_bytes words.now)) }
-    ensures bad_words { IsErr (split (map string_bytes words.now)) → result ≢ 1 → result ≢ 17 → result ≡ 2 }
-    ensures sink_failed { result ≡ 1 → Rose (O.faults out.old) (O.faults out.new) }
-    ensures sink_stood { result ≢ 1 → O.faults out.new ≡ O.faults out.old }
+    requires keep { keep ≡ keep_in (split (map string_bytes words.now)) }
+    requires store { store_in (split (map string_bytes words.now)) ≡ None }
+    ensures { Runs (IsRealAnswer (split (map string_bytes words.now))) (split (map string_bytes words.now)) result (O.written out.old) (O.written out.new) (O.faults out.old) (O.faults out.new) }
 {
     let mut keeper = MemHub::new(alloc, keep);
-    let status = run_over(rt, alloc, words, around, &mut keeper, out);
+    let mut copy = MemCopy::new(alloc);
+    let status = run_over(rt, alloc, words, around, &mut keeper, &mut copy, out);
+    drop(keeper);
+    drop(copy);
+    status
+}
+
+// Runs a command of the hub over its keeper. It needs no copy.
+fn run_with_hub<H: HubKeeper, O: Sink>(
+    rt: HostRuntime,
+    alloc: Global,
+    words: &[String],
+    around: Surroundings,
+    keeper: &mut H,
+    out: &mut O,
+) -> u8
+    requires { IsSome (store_in (split (map string_bytes words.now))) }
+    ensures { Runs (IsRealAnswer (split (map string_bytes words.now))) (split (map string_bytes words.now)) result (O.written out.old) (O.written out.new) (O.faults out.old) (O.faults out.new) }
+{
+    let mut copy = MemCopy::new(alloc);
+    let status = run_over(rt, alloc, words, around, keeper, &mut copy, out);
+    drop(copy);
+    status
+}
+
+// Runs a command of the consumer over the keeper of its copy. It needs no hub of its own.
+fn run_with_copy<C: CopyKeeper, O: Sink>(
+    rt: HostRuntime,
+    alloc: Global,
+    words: &[String],
+    around: Surroundings,
+    copy: &mut C,
+    out: &mut O,
+) -> u8
+    requires { IsSome (store_in (split (map string_bytes words.now))) }
+    ensures { Runs (IsRealAnswer (split (map string_bytes words.now))) (split (map string_bytes words.now)) result (O.written out.old) (O.written out.new) (O.faults out.old) (O.faults out.new) }
+{
+    let mut keeper = MemHub::new(alloc, 0);
+    let status = run_over(rt, alloc, words, around, &mut keeper, copy, out);
     drop(keeper);
     status
 }
 
 // Runs words over the hub that a database keeps, and closes the database.
-fn run_in_database<O: Sink>(
+fn run_over_hub<O: Sink>(
     rt: HostRuntime,
     alloc: Global,
     words: &[String],
@@ -126,22 +146,35 @@ fn run_in_database<O: Sink>(
     out: &mut O,
 ) -> u8
     requires { IsSome (store_in (split (map string_bytes words.now))) }
-    ensures done { result ≢ 1 → Tells (IsRealAnswer (split (map string_bytes words.now))) result (O.written out.old) (O.written out.new) }
-    ensures part { result ≡ 1 → TellsPart (IsRealAnswer (split (map string_bytes words.now))) (O.written out.old) (O.written out.new) }
-    ensures words_are_bad { result ≡ 2 → IsErr (split (map string_bytes words.now)) }
-    ensures bad_words { IsErr (split (map string_bytes words.now)) → result ≢ 1 → result ≢ 17 → result ≡ 2 }
-    ensures sink_failed { result ≡ 1 → Rose (O.faults out.old) (O.faults out.new) }
-    ensures sink_stood { result ≢ 1 → O.faults out.new ≡ O.faults out.old }
+    ensures { Runs (IsRealAnswer (split (map string_bytes words.now))) (split (map string_bytes words.now)) result (O.written out.old) (O.written out.new) (O.faults out.old) (O.faults out.new) }
 {
     let mut keeper = ItemHub::adopt(SqlItems::adopt(connection), keep);
-    let status = run_over(rt, alloc, words, around, &mut keeper, out);
+    let status = run_with_hub(rt, alloc, words, around, &mut keeper, out);
     // What was committed stands in the log of the database: where it can't be closed, nothing is lost.
     let _ = keeper.release().release().close();
     status
 }
 
-// Runs words whose store couldn't be opened.
-fn run_closed<O: Sink>(
+// Runs words over the copy that a database keeps, and closes the database.
+fn run_over_copy<O: Sink>(
+    rt: HostRuntime,
+    alloc: Global,
+    words: &[String],
+    around: Surroundings,
+    connection: Connection<FileStore<File>>,
+    out: &mut O,
+) -> u8
+    requires { IsSome (store_in (split (map string_bytes words.now))) }
+    ensures { Runs (IsRealAnswer (split (map string_bytes words.now))) (split (map string_bytes words.now)) result (O.written out.old) (O.written out.new) (O.faults out.old) (O.faults out.new) }
+{
+    let mut copy = ItemCopy::adopt(SqlItems::adopt(connection));
+    let status = run_with_copy(rt, alloc, words, around, &mut copy, out);
+    let _ = copy.release().release().close();
+    status
+}
+
+// Runs words over a hub whose store couldn't be opened.
+fn run_closed_hub<O: Sink>(
     rt: HostRuntime,
     alloc: Global,
     words: &[String],
@@ -149,19 +182,29 @@ fn run_closed<O: Sink>(
     out: &mut O,
 ) -> u8
     requires { IsSome (store_in (split (map string_bytes words.now))) }
-    ensures done { result ≢ 1 → Tells (IsRealAnswer (split (map string_bytes words.now))) result (O.written out.old) (O.written out.new) }
-    ensures part { result ≡ 1 → TellsPart (IsRealAnswer (split (map string_bytes words.now))) (O.written out.old) (O.written out.new) }
-    ensures words_are_bad { result ≡ 2 → IsErr (split (map string_bytes words.now)) }
-    ensures bad_words { IsErr (split (map string_bytes words.now)) → result ≢ 1 → result ≢ 17 → result ≡ 2 }
-    ensures sink_failed { result ≡ 1 → Rose (O.faults out.old) (O.faults out.new) }
-    ensures sink_stood { result ≢ 1 → O.faults out.new ≡ O.faults out.old }
+    ensures { Runs (IsRealAnswer (split (map string_bytes words.now))) (split (map string_bytes words.now)) result (O.written out.old) (O.written out.new) (O.faults out.old) (O.faults out.new) }
 {
     let mut keeper = ClosedStore::new();
-    run_over(rt, alloc, words, around, &mut keeper, out)
+    run_with_hub(rt, alloc, words, around, &mut keeper, out)
+}
+
+// Runs words over a copy whose store couldn't be opened.
+fn run_closed_copy<O: Sink>(
+    rt: HostRuntime,
+    alloc: Global,
+    words: &[String],
+    around: Surroundings,
+    out: &mut O,
+) -> u8
+    requires { IsSome (store_in (split (map string_bytes words.now))) }
+    ensures { Runs (IsRealAnswer (split (map string_bytes words.now))) (split (map string_bytes words.now)) result (O.written out.old) (O.written out.new) (O.faults out.old) (O.faults out.new) }
+{
+    let mut copy = ClosedStore::new();
+    run_with_copy(rt, alloc, words, around, &mut copy, out)
 }
 
 // Runs words over the hub whose store stands in a folder.
-fn run_stored<O: Sink>(
+fn run_stored_hub<O: Sink>(
     rt: HostRuntime,
     alloc: Global,
     words: &[String],
@@ -171,26 +214,42 @@ fn run_stored<O: Sink>(
     out: &mut O,
 ) -> u8
     requires { IsSome (store_in (split (map string_bytes words.now))) }
-    ensures done { result ≢ 1 → Tells (IsRealAnswer (split (map string_bytes words.now))) result (O.written out.old) (O.written out.new) }
-    ensures part { result ≡ 1 → TellsPart (IsRealAnswer (split (map string_bytes words.now))) (O.written out.old) (O.written out.new) }
-    ensures words_are_bad { result ≡ 2 → IsErr (split (map string_bytes words.now)) }
-    ensures bad_words { IsErr (split (map string_bytes words.now)) → result ≢ 1 → result ≢ 17 → result ≡ 2 }
-    ensures sink_failed { result ≡ 1 → Rose (O.faults out.old) (O.faults out.new) }
-    ensures sink_stood { result ≢ 1 → O.faults out.new ≡ O.faults out.old }
+    ensures { Runs (IsRealAnswer (split (map string_bytes words.now))) (split (map string_bytes words.now)) result (O.written out.old) (O.written out.new) (O.faults out.old) (O.faults out.new) }
 {
-    match open_store(rt, alloc, folder) {
-        Ok(Some(connection)) => run_in_database(rt, alloc, words, around, keep, connection, out),
-        Ok(None) => run_closed(rt, alloc, words, around, out),
+    match open_store(rt, alloc, folder, HUB_FILE) {
+        Ok(Some(connection)) => run_over_hub(rt, alloc, words, around, keep, connection, out),
+        Ok(None) => run_closed_hub(rt, alloc, words, around, out),
         Err(NoMemory) => print(out, 17, NO_MEMORY),
     }
 }
 
-// What the words say of where they are run: what surrounds them, how many versions a new keeper keeps, and the folder of the store.
+// Runs words over the copy whose store stands in a folder.
+fn run_stored_copy<O: Sink>(
+    rt: HostRuntime,
+    alloc: Global,
+    words: &[String],
+    around: Surroundings,
+    folder: &str,
+    out: &mut O,
+) -> u8
+    requires { IsSome (store_in (split (map string_bytes words.now))) }
+    ensures { Runs (IsRealAnswer (split (map string_bytes words.now))) (split (map string_bytes words.now)) result (O.written out.old) (O.written out.new) (O.faults out.old) (O.faults out.new) }
+{
+    match open_store(rt, alloc, folder, COPY_FILE) {
+        Ok(Some(connection)) => run_over_copy(rt, alloc, words, around, connection, out),
+        Ok(None) => run_closed_copy(rt, alloc, words, around, out),
+        Err(NoMemory) => print(out, 17, NO_MEMORY),
+    }
+}
+
+// What the words say of where they are run: what surrounds them, how many versions a new keeper keeps, the folder of the store, and
+// whether a consumer's copy is kept there or a hub.
 #[derive(Drop)]
 struct Setting {
     around: Surroundings,
     keep: u32,
     store: Option<Text>,
+    is_consumer: bool,
 }
 
 fn surroundings_of(alloc: Global, words: &[String]) -> Result<Surroundings, NoMemory> {
@@ -199,27 +258,90 @@ fn surroundings_of(alloc: Global, words: &[String]) -> Result<Surroundings, NoMe
     Ok(Surroundings { root, peer })
 }
 
+// Whether a command is the consumer's.
+fn is_of_consumer(command: &Command) -> bool {
+    match command {
+        Command::Sync { .. }
+        | Command::Enter { .. }
+        | Command::Send { .. }
+        | Command::Outbox
+        | Command::ListHeld { .. } => true,
+        Command::Show { .. }
+        | Command::Publish { .. }
+        | Command::Grant { .. }
+        | Command::Ask { .. } => false,
+    }
+}
+
+// Whether the words spell a command of the consumer.
+fn is_consumer(alloc: Global, words: &[String]) -> Result<bool, NoMemory> {
+    match split_words(alloc, words) {
+        Ok(parsed) => Ok(is_of_consumer(&parsed.command)),
+        Err(Refusal::Fault(_)) => Ok(false),
+        Err(Refusal::NoMemory) => Err(NoMemory),
+    }
+}
+
 fn setting_of(alloc: Global, words: &[String]) -> Result<Setting, NoMemory>
     ensures keep { IfOk result (λ s. s.keep ≡ keep_in (split (map string_bytes words.now))) }
     ensures store { IfOk result (λ s. s.store ≡ store_in (split (map string_bytes words.now))) }
 {
     let keep = keep_of(alloc, words)?;
+    let is_consumer = is_consumer(alloc, words)?;
     let around = surroundings_of(alloc, words)?;
     let store = store_of(alloc, words)?;
     Ok(Setting {
         around,
         keep,
         store,
+        is_consumer,
     })
+}
+
+// Runs words in the setting that they say.
+fn run_in<O: Sink>(
+    rt: HostRuntime,
+    alloc: Global,
+    words: &[String],
+    setting: Setting,
+    out: &mut O,
+) -> u8
+    requires keep { setting.keep ≡ keep_in (split (map string_bytes words.now)) }
+    requires store { setting.store ≡ store_in (split (map string_bytes words.now)) }
+    ensures { Runs (IsRealAnswer (split (map string_bytes words.now))) (split (map string_bytes words.now)) result (O.written out.old) (O.written out.new) (O.faults out.old) (O.faults out.new) }
+{
+    let Setting {
+        around,
+        keep,
+        store,
+        is_consumer,
+    } = setting;
+    match store {
+        None => run_in_memory(rt, alloc, words, around, keep, out),
+        Some(folder) if is_consumer => {
+            run_stored_copy(rt, alloc, words, around, folder.as_str(), out)
+        }
+        Some(folder) => run_stored_hub(rt, alloc, words, around, keep, folder.as_str(), out),
+    }
+}
+
+// Runs words, unless memory runs out before a keeper is there.
+fn run_set<O: Sink>(rt: HostRuntime, alloc: Global, words: &[String], out: &mut O) -> u8
+    ensures { Runs (IsRealAnswer (split (map string_bytes words.now))) (split (map string_bytes words.now)) result (O.written out.old) (O.written out.new) (O.faults out.old) (O.faults out.new) }
+{
+    match setting_of(alloc, words) {
+        Ok(setting) => run_in(rt, alloc, words, setting, out),
+        Err(NoMemory) => print(out, 17, NO_MEMORY),
+    }
 }
 
 /// Runs the words over the folder, the clock, the store and the sockets of the system, as `run_hub` does, and gives the status of the process.
 ///
-/// Where the words name a store's folder, the hub is kept in its file `hub.db`. Both are made where they aren't there, and a store that
-/// can't be opened fails. Else the hub begins with version 0 alone, and nothing of it outlasts the run.
+/// Where the words name a store's folder, a command of the hub finds it in the file `hub.db` there, and one of the consumer its copy in
+/// `copy.db`. Folder and file are made where they aren't there, and one that can't be opened fails. Else hub and copy are new ones in
+/// memory, and nothing of them outlasts the run.
 ///
-/// The consumer's copy is a new one in memory, and nothing of it outlasts the run. Its hub is the one at the address that the words name; where
-/// they name none, each exchange fails.
+/// The consumer's hub is the one at the address that the words name; where they name none, each exchange fails.
 pub fn run_real<O: Sink>(rt: HostRuntime, alloc: Global, words: &[String], out: &mut O) -> u8
     // What is written is the text of an answer to the words, and nothing else, and the status is that of the answer.
     ensures done { result ≢ 1 → Tells (IsRealAnswer (split (map string_bytes words.now))) result (O.written out.old) (O.written out.new) }
@@ -230,16 +352,5 @@ pub fn run_real<O: Sink>(rt: HostRuntime, alloc: Global, words: &[String], out: 
     ensures sink_failed { result ≡ 1 → Rose (O.faults out.old) (O.faults out.new) }
     ensures sink_stood { result ≢ 1 → O.faults out.new ≡ O.faults out.old }
 {
-    let Ok(setting) = setting_of(alloc, words) else {
-        return print(out, 17, NO_MEMORY);
-    };
-    let Setting {
-        around,
-        keep,
-        store,
-    } = setting;
-    match store {
-        None => run_in_memory(rt, alloc, words, around, keep, out),
-        Some(folder) => run_stored(rt, alloc, words, around, keep, folder.as_str(), out),
-    }
+    run_set(rt, alloc, words, out)
 }
