@@ -6,10 +6,10 @@ ghost use Rattle.roster_types.specs.Structs.{academic_session_values};
 ghost use Rattle.roster_values.specs.Shape.{has_shape};
 ghost use Rattle.roster_values.specs.Value.{shown};
 
-use crate::blanks::{blank_day, blank_text};
+use crate::blanks::{blank_day, blank_text, blank_word};
 use roster_base::{NoMemory, Text};
 use roster_texts::{Day, Id};
-use roster_values::{Kind, Value, ValueRef};
+use roster_values::{Kind, Value, ValueRef, Word};
 use std::alloc::Global;
 
 /// What an academic session says of itself beside its id, its status and its moment.
@@ -18,7 +18,7 @@ pub struct AcademicSession {
     /// The title.
     pub title: Text,
     /// What sort of session it is.
-    pub type_word: Text,
+    pub type_word: Word,
     /// The first day.
     pub start_date: Day,
     /// The last day.
@@ -67,7 +67,7 @@ impl AcademicSession {
     {
         Ok(AcademicSession {
             title: blank_text(alloc),
-            type_word: blank_text(alloc),
+            type_word: blank_word(),
             start_date: blank_day(),
             end_date: blank_day(),
             parent: None,

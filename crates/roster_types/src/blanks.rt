@@ -4,12 +4,19 @@ ghost use Rattle.std.specs.Prelude.{◌≡◌, ◌∷◌, [], pos, IfOk};
 
 use roster_base::{NoMemory, Text};
 use roster_texts::{Day, Id};
+use roster_values::Word;
 use std::alloc::Global;
 
 pub fn blank_text(alloc: Global) -> Text
     ensures { result ≡ [] }
 {
     Text::from_string(String::new(alloc))
+}
+
+pub fn blank_word() -> Word
+    ensures { result ≡ [] }
+{
+    Word::new("")
 }
 
 pub fn blank_day() -> Day

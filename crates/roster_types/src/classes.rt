@@ -6,10 +6,10 @@ ghost use Rattle.roster_types.specs.Structs.{class_values};
 ghost use Rattle.roster_values.specs.Shape.{has_shape};
 ghost use Rattle.roster_values.specs.Value.{shown};
 
-use crate::blanks::{blank_id, blank_text};
+use crate::blanks::{blank_id, blank_text, blank_word};
 use roster_base::{Items, NoMemory, Text};
 use roster_texts::Id;
-use roster_values::{Ids, Kind, Texts, Value, ValueRef};
+use roster_values::{Ids, Kind, Texts, Value, ValueRef, Word};
 use std::alloc::Global;
 
 /// What a class says of itself beside its id, its status and its moment.
@@ -24,7 +24,7 @@ pub struct Class {
     /// The school's code.
     pub class_code: Option<Text>,
     /// Homeroom or scheduled.
-    pub class_type: Text,
+    pub class_type: Word,
     /// Where it meets.
     pub location: Option<Text>,
     /// The school.
@@ -90,7 +90,7 @@ impl Class {
             grades: None,
             course: blank_id(alloc)?,
             class_code: None,
-            class_type: blank_text(alloc),
+            class_type: blank_word(),
             location: None,
             school: blank_id(alloc)?,
             terms: Items::new(alloc),

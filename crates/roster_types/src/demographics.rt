@@ -9,7 +9,7 @@ ghost use Rattle.roster_values.specs.declared.value.Value.TheVariants as FieldVa
 
 use roster_base::{NoMemory, Text};
 use roster_texts::Day;
-use roster_values::{Kind, Value, ValueRef};
+use roster_values::{Kind, Value, ValueRef, Word};
 use std::alloc::Global;
 
 /// What the demographics of a user says of itself beside its id, its status and its moment.
@@ -18,7 +18,7 @@ pub struct Demographic {
     /// The day of birth.
     pub birth_date: Option<Day>,
     /// The sex.
-    pub sex: Option<Text>,
+    pub sex: Option<Word>,
     /// One of the standard's seven answers on race and ethnicity.
     pub american_indian_or_alaska_native: Option<bool>,
     /// One of the seven.
@@ -130,7 +130,7 @@ impl Demographic {
 }
 
 // A word that may be absent.
-fn lent_word(word: &Option<Text>) -> Option<ValueRef<'_>>
+fn lent_word(word: &Option<Word>) -> Option<ValueRef<'_>>
     ensures { option_map shown result ≡ option_map (λ w. FieldValue.Word w) word.now }
 {
     match word {

@@ -6,10 +6,10 @@ ghost use Rattle.roster_types.specs.Structs.{enrollment_values};
 ghost use Rattle.roster_values.specs.Shape.{has_shape};
 ghost use Rattle.roster_values.specs.Value.{shown};
 
-use crate::blanks::{blank_id, blank_text};
-use roster_base::{NoMemory, Text};
+use crate::blanks::{blank_id, blank_word};
+use roster_base::NoMemory;
 use roster_texts::{Day, Id};
-use roster_values::{Kind, Value, ValueRef};
+use roster_values::{Kind, Value, ValueRef, Word};
 use std::alloc::Global;
 
 /// What an enrollment says of itself beside its id, its status and its moment.
@@ -22,7 +22,7 @@ pub struct Enrollment {
     /// The user.
     pub user: Id,
     /// The role in the class.
-    pub role: Text,
+    pub role: Word,
     /// Whether this is the class's first teacher.
     pub primary: Option<bool>,
     /// The first day.
@@ -73,7 +73,7 @@ impl Enrollment {
             class_id: blank_id(alloc)?,
             school: blank_id(alloc)?,
             user: blank_id(alloc)?,
-            role: blank_text(alloc),
+            role: blank_word(),
             primary: None,
             begin_date: None,
             end_date: None,

@@ -29,5 +29,5 @@ pub mod users;
 pub use roster_base::{Items, NoMemory, Text};
 pub use roster_texts::{Day, Id, Moment, Name};
 pub use roster_values::{
-    FieldForm, FieldInfo, Kind, Mode, UserId, Value, ValueError, ValueRef, read_value,
+    FieldForm, FieldInfo, Kind, Mode, UserId, Value, ValueError, ValueRef, Word, read_value,
 };

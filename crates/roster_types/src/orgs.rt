@@ -6,10 +6,10 @@ ghost use Rattle.roster_types.specs.Structs.{org_values};
 ghost use Rattle.roster_values.specs.Shape.{has_shape};
 ghost use Rattle.roster_values.specs.Value.{shown};
 
-use crate::blanks::blank_text;
+use crate::blanks::{blank_text, blank_word};
 use roster_base::{NoMemory, Text};
 use roster_texts::Id;
-use roster_values::{Kind, Value, ValueRef};
+use roster_values::{Kind, Value, ValueRef, Word};
 use std::alloc::Global;
 
 /// What an org says of itself beside its id, its status and its moment.
@@ -18,7 +18,7 @@ pub struct Org {
     /// The name.
     pub name: Text,
     /// What sort of org it is.
-    pub type_word: Text,
+    pub type_word: Word,
     /// The district's own number or name for it.
     pub identifier: Option<Text>,
     /// The org above it.
@@ -59,7 +59,7 @@ impl Org {
     {
         Ok(Org {
             name: blank_text(alloc),
-            type_word: blank_text(alloc),
+            type_word: blank_word(),
             identifier: None,
             parent: None,
         })

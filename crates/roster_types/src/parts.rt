@@ -70,7 +70,7 @@ fn id_of(value: Option<Value>) -> Id
 fn status_of(value: Option<Value>) -> Status
     ensures { result ≡ status_in value }
 {
-    match value {
+    match &value {
         Some(Value::Word(word)) => {
             if word.as_str() == "tobedeleted" {
                 Status::ToBeDeleted

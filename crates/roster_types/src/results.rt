@@ -6,10 +6,10 @@ ghost use Rattle.roster_types.specs.Structs.{score_values};
 ghost use Rattle.roster_values.specs.Shape.{has_shape};
 ghost use Rattle.roster_values.specs.Value.{shown};
 
-use crate::blanks::{blank_day, blank_id, blank_text};
+use crate::blanks::{blank_day, blank_id, blank_word};
 use roster_base::{NoMemory, Text};
 use roster_texts::{Day, Id};
-use roster_values::{Kind, Value, ValueRef};
+use roster_values::{Kind, Value, ValueRef, Word};
 use std::alloc::Global;
 
 /// What a result of a line item says of itself beside its id, its status and its moment.
@@ -20,7 +20,7 @@ pub struct Score {
     /// The student.
     pub student: Id,
     /// How far it has come.
-    pub score_status: Text,
+    pub score_status: Word,
     /// The score.
     pub score: Option<i64>,
     /// The day of the score.
@@ -68,7 +68,7 @@ impl Score {
         Ok(Score {
             line_item: blank_id(alloc)?,
             student: blank_id(alloc)?,
-            score_status: blank_text(alloc),
+            score_status: blank_word(),
             score: None,
             score_date: blank_day(),
             comment: None,

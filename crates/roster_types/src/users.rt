@@ -6,9 +6,9 @@ ghost use Rattle.roster_types.specs.Structs.{user_values};
 ghost use Rattle.roster_values.specs.Shape.{has_shape};
 ghost use Rattle.roster_values.specs.Value.{shown};
 
-use crate::blanks::blank_text;
+use crate::blanks::{blank_text, blank_word};
 use roster_base::{Items, NoMemory, Text};
-use roster_values::{Ids, Kind, Texts, UserIds, Value, ValueRef};
+use roster_values::{Ids, Kind, Texts, UserIds, Value, ValueRef, Word};
 use std::alloc::Global;
 
 /// What a user says of itself beside its id, its status and its moment.
@@ -19,7 +19,7 @@ pub struct User {
     /// The orgs to which the user belongs.
     pub orgs: Ids,
     /// The role.
-    pub role: Text,
+    pub role: Word,
     /// The name with which the user signs in.
     pub username: Text,
     /// The user's ids in other systems.
@@ -99,7 +99,7 @@ impl User {
         Ok(User {
             enabled_user: false,
             orgs: Items::new(alloc),
-            role: blank_text(alloc),
+            role: blank_word(),
             username: blank_text(alloc),
             user_ids: None,
             given_name: blank_text(alloc),

@@ -10,6 +10,7 @@ pub mod read;
 pub mod same;
 pub mod user_id;
 pub mod value;
+pub mod word;
 
 pub use fault::ValueError;
 pub use fields::{FieldForm, FieldInfo};
@@ -20,3 +21,4 @@ pub use read::read_value;
 pub use same::{are_same_fields, is_same_value};
 pub use user_id::{UserId, UserIds};
 pub use value::{Value, ValueRef, copy_value};
+pub use word::Word;

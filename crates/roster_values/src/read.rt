@@ -1,7 +1,6 @@
 //! Reading the value of a field.
 
-ghost use Rattle.std.specs.Prelude.{◌≡◌, true, map, Ok, Some, bytes_eq, IfOk, List, ℕ};
-ghost use Rattle.std.specs.List.{list_any};
+ghost use Rattle.std.specs.Prelude.{◌≡◌, true, map, Ok, Some, bytes_eq, find, IfOk, List, ℕ};
 ghost use Rattle.roster_base.specs.Reading.{Gives};
 ghost use Rattle.roster_texts.specs.Moments.{moment_of, written_day_of};
 ghost use Rattle.roster_texts.specs.Results.{found_or};
@@ -19,6 +18,7 @@ use crate::fields::{FieldForm, FieldInfo};
 use crate::lists::{read_id, read_ids, read_items};
 use crate::user_id::read_user_ids;
 use crate::value::Value;
+use crate::word::Word;
 use roster_base::{Refusal, Text};
 use roster_texts::moment::read_day;
 use roster_texts::number::{read_flag, read_number, read_year};
@@ -83,7 +83,10 @@ fn read_form(
             let flag = read_flag(text).map_err(Refusal::Fault)?;
             Ok(Some(Value::Flag(flag)))
         }
-        FieldForm::Word(words) => Ok(Some(Value::Word(read_word(alloc, words, text)?))),
+        FieldForm::Word(words) => {
+            let word = read_word(words, text).map_err(Refusal::Fault)?;
+            Ok(Some(Value::Word(word)))
+        }
         FieldForm::Texts => read_texts(alloc, required, text),
         FieldForm::UserIds => read_users(alloc, required, text),
         FieldForm::Ref(_) => Ok(Some(Value::Ref(read_id(alloc, text)?))),
@@ -103,20 +106,21 @@ fn written_moment(text: &str) -> Result<Moment, ValueFault>
     Moment::read(text.as_bytes()).ok_or(ValueFault::BadMoment)
 }
 
-#[tactic(auto, using(crate::proofs::WordLemmas::any_listed), unfolding(crate::specs::Values::word_of))]
-fn read_word(alloc: Global, words: &[&str], text: &str) -> Result<Text, ValueError>
-    ensures { Gives (λ t. t) result (word_of (map (λ w. w.now) words.now) text.now) }
+#[tactic(auto, using(crate::proofs::WordLemmas::found_word))]
+fn read_word(words: &[&'static str], text: &str) -> Result<Word, ValueFault>
+    ensures { result ≡ word_of (map (λ w. w.now) words.now) text.now }
 {
-    if !is_listed(words, text) {
-        return Err(Refusal::Fault(ValueFault::NotInList));
+    match listed(words, text) {
+        Some(word) => Ok(Word::new(word)),
+        None => Err(ValueFault::NotInList),
     }
-    Ok(Text::new(alloc, text)?)
 }
 
-fn is_listed(words: &[&str], text: &str) -> bool
-    ensures { result ≡ list_any (λ w. bytes_eq w.now text.now) words.now }
+// The listed word that the text is.
+fn listed(words: &[&'static str], text: &str) -> Option<&'static str>
+    ensures { result ≡ find (λ w. bytes_eq w.now text.now) words.now }
 {
-    words.iter().any(|&word| word == text)
+    words.iter().copied().find(|&word| word == text)
 }
 
 fn read_texts(alloc: Global, required: bool, text: &str) -> Result<Option<Value>, ValueError>

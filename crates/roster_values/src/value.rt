@@ -5,6 +5,7 @@ ghost use Rattle.roster_values.specs.Value.{shown};
 
 use crate::lists::{Ids, Texts};
 use crate::user_id::UserIds;
+use crate::word::Word;
 use roster_base::{NoMemory, Text, TryCopy};
 use roster_texts::{Day, Id, Moment};
 use std::alloc::Global;
@@ -21,7 +22,7 @@ pub enum Value {
     Year(u16),
     Flag(bool),
     /// One of the words that the field allows.
-    Word(Text),
+    Word(Word),
     Texts(Texts),
     UserIds(UserIds),
     /// The id of another record.
@@ -40,7 +41,7 @@ pub enum ValueRef<'a> {
     Number(&'a i64),
     Year(&'a u16),
     Flag(&'a bool),
-    Word(&'a str),
+    Word(&'static str),
     Texts(&'a Texts),
     UserIds(&'a UserIds),
     Ref(&'a Id),
@@ -129,7 +130,7 @@ impl Value {
     }
 
     /// The word of a value that is one.
-    pub fn into_word(self) -> Text
+    pub fn into_word(self) -> Word
         requires { has_shape AWord self ≡ true }
         ensures { self ≡ Value.Word result }
     {
@@ -196,7 +197,7 @@ pub fn copy_value(alloc: Global, value: ValueRef<'_>) -> Result<Value, NoMemory>
         ValueRef::Number(number) => Value::Number(*number),
         ValueRef::Year(year) => Value::Year(*year),
         ValueRef::Flag(flag) => Value::Flag(*flag),
-        ValueRef::Word(word) => Value::Word(Text::new(alloc, word)?),
+        ValueRef::Word(word) => Value::Word(Word::new(word)),
         ValueRef::Texts(texts) => Value::Texts(texts.copy(alloc)?),
         ValueRef::UserIds(user_ids) => Value::UserIds(user_ids.copy(alloc)?),
         ValueRef::Ref(id) => Value::Ref(id.copy(alloc)?),

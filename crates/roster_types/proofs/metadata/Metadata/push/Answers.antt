@@ -1,5 +1,4 @@
-use Rattle.std.proofs.Common.{rules, subst, sym}
-use Rattle.roster_types.specs.Records.{IsMetadata}
+use Rattle.std.proofs.Common.{rules}
 use Rattle.roster_types.proofs.MetadataLaws.{IsMetadata-push}
 use Rattle.roster_types.proofs.metadata.Metadata.push.Goals as goal
 
