@@ -7,19 +7,17 @@ use Rattle.std.specs.Prelude.{IfSome, is_none, is_some}
 use Rattle.copy_keeper.specs.Copies.{Copy, IsCopy, first_unsettled}
 use Rattle.copy_keeper.specs.declared.entry.OutEntry.{OutEntry}
 use Rattle.exchange_link.specs.Causes.{IsLast}
-use Rattle.exchange_link.specs.Exchanges.{Told}
+use Rattle.exchange_link.specs.Exchanges.{Told, wanted_by}
 use Rattle.exchange_link.specs.SendCauses.{IsBetween}
 use Rattle.exchange_link.specs.SendCompleteness.{CanSendAll}
 use Rattle.exchange_link.specs.declared.send_answer.SendAnswer.{SendAnswer}
 use Rattle.exchange_link.specs.declared.send_answer.SendAnswer.TheVariants as answer
 use Rattle.http_wire.specs.Seen.{seen_of}
 use Rattle.http_wire.specs.declared.answer.WireReply.{WireReply}
-use Rattle.hub_requests.specs.Requests.{wanted_by}
 use Rattle.hub_rules.proofs.Growing.{Grew-trans}
 use Rattle.hub_rules.specs.Growth.{Grew}
 use Rattle.hub_rules.specs.States.{IsHub}
-use Rattle.marked_writes.proofs.AgreeLemmas.{settling_keeps, traffic_keeps}
-use Rattle.marked_writes.proofs.AgreeLemmas.{first_of_entry}
+use Rattle.marked_writes.proofs.AgreeLemmas.{first_of_entry, settling_keeps, traffic_keeps}
 use Rattle.marked_writes.proofs.AnswerLemmas.{marked_is, says_write}
 use Rattle.marked_writes.proofs.ShowLemmas.{Bad as BadStatus, Deleted, IsKeptStatus, Missing, Refused, Stored, own_shown, shown_where_it_can, status_kept}
 use Rattle.marked_writes.specs.Agreement.{GivesOnly, IsCaller, IsOfEntry, IsShown, MarksAgree}

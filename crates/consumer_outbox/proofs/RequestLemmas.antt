@@ -11,7 +11,7 @@ use Rattle.marked_writes.proofs.PathLemmas.{encoded_length, text_bytes}
 use Rattle.marked_writes.proofs.SendLemmas.{id_long, request_read}
 use Rattle.marked_writes.specs.Marked.{mark_of, marked_by}
 use Rattle.marked_writes.specs.Sending.{verb_of}
-use Rattle.reference_rules.proofs.KeyOrder.{and_first, and_second}
+use Rattle.hub_rules.proofs.Below.{and_first, and_second}
 use Rattle.roster_texts.specs.Texts.{is_id, is_token}
 use Rattle.roster_types.specs.Hrefs.{encoded_byte, href, is_unreserved}
 use Rattle.roster_values.specs.Kinds.{plural_of}

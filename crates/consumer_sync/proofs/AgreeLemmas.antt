@@ -12,10 +12,9 @@ use Rattle.copy_keeper.specs.declared.state.StageState.{StageState}
 use Rattle.exchange_link.specs.Agreement.{FitsVersion, IsFrontOf, StageFits, StageFitsIf}
 use Rattle.exchange_link.specs.Exchanges.{Told}
 use Rattle.tried_requests.specs.Owning.Gives.{Wants as GivesWant, Broke as GivesFault, Answers as GivesAnswer}
-use Rattle.exchange_link.specs.Sayings.{IsRead, Tells, knows, list_of}
-use Rattle.hub_views.specs.Cuts.{cut}
+use Rattle.exchange_link.specs.Sayings.{Gone, IsRead, Listed, Shut, Tells, Unknown, knows, list_of}
+use Rattle.hub_rules.specs.Below.{cut}
 use Rattle.hub_rules.specs.Checks.{version_at}
-use Rattle.exchange_link.specs.Sayings.{Unknown, Gone, Shut, Listed}
 use Rattle.hub_rules.specs.Growth.{Grew}
 use Rattle.hub_rules.specs.States.{IsHub}
 use Rattle.exchange_link.specs.Pages.{Page, asked_by}

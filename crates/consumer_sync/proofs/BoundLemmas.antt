@@ -12,7 +12,7 @@ use Rattle.copy_keeper.specs.declared.change.CopyChange.TheVariants.{Swap}
 use Rattle.copy_keeper.specs.declared.state.StageState.{StageState}
 use Rattle.exchange_link.specs.Agreement.{StageFitsIf}
 use Rattle.exchange_link.specs.Bounds.{Bounded, HasPin, IsCallPin, pages, rounds, work}
-use Rattle.hub_views.specs.Cuts.{cut}
+use Rattle.hub_rules.specs.Below.{cut}
 use Rattle.exchange_link.specs.Sayings.{list_of}
 use Rattle.hub_rules.specs.Checks.{version_at}
 use Rattle.hub_rules.specs.Growth.{Grew}

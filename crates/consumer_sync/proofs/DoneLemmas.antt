@@ -12,17 +12,16 @@ use Rattle.exchange_link.specs.Agreement.{FitsTotal, FitsVersion, IsFrontOf, Sta
 use Rattle.exchange_link.specs.Causes.{ToldCause}
 use Rattle.exchange_link.specs.Completeness.{StandsAt, first_pin}
 use Rattle.exchange_link.specs.Exchanges.{Told}
-use Rattle.exchange_link.specs.Sayings.{IsRead, list_of}
+use Rattle.exchange_link.specs.Sayings.{Gone, IsRead, Listed, Shut, Unknown, list_of}
 use Rattle.version_core.specs.Grants.{grant_of}
 use Rattle.hub_rules.specs.Verdicts.{newest_in}
 use Rattle.hub_rules.specs.Checks.{version_at}
-use Rattle.exchange_link.specs.Sayings.{Unknown, Gone, Shut, Listed}
 use Rattle.hub_rules.specs.Growth.{Grew}
 use Rattle.hub_rules.specs.States.{IsHub}
 use Rattle.exchange_link.specs.Places.{kind_at, kinds_of, last_of, next_page, pin_of, staged_of, total_of}
 use Rattle.exchange_link.specs.declared.answer.SyncAnswer.{SyncAnswer}
 use Rattle.exchange_link.specs.declared.answer.SyncAnswer.TheVariants as answer
-use Rattle.exchange_link.proofs.CutLemmas.{begun as hub_begun, list_good}
+use Rattle.exchange_link.proofs.CutLemmas.{IsGood, begun as hub_begun, list_good}
 use Rattle.hub_rules.proofs.Cutting.{known_at}
 use Rattle.http_wire.specs.declared.answer.WireReply.{WireReply}
 use Rattle.roster_base.specs.Faults.{Rose}
@@ -45,7 +44,6 @@ use Rattle.tried_requests.proofs.AskLemmas.{grew_on}
 use Rattle.consumer_sync.proofs.KindLemmas.{place_at}
 use Rattle.consumer_sync.proofs.AgreeLemmas.{IsSaid, agrees_if_on}
 use Rattle.consumer_sync.proofs.AgreeLemmas.Given.{Wants, Broke, Answers}
-use Rattle.exchange_link.proofs.CutLemmas.{IsGood}
 use Rattle.hub_rules.proofs.Versions.{newest_at}
 use Rattle.roster_types.specs.Keys.{is_after}
 use Rattle.consumer_sync.specs.Starting.{StartCause}

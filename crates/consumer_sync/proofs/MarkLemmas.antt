@@ -8,11 +8,10 @@ use Rattle.copy_keeper.specs.Copies.{Copy}
 use Rattle.copy_keeper.specs.declared.change.CopyChange.TheVariants.{Drop}
 use Rattle.copy_keeper.specs.declared.state.CopyState.{CopyState}
 use Rattle.exchange_link.specs.Exchanges.{Told}
-use Rattle.exchange_link.specs.Marks.{MarksTold}
+use Rattle.exchange_link.specs.Marks.{MarksAgree, MarksTold}
 use Rattle.exchange_link.specs.Synchronised.{Leaves, own_stage}
 use Rattle.exchange_link.specs.declared.answer.SyncAnswer.{SyncAnswer}
-use Rattle.marked_writes.proofs.AgreeLemmas.{reads_keep}
-use Rattle.marked_writes.specs.Agreement.{MarksAgree}
+use Rattle.exchange_link.proofs.TellLemmas.{reads_keep}
 use Rattle.status_info.specs.declared.request.Request.{Request}
 use Rattle.tried_requests.specs.Beginning.{Enters}
 use Rattle.tried_requests.specs.Requests.{Asks}

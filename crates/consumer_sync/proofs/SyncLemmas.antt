@@ -15,7 +15,7 @@ use Rattle.exchange_link.specs.Agreement.{NoneAbove, StageAgrees, StageFits, Sta
 use Rattle.exchange_link.specs.Causes.{AsksOn, CauseOf, LastLaw, IsAside}
 use Rattle.exchange_link.specs.Completeness.{IsDone}
 use Rattle.exchange_link.specs.Exchanges.{Told}
-use Rattle.hub_views.specs.Cuts.{cut}
+use Rattle.hub_rules.specs.Below.{cut}
 use Rattle.exchange_link.specs.Sayings.{knows}
 use Rattle.hub_rules.specs.Checks.{version_at}
 use Rattle.exchange_link.specs.Places.{kinds_of}

@@ -14,10 +14,8 @@ use Rattle.grant_scopes.specs.declared.grant.Grant.{Grant}
 use Rattle.hub_rules.proofs.Versions.{some_version, version_is}
 use Rattle.hub_rules.specs.Checks.{version_at}
 use Rattle.hub_rules.specs.States.{IsHub}
-use Rattle.hub_views.proofs.ListLemmas.{ascends_kept}
-use Rattle.hub_views.specs.Cuts.{cut, cut_of, kind_cut, no_rows}
-use Rattle.hub_views.specs.Seen.{sees_row}
-use Rattle.reference_rules.proofs.KeyOrder.{and_first, and_second, ids_less, less_from_is_lt}
+use Rattle.hub_rules.proofs.Below.{and_first, and_second, ascends_kept, ids_less, less_from_is_lt}
+use Rattle.hub_rules.specs.Below.{cut, cut_of, kind_cut, no_rows, sees_row}
 use Rattle.roster_types.specs.Keys.{Ascends, count_of, is_after, is_of_kind, key_cmp, keyed, row_key}
 use Rattle.roster_types.specs.Records.{Record}
 use Rattle.roster_values.specs.Kinds.{all_kinds, place_of_kind}

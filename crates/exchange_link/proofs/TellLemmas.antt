@@ -12,22 +12,20 @@ use Rattle.grant_scopes.specs.declared.access.Access.TheVariants.{Read}
 use Rattle.grant_scopes.specs.declared.grant.Grant.{Grant}
 use Rattle.http_wire.specs.Replies.{body_text}
 use Rattle.http_wire.specs.Seen.{seen_of}
-use Rattle.hub_requests.proofs.PageLemmas.{page_says}
-use Rattle.hub_requests.specs.PageRequests.{CanAsk}
-use Rattle.hub_requests.specs.Requests.{AnswersRequest}
+use Rattle.marked_writes.proofs.Below.{page_says}
+use Rattle.marked_writes.specs.Below.{AnswersRequest, CanAsk}
 use Rattle.hub_rules.proofs.Cutting.{kind_in_cut}
 use Rattle.hub_rules.proofs.Versions.{all_at, some_version}
 use Rattle.hub_rules.specs.Asking as asking
 use Rattle.hub_rules.specs.Checks.{version_at}
 use Rattle.hub_rules.specs.States.{HoldsRows, IsHub}
-use Rattle.hub_views.specs.Cuts.{cut_of, kind_cut, list_in, no_rows}
-use Rattle.hub_views.specs.Pages.{slice}
-use Rattle.hub_views.specs.Seen.{seen, sees_row}
+use Rattle.hub_rules.specs.Below.{cut_of, kind_cut, list_in, no_rows, seen, sees_row, slice}
 use Rattle.roster_types.specs.Keys.{is_of_kind}
 use Rattle.roster_types.specs.Records.{Record}
 use Rattle.roster_types.specs.Rows.{IsRow}
 use Rattle.roster_values.specs.Kinds.{all_kinds, place_of_kind}
 use Rattle.roster_values.specs.declared.kind.Kind.{Kind}
+pub use Rattle.marked_writes.proofs.AgreeLemmas.{reads_keep}
 use Rattle.row_json.proofs.RowBack.{collection-back}
 use Rattle.row_json.specs.Json.{collection_text}
 use Rattle.row_json.specs.Reading.{IsHeld, rows_of as rows_in_text}

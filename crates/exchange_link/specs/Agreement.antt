@@ -2,7 +2,7 @@
 use Rattle.std.specs.Prelude.{◌≡◌, ◌<◌, ◌≤◌, ℕ, ◌++◌, true, List, [], ◌∷◌, length, take, Option, Some, None}
 use Rattle.copy_keeper.specs.Copies.{Copy, Stage}
 use Rattle.hub_rules.specs.Checks.{version_at}
-use Rattle.hub_views.specs.Cuts.{cut}
+use Rattle.hub_rules.specs.Below.{cut}
 use Rattle.roster_types.specs.Records.{Record}
 use Rattle.status_info.specs.declared.request.Echo.{Echo}
 use Rattle.status_info.specs.declared.request.Request.{Request}

@@ -3,7 +3,7 @@ use Rattle.std.specs.Prelude.{◌≡◌, ◌⊎◌, ℕ, ◌+◌, ◌-◌, ◌*�
 use Rattle.copy_keeper.specs.Copies.{Stage}
 use Rattle.copy_keeper.specs.declared.state.StageState.{StageState}
 use Rattle.hub_rules.specs.Checks.{version_at}
-use Rattle.hub_views.specs.Cuts.{cut}
+use Rattle.hub_rules.specs.Below.{cut}
 use Rattle.roster_types.specs.Records.{Record}
 use Rattle.version_core.specs.HubStates.{HubState}
 use Rattle.version_core.specs.declared.change.BaseVersion.{BaseVersion}

@@ -6,7 +6,7 @@ use Rattle.http_wire.specs.Replies.{body_text, reply_text}
 use Rattle.http_wire.specs.Seen.{CanRead}
 use Rattle.http_wire.specs.Sending.{CanSend, request_text}
 use Rattle.http_wire.specs.declared.answer.WireReply.{WireReply}
-use Rattle.hub_requests.specs.Requests.{wanted_by}
+pub use Rattle.marked_writes.specs.Below.{AnswersRequest, wanted_by}
 use Rattle.hub_rules.specs.Growth.{Grew}
 use Rattle.hub_rules.specs.Runs.{Replied, Steps, Take}
 use Rattle.hub_rules.specs.States.{IsHub}

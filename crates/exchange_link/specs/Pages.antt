@@ -1,7 +1,7 @@
 -- Requests for pages of the collections, under their numbers.
 use Rattle.std.specs.Prelude.{ℕ, List, Option, Some}
-use Rattle.hub_requests.specs.PageRequests as texts
 use Rattle.hub_rules.specs.Asking.{Asking}
+use Rattle.marked_writes.specs.Below.{page_request as request_of}
 use Rattle.roster_values.specs.declared.kind.Kind.{Kind}
 use Rattle.status_info.specs.declared.request.Echo.{Echo}
 use Rattle.status_info.specs.declared.request.Request.{Request}
@@ -19,4 +19,4 @@ asked_by page = record { kind = page.kind; limit = page.limit; offset = page.off
 
 -- the request under this number
 abbrev pub page_request : Page → Echo → Request
-page_request page echo = texts.page_request page.token (asked_by page) (Some echo)
+page_request page echo = request_of page.token (asked_by page) (Some echo)

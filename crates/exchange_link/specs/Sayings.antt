@@ -3,7 +3,7 @@ use Rattle.std.specs.Prelude.{◌≡◌, ◌<◌, ◌⊎◌, ℕ, Bool, true, fa
 use Rattle.http_wire.specs.declared.answer.WireReply.{WireReply}
 use Rattle.hub_rules.specs.Checks.{version_at}
 use Rattle.hub_rules.specs.Verdicts.{newest_in}
-use Rattle.hub_views.specs.Cuts.{cut}
+use Rattle.hub_rules.specs.Below.{cut}
 use Rattle.roster_types.specs.Records.{Record}
 use Rattle.roster_values.specs.Kinds.{place_of_kind}
 use Rattle.row_json.specs.Reading.{rows_of as rows_in_text}

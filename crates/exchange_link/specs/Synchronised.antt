@@ -5,7 +5,7 @@ use Rattle.copy_keeper.specs.Copies.{Copy, Held, Stage}
 use Rattle.copy_keeper.specs.Lists.{kind_count}
 use Rattle.copy_keeper.specs.declared.state.StageState.{StageState}
 use Rattle.hub_rules.specs.Checks.{version_at}
-use Rattle.hub_views.specs.Cuts.{cut}
+use Rattle.hub_rules.specs.Below.{cut}
 use Rattle.roster_types.specs.Records.{Record}
 use Rattle.version_core.specs.HubStates.{HubState, newest_number}
 use Rattle.exchange_link.specs.declared.answer.SyncAnswer.{SyncAnswer}

@@ -1,10 +1,8 @@
 //! The program `hub`: takes the words and the output, and runs the words over the real folder, clock and store.
 #![tactic(auto)]
 
-use hub_cli::lines::NO_MEMORY;
-use hub_cli::print;
 use outside_ports::{IoSink, Sink};
-use real_run::run_real;
+use real_run::{NO_MEMORY, print, run_real};
 use std::env;
 use std::io::{self, ErrorKind};
 use std::process::ExitCode;

@@ -1,9 +1,9 @@
 -- What `sync` and `list` answer.
 use Rattle.std.specs.Prelude.{◌≡◌, ◌⊎◌, ℕ, List, []}
-use Rattle.consumer_cli.specs.Consumers.{CopyRun, LinkRun}
+pub use Rattle.consumer_cli.specs.Consumers.{CopyRun, LinkRun, copy_run, link_run}
 use Rattle.consumer_cli.specs.Held.{IsHeldText}
-use Rattle.consumer_cli.specs.Syncs.{IsSyncOf}
-use Rattle.consumer_cli.specs.Tasks.{Task}
+pub use Rattle.consumer_cli.specs.Syncs.{IsSyncOf}
+pub use Rattle.consumer_cli.specs.Tasks.{Task}
 use Rattle.copy_keeper.specs.Copies.{Copy}
 use Rattle.exchange_link.specs.declared.answer.SyncAnswer.{SyncAnswer}
 use Rattle.roster_base.specs.Faults.{Rose}

@@ -4,8 +4,9 @@ use Rattle.std.specs.Str.{is_utf8}
 use Rattle.consumer_cli.specs.Consumers.{CopyRun, LinkRun}
 use Rattle.consumer_cli.specs.Outbox.{IsOutboxText}
 use Rattle.consumer_cli.specs.SendLines.{entered_text}
-use Rattle.consumer_cli.specs.Sends.{IsEnterOf, IsSendOf}
-use Rattle.consumer_cli.specs.Tasks.{Object, Sending}
+pub use Rattle.consumer_cli.specs.Sends.{IsEnterOf, IsSendOf}
+use Rattle.consumer_cli.specs.Tasks.{Object}
+pub use Rattle.consumer_cli.specs.Tasks.{Sending}
 use Rattle.copy_keeper.specs.Copies.{max_body}
 use Rattle.exchange_link.specs.declared.send_answer.EnterError.{EnterError}
 use Rattle.exchange_link.specs.declared.send_answer.SendAnswer.{SendAnswer}

@@ -6,7 +6,7 @@ use Rattle.copy_keeper.specs.Changes.{settled_first}
 use Rattle.copy_keeper.specs.Copies.{first_unsettled}
 use Rattle.copy_keeper.specs.declared.entry.OutEntry.{OutEntry}
 use Rattle.copy_keeper.specs.declared.entry.Settled.{Settled}
-use Rattle.grant_changes.proofs.Finding.{all_each, all_two}
+use Rattle.hub_rules.proofs.Below.{all_each, all_two}
 use Rattle.hub_requests.specs.Requests.{wanted_by}
 use Rattle.hub_rules.specs.Growth.{Grew}
 use Rattle.hub_rules.specs.Wanted.{Wanted, mark_number}

@@ -9,8 +9,8 @@ use Rattle.hub_rules.specs.Marked.{same_write}
 use Rattle.hub_rules.specs.Verdicts.{Judged, Judges, Leads, Refused, Repeat, Same, Verdict, held_mark, newest_in}
 use Rattle.hub_rules.specs.Wanted.{Wanted, access_of, allows, is_delete, is_good_mark, is_write, mark_number, takes_writes}
 use Rattle.hub_rules.specs.Written.{done_of, kept_mark, newest_after, outcome_of, state_after, with_kept}
-use Rattle.hub_views.specs.Lists.{kind_of_path}
-use Rattle.reference_rules.proofs.KeyOrder.{and_first, and_second}
+use Rattle.hub_rules.specs.Below.{kind_of_path}
+use Rattle.hub_rules.proofs.Below.{and_first, and_second}
 use Rattle.roster_base.specs.Reading.{◌>>=◌}
 use Rattle.roster_texts.specs.Results.{found_or}
 use Rattle.status_info.specs.Causes.{status_of}

@@ -4,18 +4,16 @@ use Rattle.std.proofs.lemmas.Bool.Decides.{nat_tests}
 use Rattle.std.proofs.lemmas.Slice.Eq.{bytes_eq-Decides}
 use Rattle.std.specs.List.{insert, prefix_len}
 use Rattle.copy_keeper.proofs.CopyLemmas.{same_kind}
-use Rattle.grant_changes.proofs.Finding.{same_text}
+use Rattle.hub_rules.proofs.Below.{and_first, and_second, same_text}
 use Rattle.hub_rules.specs.Marked.{same_flag, same_write}
 use Rattle.hub_rules.specs.Refusals.{delete_refusal, first_of, has_grading_period, is_of_other, is_one_too_many, is_within, put_refusal, refused_if, stored_at}
 use Rattle.hub_rules.specs.Verdicts.{BodyJudged, Leads, NewJudged, PutJudged, PutMakes, Refused, Repeat, Same, Verdict, delete_judged, delete_makes, leads_with}
-use Rattle.hub_views.specs.Seen.{sees}
-use Rattle.reference_rules.proofs.KeyOrder.{and_first, and_second}
+use Rattle.hub_rules.specs.Below.{is_active, marked, sees}
 use Rattle.roster_types.specs.Records.{Record}
 use Rattle.roster_types.specs.declared.owner.Owner.TheVariants.{Caller}
 use Rattle.roster_values.specs.Kinds.{place_of_kind}
 use Rattle.row_json.specs.Puts.{put_of}
 use Rattle.row_json.specs.declared.fault.JsonFault.{JsonFault}
-use Rattle.set_changes.specs.Applying.{is_active, marked}
 use Rattle.version_core.specs.Changes.{change_key, rows_of}
 use Rattle.version_core.specs.Marks.{is_below, mark_at, mark_key, same_mark, with_mark}
 use Rattle.version_core.specs.Order.{put}

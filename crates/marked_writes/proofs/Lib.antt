@@ -1,6 +1,7 @@
 pub mod AgreeLemmas
 pub mod AloneLemmas
 pub mod AnswerLemmas
+pub mod Below
 pub mod JudgeLemmas
 pub mod PathLemmas
 pub mod SendLemmas

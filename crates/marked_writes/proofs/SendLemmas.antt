@@ -2,7 +2,7 @@
 use Rattle.std.proofs.Common.{◌≡◌, ℕ, ◌<◌, Bool, true, false, ◌&&◌, cond, List, [], ◌∷◌, length, nat_lt, IsUtf8, Option, None, Some, refl, sym, ap, ◌∙◌, arith}
 use Rattle.std.proofs.lemmas.Bool.Decides.{nat_tests}
 use Rattle.std.proofs.lemmas.Str.{is_utf8-from_IsUtf8}
-use Rattle.reference_rules.proofs.KeyOrder.{and_first}
+use Rattle.hub_rules.proofs.Below.{and_first}
 use Rattle.hub_paths.specs.Paths.{PathParts as Path}
 use Rattle.hub_paths.specs.Routes.{is_gradebook}
 use Rattle.hub_paths.specs.declared.route.Collection.TheVariants as collection

@@ -2,10 +2,8 @@
 use Rattle.std.proofs.Common.{◌≡◌, ◌≢◌, ℕ, List, [], Option, None, Some, Result, Ok, Err, IfNone, IsSome, refl, sym, ◌∙◌, ap, subst, inl, inr, arith}
 use Rattle.std.specs.Io.KnownBytes.{Appends}
 use Rattle.std.specs.Bool.{⊤}
-use Rattle.consumer_cli.specs.Consumers.{CopyRun, LinkRun, copy_run, link_run}
-use Rattle.consumer_cli.specs.Syncs.{IsSyncOf}
-use Rattle.consumer_cli.specs.Sends.{IsEnterOf, IsSendOf}
-use Rattle.consumer_cli.specs.Tasks.{Sending, Task}
+use Rattle.hub_cli.specs.ConsumerAnswers.{CopyRun, IsSyncOf, LinkRun, Task, copy_run, link_run}
+use Rattle.hub_cli.specs.OutboxAnswers.{IsEnterOf, IsSendOf, Sending}
 use Rattle.copy_keeper.specs.Copies.{Copy, IsCopy}
 use Rattle.copy_keeper.specs.HeldCopy.{HeldCopy, empty_copy}
 use Rattle.exchange_link.specs.Causes.{Caused}

@@ -1,7 +1,7 @@
 -- What a run over the real folder, clock and stores answers, which tell nothing of files, moments and copies.
 use Rattle.std.specs.Prelude.{◌≡◌, ◌≢◌, ⊤, ℕ, List, [], ◌∷◌, Option, None, Some, Result, IsErr, IfNone}
 use Rattle.std.specs.Io.KnownBytes.{Appends}
-use Rattle.consumer_cli.specs.Consumers.{CopyRun, LinkRun, copy_run, link_run}
+use Rattle.hub_cli.specs.ConsumerAnswers.{CopyRun, LinkRun, copy_run, link_run}
 use Rattle.copy_keeper.specs.Copies.{Copy, IsCopy}
 use Rattle.copy_keeper.specs.HeldCopy.{empty_copy}
 use Rattle.outside_ports.specs.Written.{AppendsPart}

@@ -4,4 +4,6 @@
 pub mod run;
 mod store;
 
+pub use hub_cli::lines::NO_MEMORY;
+pub use hub_cli::{print, run_hub};
 pub use run::run_real;

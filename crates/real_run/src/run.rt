@@ -1,7 +1,7 @@
 //! Runs over the real folder, clock and store.
 
 ghost use Rattle.std.specs.Prelude.{◌≡◌, ◌≢◌, IfOk, IsErr, IsSome, None, map, string_bytes};
-ghost use Rattle.consumer_cli.specs.Consumers.{copy_run, link_run};
+ghost use Rattle.hub_cli.specs.ConsumerAnswers.{copy_run, link_run};
 ghost use Rattle.roster_base.specs.Faults.{Rose};
 ghost use Rattle.hub_cli.specs.Words.{keep_in, split, store_in};
 ghost use Rattle.real_run.specs.RealRuns.{AnswersFrom, AnswersOver, IsRealAnswer, Runs, Tells, TellsPart};

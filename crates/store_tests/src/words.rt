@@ -2,10 +2,10 @@
 
 use crate::tables::push_keeper;
 use copy_keeper::MemCopy;
-use hub_cli::run_hub;
 use keeper_memory::HubKeeper;
 use outside_ports::{FixedClock, MemFolder, MemSink};
 use peer_links::NoLink;
+use real_run::run_hub;
 use roster_base::NoMemory;
 use std::alloc::Global;
 

@@ -3,8 +3,7 @@ use Rattle.std.proofs.Common.{◌≡◌, ◌≢◌, ◌<◌, ◌≤◌, ◌⊎�
 use Rattle.std.specs.Prelude.{Result}
 use Rattle.std.proofs.lemmas.List.Elements.{All-append, All-cons, All-nil, All-weaker}
 use Rattle.exchange_link.specs.Agreement.{NotSent}
-use Rattle.exchange_link.specs.Exchanges.{Exchanged, IsLate, IsOwn, SentAs, Told}
-use Rattle.hub_requests.specs.Requests.{AnswersRequest, wanted_by}
+use Rattle.exchange_link.specs.Exchanges.{AnswersRequest, Exchanged, IsLate, IsOwn, SentAs, Told, wanted_by}
 use Rattle.hub_rules.proofs.Growing.{Grew-refl, Grew-trans, step_goes}
 use Rattle.hub_rules.specs.Answers.{sent}
 use Rattle.hub_rules.specs.Growth.{Grew}

@@ -1,8 +1,7 @@
 -- The hub's own reply, as the consumer reads it.
 use Rattle.std.specs.Prelude.{◌≡◌, ◌⊎◌, ◌≤◌, ◌∷◌, ℤ, true, List, Some}
 use Rattle.std.specs.Str.{is_utf8}
-use Rattle.exchange_link.specs.Exchanges.{SentAs, Told}
-use Rattle.hub_requests.specs.Requests.{AnswersRequest}
+use Rattle.exchange_link.specs.Exchanges.{AnswersRequest, SentAs, Told}
 use Rattle.hub_rules.specs.Growth.{Grew}
 use Rattle.hub_rules.specs.States.{IsHub}
 use Rattle.http_wire.specs.Replies.{body_text}

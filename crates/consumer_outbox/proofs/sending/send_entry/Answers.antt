@@ -1,7 +1,7 @@
 use Rattle.std.proofs.Common.{◌≡◌, refl, subst}
 use Rattle.std.specs.Prelude.{is_none}
 use Rattle.copy_keeper.specs.declared.entry.OutEntry.{OutEntry}
-use Rattle.grant_changes.proofs.Finding.{found_passes}
+use Rattle.hub_rules.proofs.Below.{found_passes}
 use Rattle.http_wire.proofs.AnswerLemmas.{one_answer}
 use Rattle.http_wire.specs.declared.answer.WireReply.{WireReply}
 use Rattle.marked_writes.specs.Marked.{mark_of}

@@ -1,0 +1,6 @@
+-- What crates above cite of the crates below this one, which they then needn't list.
+pub use Rattle.hub_views.specs.Cuts.{cut, cut_of, kind_cut, list_in, no_rows}
+pub use Rattle.hub_views.specs.Pages.{slice, whole}
+pub use Rattle.hub_views.specs.Lists.{kind_of_path}
+pub use Rattle.hub_views.specs.Seen.{seen, sees, sees_row}
+pub use Rattle.set_changes.specs.Applying.{is_active, marked}
