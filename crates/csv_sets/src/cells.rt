@@ -18,10 +18,8 @@ pub fn cell_at(cells: &ByteRecord, place: Option<usize>) -> &str
     let Some(bytes) = cells.get(place) else {
         return "";
     };
-    match str::from_utf8(bytes) {
-        Ok(text) => text,
-        Err(_) => unreachable!(),
-    }
+    // Text by the clause above, so it isn't read again.
+    unsafe { str::from_utf8_unchecked(bytes) }
 }
 
 /// The text of the cell at a place, without the spaces at its ends.

@@ -3,6 +3,6 @@ use Rattle.csv.proofs.RecordFacts.{text-of}
 use Rattle.csv.specs.Records.{fields_of}
 use Rattle.csv_sets.proofs.cells.cell_at.Goals as goal
 
-pub unreachable-requires : goal.unreachable-requires
-unreachable-requires c =
-    c.in-Err.ensures.cases.0 (text-of (fields_of c.args.cells.now) c.in-Some.place c.in-Some-get.bytes.now c.requires (sym c.in-Some-get.ensures.value))
+pub from_utf8_unchecked-requires : goal.from_utf8_unchecked-requires
+from_utf8_unchecked-requires c =
+    text-of (fields_of c.args.cells.now) c.in-Some.place c.in-Some-get.bytes.now c.requires (sym c.in-Some-get.ensures.value)
