@@ -61,8 +61,9 @@ fn read_values(
     ensures values { Gives (λ v. v.items) result (values_at mode 0 (table kind) places.now (fields_of cells.now)) }
     ensures fit { IfOk result (λ v. fits_all (table kind) v.items ≡ true) }
 {
-    let mut values = Vec::new(alloc);
-    for (field, info) in fields(kind).iter().enumerate() {
+    let infos = fields(kind);
+    let mut values = Vec::with_capacity(alloc, infos.len())?;
+    for (field, info) in infos.iter().enumerate() {
         let cell = cell_at(cells, places[field]);
         values.push(read_field(alloc, mode, field, info, cell)?)?;
     }

@@ -1,6 +1,6 @@
 -- A struct built from a list of values, one field after another.
-use Rattle.std.proofs.Common.{◌≡◌, ◌≢◌, ℕ, ◌<◌, ◌≤◌, ◌+◌, zero, suc, true, false, Bool, List, [], ◌∷◌, Option, Some, None, length, get_or, set, refl, ap, sym, ◌∙◌, arith, below_more}
-use Rattle.std.proofs.lemmas.List.{get_or-set_other, get_or-set_same, length-set, ext_get_or}
+use Rattle.std.proofs.Common.{◌≡◌, ◌≢◌, ℕ, ◌<◌, ◌≤◌, ◌+◌, ◌-◌, zero, suc, true, false, Bool, List, [], ◌∷◌, Option, Some, None, length, get_or, set, drop, take, refl, ap, subst, sym, ◌∙◌, ⊎_elim, eq-or-lt_of_le, arith}
+use Rattle.std.proofs.lemmas.List.{get_or-set_other, get_or-set_same, get_or-drop, get_or-take, length-set, length-take-le, take-take, ext_get_or}
 use Rattle.std.proofs.lemmas.Bool.{and_parts, and_from}
 use Rattle.roster_values.specs.declared.value.Value.{Value}
 use Rattle.roster_values.specs.Fit.{fits, is_good}
@@ -36,58 +36,61 @@ shapes_fit_length (i ∷ is) (v ∷ vs) h = ap suc (shapes_fit_length is vs (and
 
 pub ruleset building = (shape_at_fits, blank_at, shapes_fit_length)
 
--- the first n values of vs are in row, which is bs from there on, and rest still has the others
-pub record Filling (vs bs row rest : List (Option Value)) (n : ℕ) : Type 0 where
+-- the values of vs from n on are in row, which is bs before them
+pub record Filling (vs bs row : List (Option Value)) (n : ℕ) : Type 0 where
   pub many : length row ≡ length vs
-  pub left : length rest ≡ length vs
-  pub done : (k : ℕ) → k < n → get_or row k None ≡ get_or vs k None
-  pub blank : (k : ℕ) → n ≤ k → get_or row k None ≡ get_or bs k None
-  pub ahead : (k : ℕ) → n ≤ k → get_or rest k None ≡ get_or vs k None
+  pub done : (k : ℕ) → n ≤ k → k < length vs → get_or row k None ≡ get_or vs k None
+  pub blank : (k : ℕ) → k < n → get_or row k None ≡ get_or bs k None
 
-pub filling_ahead : (vs bs row rest : List (Option Value)) (n : ℕ) → Filling vs bs row rest n → (k : ℕ) → n + 1 ≤ k → get_or (set rest n None) k None ≡ get_or vs k None
-filling_ahead vs bs row rest n f k h =
-    let ne : k ≢ n = omega arith in
-    let le : n ≤ k = omega arith in
-    get_or-set_other rest n k None None ne ∙ f.ahead k le
+-- what holds at n and above it
+at_or_above : (P : ℕ → Type 0) (n : ℕ) → P n → ((k : ℕ) → n + 1 ≤ k → P k) → (k : ℕ) → n ≤ k → P k
+at_or_above P n here above k le =
+    ⊎_elim (λ (e : n ≡ k). subst P e here) (λ (lt : n < k). above k (omega arith)) (eq-or-lt_of_le le)
 
-pub filling_put : (vs bs row rest : List (Option Value)) (n : ℕ) (v : Value) → Filling vs bs row rest n → n < length vs → Some v ≡ get_or rest n None → Filling vs bs (set row n (Some v)) (set rest n None) (n + 1)
-filling_put vs bs row rest n v f lt e =
+pub filling_put : (vs bs row : List (Option Value)) (m n : ℕ) (v : Value) → Filling vs bs row m → m ≡ n + 1 → n < length vs → Some v ≡ get_or vs n None → Filling vs bs (set row n (Some v)) n
+filling_put vs bs row m n v f one lt e =
     let within : n < length row = omega (arith, f.many) in
-    let le : n ≤ n = omega arith in
     record {
       many = length-set row n (Some v) ∙ f.many;
-      left = length-set rest n None ∙ f.left;
-      done = below_more _ _
-          (λ k h. let ne : k ≢ n = omega arith in get_or-set_other row n k (Some v) None ne ∙ f.done k h)
-          (get_or-set_same row n (Some v) None within ∙ e ∙ f.ahead n le);
-      blank = λ k h. let ne : k ≢ n = omega arith in let lo : n ≤ k = omega arith in get_or-set_other row n k (Some v) None ne ∙ f.blank k lo;
-      ahead = filling_ahead vs bs row rest n f;
+      done = at_or_above (λ k. k < length vs → get_or (set row n (Some v)) k None ≡ get_or vs k None) n
+          (λ h. get_or-set_same row n (Some v) None within ∙ e)
+          (λ k le h. let ne : k ≢ n = omega arith in let up : m ≤ k = omega arith in get_or-set_other row n k (Some v) None ne ∙ f.done k up h);
+      blank = λ k h. let ne : k ≢ n = omega arith in let lo : k < m = omega arith in get_or-set_other row n k (Some v) None ne ∙ f.blank k lo;
     }
 
-pub filling_skip : (vs bs row rest : List (Option Value)) (n : ℕ) → Filling vs bs row rest n → None ≡ get_or rest n None → (get_or vs n None ≡ None → get_or bs n None ≡ None) → Filling vs bs row (set rest n None) (n + 1)
-filling_skip vs bs row rest n f e same =
-    let le : n ≤ n = omega arith in
-    let none : get_or vs n None ≡ None = sym (f.ahead n le) ∙ sym e in
+pub filling_skip : (vs bs row : List (Option Value)) (m n : ℕ) → Filling vs bs row m → m ≡ n + 1 → None ≡ get_or vs n None → get_or bs n None ≡ None → Filling vs bs row n
+filling_skip vs bs row m n f one e same =
+    let here : n < m = omega arith in
     record {
       many = f.many;
-      left = length-set rest n None ∙ f.left;
-      done = below_more _ _ f.done (f.blank n le ∙ same none ∙ sym none);
-      blank = λ k h. let lo : n ≤ k = omega arith in f.blank k lo;
-      ahead = filling_ahead vs bs row rest n f;
+      done = at_or_above (λ k. k < length vs → get_or row k None ≡ get_or vs k None) n
+          (λ h. f.blank n here ∙ same ∙ e)
+          (λ k le h. let up : m ≤ k = omega arith in f.done k up h);
+      blank = λ k h. let lo : k < m = omega arith in f.blank k lo;
     }
 
-pub filling_done : (vs bs row rest : List (Option Value)) (n : ℕ) → Filling vs bs row rest n → length vs ≤ n → row ≡ vs
-filling_done vs bs row rest n f h =
-    ext_get_or None row vs f.many (λ k lt. let below : k < n = omega (arith, f.many) in f.done k below)
+pub filling_done : (vs bs row : List (Option Value)) → Filling vs bs row 0 → row ≡ vs
+filling_done vs bs row f =
+    ext_get_or None row vs f.many (λ k lt. let low : 0 ≤ k = omega arith in let below : k < length vs = omega (arith, f.many) in f.done k low below)
 
-pub filling_start : (is : List Info) (vs row : List (Option Value)) → row ≡ blank_values is → shapes_fit is vs ≡ true → Filling vs (blank_values is) row vs 0
-filling_start is vs row e h = record {
+pub filling_start : (is : List Info) (vs row : List (Option Value)) (n : ℕ) → row ≡ blank_values is → shapes_fit is vs ≡ true → n ≡ length vs → Filling vs (blank_values is) row n
+filling_start is vs row n e h all = record {
   many = ap length e ∙ shapes_fit_length is vs h;
-  left = refl;
-  done = λ k lt. absurd (omega arith);
-  blank = λ k le. ap (λ xs. get_or xs k None) e;
-  ahead = λ k le. refl;
+  done = λ k le lt. absurd (omega arith);
+  blank = λ k lt. ap (λ xs. get_or xs k None) e;
 }
+
+-- the last value of a front, and those before it
+pub last_taken : (xs front rest : List (Option Value)) (v : Option Value) (first place : ℕ) → 0 < place → first + place ≤ length xs → front ≡ take (first + place) xs
+    → v ≡ get_or front (length front - 1) None → rest ≡ take (length front - 1) front → (v ≡ get_or (drop first xs) (place - 1) None) × (rest ≡ take (first + (place - 1)) xs)
+last_taken xs front rest v first place some all f e r =
+    let many : length front ≡ first + place = ap length f ∙ length-take-le (first + place) xs all in
+    let one : length front - 1 ≡ first + (place - 1) = omega arith in
+    let below : first + (place - 1) < first + place = omega arith in
+    let low : first + (place - 1) ≤ first + place = omega arith in (
+      e ∙ rw (one, f) (get_or-take (first + place) xs (first + (place - 1)) None below ∙ sym (get_or-drop first xs (place - 1) None)),
+      r ∙ rw (one, f) (take-take (first + (place - 1)) (first + place) xs low),
+    )
 
 pub fits_shape_from_fits : (i : Info) (v : Option Value) → fits i v ≡ true → fits_shape i.required (shape_of i.form) v ≡ true
 fits_shape_from_fits i None h = h

@@ -1,5 +1,5 @@
 -- Values that may stand in the fields of a kind.
-use Rattle.std.proofs.Common.{◌≡◌, ◌≤◌, ℕ, zero, suc, ℤ, true, false, List, [], ◌∷◌, Option, Some, None, length, get_or, drop, refl, ap, sym, arith}
+use Rattle.std.proofs.Common.{◌≡◌, ◌≤◌, ◌-◌, ℕ, zero, suc, ℤ, true, false, List, [], ◌∷◌, Option, Some, None, length, get_or, drop, take, refl, ap, sym, arith}
 use Rattle.std.proofs.lemmas.Bool.{and_from, and_parts}
 use Rattle.std.proofs.lemmas.Int.{ints}
 use Rattle.roster_base.specs.Moments.{IsMoment}
@@ -94,15 +94,16 @@ join : (kind : Kind) (id : List ℕ) (status : Status) (modified : ℤ) (vs : Li
     → fits_all (own_fields kind) vs ≡ true → fits_all (table kind) (Some (Id id) ∷ Some (Word (status_word status)) ∷ Some (Moment modified) ∷ vs) ≡ true
 join kind id status modified vs a b c = rw (table-common kind) (joined (own_fields kind) id status modified vs a b c)
 
--- the common fields taken from the front, one by one
-pub taken : (xs ys zs ws : List (Option Value)) (a b c : Option Value) → 3 ≤ length xs → a ≡ get_or xs 0 None → ys ≡ drop 1 xs → b ≡ get_or ys 0 None → zs ≡ drop 1 ys → c ≡ get_or zs 0 None → ws ≡ drop 1 zs
-    → (a ≡ get_or xs 0 None) × (b ≡ get_or xs 1 None) × (c ≡ get_or xs 2 None) × (ws ≡ drop 3 xs)
-taken [] ys zs ws a b c l p q r s t u = absurd (omega arith)
-taken (x ∷ []) ys zs ws a b c l p q r s t u = absurd (omega arith)
-taken (x ∷ y ∷ []) ys zs ws a b c l p q r s t u = absurd (omega arith)
-taken (x ∷ y ∷ z ∷ rest) ys zs ws a b c l p q r s t u =
-    let e : zs ≡ z ∷ rest = rw q at s in
-    (p, rw q at r, rw e at t, rw e at u)
+-- the common fields taken from the end, one by one
+pub taken : (xs ts us vs : List (Option Value)) (a b c : Option Value) → 3 ≤ length xs → ts ≡ take 3 xs → c ≡ get_or ts (length ts - 1) None → us ≡ take (length ts - 1) ts → b ≡ get_or us (length us - 1) None
+    → vs ≡ take (length us - 1) us → a ≡ get_or vs (length vs - 1) None → (a ≡ get_or xs 0 None) × (b ≡ get_or xs 1 None) × (c ≡ get_or xs 2 None)
+taken [] ts us vs a b c l p q r s t u = absurd (omega arith)
+taken (x ∷ []) ts us vs a b c l p q r s t u = absurd (omega arith)
+taken (x ∷ y ∷ []) ts us vs a b c l p q r s t u = absurd (omega arith)
+taken (x ∷ y ∷ z ∷ rest) ts us vs a b c l p q r s t u =
+    let two : us ≡ x ∷ y ∷ [] = rw p at r in
+    let one : vs ≡ x ∷ [] = rw two at t in
+    (rw one at u, rw two at s, rw p at q)
 
 pub fitting_from : (kind made : Kind) (xs values : List (Option Value)) (metadata : List Entry) (id : List ℕ) (status : Status) (modified : ℤ) → fits_all (table kind) xs ≡ true → IsMetadata metadata
     → made ≡ kind → id ≡ id_in (get_or xs 0 None) → modified ≡ moment_in (get_or xs 2 None) → values ≡ drop 3 xs
@@ -144,6 +145,9 @@ three_or_more own vs s = rw s.is (omega arith)
 -- every kind has the three common fields
 pub at_least_three : (kind : Kind) (vs : List (Option Value)) → fits_all (table kind) vs ≡ true → 3 ≤ length vs
 at_least_three kind vs h = three_or_more (own_fields kind) vs (split kind vs h)
+
+pub id_fit : (kind : Kind) (vs : List (Option Value)) → fits_all (table kind) vs ≡ true → fits_parts IdForm true (get_or vs 0 None) ≡ true
+id_fit kind vs h = let s = split kind vs h in rw s.is s.id
 
 pub own_fit : (kind : Kind) (vs : List (Option Value)) → fits_all (table kind) vs ≡ true → fits_all (own_fields kind) (drop 3 vs) ≡ true
 own_fit kind vs h = let s = split kind vs h in rw s.is s.own_fit

@@ -1,6 +1,6 @@
 //! The parts of a row, before its length is tested.
 
-ghost use Rattle.std.specs.Prelude.{◌≡◌, ◌+◌, ◌<◌, ◌≤◌, true, pos, None, Some, IfOk, drop, length, min, option_map, slice_get, slice_index_or, slice_set, sum_by};
+ghost use Rattle.std.specs.Prelude.{◌≡◌, ◌+◌, ◌-◌, ◌<◌, ◌≤◌, true, pos, None, Some, IfOk, OnOk, drop, length, min, option_map, slice_get, slice_index_or, sum_by, take};
 ghost use Rattle.std.specs.Bool.{Decides};
 ghost use Rattle.roster_types.specs.Bounds.{IsBound};
 ghost use Rattle.roster_types.specs.Lengths.{field_length, fields_length, metadata_length, row_length};
@@ -47,13 +47,13 @@ impl Model for RowParts {
     ghost invariant = { AreFitting };
 }
 
-// Takes the first of the values.
-fn take_first(values: &mut Vec<Option<Value>>) -> Option<Value>
+// Takes the last of the values.
+fn take_last(values: &mut Vec<Option<Value>>) -> Option<Value>
     requires { 0 < length values.old.items }
-    ensures first { result ≡ slice_index_or values.old.items 0 None }
-    ensures rest { values.new.items ≡ drop 1 values.old.items }
+    ensures last { result ≡ slice_index_or values.old.items (length values.old.items - 1) None }
+    ensures rest { values.new.items ≡ take (length values.old.items - 1) values.old.items }
 {
-    values.remove(0)
+    values.pop().flatten()
 }
 
 fn id_of(value: Option<Value>) -> Id
@@ -105,30 +105,37 @@ fn moment_of(value: Option<Value>) -> Moment
     }
 }
 
-// Takes the value at a place, and leaves none there.
-fn take_at(values: &mut Vec<Option<Value>>, place: usize) -> Option<Value>
-    requires { place < length values.old.items }
-    ensures value { result ≡ slice_index_or values.old.items place None }
-    ensures rest { values.new.items ≡ slice_set values.old.items place None }
-{
-    values[place].take()
-}
-
-// The struct of the values of a kind's own fields.
+// The struct of the values of a kind's own fields, which stand behind the first ones and are taken from the end.
 #[tactic(auto, using(crate::proofs::Building::building))]
-fn build(alloc: Global, kind: Kind, mut values: Vec<Option<Value>>) -> Result<Fields, NoMemory>
-    requires { shapes_fit (own_fields kind) values.items ≡ true }
-    ensures values { IfOk result (λ f. values_of f ≡ values.items) }
+fn take_fields(
+    alloc: Global,
+    kind: Kind,
+    values: &mut Vec<Option<Value>>,
+    first: usize,
+) -> Result<Fields, NoMemory>
+    requires within { first ≤ length values.old.items }
+    requires shapes { shapes_fit (own_fields kind) (drop first values.old.items) ≡ true }
+    ensures values { IfOk result (λ f. values_of f ≡ drop first values.old.items) }
     ensures kind { IfOk result (λ f. kind_of f ≡ kind) }
+    ensures left { OnOk result (values.new.items ≡ take first values.old.items) }
 {
     let mut fields = Fields::blank(alloc, kind)?;
-    for place in 0..values.len() {
-        match take_at(&mut values, place) {
+    for place in (0..values.len() - first).rev() {
+        match take_last(values) {
             Some(value) => fields.put(place, value),
             None => {}
         }
     }
     Ok(fields)
+}
+
+// The struct of the values of a kind's own fields.
+fn build(alloc: Global, kind: Kind, mut values: Vec<Option<Value>>) -> Result<Fields, NoMemory>
+    requires { shapes_fit (own_fields kind) values.items ≡ true }
+    ensures values { IfOk result (λ f. values_of f ≡ values.items) }
+    ensures kind { IfOk result (λ f. kind_of f ≡ kind) }
+{
+    take_fields(alloc, kind, &mut values, 0)
 }
 
 impl RowParts {
@@ -142,15 +149,16 @@ impl RowParts {
         requires { fits_all (table kind) values.items ≡ true }
         ensures { IfOk result (λ r. r ≡ record_from kind values.items metadata) }
     {
-        let id = id_of(take_first(&mut values));
-        let status = status_of(take_first(&mut values));
-        let modified = moment_of(take_first(&mut values));
+        let fields = take_fields(alloc, kind, &mut values, COMMON_FIELDS)?;
+        let modified = moment_of(take_last(&mut values));
+        let status = status_of(take_last(&mut values));
+        let id = id_of(take_last(&mut values));
         let _ = metadata.entries();
         Ok(RowParts {
             id,
             status,
             modified,
-            fields: build(alloc, kind, values)?,
+            fields,
             metadata,
         })
     }
@@ -381,7 +389,7 @@ impl RowParts {
     fn copied_values(&self, alloc: Global) -> Result<Vec<Option<Value>>, NoMemory>
         ensures { IfOk result (λ v. v.items ≡ self.now.values) }
     {
-        let mut copied = Vec::new(alloc);
+        let mut copied = Vec::with_capacity(alloc, self.own_len())?;
         for place in 0..self.own_len() {
             match self.fields.value(place) {
                 Some(value) => copied.push(Some(copy_value(alloc, value)?))?,

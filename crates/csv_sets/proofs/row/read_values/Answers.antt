@@ -9,31 +9,31 @@ use Rattle.csv_sets.proofs.row.read_values.Goals as goal
 
 pub returns-in_err-read_field-clause-values : goal.returns-in_err-read_field-clause-values
 returns-in_err-read_field-clause-values c =
-    let whole : length (table c.args.kind) ≡ length c.fields-info-items.result.now = sym (ap length c.fields-info-items.ensures) ∙ length-map c.fields-info-items.result.now info_of in
+    let whole : length (table c.args.kind) ≡ length c.fields-infos.result.now = sym (ap length c.fields-infos.ensures) ∙ length-map c.fields-infos.result.now info_of in
     let within : c.loop-field.field < length c.args.places.now = omega arith in
-    let p = err_from_is_err_and c.from_residual.result c.from_residual.ensures.1 in
+    let p = err_from_is_err_and c.from_residual-in_err-read_field.result c.from_residual-in_err-read_field.ensures.1 in
     rw (p.1, p.2)
-    (walks_fail (info_of (get_or c.fields-info-items.result.now c.loop-field.field _)) (get_or c.args.places.now c.loop-field.field _) _ _ c.in_err-read_field.field-0.0 c.loop-field.invariant
-    (next_field _ _ _ _ _ c.fields-info-items.ensures (omega arith) refl)
+    (walks_fail (info_of (get_or c.fields-infos.result.now c.loop-field.field _)) (get_or c.args.places.now c.loop-field.field _) _ _ c.in_err-read_field.field-0.0 c.loop-field.invariant
+    (next_field _ _ _ _ _ c.fields-infos.ensures (omega arith) refl)
     (next_item _ _ _ _ within refl)
     (rw c.cell_at-cell.ensures at c.in_err-read_field.ensures))
 
 pub loop-field-preserved : goal.loop-field-preserved
 loop-field-preserved c =
-    let whole : length (table c.args.kind) ≡ length c.fields-info-items.result.now = sym (ap length c.fields-info-items.ensures) ∙ length-map c.fields-info-items.result.now info_of in
+    let whole : length (table c.args.kind) ≡ length c.fields-infos.result.now = sym (ap length c.fields-infos.ensures) ∙ length-map c.fields-infos.result.now info_of in
     let within : c.loop-field.field < length c.args.places.now = omega arith in
     rw c.in_ok-push.ensures.items
-    (walks_on (info_of (get_or c.fields-info-items.result.now c.loop-field.field _)) (get_or c.args.places.now c.loop-field.field _) c.in_ok-read_field.field-0 c.loop-field.invariant
-    (next_field _ _ _ _ _ c.fields-info-items.ensures (omega arith) refl)
+    (walks_on (info_of (get_or c.fields-infos.result.now c.loop-field.field _)) (get_or c.args.places.now c.loop-field.field _) c.in_ok-read_field.field-0 c.loop-field.invariant
+    (next_field _ _ _ _ _ c.fields-infos.ensures (omega arith) refl)
     (next_item _ _ _ _ within refl)
     (rw c.cell_at-cell.ensures at c.in_ok-read_field.ensures))
 
 pub returns-clause-values : goal.returns-clause-values
 returns-clause-values c =
-    let whole : length (table c.args.kind) ≡ length c.fields-info-items.result.now = sym (ap length c.fields-info-items.ensures) ∙ length-map c.fields-info-items.result.now info_of in
+    let whole : length (table c.args.kind) ≡ length c.fields-infos.result.now = sym (ap length c.fields-infos.ensures) ∙ length-map c.fields-infos.result.now info_of in
     (walks_end c.loop-field.invariant (omega arith)).0
 
 pub returns-clause-fit : goal.returns-clause-fit
 returns-clause-fit c =
-    let whole : length (table c.args.kind) ≡ length c.fields-info-items.result.now = sym (ap length c.fields-info-items.ensures) ∙ length-map c.fields-info-items.result.now info_of in
+    let whole : length (table c.args.kind) ≡ length c.fields-infos.result.now = sym (ap length c.fields-infos.ensures) ∙ length-map c.fields-infos.result.now info_of in
     (walks_end c.loop-field.invariant (omega arith)).1
