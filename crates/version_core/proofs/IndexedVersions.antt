@@ -1,5 +1,5 @@
 -- Versions whose rows are indexed.
-use Rattle.std.proofs.Common.{◌≡◌, suc, Bool, true, false, ◌||◌, cond, List, [], ◌∷◌, ◌++◌, None, Some, length, option_map, refl, sym, ap, subst, ◌∙◌, arith}
+use Rattle.std.proofs.Common.{◌≡◌, ℕ, ℤ, suc, ◌+◌, Bool, true, false, ◌||◌, cond, List, [], ◌∷◌, ◌++◌, None, Some, length, option_map, refl, sym, ap, subst, ◌∙◌, arith}
 use Rattle.std.proofs.lemmas.List.Folds.{list_any-append}
 use Rattle.std.proofs.lemmas.List.Sorted.{list_any-IsPermutation}
 use Rattle.std.specs.List.{AllByRecursion, AllWithin, list_any}
@@ -11,11 +11,14 @@ use Rattle.roster_types.specs.Records.{Record}
 use Rattle.roster_values.specs.Kinds.{place_of_kind}
 use Rattle.version_core.specs.Changes.{change_key, rows_of}
 use Rattle.version_core.specs.Order.{overlaid}
-use Rattle.version_core.specs.RefIndex.{AreIndexed, IsIndexed, Keeps, says}
-use Rattle.version_core.specs.VersionLog.{IsVersionIndexed}
+use Rattle.version_core.specs.History.{Past}
+use Rattle.version_core.specs.RefIndex.{AreIndexed, IsIndexed, Keeps, StayIndexed, says}
+use Rattle.version_core.specs.VersionLog.{IsVersionIndexed, versions_at}
 use Rattle.version_core.specs.declared.change.BaseVersion.{BaseVersion}
+use Rattle.version_core.specs.declared.grant_row.GrantRow.{GrantRow}
 use Rattle.version_core.specs.declared.ref_index.RefEntry.{RefEntry}
 use Rattle.version_core.specs.declared.row_change.RowChange.{RowChange}
+use Rattle.version_core.specs.declared.since.Since.{Since}
 use Rattle.version_core.proofs.OrderLemmas.{look_up-overlaid}
 use Rattle.version_core.proofs.RoomLemmas.{all_weaken}
 use Rattle.version_core.proofs.RowsOf.{look_up-rows_of}
@@ -53,6 +56,11 @@ module _ (old new : List (List RefEntry)) (keeps : Keeps old new) where
 
   pub versions_stay : (versions : List BaseVersion) → AllByRecursion (IsVersionIndexed old) versions → AllByRecursion (IsVersionIndexed new) versions
   versions_stay versions all = all_weaken (IsVersionIndexed old) (IsVersionIndexed new) versions (λ v. rows_stay (rows_of v.rows)) all
+
+-- the same of versions that are read from pasts
+pub kept_versions_stay : (old new : List (List RefEntry)) (pasts : List Past) → StayIndexed pasts old new → (grants : List (Since (List GrantRow))) (number : ℕ) (moments : List ℤ) → AllByRecursion (IsVersionIndexed old) (versions_at number moments pasts grants) → AllByRecursion (IsVersionIndexed new) (versions_at number moments pasts grants)
+kept_versions_stay old new pasts stay grants number [] all = tt
+kept_versions_stay old new pasts stay grants number (moment ∷ moments) all = (stay number all.0, kept_versions_stay old new pasts stay grants (number + 1) moments all.1)
 
 -- one run more
 pub keeps_push : (runs : List (List RefEntry)) (run : List RefEntry) → Keeps runs (runs ++ run ∷ [])

@@ -5,6 +5,7 @@ pub mod HistoryLemmas
 pub mod HistoryNext
 pub mod IndexLemmas
 pub mod IndexedVersions
+pub mod KeptLemmas
 pub mod KindCounts
 pub mod MarkLemmas
 pub mod MergeLemmas

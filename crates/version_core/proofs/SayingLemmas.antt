@@ -25,12 +25,12 @@ any_at p [] i lt passes = absurd (omega arith)
 any_at p (x ∷ xs) zero lt passes = or_left _ _ (passes x)
 any_at p (x ∷ xs) (suc i) lt passes = or_right _ _ (any_at p xs i (omega arith) passes)
 
-first_tied : (o s : Ordering) → ordering_then o s ≡ Equal → o ≡ Equal
+pub first_tied : (o s : Ordering) → ordering_then o s ≡ Equal → o ≡ Equal
 first_tied Less s e = cc
 first_tied Equal s e = refl
 first_tied Greater s e = cc
 
-second_tied : (o s : Ordering) → ordering_then o s ≡ Equal → s ≡ Equal
+pub second_tied : (o s : Ordering) → ordering_then o s ≡ Equal → s ≡ Equal
 second_tied Less s e = cc
 second_tied Equal s e = e
 second_tied Greater s e = cc

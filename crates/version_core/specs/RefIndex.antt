@@ -1,7 +1,7 @@
 -- An index of references: for fields and ids the ids of the rows that name them there.
-use Rattle.std.specs.Prelude.{◌≡◌, ◌&&◌, ℕ, Bool, true, false, not, List, [], Option, None, Some, bytes_eq, if◌then◌else◌, length, option_and_then}
+use Rattle.std.specs.Prelude.{◌≡◌, ◌&&◌, ◌+◌, ◌<◌, ◌≤◌, ℕ, Bool, true, false, not, List, [], Option, None, Some, bytes_eq, filter, if◌then◌else◌, length, map, option_and_then}
 use Rattle.std.specs.Cmp.Lexicographic.{slice_cmp}
-use Rattle.std.specs.List.{AllWithin, list_any}
+use Rattle.std.specs.List.{AllByRecursion, AllWithin, list_any, sum_by}
 use Rattle.std.specs.List.Sorted.{IsSortedBy}
 use Rattle.std.specs.Option.{option_map_or}
 use Rattle.std.specs.Ordering.{is_eq, is_gt, is_lt, nat_cmp, ordering_then}
@@ -10,7 +10,9 @@ use Rattle.roster_types.specs.Keys.{Key, look_up, row_key}
 use Rattle.roster_types.specs.Records.{Record, place_in}
 use Rattle.roster_values.specs.Kinds.{place_of_kind}
 use Rattle.roster_values.specs.Table.{table}
-use Rattle.version_core.specs.References.{names}
+use Rattle.version_core.specs.Changes.{rows_of}
+use Rattle.version_core.specs.History.{Past, past_key, rows_at}
+use Rattle.version_core.specs.References.{names, names_at}
 use Rattle.version_core.specs.declared.ref_index.RefEntry.{RefEntry}
 
 -- a kind and a field of it by their places, and an id that the field names
@@ -107,3 +109,23 @@ Keeps old new = (p : RefEntry → Bool) → list_any (list_any p) old ≡ true �
 -- each row is indexed
 abbrev pub AreIndexed : List (List RefEntry) → List Record → Type 0
 AreIndexed runs rows = (row : Record) → look_up row_key (row_key row) rows ≡ Some row → IsIndexed runs row
+
+-- one of the rows that stood under a kind and id names the target in the field at the place
+abbrev pub some_names : ℕ → List ℕ → Past → Bool
+some_names place target past = list_any (λ since. names_at place target since.value.row) past
+
+-- a row of the pasts names what the entry says
+abbrev pub is_kept : List Past → RefEntry → Bool
+is_kept pasts entry = option_map_or (some_names entry.place entry.target) (look_up past_key (place_of_kind entry.kind, entry.id) pasts) false
+
+-- each entry is said by a row of the pasts
+abbrev pub AreKept : List Past → List (List RefEntry) → Type 0
+AreKept pasts runs = AllByRecursion (AllByRecursion (λ entry. is_kept pasts entry ≡ true)) runs
+
+-- the rows of each version that are indexed by one are indexed by the other
+abbrev pub StayIndexed : List Past → List (List RefEntry) → List (List RefEntry) → Type 0
+StayIndexed pasts old new = (version : ℕ) → AreIndexed old (rows_of (rows_at version pasts)) → AreIndexed new (rows_of (rows_at version pasts))
+
+-- how many entries runs have
+abbrev pub size : List (List RefEntry) → ℕ
+size runs = sum_by length runs

@@ -1,8 +1,8 @@
 -- What the fields of rows refer to.
-use Rattle.std.specs.Prelude.{ℕ, ◌&&◌, Bool, List, [], ◌∷◌, Option, Some, bytes_eq, find}
+use Rattle.std.specs.Prelude.{ℕ, ◌&&◌, Bool, List, [], ◌∷◌, Option, None, Some, bytes_eq, find, slice_index_or}
 use Rattle.std.specs.List.{list_any}
 use Rattle.roster_types.specs.Keys.{is_after, is_of_kind}
-use Rattle.roster_types.specs.Records.{Record, field_of}
+use Rattle.roster_types.specs.Records.{Record, all_values, field_of}
 use Rattle.roster_values.specs.declared.kind.Kind.{Kind}
 use Rattle.roster_values.specs.declared.value.Value.{Value}
 use Rattle.roster_values.specs.declared.value.Value.TheVariants.{Ref, Refs}
@@ -22,6 +22,10 @@ named_in field row = refs_in (field_of row field)
 -- the field names the id
 abbrev pub names : List ℕ → List ℕ → Record → Bool
 names field id row = is_one_of (named_in field row) id
+
+-- the field at a place names the id
+abbrev pub names_at : ℕ → List ℕ → Record → Bool
+names_at place id row = is_one_of (refs_in (slice_index_or (all_values row) place None)) id
 
 -- a row of the kind whose field names the id
 abbrev pub refers : Kind → List ℕ → List ℕ → Record → Bool

@@ -7,6 +7,7 @@ pub mod grant_row;
 mod histories;
 mod history;
 pub mod hub_tables;
+mod kept_refs;
 pub mod mark;
 pub mod marks;
 pub mod merge;

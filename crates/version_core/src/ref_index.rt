@@ -1,6 +1,6 @@
 //! An index of references.
 
-ghost use Rattle.std.specs.Prelude.{◌&&◌, ◌≡◌, ◌∷◌, [], List, OnOk, length, option_copied, true, ℕ};
+ghost use Rattle.std.specs.Prelude.{◌&&◌, ◌≡◌, ◌∷◌, [], List, OnOk, filter, length, option_copied, true, ℕ};
 ghost use Rattle.roster_types.specs.Keys.{is_after, look_up, row_key};
 ghost use Rattle.roster_values.specs.Kinds.{place_of_kind};
 ghost use Rattle.version_core.specs.History.{ArePasts, pasts_of, rows_at};
@@ -12,6 +12,7 @@ ghost use Rattle.version_core.specs.RefIndex as spec;
 
 use crate::histories::found;
 use crate::history::History;
+use crate::kept_refs::is_kept;
 use crate::references::{lent_field, names, place_of};
 use crate::row_change::RowChange;
 use roster_base::NoMemory;
@@ -341,5 +342,13 @@ impl RefRun {
         self.entries.append(&mut other.entries)?;
         self.entries.sort_unstable_by(compare_entries);
         Ok(())
+    }
+
+    /// Lets the entries go that no row of the histories names. No memory is taken.
+    pub fn keep(&mut self, histories: &[History])
+        requires { ArePasts (pasts_of histories.now) }
+        ensures { self.new ≡ filter (spec.is_kept (pasts_of histories.now)) self.old }
+    {
+        self.entries.retain(|entry| is_kept(histories, entry));
     }
 }

@@ -1,8 +1,10 @@
 //! The runs of an index of references.
 
-ghost use Rattle.std.specs.Prelude.{◌≡◌, ◌+◌, ◌≤◌, true, OnOk, length, vec_len};
-ghost use Rattle.version_core.specs.RefIndex.{Keeps};
+ghost use Rattle.std.specs.Prelude.{◌≡◌, ◌+◌, ◌*◌, ◌<◌, ◌≤◌, true, false, OnOk, filter, length, map, vec_len};
+ghost use Rattle.version_core.specs.History.{ArePasts, pasts_of};
+ghost use Rattle.version_core.specs.RefIndex.{AreKept, Keeps, StayIndexed, is_kept, size};
 
+use crate::history::History;
 use crate::ref_index::{RefEntry, RefRun, in_order, one_says};
 use crate::references::{lent_field, place_of};
 use crate::row_change::RowChange;
@@ -152,4 +154,58 @@ pub fn add_run(alloc: Global, runs: &mut Vec<RefRun>, changes: &[RowChange]) -> 
     }
     runs.push(run)?;
     join_long(runs)
+}
+
+// Lets the entries go that no row of the histories names. No memory is taken.
+fn keep_all(runs: &mut Vec<RefRun>, histories: &[History])
+    requires { ArePasts (pasts_of histories.now) }
+    ensures { runs.new.items ≡ map (filter (is_kept (pasts_of histories.now))) runs.old.items }
+{
+    for place in 0..runs.len() {
+        runs[place].keep(histories);
+    }
+}
+
+// Whether there are more entries than so many.
+fn are_above(runs: &[RefRun], limit: usize) -> bool
+    ensures above { result ≡ true → limit < size runs.now }
+    ensures within { result ≡ false → size runs.now ≤ limit }
+{
+    let mut room = limit;
+    for run in runs {
+        let count = run.entries().len();
+        if room < count {
+            return true;
+        }
+        room -= count;
+    }
+    false
+}
+
+/// Twice as many entries as there are, and a few: so many may be there before rows are asked which they still name.
+pub fn limit_of(runs: &[RefRun]) -> usize
+    ensures { result ≤ 2 * size runs.now + 16 }
+{
+    let mut limit = 16usize;
+    for run in runs {
+        let count = run.entries().len();
+        limit = limit.saturating_add(count).saturating_add(count);
+    }
+    limit
+}
+
+/// Lets the entries go that no row of the histories names, where there are more than so many, and answers how many may be there until
+/// the next time. So each entry that is added pays for the look at another. No memory is taken.
+pub fn sweep(runs: &mut Vec<RefRun>, limit: usize, histories: &[History]) -> usize
+    requires { ArePasts (pasts_of histories.now) }
+    ensures stay { StayIndexed (pasts_of histories.now) runs.old.items runs.new.items }
+    ensures kept { limit < size runs.old.items → AreKept (pasts_of histories.now) runs.new.items }
+    ensures limit { limit < size runs.old.items → result ≤ 2 * size runs.new.items + 16 }
+    ensures same { size runs.old.items ≤ limit → result ≡ limit }
+{
+    if !are_above(runs, limit) {
+        return limit;
+    }
+    keep_all(runs, histories);
+    limit_of(runs)
 }

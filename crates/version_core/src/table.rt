@@ -100,6 +100,8 @@ impl Table {
         ensures ok { OnOk result (self.new ≡ record self.old { room = Some (map change_key change.now.rows) }) }
         ensures err { OnErr result (self.new ≡ record self.old { room = None }) }
     {
+        // Here and not in `add`, so that what a change named that was never added goes too.
+        self.log.sweep();
         self.log.reserve(change)
     }
 

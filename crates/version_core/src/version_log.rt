@@ -13,7 +13,7 @@ use crate::grant_row::GrantRow;
 use crate::histories::{put_rows, trim_all};
 use crate::history::{History, Place};
 use crate::ref_index::{RefRun, are_said, stay_said};
-use crate::ref_runs::runs_of;
+use crate::ref_runs::{limit_of, runs_of, sweep};
 use crate::reserved::{RowKey, keys_of, make_room, reserve_places};
 use crate::row_change::RowChange;
 use crate::since::{Since, standing, trim};
@@ -41,8 +41,10 @@ pub struct VersionLog {
     fresh: Vec<Place>,
     // For the rows of which kinds and ids there is room.
     room: Option<Vec<RowKey>>,
-    // What rows name, in runs of which each but the first has less than half as many entries as the one before.
+    // What rows name, in runs whose number is at most logarithmic in that of the entries.
     refs: Vec<RefRun>,
+    // How many entries they may have before those go that no row names.
+    limit: usize,
     // Whether `refs` has all that the rows of the versions name.
     is_indexed: bool,
 }
@@ -75,6 +77,7 @@ impl VersionLog {
             fresh: Vec::new(alloc),
             room: None,
             refs: Vec::new(alloc),
+            limit: 0,
             is_indexed: true,
         }
     }
@@ -88,6 +91,7 @@ impl VersionLog {
         let histories = histories_of(alloc, base.number, base.rows.as_slice())?;
         let refs = runs_of(alloc, base.rows.as_slice())?;
         let is_indexed = are_said(&refs, base.rows.as_slice());
+        let limit = limit_of(&refs);
         Ok(VersionLog {
             alloc,
             number: base.number,
@@ -99,6 +103,7 @@ impl VersionLog {
             fresh: Vec::new(alloc),
             room: None,
             refs,
+            limit,
             is_indexed,
         })
     }
@@ -176,6 +181,13 @@ impl VersionLog {
         )?;
         self.room = Some(keys);
         Ok(())
+    }
+
+    /// Lets go what the index says and no row of the versions does, where that may be as much as the rest. No memory is taken.
+    pub fn sweep(&mut self)
+        ensures { self.new ≡ self.old }
+    {
+        self.limit = sweep(&mut self.refs, self.limit, &self.histories);
     }
 
     /// Adds the newest version. No memory is taken.
