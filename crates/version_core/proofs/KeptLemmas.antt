@@ -66,11 +66,12 @@ said_parts : (named : Named) (id : List ℕ) (entry : RefEntry) → says named i
 unfolding is_of
 said_parts named id entry said =
     let tied = equal_from_is_eq _ (and_first _ _ said) in
-    let fields = first_tied (ordering_then (nat_cmp (place_of_kind entry.kind) named.0) (nat_cmp entry.place named.1)) (slice_cmp nat_cmp entry.target named.2) tied in
-    (exact_unsigned _ _ (first_tied (nat_cmp (place_of_kind entry.kind) named.0) (nat_cmp entry.place named.1) fields),
-    exact_unsigned _ _ (second_tied (nat_cmp (place_of_kind entry.kind) named.0) (nat_cmp entry.place named.1) fields),
-    exact_bytes _ _ (second_tied (ordering_then (nat_cmp (place_of_kind entry.kind) named.0) (nat_cmp entry.place named.1)) (slice_cmp nat_cmp entry.target named.2) tied),
-    (bytes_eq-Decides entry.id id).0 (and_second _ _ said))
+    let fields = first_tied (ordering_then (nat_cmp (place_of_kind entry.kind) named.0) (nat_cmp entry.place named.1)) (slice_cmp nat_cmp entry.target named.2) tied in (
+      exact_unsigned _ _ (first_tied (nat_cmp (place_of_kind entry.kind) named.0) (nat_cmp entry.place named.1) fields),
+      exact_unsigned _ _ (second_tied (nat_cmp (place_of_kind entry.kind) named.0) (nat_cmp entry.place named.1) fields),
+      exact_bytes _ _ (second_tied (ordering_then (nat_cmp (place_of_kind entry.kind) named.0) (nat_cmp entry.place named.1)) (slice_cmp nat_cmp entry.target named.2) tied),
+      (bytes_eq-Decides entry.id id).0 (and_second _ _ said),
+    )
 
 module _ (pasts : List Past) (are : ArePasts pasts) (version : ℕ) where
   -- a row that stands at the version names what is kept
