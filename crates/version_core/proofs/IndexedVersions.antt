@@ -1,5 +1,5 @@
 -- Versions whose rows are indexed.
-use Rattle.std.proofs.Common.{◌≡◌, ℕ, ℤ, suc, ◌+◌, Bool, true, false, ◌||◌, cond, List, [], ◌∷◌, ◌++◌, None, Some, length, option_map, refl, sym, ap, subst, ◌∙◌, arith}
+use Rattle.std.proofs.Common.{◌≡◌, ℕ, ℤ, suc, ◌+◌, ◌≤◌, Bool, true, false, ◌||◌, cond, List, [], ◌∷◌, ◌++◌, None, Some, length, option_map, refl, sym, ap, subst, ◌∙◌, arith}
 use Rattle.std.proofs.lemmas.List.Folds.{list_any-append}
 use Rattle.std.proofs.lemmas.List.Sorted.{list_any-IsPermutation}
 use Rattle.std.specs.List.{AllByRecursion, AllWithin, list_any}
@@ -57,10 +57,11 @@ module _ (old new : List (List RefEntry)) (keeps : Keeps old new) where
   pub versions_stay : (versions : List BaseVersion) → AllByRecursion (IsVersionIndexed old) versions → AllByRecursion (IsVersionIndexed new) versions
   versions_stay versions all = all_weaken (IsVersionIndexed old) (IsVersionIndexed new) versions (λ v. rows_stay (rows_of v.rows)) all
 
--- the same of versions that are read from pasts
-pub kept_versions_stay : (old new : List (List RefEntry)) (pasts : List Past) → StayIndexed pasts old new → (grants : List (Since (List GrantRow))) (number : ℕ) (moments : List ℤ) → AllByRecursion (IsVersionIndexed old) (versions_at number moments pasts grants) → AllByRecursion (IsVersionIndexed new) (versions_at number moments pasts grants)
-kept_versions_stay old new pasts stay grants number [] all = tt
-kept_versions_stay old new pasts stay grants number (moment ∷ moments) all = (stay number all.0, kept_versions_stay old new pasts stay grants (number + 1) moments all.1)
+-- versions that are read from pasts, from the oldest on
+pub kept_versions_stay : (oldest : ℕ) (old new : List (List RefEntry)) (pasts : List Past) → StayIndexed oldest pasts old new → (grants : List (Since (List GrantRow))) (number : ℕ) (moments : List ℤ) → oldest ≤ number
+    → AllByRecursion (IsVersionIndexed old) (versions_at number moments pasts grants) → AllByRecursion (IsVersionIndexed new) (versions_at number moments pasts grants)
+kept_versions_stay oldest old new pasts stay grants number [] le all = tt
+kept_versions_stay oldest old new pasts stay grants number (moment ∷ moments) le all = (stay number le all.0, kept_versions_stay oldest old new pasts stay grants (number + 1) moments (omega (arith, le)) all.1)
 
 -- one run more
 pub keeps_push : (runs : List (List RefEntry)) (run : List RefEntry) → Keeps runs (runs ++ run ∷ [])

@@ -1,5 +1,5 @@
 -- An index of references: for fields and ids the ids of the rows that name them there.
-use Rattle.std.specs.Prelude.{◌≡◌, ◌&&◌, ◌+◌, ◌<◌, ◌≤◌, ℕ, Bool, true, false, not, List, [], Option, None, Some, bytes_eq, filter, if◌then◌else◌, length, map, option_and_then}
+use Rattle.std.specs.Prelude.{◌≡◌, ◌&&◌, ◌≤◌, ℕ, Bool, true, false, not, List, [], Option, None, Some, bytes_eq, if◌then◌else◌, length, option_and_then}
 use Rattle.std.specs.Cmp.Lexicographic.{slice_cmp}
 use Rattle.std.specs.List.{AllByRecursion, AllWithin, list_any, sum_by}
 use Rattle.std.specs.List.Sorted.{IsSortedBy}
@@ -13,6 +13,7 @@ use Rattle.roster_values.specs.Table.{table}
 use Rattle.version_core.specs.Changes.{rows_of}
 use Rattle.version_core.specs.History.{Past, past_key, rows_at}
 use Rattle.version_core.specs.References.{names, names_at}
+use Rattle.version_core.specs.Since.{some_from}
 use Rattle.version_core.specs.declared.ref_index.RefEntry.{RefEntry}
 
 -- a kind and a field of it by their places, and an id that the field names
@@ -110,21 +111,21 @@ Keeps old new = (p : RefEntry → Bool) → list_any (list_any p) old ≡ true �
 abbrev pub AreIndexed : List (List RefEntry) → List Record → Type 0
 AreIndexed runs rows = (row : Record) → look_up row_key (row_key row) rows ≡ Some row → IsIndexed runs row
 
--- one of the rows that stood under a kind and id names the target in the field at the place
-abbrev pub some_names : ℕ → List ℕ → Past → Bool
-some_names place target past = list_any (λ since. names_at place target since.value.row) past
+-- a row that stands at a version from this one on names what the entry says
+abbrev pub is_kept : ℕ → List Past → RefEntry → Bool
+is_kept oldest pasts entry = option_map_or (some_from oldest (λ change. names_at entry.place entry.target change.row)) (look_up past_key (place_of_kind entry.kind, entry.id) pasts) false
 
--- a row of the pasts names what the entry says
-abbrev pub is_kept : List Past → RefEntry → Bool
-is_kept pasts entry = option_map_or (some_names entry.place entry.target) (look_up past_key (place_of_kind entry.kind, entry.id) pasts) false
+-- the same, with the version and the row
+abbrev pub IsKept : ℕ → List Past → RefEntry → Type 0
+IsKept oldest pasts entry =
+    (version : ℕ) × (row : Record) × (oldest ≤ version) × (look_up row_key (place_of_kind entry.kind, entry.id) (rows_of (rows_at version pasts)) ≡ Some row) × (names_at entry.place entry.target row ≡ true)
 
--- each entry is said by a row of the pasts
-abbrev pub AreKept : List Past → List (List RefEntry) → Type 0
-AreKept pasts runs = AllByRecursion (AllByRecursion (λ entry. is_kept pasts entry ≡ true)) runs
+abbrev pub AreKept : ℕ → List Past → List (List RefEntry) → Type 0
+AreKept oldest pasts runs = AllByRecursion (AllByRecursion (IsKept oldest pasts)) runs
 
--- the rows of each version that are indexed by one are indexed by the other
-abbrev pub StayIndexed : List Past → List (List RefEntry) → List (List RefEntry) → Type 0
-StayIndexed pasts old new = (version : ℕ) → AreIndexed old (rows_of (rows_at version pasts)) → AreIndexed new (rows_of (rows_at version pasts))
+-- the rows of each version from the oldest on that are indexed by one are indexed by the other
+abbrev pub StayIndexed : ℕ → List Past → List (List RefEntry) → List (List RefEntry) → Type 0
+StayIndexed oldest pasts old new = (version : ℕ) → oldest ≤ version → AreIndexed old (rows_of (rows_at version pasts)) → AreIndexed new (rows_of (rows_at version pasts))
 
 -- how many entries runs have
 abbrev pub size : List (List RefEntry) → ℕ

@@ -344,11 +344,12 @@ impl RefRun {
         Ok(())
     }
 
-    /// Lets the entries go that no row of the histories names. No memory is taken.
-    pub fn keep(&mut self, histories: &[History])
+    /// Lets the entries go that no row of the versions from the oldest on says. No memory is taken.
+    pub fn keep(&mut self, histories: &[History], oldest: u64)
         requires { ArePasts (pasts_of histories.now) }
-        ensures { self.new ≡ filter (spec.is_kept (pasts_of histories.now)) self.old }
+        ensures { self.new ≡ filter (spec.is_kept oldest (pasts_of histories.now)) self.old }
     {
-        self.entries.retain(|entry| is_kept(histories, entry));
+        self.entries
+            .retain(|entry| is_kept(histories, oldest, entry));
     }
 }

@@ -156,13 +156,13 @@ pub fn add_run(alloc: Global, runs: &mut Vec<RefRun>, changes: &[RowChange]) -> 
     join_long(runs)
 }
 
-// Lets the entries go that no row of the histories names. No memory is taken.
-fn keep_all(runs: &mut Vec<RefRun>, histories: &[History])
+// Lets the entries go that no row of the versions from the oldest on says. No memory is taken.
+fn keep_all(runs: &mut Vec<RefRun>, histories: &[History], oldest: u64)
     requires { ArePasts (pasts_of histories.now) }
-    ensures { runs.new.items ≡ map (filter (is_kept (pasts_of histories.now))) runs.old.items }
+    ensures { runs.new.items ≡ map (filter (is_kept oldest (pasts_of histories.now))) runs.old.items }
 {
     for place in 0..runs.len() {
-        runs[place].keep(histories);
+        runs[place].keep(histories, oldest);
     }
 }
 
@@ -182,7 +182,7 @@ fn are_above(runs: &[RefRun], limit: usize) -> bool
     false
 }
 
-/// Twice as many entries as there are, and a few: so many may be there before rows are asked which they still name.
+/// Twice as many entries as there are, and a few more: up to so many, those that no row says may be among them.
 pub fn limit_of(runs: &[RefRun]) -> usize
     ensures { result ≤ 2 * size runs.now + 16 }
 {
@@ -194,18 +194,18 @@ pub fn limit_of(runs: &[RefRun]) -> usize
     limit
 }
 
-/// Lets the entries go that no row of the histories names, where there are more than so many, and answers how many may be there until
-/// the next time. So each entry that is added pays for the look at another. No memory is taken.
-pub fn sweep(runs: &mut Vec<RefRun>, limit: usize, histories: &[History]) -> usize
+/// Where there are more entries than the limit, lets those go that no row of the versions from the oldest on says, and answers the next
+/// limit: the look at an entry is paid by one that was added. No memory is taken.
+pub fn sweep(runs: &mut Vec<RefRun>, limit: usize, histories: &[History], oldest: u64) -> usize
     requires { ArePasts (pasts_of histories.now) }
-    ensures stay { StayIndexed (pasts_of histories.now) runs.old.items runs.new.items }
-    ensures kept { limit < size runs.old.items → AreKept (pasts_of histories.now) runs.new.items }
+    ensures stay { StayIndexed oldest (pasts_of histories.now) runs.old.items runs.new.items }
+    ensures kept { limit < size runs.old.items → AreKept oldest (pasts_of histories.now) runs.new.items }
     ensures limit { limit < size runs.old.items → result ≤ 2 * size runs.new.items + 16 }
     ensures same { size runs.old.items ≤ limit → result ≡ limit }
 {
     if !are_above(runs, limit) {
         return limit;
     }
-    keep_all(runs, histories);
+    keep_all(runs, histories, oldest);
     limit_of(runs)
 }

@@ -43,7 +43,7 @@ pub struct VersionLog {
     room: Option<Vec<RowKey>>,
     // What rows name, in runs whose number is at most logarithmic in that of the entries.
     refs: Vec<RefRun>,
-    // How many entries they may have before those go that no row names.
+    // Up to how many entries they may have some that no row of the versions says.
     limit: usize,
     // Whether `refs` has all that the rows of the versions name.
     is_indexed: bool,
@@ -183,11 +183,11 @@ impl VersionLog {
         Ok(())
     }
 
-    /// Lets go what the index says and no row of the versions does, where that may be as much as the rest. No memory is taken.
+    /// Lets go what the index has and no row of the versions says, where that may be as much as the rest. No memory is taken.
     pub fn sweep(&mut self)
         ensures { self.new ≡ self.old }
     {
-        self.limit = sweep(&mut self.refs, self.limit, &self.histories);
+        self.limit = sweep(&mut self.refs, self.limit, &self.histories, self.number);
     }
 
     /// Adds the newest version. No memory is taken.

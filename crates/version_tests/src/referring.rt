@@ -17,6 +17,9 @@ use version_core::view::VersionView;
 // The ids of rows, of each kind.
 static IDS: [&str; 4] = ["a", "b", "c", "d"];
 
+// The ids of orgs and users of which each user names ever others.
+static MANY: [&str; 8] = ["a", "b", "c", "d", "e", "f", "g", "h"];
+
 // The orgs that a user has.
 static ORGS: [&str; 6] = ["a", "b", "a,b", "b,c", "d", "c,d"];
 
@@ -203,6 +206,64 @@ fn references_of_kept_versions(rt: HostRuntime) -> Result<(), Fail> {
     let alloc = rt.alloc();
     for keep in &[1, 2, 5] {
         publish_at_random(&rt, alloc, *keep)?;
+    }
+    Ok(())
+}
+
+fn publish_orgs(rt: &impl Abort, alloc: Global, table: &mut Table) -> Result<(), Fail> {
+    for id in &MANY {
+        let cells: &[&str] = &[*id, "", "", "West", "district", "", ""];
+        publish_row(rt, alloc, table, Kind::Orgs, cells)?;
+    }
+    Ok(())
+}
+
+fn publish_namer(
+    rt: &impl Abort,
+    alloc: Global,
+    table: &mut Table,
+    dice: &mut Dice,
+) -> Result<(), Fail> {
+    let id = MANY[dice.draw(8) as usize];
+    let org = MANY[dice.draw(8) as usize];
+    let agent = MANY[dice.draw(8) as usize];
+    let cells: &[&str] = &[
+        id, "", "", "true", org, "student", id, "", "Ann", "Oak", "", "", "", "", "", agent, "",
+    ];
+    publish_row(rt, alloc, table, Kind::Users, cells)
+}
+
+// Compares what names the target among the users.
+fn compare_users(
+    rt: &impl Abort,
+    alloc: Global,
+    version: &VersionView,
+    target: &str,
+) -> Result<(), Fail> {
+    let Some(target) = Id::read(alloc, target)? else {
+        panic!(rt; "no id");
+    };
+    compare_kind(rt, alloc, version, Kind::Users, &target)
+}
+
+fn compare_many(rt: &impl Abort, alloc: Global, version: &VersionView) -> Result<(), Fail> {
+    for target in &MANY {
+        compare_users(rt, alloc, version, target)?;
+    }
+    Ok(())
+}
+
+// With one version beside the newest most references are soon of none, and go from the index time and again.
+#[test]
+fn references_that_no_version_has(rt: HostRuntime) -> Result<(), Fail> {
+    let alloc = rt.alloc();
+    let mut table = Table::new(alloc, 1);
+    let mut dice = Dice { seed: 7 };
+    publish_orgs(&rt, alloc, &mut table)?;
+    for _ in 0..150 {
+        publish_namer(&rt, alloc, &mut table, &mut dice)?;
+        compare_many(&rt, alloc, &table.rows_at(table.oldest()))?;
+        compare_many(&rt, alloc, &table.newest_rows())?;
     }
     Ok(())
 }

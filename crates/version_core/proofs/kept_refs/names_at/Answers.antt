@@ -1,6 +1,5 @@
-use Rattle.std.proofs.Common.{◌≡◌, ◌≤◌, length, map, sym, ap, ◌∙◌, arith}
+use Rattle.std.proofs.Common.{◌≡◌, map, sym, ap, ◌∙◌, arith}
 use Rattle.roster_types.proofs.Sums.{fields-values, infos-length}
-use Rattle.roster_types.specs.Records.{all_values}
 use Rattle.roster_values.specs.Table.{info_of, table}
 use Rattle.version_core.proofs.KeptLemmas.{none_behind}
 use Rattle.version_core.proofs.kept_refs.names_at.Goals as goal

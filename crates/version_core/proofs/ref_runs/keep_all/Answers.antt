@@ -19,6 +19,6 @@ loop-place-preserved c =
     let lt : place < length items = omega (arith, within, len, now, loop.len) in
     record {
       runs = ap (set items place) c.keep.ensures
-          ∙ map_over_more (filter (is_kept (pasts_of c.args.histories.now))) runs items place old within loop.runs (c.index_mut.ensures.value ∙ get_or_default items place old old lt);
+          ∙ map_over_more (filter (is_kept c.args.oldest (pasts_of c.args.histories.now))) runs items place old within loop.runs (c.index_mut.ensures.value ∙ get_or_default items place old old lt);
       len = loop.len;
     }

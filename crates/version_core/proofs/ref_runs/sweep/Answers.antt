@@ -7,9 +7,9 @@ use Rattle.version_core.proofs.ref_runs.sweep.Goals as goal
 pub returns-clause-stay : goal.returns-clause-stay
 returns-clause-stay c =
     let pasts = pasts_of c.args.histories.now in
-    subst (StayIndexed pasts c.args.runs.now.items) (sym c.keep_all.ensures) (kept_stay pasts c.requires c.args.runs.now.items)
+    subst (StayIndexed c.args.oldest pasts c.args.runs.now.items) (sym c.keep_all.ensures) (kept_stay c.args.oldest pasts c.requires c.args.runs.now.items)
 
 pub returns-clause-kept : goal.returns-clause-kept
 returns-clause-kept c = λ _.
     let pasts = pasts_of c.args.histories.now in
-    subst (AreKept pasts) (sym c.keep_all.ensures) (all_kept pasts c.args.runs.now.items)
+    subst (AreKept c.args.oldest pasts) (sym c.keep_all.ensures) (all_kept c.args.oldest pasts c.requires c.args.runs.now.items)

@@ -1,4 +1,4 @@
-use Rattle.std.proofs.Common.{List, ◌∷◌, subst}
+use Rattle.std.proofs.Common.{List, ◌∷◌, arith, subst}
 use Rattle.version_core.specs.History.{pasts_of}
 use Rattle.version_core.specs.RefIndex.{StayIndexed}
 use Rattle.version_core.specs.declared.history.History.{History}
@@ -22,6 +22,6 @@ invariant_of-self c =
           record { moments = room.moments; grants = room.grants; histories = room.histories; spare = room.spare; fresh = room.fresh; grown = room.grown };
       index = λ on.
           let refs = c.sweep-self-inside.new.runs.items in
-          let stay = subst (λ (hs : List History). StayIndexed (pasts_of hs) log.refs.items refs) c.deref.ensures.value c.sweep-self-inside.ensures.stay in
-          kept_versions_stay log.refs.items refs (pasts_of log.histories.items) stay log.grants.items log.number (log.moment ∷ log.moments.items) (is.index on);
+          let stay = subst (λ (hs : List History). StayIndexed log.number (pasts_of hs) log.refs.items refs) c.deref.ensures.value c.sweep-self-inside.ensures.stay in
+          kept_versions_stay log.number log.refs.items refs (pasts_of log.histories.items) stay log.grants.items log.number (log.moment ∷ log.moments.items) (omega arith) (is.index on);
     }
