@@ -102,10 +102,10 @@ fn all_granted(
 ) -> Result<Vec<GrantRow>, NoMemory>
     ensures { IfOk result (λ rows. rows.items ≡ map (granted (newest_of table.now)) entries.items) }
 {
-    let rows = entries
-        .into_iter()
-        .map(|entry| granted(table, entry))
-        .collect(alloc)?;
+    let mut rows = Vec::with_capacity(alloc, entries.len())?;
+    for entry in entries {
+        rows.push(granted(table, entry))?;
+    }
     Ok(rows)
 }
 

@@ -91,12 +91,9 @@ fn linked(
     requires { 1 ≤ query.now.limit }
     ensures { IfOk result (λ p. p ≡ linked part version path.now query.now) }
 {
-    let links = links_of(alloc, path, query, version, part.total)?;
-    Ok(Page {
-        rows: part.rows,
-        total: part.total,
-        links,
-    })
+    let Part { rows, total } = part;
+    let links = links_of(alloc, path, query, version, total)?;
+    Ok(Page { rows, total, links })
 }
 
 /// The page that a query asks for of the list of a path among the rows of a version, which the links name; nothing where an

@@ -1,18 +1,22 @@
 //! What a 200 has, beside what every reply has.
 
-ghost use Rattle.std.specs.Prelude.{◌≡◌, IfOk, option_map};
-ghost use Rattle.hub_rules.specs.Reads.{object_shown, page_shown};
+ghost use Rattle.std.specs.Prelude.{◌≡◌, true, ℕ, IfOk, option_map};
+ghost use Rattle.hub_rules.specs.Reads.{contents_of, object_shown, page_shown};
+ghost use Rattle.hub_views.specs.Lists.{is_single};
 ghost use Rattle.rest_provider.specs.Shown.{contents_shown};
 ghost use Rattle.roster_values.specs.declared.kind.Kind as kinds;
 
 use filter_grammar::Query;
+use hub_paths::Path;
 use hub_views::Page;
+use query_pages::one;
 use roster_base::{Bytes, Items, NoMemory, Text};
 use roster_types::row::Row;
 use roster_values::Kind;
 use row_json::{collection_text, single_text};
 use status_info::LinkItem;
 use std::alloc::Global;
+use version_core::references::Refs;
 
 /// The body of a 200, the number of rows of the whole collection, and the links of the page.
 #[derive(Drop)]
@@ -42,6 +46,22 @@ pub fn object_contents(alloc: Global, query: &Query, row: &Row) -> Result<Conten
         total: None,
         links: Items::new(alloc),
     })
+}
+
+/// What a path of one object shows of rows, where they have it.
+pub fn one_contents<R: Refs>(
+    alloc: Global,
+    rows: &R,
+    path: &Path,
+    query: &Query,
+) -> Result<Option<Contents>, NoMemory>
+    requires { is_single path.now.route ≡ true }
+    ensures { (version : ℕ) → IfOk result (λ c. option_map contents_shown c ≡ contents_of (R.rows rows.now) version path.now query.now) }
+{
+    match one(rows, path) {
+        Some(row) => Ok(Some(object_contents(alloc, query, row)?)),
+        None => Ok(None),
+    }
 }
 
 /// A page of rows of a kind.

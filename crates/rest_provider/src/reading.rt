@@ -21,12 +21,12 @@ ghost use Rattle.version_core.specs.HubStates.{HubState, newest_number};
 ghost use Rattle.version_core.specs.declared.grant_row.GrantRow.{GrantRow};
 
 use crate::checks::{access_of, is_good_mark};
-use crate::contents::{Contents, object_contents, page_contents};
+use crate::contents::{Contents, one_contents, page_contents};
 use crate::refusals::{Stop, refused_at};
 use filter_grammar::{Query, read_query};
 use grant_scopes::{Grant, opens};
 use hub_paths::{Path, Route};
-use query_pages::{one, seen_page};
+use query_pages::seen_page;
 use roster_base::{NoMemory, Refusal};
 use roster_values::Kind;
 use seen_rows::SeenRows;
@@ -115,10 +115,7 @@ impl<'a> Reading<'a> {
             ≡ reads.contents_of (seen self.entry.grant.now.schools (rows_of view.now.rows)) self.entry.version self.entry.path.now query.now) }
     {
         let seen = SeenRows::new(&self.grant.schools, view);
-        match one(&seen, self.path) {
-            Some(row) => Ok(Some(object_contents(alloc, query, row)?)),
-            None => Ok(None),
-        }
+        one_contents(alloc, &seen, self.path, query)
     }
 
     // The page of what is seen of the path's list.
