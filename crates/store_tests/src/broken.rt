@@ -1,8 +1,10 @@
 //! Stores that are broken or of another format, and one that couldn't be opened: each call fails, is counted, and changes nothing.
 
+use crate::copies::{LATER_ORG, LATER_ROWS};
+use crate::steps::{Step, Turn, step_over};
 use crate::words::told;
 use item_maps::Item;
-use keeper_items::{ItemHub, StoredItems};
+use keeper_items::StoredItems;
 use keeper_sqlite::{ClosedStore, SqlItems};
 use roster_base::NoMemory;
 use sqlite::{Connection, MemStore};
@@ -58,28 +60,37 @@ static BREAKING: [(&str, u64); 16] = [
     // Another shape.
     (
         "DROP TABLE item; CREATE TABLE item (area INTEGER) STRICT; INSERT INTO item VALUES (0)",
-        7,
+        9,
     ),
 ];
 
 // The base is version 1.
-static LINES: [&str; 3] = ["publish sis=lake", "grant g.csv", "publish sis=new"];
+static HUB: [Step; 3] = [
+    Step::Hub("publish sis=lake"),
+    Step::Hub("grant g.csv"),
+    Step::Hub("publish sis=new"),
+];
 
-fn fill(alloc: Global, keeper: &mut ItemHub<SqlItems<MemStore>>) -> Result<(), NoMemory> {
-    for line in &LINES {
-        told(alloc, line, keeper)?;
-    }
-    Ok(())
-}
+// An entry, a version that is held, on side 1, and a stage.
+static COPY: [Step; 3] = [
+    Step::Copy(Turn("enter put categories c2 c2.json", 0, &[])),
+    Step::Copy(Turn("sync tok-a 100 1", 1, LATER_ROWS)),
+    Step::Copy(Turn("sync tok-a 100 1", 2, &[LATER_ORG])),
+];
 
-// Fills the store in a connection.
+// Takes steps over items, tells whether memory sufficed, and gives them back.
 fn filled(
     alloc: Global,
-    connection: Connection<MemStore>,
-) -> (Result<(), NoMemory>, Connection<MemStore>) {
-    let mut keeper = ItemHub::adopt(SqlItems::adopt(connection), 2);
-    let filled = fill(alloc, &mut keeper);
-    (filled, keeper.release().release())
+    mut items: SqlItems<MemStore>,
+    steps: &[Step],
+) -> (bool, SqlItems<MemStore>) {
+    let mut filled = true;
+    for step in steps {
+        let (told, left) = step_over(alloc, items, 2, step);
+        items = left;
+        filled = filled && told.is_ok();
+    }
+    (filled, items)
 }
 
 fn push_items(bytes: &mut Vec<u8>, items: &[Item]) -> Result<(), NoMemory> {
@@ -90,11 +101,14 @@ fn push_items(bytes: &mut Vec<u8>, items: &[Item]) -> Result<(), NoMemory> {
     Ok(())
 }
 
-// Labels and bodies of all areas that a hub has, one behind the other.
+// The areas of a hub, and those of a copy with orgs alone.
+static AREAS: [u32; 9] = [0, 1, 2, 3, 4, 5, 6, 32, 64];
+
+// Labels and bodies of all areas, one behind the other.
 fn listing(alloc: Global, items: &mut SqlItems<MemStore>) -> Result<Vec<u8>, NoMemory> {
     let mut bytes = Vec::new(alloc);
-    for area in 0u32..7 {
-        match items.all_of(alloc, area, &[], &[255, 255]) {
+    for area in &AREAS {
+        match items.all_of(alloc, *area, &[], &[255, 255]) {
             Ok(found) => push_items(&mut bytes, found.as_slice())?,
             Err(_) => bytes.push(0)?,
         }
@@ -102,45 +116,99 @@ fn listing(alloc: Global, items: &mut SqlItems<MemStore>) -> Result<Vec<u8>, NoM
     Ok(bytes)
 }
 
-// What words are told over these items, which are given back.
-fn told_over(
+// What a step tells over a connection, and whether the items stay.
+fn visited(
     alloc: Global,
-    items: SqlItems<MemStore>,
-) -> (Result<String, NoMemory>, SqlItems<MemStore>) {
-    let mut keeper = ItemHub::adopt(items, 2);
-    let told = told(alloc, "publish sis=gone", &mut keeper);
-    (told, keeper.release())
-}
-
-// What words are told over a connection, and whether the items stay.
-fn visited(alloc: Global, connection: Connection<MemStore>) -> Result<(String, bool), NoMemory> {
+    connection: Connection<MemStore>,
+    step: &Step,
+) -> Result<(String, bool), NoMemory> {
     let mut items = SqlItems::adopt(connection);
     let before = listing(alloc, &mut items);
     let faults = items.faults();
-    let (told, mut items) = told_over(alloc, items);
+    let (told, mut items) = step_over(alloc, items, 2, step);
     let then = listing(alloc, &mut items);
     drop(items);
     let stays = before?.as_slice() == then?.as_slice();
     Ok((format!(in alloc; "{}, {faults} before", told?)?, stays))
 }
 
-// What words are told over a filled store over which statements were run, and whether these ran and the items stay.
-fn broken(alloc: Global, sql: &str) -> Result<(String, bool), NoMemory> {
-    let (filled, mut connection) = filled(alloc, Connection::open_in_memory(alloc)?);
-    let ran = filled.is_ok() && connection.execute_batch(sql).is_ok();
-    let (told, stays) = visited(alloc, connection)?;
+// What a step tells over a filled store over which statements were run, and whether these ran and the items stay.
+fn broken(
+    alloc: Global,
+    steps: &[Step],
+    sql: &str,
+    step: &Step,
+) -> Result<(String, bool), NoMemory> {
+    let items = SqlItems::adopt(Connection::open_in_memory(alloc)?);
+    let (filled, items) = filled(alloc, items, steps);
+    let mut connection = items.release();
+    let ran = filled && connection.execute_batch(sql).is_ok();
+    let (told, stays) = visited(alloc, connection, step)?;
     Ok((told, ran && stays))
 }
+
+static GONE: Step = Step::Hub("publish sis=gone");
 
 #[test]
 fn broken_stores_fail(rt: HostRuntime) -> Result<(), Fail> {
     for (sql, faults) in &BREAKING {
-        let (told, stays) = broken(rt.alloc(), sql)?;
+        let (told, stays) = broken(rt.alloc(), &HUB, sql, &GONE)?;
         let want = format!(in rt.alloc();
             "5 hub store failed\nfailed faults {}, {faults} before",
             faults.saturating_add(2)
         )?;
         assert_eq!(rt; (told.as_str(), stays), (want.as_str(), true), "{sql}");
+    }
+    Ok(())
+}
+
+const OTHER_FORMAT: &str = "UPDATE item SET body = x'0000000000000002' WHERE area = 0";
+
+// Statements that break a copy's store, and words that read what they broke.
+static BREAKING_COPIES: [(&str, &str); 14] = [
+    (OTHER_FORMAT, "outbox"),
+    (OTHER_FORMAT, "list orgs"),
+    (OTHER_FORMAT, "enter delete categories c9"),
+    (OTHER_FORMAT, "send tok-e 1"),
+    (OTHER_FORMAT, "sync tok-a 100 1"),
+    ("UPDATE item SET body = x'01' WHERE area = 0", "outbox"),
+    // What is cut, or overwritten.
+    ("DELETE FROM item WHERE area = 1", "list orgs"),
+    (
+        "UPDATE item SET body = x'00' WHERE area = 1",
+        "enter delete categories c9",
+    ),
+    (
+        "UPDATE item SET body = x'00' WHERE area = 2",
+        "sync tok-a 100 1",
+    ),
+    ("UPDATE item SET body = x'00' WHERE area = 3", "outbox"),
+    ("UPDATE item SET body = x'00' WHERE area = 64", "list orgs"),
+    // A side that is none.
+    (
+        "UPDATE item SET body = x'0000000000000002010000000000000005020000000000000001' WHERE area = 1",
+        "send tok-e 1",
+    ),
+    // A row with another id than its label says, and one of another kind than its area says.
+    (
+        "UPDATE item SET label = x'7333' WHERE area = 64",
+        "list orgs",
+    ),
+    (
+        "UPDATE item SET area = 65 WHERE area = 64",
+        "list academicSessions",
+    ),
+];
+
+#[test]
+fn broken_copies_fail(rt: HostRuntime) -> Result<(), Fail> {
+    for (sql, line) in &BREAKING_COPIES {
+        let (told, stays) = broken(rt.alloc(), &COPY, sql, &Step::Copy(Turn(*line, 3, &[])))?;
+        assert_eq!(rt;
+            (told.as_str(), stays),
+            ("6 copy store failed\n, 0 before", true),
+            "{sql} {line}"
+        );
     }
     Ok(())
 }
@@ -153,7 +221,7 @@ const MARKED: &str = "east7 delete 0c13 outcome 2 version 1 faults 0, 0 before";
 
 #[test]
 fn marks_are_found(rt: HostRuntime) -> Result<(), Fail> {
-    let (told, stays) = broken(rt.alloc(), MARK)?;
+    let (told, stays) = broken(rt.alloc(), &HUB, MARK, &GONE)?;
     assert!(rt;
         !stays && told.as_str().starts_with("0 sis version 4\n") && told.as_str().ends_with(MARKED),
         "{told}"

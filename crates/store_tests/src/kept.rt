@@ -1,13 +1,10 @@
-//! What is committed to files is loaded from them once they are closed and opened again.
+//! What is committed to a hub's files is loaded from them once they are closed and opened again.
 
+use crate::steps::{Step, step_in};
 use crate::words::told;
-use item_laws::opened;
-use keeper_items::ItemHub;
 use keeper_memory::MemHub;
-use keeper_sqlite::SqlItems;
-use roster_base::NoMemory;
-use sqlite::{Connection, FileStore, Files, Options};
-use sqlite_disk::{Disk, Memory};
+use sqlite::Files;
+use sqlite_disk::Memory;
 use std::alloc::Global;
 use std::process::Abort;
 use std::test::Fail;
@@ -17,31 +14,6 @@ pub fn empty(alloc: Global) -> Files<Memory> {
     Files {
         log: Memory::new(alloc),
         db: Memory::new(alloc),
-    }
-}
-
-// Runs the words over the store in a connection, and gives its files back.
-fn run_open<D: Disk + Drop>(
-    alloc: Global,
-    connection: Connection<FileStore<D>>,
-    keep: u32,
-    line: &str,
-) -> (Result<String, NoMemory>, Files<D>) {
-    let mut keeper = ItemHub::adopt(SqlItems::adopt(connection), keep);
-    let told = told(alloc, line, &mut keeper);
-    (told, keeper.release().release().into_store().close())
-}
-
-/// Runs the words over the store in these files, and gives them back.
-pub fn run_in<D: Disk + Drop>(
-    alloc: Global,
-    files: Files<D>,
-    keep: u32,
-    line: &str,
-) -> (Result<String, NoMemory>, Files<D>) {
-    match opened(alloc, files, Options::new(7)) {
-        Ok(connection) => run_open(alloc, connection, keep, line),
-        Err(files) => (Ok(String::new(alloc)), files),
     }
 }
 
@@ -67,7 +39,7 @@ fn assert_kept(rt: &impl Abort, alloc: Global, keep: u32) -> Result<(), Fail> {
     let mut plain = MemHub::new(alloc, keep);
     let mut files = empty(alloc);
     for (place, line) in LINES.iter().enumerate() {
-        let (stored, left) = run_in(alloc, files, asked(keep, place), line);
+        let (stored, left) = step_in(alloc, files, asked(keep, place), &Step::Hub(*line));
         files = left;
         let kept = told(alloc, line, &mut plain)?;
         assert_eq!(rt; stored?.as_str(), kept.as_str(), "{keep} {line}");

@@ -1,6 +1,8 @@
 //! Commits and first loads over disks that stop.
 
-use crate::kept::{empty, run_in};
+use crate::copies::{CREATED, LATER_ORG, LATER_SHUT};
+use crate::kept::empty;
+use crate::steps::{Reply, Step, Turn, step_in};
 use roster_base::NoMemory;
 use sqlite::Files;
 use sqlite_disk::{Crash, Disk, Fuse, Memory};
@@ -8,47 +10,102 @@ use std::alloc::Global;
 use std::process::Abort;
 use std::test::Fail;
 
-// Words that are run before, and the words that are cut off: a first load, and a change that lets a version go.
-static CASES: [(&[&str], &str); 2] = [
-    (&[], "publish sis=lake"),
-    (&["publish sis=lake", "grant g.csv"], "publish sis=new"),
+// Steps that are taken before, the step that is cut off, and those that show what a store holds.
+struct Case {
+    before: &'static [Step],
+    step: Step,
+    shown: &'static [Step],
+}
+
+// A first load, and a change that lets a version go.
+static HUBS: [Case; 2] = [
+    Case {
+        before: &[],
+        step: Step::Hub("publish sis=lake"),
+        shown: &[Step::Hub("show orgs")],
+    },
+    Case {
+        before: &[Step::Hub("publish sis=lake"), Step::Hub("grant g.csv")],
+        step: Step::Hub("publish sis=new"),
+        shown: &[Step::Hub("show orgs")],
+    },
 ];
 
-// The files that words leave where the newest version alone is kept.
-fn files_after(alloc: Global, lines: &[&str]) -> Files<Memory> {
+const ENTER: Step = Step::Copy(Turn("enter put categories c2 c2.json", 0, &[]));
+
+const OUTBOX: Step = Step::Copy(Turn("outbox", 0, &[]));
+
+const ORGS: Step = Step::Copy(Turn("list orgs", 0, &[]));
+
+// What comes of a version before its last page.
+const MOST_ROWS: &[Reply] = &[
+    LATER_ORG, LATER_SHUT, LATER_SHUT, LATER_SHUT, LATER_SHUT, LATER_SHUT, LATER_SHUT, LATER_SHUT,
+    LATER_SHUT,
+];
+
+// A first entry, an entry that is settled, and the last page of a version, each one change of what is shown.
+static COPIES: [Case; 3] = [
+    Case {
+        before: &[],
+        step: ENTER,
+        shown: &[OUTBOX, ORGS],
+    },
+    Case {
+        before: &[ENTER],
+        step: Step::Copy(Turn("send tok-e 1", 1, &[CREATED])),
+        shown: &[OUTBOX, ORGS],
+    },
+    Case {
+        before: &[Step::Copy(Turn("sync tok-e 100 1", 1, MOST_ROWS))],
+        step: Step::Copy(Turn("sync tok-e 100 1", 2, &[LATER_SHUT])),
+        shown: &[OUTBOX, ORGS],
+    },
+];
+
+// The files that steps leave.
+fn files_after(alloc: Global, steps: &[Step]) -> Files<Memory> {
     let mut files = empty(alloc);
-    for line in lines {
-        files = run_in(alloc, files, 0, line).1;
+    for step in steps {
+        files = step_in(alloc, files, 0, step).1;
     }
     files
 }
 
-// What files hold, told by words that leave it.
-fn held<D: Disk + Drop>(alloc: Global, files: Files<D>) -> Result<String, NoMemory> {
-    let (told, left) = run_in(alloc, files, 0, "show orgs");
-    drop(left);
-    told
+// What steps tell, one behind another.
+fn told_in<D: Disk + Drop>(
+    alloc: Global,
+    mut files: Files<D>,
+    steps: &[Step],
+) -> Result<String, NoMemory> {
+    let mut text = String::new(alloc);
+    for step in steps {
+        let (told, left) = step_in(alloc, files, 0, step);
+        files = left;
+        text.push_str(told?.as_str())?;
+    }
+    drop(files);
+    Ok(text)
 }
 
-// What words are told over files that stop at that call of the log or of the database file, and what the files hold once they are back.
+// What the step tells over files that stop at that call of the log or of the database file, and what the files show once they are back.
 fn cut_off(
     alloc: Global,
     files: Files<Memory>,
-    line: &str,
+    case: &Case,
     (log, db): (u64, u64),
 ) -> Result<(String, String), NoMemory> {
     let fused = Files {
         log: Fuse::new(files.log, log),
         db: Fuse::new(files.db, db),
     };
-    let (told, mut left) = run_in(alloc, fused, 0, line);
+    let (told, mut left) = step_in(alloc, fused, 0, &case.step);
     left.log.crash();
     left.db.crash();
-    let held = held(alloc, left);
+    let held = told_in(alloc, left, case.shown);
     Ok((told?, held?))
 }
 
-// What words are told that nothing stops, and what the files hold before and then.
+// What the step tells that nothing stops, and what the files show before and then.
 #[derive(Drop)]
 struct Whole {
     told: String,
@@ -56,15 +113,15 @@ struct Whole {
     then: String,
 }
 
-fn whole_run(alloc: Global, lines: &[&str], line: &str) -> Result<Whole, NoMemory> {
-    let before = held(alloc, files_after(alloc, lines))?;
-    let (told, left) = run_in(alloc, files_after(alloc, lines), 0, line);
-    let then = held(alloc, left)?;
+fn whole_run(alloc: Global, case: &Case) -> Result<Whole, NoMemory> {
+    let before = told_in(alloc, files_after(alloc, case.before), case.shown)?;
+    let (told, left) = step_in(alloc, files_after(alloc, case.before), 0, &case.step);
+    let then = told_in(alloc, left, case.shown)?;
     let told = told?;
     Ok(Whole { told, before, then })
 }
 
-// The files hold what they held before or what they are to hold then, and the latter where the words were answered that it was done.
+// The files show what they showed before or what they are to show then, and the latter where the answer was that it was done.
 fn is_whole(whole: &Whole, told: &str, held: &str) -> bool {
     held == whole.then.as_str() || (held == whole.before.as_str() && !told.starts_with('0'))
 }
@@ -78,23 +135,19 @@ fn place(at: u64, in_log: bool) -> (u64, u64) {
     }
 }
 
-// More than the calls of a run.
+// More than the calls of a step.
 const CALLS: u64 = 1_000;
 
-// How many calls of the log, or of the database file, the words make: each stops them in turn.
-fn calls_of(
-    rt: &impl Abort,
-    alloc: Global,
-    lines: &[&str],
-    line: &str,
-    in_log: bool,
-) -> Result<u64, Fail> {
-    let whole = whole_run(alloc, lines, line)?;
+// How many calls of the log, or of the database file, the step makes: each stops it in turn.
+fn calls_of(rt: &impl Abort, alloc: Global, case: &Case, in_log: bool) -> Result<u64, Fail> {
+    let whole = whole_run(alloc, case)?;
     for at in 0..CALLS {
-        let (told, held) = cut_off(alloc, files_after(alloc, lines), line, place(at, in_log))?;
+        let files = files_after(alloc, case.before);
+        let (told, held) = cut_off(alloc, files, case, place(at, in_log))?;
         assert!(rt;
             is_whole(&whole, told.as_str(), held.as_str()),
-            "{line} stopped at {at}: {told}, {held}"
+            "{} stopped at {at}: {told}, {held}",
+            whole.told
         );
         if told.as_str() == whole.told.as_str() {
             return Ok(at);
@@ -105,13 +158,26 @@ fn calls_of(
 
 static IN_LOG: [bool; 2] = [true, false];
 
+fn assert_stops(rt: &impl Abort, alloc: Global, case: &Case) -> Result<(), Fail> {
+    for in_log in &IN_LOG {
+        let calls = calls_of(rt, alloc, case, *in_log)?;
+        assert!(rt; 0 < calls && calls < CALLS, "{calls}");
+    }
+    Ok(())
+}
+
 #[test]
 fn stops_leave_a_hub_before_or_after(rt: HostRuntime) -> Result<(), Fail> {
-    for (lines, line) in &CASES {
-        for in_log in &IN_LOG {
-            let calls = calls_of(&rt, rt.alloc(), lines, line, *in_log)?;
-            assert!(rt; 0 < calls && calls < CALLS, "{line}: {calls}");
-        }
+    for case in &HUBS {
+        assert_stops(&rt, rt.alloc(), case)?;
+    }
+    Ok(())
+}
+
+#[test]
+fn stops_leave_a_copy_before_or_after(rt: HostRuntime) -> Result<(), Fail> {
+    for case in &COPIES {
+        assert_stops(&rt, rt.alloc(), case)?;
     }
     Ok(())
 }

@@ -1,10 +1,10 @@
 //! Words that are run over a keeper, and the files that they name.
 
 use crate::tables::push_keeper;
-use copy_keeper::MemCopy;
+use copy_keeper::{CopyKeeper, MemCopy};
 use keeper_memory::HubKeeper;
 use outside_ports::{FixedClock, MemFolder, MemSink};
-use peer_links::NoLink;
+use peer_links::PeerLink;
 use real_run::run_hub;
 use roster_base::NoMemory;
 use std::alloc::Global;
@@ -31,8 +31,8 @@ d1,,,\"Lake, \"\"Unified\"\"\",district,LDU,,\ns1,,,East,school,,d1,7\ns2,,,Wés
     ),
 ];
 
-// Folders, names and texts: two sets of some orgs, and two files of grants.
-static FILES: [(&str, &str, &str); 6] = [
+// Folders, names and texts: two sets of some orgs, two files of grants, and the body of a category.
+static FILES: [(&str, &str, &str); 7] = [
     ("new", "manifest.csv", SOME_ORGS),
     (
         "new",
@@ -56,6 +56,7 @@ s2,active,2024-09-01T00:00:00.000Z,West High,school\ns3,active,2024-09-01T00:00:
         "g2.csv",
         "caller,token,scopes,schools\nall,tok-a,roster.readonly,*\n",
     ),
+    ("", "c2.json", "{\"category\":{\"title\":\"Quiz\"}}"),
 ];
 
 type Files = Vec<(String, String, Vec<u8>)>;
@@ -93,27 +94,39 @@ pub fn words_of(alloc: Global, line: &str) -> Result<Vec<String>, NoMemory> {
     Ok(words)
 }
 
-// Runs the words over a keeper at noon, and tells the status and what is printed.
-fn run_line<H: HubKeeper>(alloc: Global, line: &str, keeper: &mut H) -> Result<String, NoMemory> {
+/// Runs the words between spaces over a hub, a copy and a link at noon, and tells the status and what is printed.
+pub fn printed<H: HubKeeper, C: CopyKeeper>(
+    alloc: Global,
+    line: &str,
+    keeper: &mut H,
+    copy: &mut C,
+    link: &mut PeerLink,
+) -> Result<String, NoMemory> {
     let words = words_of(alloc, line)?;
     let mut folder = folder(alloc)?;
     let mut sink = MemSink::new(alloc, 1024, Vec::new(alloc))?;
     let clock = FixedClock::at(NOON);
-    let mut copy = MemCopy::new(alloc);
-    let mut link = NoLink::new();
     let status = run_hub(
         alloc,
         words.as_slice(),
         &mut folder,
         keeper,
-        &mut copy,
-        &mut link,
+        copy,
+        link,
         &clock,
         &mut sink,
     );
-    drop(copy);
     let text = str::from_utf8(sink.written()).unwrap_or("no text");
     Ok(format!(in alloc; "{status} {text}")?)
+}
+
+// Runs the words over a keeper, with a new copy and no hub to be copied.
+fn run_line<H: HubKeeper>(alloc: Global, line: &str, keeper: &mut H) -> Result<String, NoMemory> {
+    let mut copy = MemCopy::new(alloc);
+    let mut link = PeerLink::new(alloc, Vec::new(alloc));
+    let told = printed(alloc, line, keeper, &mut copy, &mut link);
+    drop(copy);
+    told
 }
 
 /// Runs the words between spaces over a keeper, and tells the status, what is printed, and what the keeper gives then.

@@ -1,0 +1,133 @@
+//! Steps over a store: words over a hub, and words over a consumer's copy with the replies to their exchanges, which are given beforehand.
+
+use crate::words::{printed, told};
+use copy_keeper::CopyKeeper;
+use item_laws::opened;
+use keeper_copies::ItemCopy;
+use keeper_items::ItemHub;
+use keeper_memory::MemHub;
+use keeper_sqlite::SqlItems;
+use peer_links::PeerLink;
+use roster_base::NoMemory;
+use sqlite::{Alter, Connection, FileStore, Files, Options};
+use sqlite_disk::Disk;
+use std::alloc::Global;
+
+/// A reply: its head but for the number of its exchange and the length of its body, and its body.
+pub type Reply = (&'static str, &'static str);
+
+/// Words, the number of the run that they are where they make exchanges, and the replies to these.
+#[derive(Clone, Copy)]
+pub struct Turn(pub &'static str, pub u64, pub &'static [Reply]);
+
+/// Words over a hub, or a turn of a copy.
+#[derive(Clone, Copy)]
+pub enum Step {
+    Hub(&'static str),
+    Copy(Turn),
+}
+
+fn reply_to(alloc: Global, run: u64, count: usize, reply: &Reply) -> Result<Vec<u8>, NoMemory> {
+    let (head, body) = reply;
+    let length = body.len();
+    let mut text = format!(in alloc;
+        "{head}\r\nX-Hub-Exchange: {run}.{count}\r\nContent-Length: {length}\r\n\r\n"
+    )?;
+    text.push_str(body)?;
+    Ok(text.into_bytes())
+}
+
+fn replies_to(
+    alloc: Global,
+    run: u64,
+    replies: &[Reply],
+) -> Result<Vec<Option<Vec<u8>>>, NoMemory> {
+    let mut texts = Vec::new(alloc);
+    for (place, reply) in replies.iter().enumerate() {
+        let count = place.saturating_add(1);
+        texts.push(Some(reply_to(alloc, run, count, reply)?))?;
+    }
+    Ok(texts)
+}
+
+/// Runs a turn over a copy, and tells the status and what is printed.
+pub fn turn_told<C: CopyKeeper>(
+    alloc: Global,
+    turn: &Turn,
+    copy: &mut C,
+) -> Result<String, NoMemory> {
+    let Turn(line, run, replies) = turn;
+    let mut link = PeerLink::new(alloc, replies_to(alloc, *run, replies)?);
+    let mut keeper = MemHub::new(alloc, 0);
+    let told = printed(alloc, line, &mut keeper, copy, &mut link);
+    drop(keeper);
+    told
+}
+
+// Runs the words over a hub that these items keep, and gives them back.
+fn hub_over<S: Alter + Drop>(
+    alloc: Global,
+    items: SqlItems<S>,
+    keep: u32,
+    line: &str,
+) -> (Result<String, NoMemory>, SqlItems<S>) {
+    let mut keeper = ItemHub::adopt(items, keep);
+    let told = told(alloc, line, &mut keeper);
+    (told, keeper.release())
+}
+
+// Runs a turn over a copy that these items keep, and gives them back.
+fn copy_over<S: Alter + Drop>(
+    alloc: Global,
+    items: SqlItems<S>,
+    turn: &Turn,
+) -> (Result<String, NoMemory>, SqlItems<S>) {
+    let mut copy = ItemCopy::adopt(items);
+    let told = turn_told(alloc, turn, &mut copy);
+    (told, copy.release())
+}
+
+/// Takes a step over these items, and gives them back. A new hub keeps so many versions.
+pub fn step_over<S: Alter + Drop>(
+    alloc: Global,
+    items: SqlItems<S>,
+    keep: u32,
+    step: &Step,
+) -> (Result<String, NoMemory>, SqlItems<S>) {
+    match step {
+        Step::Hub(line) => hub_over(alloc, items, keep, line),
+        Step::Copy(turn) => copy_over(alloc, items, turn),
+    }
+}
+
+// Takes a step over the store in a connection, and gives its files back.
+fn step_open<D: Disk + Drop>(
+    alloc: Global,
+    connection: Connection<FileStore<D>>,
+    keep: u32,
+    step: &Step,
+) -> (Result<String, NoMemory>, Files<D>) {
+    let (told, items) = step_over(alloc, SqlItems::adopt(connection), keep, step);
+    (told, items.release().into_store().close())
+}
+
+// Each step opens the files anew, so that few pages are made ready for what is read.
+fn options() -> Options {
+    Options {
+        cache_pages: 16,
+        ..Options::new(7)
+    }
+}
+
+/// Takes a step over the store in these files, and gives them back.
+pub fn step_in<D: Disk + Drop>(
+    alloc: Global,
+    files: Files<D>,
+    keep: u32,
+    step: &Step,
+) -> (Result<String, NoMemory>, Files<D>) {
+    match opened(alloc, files, options()) {
+        Ok(connection) => step_open(alloc, connection, keep, step),
+        Err(files) => (Ok(String::new(alloc)), files),
+    }
+}
