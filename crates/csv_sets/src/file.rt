@@ -21,7 +21,7 @@ use crate::row::read_row;
 use csv::ByteRecord;
 use roster_base::{NoMemory, Refusal};
 use roster_types::set_row::SetRow;
-use roster_values::{Kind, Mode};
+use roster_values::{Kind, Mode, Value};
 use std::alloc::Global;
 use std::collections::BTreeSet;
 
@@ -36,12 +36,13 @@ fn row_in(
     header: &Header,
     number: u64,
     cells: &ByteRecord,
+    values: &mut Vec<Option<Value>>,
 ) -> Result<SetRow, SetError>
     requires places { length header.now.places ≡ length (table kind) }
     requires text { AllText (fields_of cells.now) }
     ensures { Gives (λ r. r) result (in_record kind number (row_at kind mode header.now (fields_of cells.now))) }
 {
-    match read_row(alloc, kind, mode, header, cells) {
+    match read_row(alloc, kind, mode, header, cells, values) {
         Ok(row) => Ok(row),
         Err(Refusal::Fault(fault)) => Err(Refusal::Fault(SetFault::Row {
             file: SetFile::RowsOf(kind),
@@ -146,9 +147,10 @@ fn rows_under(
     let mut rows = Vec::new(alloc);
     let mut ids = None;
     let mut cells = ByteRecord::new(alloc);
+    let mut values = Vec::new(alloc);
     let mut number = 2;
     while reader.read(&mut cells)? {
-        let row = row_in(alloc, kind, mode, header, number, &cells)?;
+        let row = row_in(alloc, kind, mode, header, number, &cells, &mut values)?;
         if !add(alloc, &mut rows, &mut ids, row)? {
             return Err(Refusal::Fault(SetFault::RepeatedId {
                 file: SetFile::RowsOf(kind),

@@ -1,6 +1,6 @@
 //! The row that a record spells.
 
-ghost use Rattle.std.specs.Prelude.{◌≡◌, None, true, IfOk, length};
+ghost use Rattle.std.specs.Prelude.{◌≡◌, None, true, IfOk, OnOk, length};
 ghost use Rattle.csv.specs.Records.{AllText, fields_of};
 ghost use Rattle.roster_base.specs.Order.{RiseBy};
 ghost use Rattle.roster_base.specs.Reading.{Gives};
@@ -48,26 +48,28 @@ fn read_field(
     }
 }
 
-// The values of the fields in their order, or the first bad one.
+// Puts the values of the fields in their order in place of what the vector had, up to the first bad one.
 fn read_values(
     alloc: Global,
     kind: Kind,
     mode: Mode,
     places: &[Option<usize>],
     cells: &ByteRecord,
-) -> Result<Vec<Option<Value>>, RowError>
+    values: &mut Vec<Option<Value>>,
+) -> Result<(), RowError>
     requires places { length places.now ≡ length (table kind) }
     requires text { AllText (fields_of cells.now) }
-    ensures values { Gives (λ v. v.items) result (values_at mode 0 (table kind) places.now (fields_of cells.now)) }
-    ensures fit { IfOk result (λ v. fits_all (table kind) v.items ≡ true) }
+    ensures values { Gives (λ _. values.new.items) result (values_at mode 0 (table kind) places.now (fields_of cells.now)) }
+    ensures fit { OnOk result (fits_all (table kind) values.new.items ≡ true) }
 {
     let infos = fields(kind);
-    let mut values = Vec::with_capacity(alloc, infos.len())?;
+    values.clear();
+    values.reserve(infos.len())?;
     for (field, info) in infos.iter().enumerate() {
         let cell = cell_at(cells, places[field]);
         values.push(read_field(alloc, mode, field, info, cell)?)?;
     }
-    Ok(values)
+    Ok(())
 }
 
 // The metadata of a record: a blank cell says nothing.
@@ -109,7 +111,8 @@ fn is_dated(values: &[Option<Value>]) -> bool
     matches!(values.get(DATE), Some(Some(_)))
 }
 
-/// The row that a record spells under a header of its kind, or what is wrong with it first.
+/// The row that a record spells under a header of its kind, or what is wrong with it first. The vector is for the values
+/// on their way.
 #[tactic(auto, unfolding(crate::specs::Rows::row_at))]
 pub fn read_row(
     alloc: Global,
@@ -117,6 +120,7 @@ pub fn read_row(
     mode: Mode,
     header: &Header,
     cells: &ByteRecord,
+    values: &mut Vec<Option<Value>>,
 ) -> Result<SetRow, RowError>
     requires places { length header.now.places ≡ length (table kind) }
     requires text { AllText (fields_of cells.now) }
@@ -125,10 +129,10 @@ pub fn read_row(
     if cells.len() != header.width() {
         return Err(Refusal::Fault(record_fault(alloc, ValueFault::Width)?));
     }
-    let values = read_values(alloc, kind, mode, header.places(), cells)?;
+    read_values(alloc, kind, mode, header.places(), cells, values)?;
     let dated = is_dated(values.as_slice());
     let metadata = read_metadata(alloc, header.metadata(), cells)?;
-    match Row::from_values(alloc, kind, values, metadata)? {
+    match Row::take_from(alloc, kind, values, metadata)? {
         Some(row) => Ok(SetRow { row, dated }),
         None => Err(Refusal::Fault(record_fault(alloc, ValueFault::TooLong)?)),
     }

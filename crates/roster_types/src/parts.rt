@@ -139,20 +139,20 @@ fn build(alloc: Global, kind: Kind, mut values: Vec<Option<Value>>) -> Result<Fi
 }
 
 impl RowParts {
-    /// The row that the values of all its fields give.
-    pub fn from_values(
+    /// The row that the values of all its fields give. They are taken, so that their vector can be filled again.
+    pub fn take_from(
         alloc: Global,
         kind: Kind,
-        mut values: Vec<Option<Value>>,
+        values: &mut Vec<Option<Value>>,
         metadata: Metadata,
     ) -> Result<RowParts, NoMemory>
-        requires { fits_all (table kind) values.items ≡ true }
-        ensures { IfOk result (λ r. r ≡ record_from kind values.items metadata) }
+        requires { fits_all (table kind) values.old.items ≡ true }
+        ensures { IfOk result (λ r. r ≡ record_from kind values.old.items metadata) }
     {
-        let fields = take_fields(alloc, kind, &mut values, COMMON_FIELDS)?;
-        let modified = moment_of(take_last(&mut values));
-        let status = status_of(take_last(&mut values));
-        let id = id_of(take_last(&mut values));
+        let fields = take_fields(alloc, kind, values, COMMON_FIELDS)?;
+        let modified = moment_of(take_last(values));
+        let status = status_of(take_last(values));
+        let id = id_of(take_last(values));
         let _ = metadata.entries();
         Ok(RowParts {
             id,

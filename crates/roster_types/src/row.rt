@@ -47,13 +47,26 @@ impl Row {
     pub fn from_values(
         alloc: Global,
         kind: Kind,
-        values: Vec<Option<Value>>,
+        mut values: Vec<Option<Value>>,
         metadata: Metadata,
     ) -> Result<Option<Row>, NoMemory>
         requires { fits_all (table kind) values.items ≡ true }
         ensures { IfOk result (λ o. o ≡ row_from kind values.items metadata) }
     {
-        let parts = RowParts::from_values(alloc, kind, values, metadata)?;
+        Row::take_from(alloc, kind, &mut values, metadata)
+    }
+
+    /// The same, where the values are taken from a vector that is filled again for the next row.
+    pub fn take_from(
+        alloc: Global,
+        kind: Kind,
+        values: &mut Vec<Option<Value>>,
+        metadata: Metadata,
+    ) -> Result<Option<Row>, NoMemory>
+        requires { fits_all (table kind) values.old.items ≡ true }
+        ensures { IfOk result (λ o. o ≡ row_from kind values.old.items metadata) }
+    {
+        let parts = RowParts::take_from(alloc, kind, values, metadata)?;
         match parts.is_short(alloc) {
             Ok(true) => Ok(Some(Row { parts })),
             refused => {

@@ -8,8 +8,8 @@ use Rattle.csv_sets.proofs.RisingIds.{none_rise}
 use Rattle.csv_sets.proofs.RecordSteps.{found_first, found_none}
 use Rattle.csv_sets.proofs.file.rows_under.Goals as goal
 
-pub loop-cells-init : goal.loop-cells-init
-loop-cells-init c = record {
+pub loop-values-init : goal.loop-values-init
+loop-values-init c = record {
   leads = subst (λ (rows : List SetRow). Leads c.args.kind c.args.mode c.args.header.now rows 2 c.args.reader.now c.args.reader.now) (sym c.new-rows.ensures.items)
       (leads_start c.args.kind c.args.mode c.args.header.now c.args.reader.now c.requires.text);
   ids = none_rise c.new-rows.result.items c.new-rows.ensures.items;
@@ -17,23 +17,23 @@ loop-cells-init c = record {
 
 pub returns-in_err-row : goal.returns-in_err-row
 returns-in_err-row c =
-    let first = found_first c.loop-cells.reader c.read.new.self c.in_ok-read.field-0 (fields_of c.read.new.cells) c.in_ok-read.ensures.ok c.if-branch.true in
+    let first = found_first c.loop-values.reader c.read.new.self c.in_ok-read.field-0 (fields_of c.read.new.cells) c.in_ok-read.ensures.ok c.if-branch.true in
     let p = err_from_is_err_and c.from_residual-in_err-row.result c.from_residual-in_err-row.ensures.1 in
-    rw (p.1, p.2) (leads_fail (fields_of c.read.new.cells) c.read.new.self c.in_err-row.field-0.0 c.loop-cells.invariant.leads first c.in_err-row.ensures)
+    rw (p.1, p.2) (leads_fail (fields_of c.read.new.cells) c.read.new.self c.in_err-row.field-0.0 c.loop-values.invariant.leads first c.in_err-row.ensures)
 
 pub returns-then-not-branch : goal.returns-then-not-branch
 returns-then-not-branch c =
-    let first = found_first c.loop-cells.reader c.read.new.self c.in_ok-read.field-0 (fields_of c.read.new.cells) c.in_ok-read.ensures.ok c.if-branch.true in
-    leads_repeated (fields_of c.read.new.cells) c.read.new.self c.in_ok-row.row c.loop-cells.invariant.leads first c.in_ok-row.ensures (not-false _ (sym c.in_ok-add.ensures.told ∙ c.if-not-branch.true))
+    let first = found_first c.loop-values.reader c.read.new.self c.in_ok-read.field-0 (fields_of c.read.new.cells) c.in_ok-read.ensures.ok c.if-branch.true in
+    leads_repeated (fields_of c.read.new.cells) c.read.new.self c.in_ok-row.row c.loop-values.invariant.leads first c.in_ok-row.ensures (not-false _ (sym c.in_ok-add.ensures.told ∙ c.if-not-branch.true))
 
-pub loop-cells-preserved : goal.loop-cells-preserved
-loop-cells-preserved c =
-    let first = found_first c.loop-cells.reader c.read.new.self c.in_ok-read.field-0 (fields_of c.read.new.cells) c.in_ok-read.ensures.ok c.if-branch.true in
+pub loop-values-preserved : goal.loop-values-preserved
+loop-values-preserved c =
+    let first = found_first c.loop-values.reader c.read.new.self c.in_ok-read.field-0 (fields_of c.read.new.cells) c.in_ok-read.ensures.ok c.if-branch.true in
     record {
       leads = rw c.in_ok-add.ensures.rows
-          (leads_on (fields_of c.read.new.cells) c.read.new.self c.in_ok-row.row c.loop-cells.invariant.leads first c.in_ok-row.ensures (not-true _ (sym c.in_ok-add.ensures.told ∙ c.if-not-branch.false)));
+          (leads_on (fields_of c.read.new.cells) c.read.new.self c.in_ok-row.row c.loop-values.invariant.leads first c.in_ok-row.ensures (not-true _ (sym c.in_ok-add.ensures.told ∙ c.if-not-branch.false)));
       ids = c.in_ok-add.ensures.ids c.if-not-branch.false;
     }
 
 pub returns : goal.returns
-returns c = leads_end c.loop-cells.invariant.leads (found_none c.loop-cells.reader c.read.new.self c.in_ok-read.field-0 (fields_of c.read.new.cells) c.in_ok-read.ensures.ok c.if-branch.false)
+returns c = leads_end c.loop-values.invariant.leads (found_none c.loop-values.reader c.read.new.self c.in_ok-read.field-0 (fields_of c.read.new.cells) c.in_ok-read.ensures.ok c.if-branch.false)
