@@ -5,6 +5,7 @@ ghost use Rattle.std.specs.Option.{ForSome};
 ghost use Rattle.grant_changes.specs.Granting.{GrantsMake};
 ghost use Rattle.set_changes.specs.Applying.{Applies};
 ghost use Rattle.set_changes.specs.Steps.{IsSound};
+ghost use Rattle.version_core.specs.Version.{newest_of};
 ghost use Rattle.keeper_memory.specs.Commits.{CanCommit, CanLead};
 ghost use Rattle.keeper_memory.specs.Kept.{IsKept, KeptState, newest_kept};
 ghost use Rattle.hub_core.specs.Made.{Adopts};
@@ -51,6 +52,13 @@ impl Model for Hub {
     ghost invariant = { IsHub };
 }
 
+// Whether the newest version has no broken references because it has no rows.
+fn is_known_sound(table: &Table) -> bool
+    ensures { result ≡ true → IsSound (newest_of table.now) }
+{
+    table.newest_rows().is_empty()
+}
+
 impl Hub {
     /// The hub of what a keeper keeps.
     pub fn open<H: HubKeeper>(alloc: Global, keeper: &mut H) -> Result<Hub, HubError>
@@ -62,12 +70,14 @@ impl Hub {
         ensures refused { RefusesNothing result }
     {
         let tables = keeper.load(alloc)?;
+        let table = Table::from_tables(alloc, &tables)?;
+        let is_sound = is_known_sound(&table);
         Ok(Hub {
-            table: Table::from_tables(alloc, &tables)?,
+            table,
             marks: Marks::from_tables(alloc, &tables)?,
             last: None,
             is_open: false,
-            is_sound: false,
+            is_sound,
         })
     }
 
@@ -78,6 +88,13 @@ impl Hub {
         ensures kept { IsKept self.now.kept }
     {
         &self.table
+    }
+
+    /// Has look-ups by reference find rows by an index from now on. They answer the same without it.
+    pub fn index(&mut self)
+        ensures { self.new ≡ self.old }
+    {
+        self.table.index();
     }
 
     /// The marks. No memory is taken.

@@ -78,6 +78,8 @@ pub fn answer<H: HubKeeper>(
         × ((after : KeptState) → IsStanding hub.new after → (before : KeptState) × IsStanding hub.old before × (H.stands_for keeper.new after → H.stands_for keeper.old before)
         × TakesRequest request.now at result before after failed) }
 {
+    // Who sees what, and what belongs to a path, is found by references.
+    hub.index();
     match hub.ready(alloc, keeper) {
         Ok(()) => answer_settled(alloc, router, hub, keeper, request, at),
         Err(error) => failing(alloc, request, error),

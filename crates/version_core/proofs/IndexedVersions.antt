@@ -1,21 +1,23 @@
 -- Versions whose rows are indexed.
-use Rattle.std.proofs.Common.{◌≡◌, ℕ, ℤ, suc, ◌+◌, ◌≤◌, Bool, true, false, ◌||◌, cond, List, [], ◌∷◌, ◌++◌, None, Some, length, option_map, refl, sym, ap, subst, ◌∙◌, arith}
+use Rattle.std.proofs.Common.{◌≡◌, ℕ, ℤ, suc, ◌+◌, ◌≤◌, Bool, true, false, ◌||◌, cond, if◌then◌else◌, leb, List, [], ◌∷◌, ◌++◌, None, Some, length, option_map, refl, sym, ap, subst, ◌∙◌, arith}
 use Rattle.std.proofs.lemmas.List.Folds.{list_any-append}
 use Rattle.std.proofs.lemmas.List.Sorted.{list_any-IsPermutation}
 use Rattle.std.specs.List.{AllByRecursion, AllWithin, list_any}
 use Rattle.std.specs.List.Sorted.{IsPermutation}
-use Rattle.std.specs.Option.{option_or}
+use Rattle.std.specs.Option.{option_or, option_to_list}
 use Rattle.std.specs.Ordering.{is_eq}
 use Rattle.roster_types.specs.Keys.{Key, key_cmp, look_up, row_key}
 use Rattle.roster_types.specs.Records.{Record}
 use Rattle.roster_values.specs.Kinds.{place_of_kind}
 use Rattle.version_core.specs.Changes.{change_key, rows_of}
 use Rattle.version_core.specs.Order.{overlaid}
-use Rattle.version_core.specs.History.{Past}
-use Rattle.version_core.specs.RefIndex.{AreIndexed, IsIndexed, Keeps, StayIndexed, says}
+use Rattle.version_core.specs.History.{Past, past_of, pasts_of, rows_at}
+use Rattle.version_core.specs.Since.{standing}
+use Rattle.version_core.specs.RefIndex.{AreIndexed, AreSaid, IsIndexed, Keeps, StayIndexed, says}
 use Rattle.version_core.specs.VersionLog.{IsVersionIndexed, versions_at}
 use Rattle.version_core.specs.declared.change.BaseVersion.{BaseVersion}
 use Rattle.version_core.specs.declared.grant_row.GrantRow.{GrantRow}
+use Rattle.version_core.specs.declared.history.History.{History}
 use Rattle.version_core.specs.declared.ref_index.RefEntry.{RefEntry}
 use Rattle.version_core.specs.declared.row_change.RowChange.{RowChange}
 use Rattle.version_core.specs.declared.since.Since.{Since}
@@ -41,14 +43,41 @@ overlaid_row P k base changes row from_base all at =
     ] refl (sym (look_up-rows_of k (overlaid change_key base changes) ∙ ap (option_map (λ (c : RowChange). c.row)) (look_up-overlaid change_key k base changes)) ∙ at)
 
 module _ (runs : List (List RefEntry)) where
-  pub rows_indexed : (changes : List RowChange) → AllWithin (λ change. IsIndexed runs change.row) changes 0 (length changes) → AreIndexed runs (rows_of changes)
-  rows_indexed changes all = λ row stands. found_row (IsIndexed runs) (row_key row) changes row all stands
-
-  pub none_indexed : AreIndexed runs []
-  none_indexed = rows_indexed [] (λ k d low lt. absurd (omega arith))
-
   pub overlaid_indexed : (base changes : List RowChange) → AreIndexed runs (rows_of base) → AllWithin (λ change. IsIndexed runs change.row) changes 0 (length changes) → AreIndexed runs (rows_of (overlaid change_key base changes))
   overlaid_indexed base changes are all = λ row stands. overlaid_row (IsIndexed runs) (row_key row) base changes row (are row) all stands
+
+-- what holds of all entries of a past holds of the one that stands
+standing_row : (P : RowChange → Type 0) (version : ℕ) (past : Past) (change : RowChange) → AllWithin (λ entry. P entry.value) past 0 (length past) → standing version past ≡ Some change → P change
+standing_row P version [] change all at = cc
+standing_row P version (entry ∷ past) change all at =
+    elim (standing version past) as (λ o. standing version past ≡ o → option_or o (if leb entry.version version then Some entry.value else None) ≡ Some change → P change) [
+      | Some x ↦ λ found same. standing_row P version past change (λ i d low lt. all (suc i) d (omega arith) (omega arith)) (found ∙ same)
+      | None ↦ λ _ here. first (leb entry.version version) here
+    ] refl at
+  where
+    first : (b : Bool) → (if b then Some entry.value else None) ≡ Some change → P change
+    first true is = let one : entry.value ≡ change = cc in subst P one (all 0 entry (omega arith) (omega arith))
+    first false is = cc
+
+module _ (runs : List (List RefEntry)) where
+  pasts_indexed : (version : ℕ) (histories : List History) → AreSaid runs histories → (k : Key) (row : Record) → look_up row_key k (rows_of (rows_at version (pasts_of histories))) ≡ Some row → IsIndexed runs row
+  pasts_indexed version [] all k row at = cc
+  pasts_indexed version (history ∷ histories) all k row at =
+      let rest = pasts_indexed version histories (λ i d low lt. all (suc i) d (omega arith) (omega arith)) k row in
+      elim (standing version (past_of history)) as (λ o. standing version (past_of history) ≡ o → look_up row_key k (rows_of (option_to_list o ++ rows_at version (pasts_of histories))) ≡ Some row → IsIndexed runs row) [
+        | None ↦ λ _. rest
+        | Some change ↦ λ stands. elim (is_eq (key_cmp k (change_key change))) as (λ b. cond b (Some change.row) (look_up row_key k (rows_of (rows_at version (pasts_of histories)))) ≡ Some row → IsIndexed runs row) [
+          | true ↦ λ same.
+              let is : change.row ≡ row = cc in
+              subst (IsIndexed runs) is (standing_row (λ c. IsIndexed runs c.row) version (past_of history) change (all 0 history (omega arith) (omega arith)) stands)
+          | false ↦ rest
+        ]
+      ] refl at
+
+  -- versions that are read from histories whose rows are all indexed
+  pub said_versions : (histories : List History) → AreSaid runs histories → (grants : List (Since (List GrantRow))) (number : ℕ) (moments : List ℤ) → AllByRecursion (IsVersionIndexed runs) (versions_at number moments (pasts_of histories) grants)
+  said_versions histories all grants number [] = tt
+  said_versions histories all grants number (moment ∷ moments) = ((λ row stands. pasts_indexed number histories all (row_key row) row stands), said_versions histories all grants (number + 1) moments)
 
 module _ (old new : List (List RefEntry)) (keeps : Keeps old new) where
   rows_stay : (rows : List Record) → AreIndexed old rows → AreIndexed new rows

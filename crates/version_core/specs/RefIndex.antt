@@ -11,9 +11,10 @@ use Rattle.roster_types.specs.Records.{Record, place_in}
 use Rattle.roster_values.specs.Kinds.{place_of_kind}
 use Rattle.roster_values.specs.Table.{table}
 use Rattle.version_core.specs.Changes.{rows_of}
-use Rattle.version_core.specs.History.{Past, past_key, rows_at}
+use Rattle.version_core.specs.History.{Past, past_key, past_of, rows_at}
 use Rattle.version_core.specs.References.{names, names_at}
 use Rattle.version_core.specs.Since.{some_from}
+use Rattle.version_core.specs.declared.history.History.{History}
 use Rattle.version_core.specs.declared.ref_index.RefEntry.{RefEntry}
 
 -- a kind and a field of it by their places, and an id that the field names
@@ -110,6 +111,10 @@ Keeps old new = (p : RefEntry → Bool) → list_any (list_any p) old ≡ true �
 -- each row is indexed
 abbrev pub AreIndexed : List (List RefEntry) → List Record → Type 0
 AreIndexed runs rows = (row : Record) → look_up row_key (row_key row) rows ≡ Some row → IsIndexed runs row
+
+-- each row of histories is indexed
+abbrev pub AreSaid : List (List RefEntry) → List History → Type 0
+AreSaid runs histories = AllWithin (λ history. AllWithin (λ entry. IsIndexed runs entry.value.row) (past_of history) 0 (length (past_of history))) histories 0 (length histories)
 
 -- a row that stands at a version from this one on names what the entry says
 abbrev pub is_kept : ℕ → List Past → RefEntry → Bool

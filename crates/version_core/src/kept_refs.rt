@@ -16,8 +16,8 @@ use roster_types::row::Row;
 use roster_values::ValueRef;
 use roster_values::fields::fields;
 
-// Whether the field at a place of a row names the id.
-fn names_at(row: &Row, place: u64, id: &Id) -> bool
+/// Whether the field at a place of a row names the id.
+pub fn names_at(row: &Row, place: u64, id: &Id) -> bool
     ensures { result ≡ references.names_at place id.now row.now }
 {
     if place >= fields(row.kind()).len() as u64 {

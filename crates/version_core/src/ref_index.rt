@@ -15,6 +15,7 @@ use crate::history::History;
 use crate::kept_refs::is_kept;
 use crate::references::{lent_field, names, place_of};
 use crate::row_change::RowChange;
+use crate::since::Since;
 use roster_base::NoMemory;
 use roster_texts::Id;
 use roster_types::row::Row;
@@ -301,12 +302,36 @@ fn row_is_said(runs: &[RefRun], row: &Row) -> bool
     true
 }
 
-/// Whether entries say all that these rows name.
-pub fn are_said(runs: &[RefRun], changes: &[RowChange]) -> bool
+// Whether entries say all that these rows name.
+fn are_said(runs: &[RefRun], changes: &[RowChange]) -> bool
     ensures { result ≡ true → AllWithin (λ change. spec.IsIndexed runs.now change.row) changes.now 0 (length changes.now) }
 {
     for change in changes {
         if !row_is_said(runs, &change.row) {
+            return false;
+        }
+    }
+    true
+}
+
+// Whether entries say all that the rows of a history name.
+fn past_is_said(runs: &[RefRun], rows: &[Since<RowChange>]) -> bool
+    ensures { result ≡ true → AllWithin (λ entry. spec.IsIndexed runs.now entry.value.row) rows.now 0 (length rows.now) }
+{
+    for since in rows {
+        if !row_is_said(runs, &since.value.row) {
+            return false;
+        }
+    }
+    true
+}
+
+/// Whether entries say all that the rows of histories name.
+pub fn pasts_are_said(runs: &[RefRun], histories: &[History]) -> bool
+    ensures { result ≡ true → spec.AreSaid runs.now histories.now }
+{
+    for history in histories {
+        if !past_is_said(runs, history.rows()) {
             return false;
         }
     }

@@ -5,9 +5,10 @@ ghost use Rattle.version_core.specs.History.{ArePasts, pasts_of};
 ghost use Rattle.version_core.specs.RefIndex.{AreKept, Keeps, StayIndexed, is_kept, size};
 
 use crate::history::History;
+use crate::kept_refs::names_at;
 use crate::ref_index::{RefEntry, RefRun, in_order, one_says};
-use crate::references::{lent_field, place_of};
 use crate::row_change::RowChange;
+use crate::since::Since;
 use roster_base::{NoMemory, TryCopy};
 use roster_texts::Id;
 use roster_types::row::Row;
@@ -15,16 +16,34 @@ use roster_values::ValueRef;
 use roster_values::fields::fields;
 use std::alloc::Global;
 
-// Adds an entry, where no run has it.
+// What needs no entry: what runs say, and what the row names that stood before under the same kind and id.
+#[derive(Drop)]
+struct Known<'a> {
+    runs: &'a [RefRun],
+    before: Option<&'a Row>,
+}
+
+impl<'a> Known<'a> {
+    fn has(&self, row: &Row, place: u64, target: &Id) -> bool {
+        if let Some(before) = self.before {
+            if names_at(before, place, target) {
+                return true;
+            }
+        }
+        one_says(self.runs, row.kind(), place, target, row.id())
+    }
+}
+
+// Adds an entry, where it isn't known.
 fn push_entry(
     alloc: Global,
-    runs: &[RefRun],
+    known: &Known<'_>,
     entries: &mut Vec<RefEntry>,
     row: &Row,
     place: u64,
     target: &Id,
 ) -> Result<(), NoMemory> {
-    if one_says(runs, row.kind(), place, target, row.id()) {
+    if known.has(row, place, target) {
         return Ok(());
     }
     entries.push(RefEntry {
@@ -36,24 +55,24 @@ fn push_entry(
     Ok(())
 }
 
-// Adds the entries of a row's field.
+// Adds the entries of the field at a place of a row.
 fn push_field(
     alloc: Global,
-    runs: &[RefRun],
+    known: &Known<'_>,
     entries: &mut Vec<RefEntry>,
     row: &Row,
-    name: &str,
+    place: usize,
 ) -> Result<(), NoMemory> {
-    let Some(place) = place_of(row.kind(), name) else {
+    if place >= fields(row.kind()).len() {
         return Ok(());
-    };
-    match lent_field(row, name) {
+    }
+    match row.value(place) {
         Some(ValueRef::Ref(target)) => {
-            push_entry(alloc, runs, entries, row, place as u64, target)
+            push_entry(alloc, known, entries, row, place as u64, target)
         }
         Some(ValueRef::Refs(targets)) => push_targets(
             alloc,
-            runs,
+            known,
             entries,
             row,
             place as u64,
@@ -65,14 +84,14 @@ fn push_field(
 
 fn push_targets(
     alloc: Global,
-    runs: &[RefRun],
+    known: &Known<'_>,
     entries: &mut Vec<RefEntry>,
     row: &Row,
     place: u64,
     targets: &[Id],
 ) -> Result<(), NoMemory> {
     for target in targets {
-        push_entry(alloc, runs, entries, row, place, target)?;
+        push_entry(alloc, known, entries, row, place, target)?;
     }
     Ok(())
 }
@@ -80,12 +99,12 @@ fn push_targets(
 // Adds the entries of a row.
 fn push_row(
     alloc: Global,
-    runs: &[RefRun],
+    known: &Known<'_>,
     entries: &mut Vec<RefEntry>,
     row: &Row,
 ) -> Result<(), NoMemory> {
-    for info in fields(row.kind()) {
-        push_field(alloc, runs, entries, row, info.name)?;
+    for place in 0..fields(row.kind()).len() {
+        push_field(alloc, known, entries, row, place)?;
     }
     Ok(())
 }
@@ -93,17 +112,38 @@ fn push_row(
 // What these rows name and no run has yet, in a run of its own.
 fn run_of(alloc: Global, runs: &[RefRun], changes: &[RowChange]) -> Result<RefRun, NoMemory> {
     let mut entries = Vec::new(alloc);
+    let known = Known { runs, before: None };
     for change in changes {
-        push_row(alloc, runs, &mut entries, &change.row)?;
+        push_row(alloc, &known, &mut entries, &change.row)?;
     }
     Ok(in_order(entries))
 }
 
-/// What these rows name, in one run.
-pub fn runs_of(alloc: Global, changes: &[RowChange]) -> Result<Vec<RefRun>, NoMemory> {
+// Adds the entries of the rows of a history, each reference once where a row keeps it.
+fn push_history(
+    alloc: Global,
+    entries: &mut Vec<RefEntry>,
+    rows: &[Since<RowChange>],
+) -> Result<(), NoMemory> {
+    let mut known = Known {
+        runs: &[],
+        before: None,
+    };
+    for since in rows {
+        push_row(alloc, &known, entries, &since.value.row)?;
+        known.before = Some(&since.value.row);
+    }
+    Ok(())
+}
+
+/// What the rows of histories name, in one run.
+pub fn runs_of(alloc: Global, histories: &[History]) -> Result<Vec<RefRun>, NoMemory> {
+    let mut entries = Vec::new(alloc);
+    for history in histories {
+        push_history(alloc, &mut entries, history.rows())?;
+    }
     let mut runs = Vec::new(alloc);
-    let run = run_of(alloc, &runs, changes)?;
-    runs.push(run)?;
+    runs.push(in_order(entries))?;
     Ok(runs)
 }
 
@@ -144,8 +184,8 @@ fn join_long(runs: &mut Vec<RefRun>) -> Result<(), NoMemory>
     Ok(())
 }
 
-/// Adds what these rows name. Where memory is wanting, what runs say stays.
-pub fn add_run(alloc: Global, runs: &mut Vec<RefRun>, changes: &[RowChange]) -> Result<(), NoMemory>
+// Adds what these rows name. Where memory is wanting, what runs say stays.
+fn add_run(alloc: Global, runs: &mut Vec<RefRun>, changes: &[RowChange]) -> Result<(), NoMemory>
     ensures { Keeps runs.old.items runs.new.items }
 {
     let run = run_of(alloc, runs, changes)?;
@@ -154,6 +194,21 @@ pub fn add_run(alloc: Global, runs: &mut Vec<RefRun>, changes: &[RowChange]) -> 
     }
     runs.push(run)?;
     join_long(runs)
+}
+
+/// Adds what these rows name, where runs are to say all. Where memory is wanting, what runs say stays.
+pub fn note(
+    alloc: Global,
+    runs: &mut Vec<RefRun>,
+    is_indexed: bool,
+    changes: &[RowChange],
+) -> Result<(), NoMemory>
+    ensures { Keeps runs.old.items runs.new.items }
+{
+    if !is_indexed {
+        return Ok(());
+    }
+    add_run(alloc, runs, changes)
 }
 
 // Lets the entries go that no row of the versions from the oldest on says. No memory is taken.

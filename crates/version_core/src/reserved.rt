@@ -10,7 +10,7 @@ ghost use Rattle.version_core.specs.declared.row_change.RowChange.{RowChange as 
 use crate::grant_row::GrantRow;
 use crate::history::{History, Place};
 use crate::ref_index::RefRun;
-use crate::ref_runs::add_run;
+use crate::ref_runs::note;
 use crate::row_change::RowChange;
 use crate::since::Since;
 use roster_base::{Items, NoMemory, TryCopy};
@@ -94,7 +94,7 @@ fn reserve_entry(histories: &mut Vec<History>, change: &RowChange) -> Result<(),
     }
 }
 
-/// Makes room for one version more, with these rows, and notes what they name.
+/// Makes room for one version more, with these rows, and notes what they name, where the index is to say all.
 pub fn make_room(
     alloc: Global,
     moments: &mut Vec<Moment>,
@@ -103,6 +103,7 @@ pub fn make_room(
     spare: &mut Vec<History>,
     fresh: &mut Vec<Place>,
     refs: &mut Vec<RefRun>,
+    is_indexed: bool,
     changes: &[RowChange],
 ) -> Result<(), NoMemory>
     requires pasts { ArePasts (pasts_of histories.old.items) }
@@ -122,7 +123,7 @@ pub fn make_room(
     ensures refs { Keeps refs.old.items refs.new.items }
 {
     let count = changes.len();
-    add_run(alloc, refs, changes)?;
+    note(alloc, refs, is_indexed, changes)?;
     moments.reserve(1)?;
     grants.reserve(1)?;
     reserve_places(alloc, fresh, count)?;

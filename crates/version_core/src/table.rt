@@ -95,6 +95,14 @@ impl Table {
         self.log.newest_rows()
     }
 
+    /// Has look-ups by reference find rows by an index from now on, which each further change keeps whole. No call needs it: without the
+    /// index, or where memory for it is wanting, they go through the rows of a kind.
+    pub fn index(&mut self)
+        ensures { self.new ≡ self.old }
+    {
+        self.log.index();
+    }
+
     /// Makes room for this change, so that `add` takes no memory.
     pub fn reserve(&mut self, change: &Change) -> Result<(), NoMemory>
         ensures ok { OnOk result (self.new ≡ record self.old { room = Some (map change_key change.now.rows) }) }

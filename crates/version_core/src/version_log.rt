@@ -12,7 +12,7 @@ use crate::copies::copied;
 use crate::grant_row::GrantRow;
 use crate::histories::{put_rows, trim_all};
 use crate::history::{History, Place};
-use crate::ref_index::{RefRun, are_said, stay_said};
+use crate::ref_index::{RefRun, pasts_are_said, stay_said};
 use crate::ref_runs::{limit_of, runs_of, sweep};
 use crate::reserved::{RowKey, keys_of, make_room, reserve_places};
 use crate::row_change::RowChange;
@@ -41,7 +41,7 @@ pub struct VersionLog {
     fresh: Vec<Place>,
     // For the rows of which kinds and ids there is room.
     room: Option<Vec<RowKey>>,
-    // What rows name, in runs whose number is at most logarithmic in that of the entries.
+    // What rows name, in runs whose number is at most logarithmic in that of the entries. Nothing is noted before `index` is called.
     refs: Vec<RefRun>,
     // Up to how many entries they may have some that no row of the versions says.
     limit: usize,
@@ -78,7 +78,7 @@ impl VersionLog {
             room: None,
             refs: Vec::new(alloc),
             limit: 0,
-            is_indexed: true,
+            is_indexed: false,
         }
     }
 
@@ -89,9 +89,6 @@ impl VersionLog {
     {
         let grants = first_grants(alloc, base)?;
         let histories = histories_of(alloc, base.number, base.rows.as_slice())?;
-        let refs = runs_of(alloc, base.rows.as_slice())?;
-        let is_indexed = are_said(&refs, base.rows.as_slice());
-        let limit = limit_of(&refs);
         Ok(VersionLog {
             alloc,
             number: base.number,
@@ -102,9 +99,9 @@ impl VersionLog {
             spare: Vec::new(alloc),
             fresh: Vec::new(alloc),
             room: None,
-            refs,
-            limit,
-            is_indexed,
+            refs: Vec::new(alloc),
+            limit: 0,
+            is_indexed: false,
         })
     }
 
@@ -177,10 +174,27 @@ impl VersionLog {
             &mut self.spare,
             &mut self.fresh,
             &mut self.refs,
+            self.is_indexed,
             changes,
         )?;
         self.room = Some(keys);
         Ok(())
+    }
+
+    /// Notes what the rows of the versions name, where that isn't done. Where memory is wanting, it isn't done either, and look-ups by
+    /// reference go through the rows.
+    pub fn index(&mut self)
+        ensures { self.new ≡ self.old }
+    {
+        if self.is_indexed {
+            return;
+        }
+        let Ok(refs) = runs_of(self.alloc, &self.histories) else {
+            return;
+        };
+        self.is_indexed = pasts_are_said(&refs, &self.histories);
+        self.limit = limit_of(&refs);
+        self.refs = refs;
     }
 
     /// Lets go what the index has and no row of the versions says, where that may be as much as the rest. No memory is taken.

@@ -1,6 +1,6 @@
 //! One version, read.
 
-ghost use Rattle.std.specs.Prelude.{◌≡◌, ◌+◌, ◌≤◌, ◌==◌, Some, count_by, true, option_copied, option_map, length, take, find};
+ghost use Rattle.std.specs.Prelude.{◌≡◌, ◌+◌, ◌≤◌, ◌==◌, [], Some, count_by, true, option_copied, option_map, length, take, find};
 ghost use Rattle.roster_types.specs.Keys.{Ascends, count_of, look_up};
 ghost use Rattle.version_core.specs.Changes.{AreChanges, change_key, is_next, rows_of};
 ghost use Rattle.roster_values.specs.Kinds.{place_of_kind};
@@ -123,6 +123,13 @@ impl<'a> VersionView<'a> {
             refs,
             is_indexed,
         }
+    }
+
+    /// Whether it is told that the version has no rows. One whose rows are all younger isn't told.
+    pub fn is_empty(&self) -> bool
+        ensures { result ≡ true → self.now.rows ≡ [] }
+    {
+        self.histories.is_empty()
     }
 
     /// When the version was published.

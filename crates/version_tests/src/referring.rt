@@ -189,11 +189,15 @@ fn compare_kept(rt: &impl Abort, alloc: Global, table: &Table) -> Result<(), Fai
     compare_version(rt, alloc, &table.newest_rows())
 }
 
-// Publishes at random in a table that keeps so many versions beside the newest.
+// Publishes at random in a table that keeps so many versions beside the newest. Its rows are gone through at first, and found by an index
+// that is made of several versions later on.
 fn publish_at_random(rt: &impl Abort, alloc: Global, keep: u64) -> Result<(), Fail> {
     let mut table = Table::new(alloc, keep);
     let mut dice = Dice { seed: keep };
-    for _ in 0..30 {
+    for turn in 0..30 {
+        if turn == 10 {
+            table.index();
+        }
         publish_org(rt, alloc, &mut table, &mut dice)?;
         publish_user(rt, alloc, &mut table, &mut dice)?;
         compare_kept(rt, alloc, &table)?;
@@ -258,6 +262,7 @@ fn compare_many(rt: &impl Abort, alloc: Global, version: &VersionView) -> Result
 fn references_that_no_version_has(rt: HostRuntime) -> Result<(), Fail> {
     let alloc = rt.alloc();
     let mut table = Table::new(alloc, 1);
+    table.index();
     let mut dice = Dice { seed: 7 };
     publish_orgs(&rt, alloc, &mut table)?;
     for _ in 0..150 {

@@ -1,16 +1,13 @@
 use Rattle.std.proofs.Common.{◌≡◌, ◌+◌, ◌≤◌, ◌∷◌, [], ℤ, List, None, length, vec_len, sym, ap, subst, ◌∙◌, arith, unwrap_or}
-use Rattle.std.specs.List.{AllByRecursion, AllWithin}
+use Rattle.std.specs.List.{AllByRecursion}
 use Rattle.version_core.specs.History.{AreHistoriesOf, AreUpTo, pasts_of}
-use Rattle.version_core.specs.RefIndex.{IsIndexed}
 use Rattle.version_core.specs.Since.{standing}
-use Rattle.version_core.specs.VersionLog.{IsVersionIndexed, version_at, versions_at}
+use Rattle.version_core.specs.VersionLog.{version_at, versions_at}
 use Rattle.version_core.specs.Version.{IsVersion}
 use Rattle.version_core.specs.declared.change.BaseVersion.{BaseVersion}
 use Rattle.version_core.specs.declared.grant_row.GrantRow.{GrantRow}
 use Rattle.version_core.specs.declared.history.History.{History}
-use Rattle.version_core.specs.declared.row_change.RowChange.{RowChange}
 use Rattle.version_core.specs.declared.since.Since.{Since}
-use Rattle.version_core.proofs.IndexedVersions.{rows_indexed}
 use Rattle.version_core.proofs.PutLemmas.{leb_same}
 use Rattle.version_core.proofs.SinceLemmas.{standing-pushed}
 use Rattle.version_core.proofs.version_log.VersionLog.from_base.Goals as goal
@@ -38,10 +35,7 @@ invariant_of-result c =
       spare = c.new-2.ensures.items;
       fresh = rw c.new-3.ensures.items tt;
       room = λ keys none. cc;
-      index = λ on.
-          let runs = c.in_ok-refs.refs.items in
-          let said = subst (λ (rows : List RowChange). AllWithin (λ change. IsIndexed runs change.row) rows 0 (length rows)) c.as_slice-3.ensures.changes (rw c.deref.ensures.value at c.are_said-is_indexed.ensures on) in
-          rw c.new.ensures.items (subst (IsVersionIndexed runs) (sym (base_is base histories.items grants.items are c.in_ok-grants.ensures)) (rows_indexed runs base.rows said), tt);
+      index = λ on. cc;
     }
 
 pub returns : goal.returns

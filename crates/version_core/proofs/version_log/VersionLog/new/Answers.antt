@@ -1,7 +1,6 @@
 use Rattle.std.proofs.Common.{[], refl, rules}
 use Rattle.version_core.specs.History.{ArePasts}
 use Rattle.version_core.proofs.GrantLemmas.{no_grants}
-use Rattle.version_core.proofs.IndexedVersions.{none_indexed}
 use Rattle.version_core.proofs.version_log.VersionLog.new.Goals as goal
 
 no_pasts : ArePasts []
@@ -16,5 +15,5 @@ invariant_of-result c = record {
   spare = c.new-4.ensures.items;
   fresh = rw c.new-5.ensures.items tt;
   room = λ keys none. cc;
-  index = λ _. rw (c.new-3.ensures.items, c.new.ensures.items) (none_indexed c.new-6.result.items, tt);
+  index = λ on. cc;
 }
