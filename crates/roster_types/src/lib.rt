@@ -22,6 +22,7 @@ pub mod row;
 pub mod rows;
 pub mod set;
 pub mod set_row;
+mod shared;
 pub mod status;
 pub mod structs;
 pub mod users;

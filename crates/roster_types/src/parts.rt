@@ -16,14 +16,16 @@ use crate::bounds::{list_bound, text_bound, value_bound};
 use crate::lengths::{CAP, add, enclosed_length, member_length, parts_length, value_length};
 use crate::metadata::Metadata;
 use crate::row::LONGEST;
+use crate::shared::Shared;
 use crate::status::Status;
 use crate::structs::Fields;
 use roster_base::{NoMemory, Same, TryCopy};
 use roster_texts::{Id, Moment};
 use roster_values::fields::{COMMON_FIELDS, fields};
-use roster_values::{FieldInfo, Kind, Value, ValueRef, copy_value};
+use roster_values::{FieldInfo, Kind, Value, ValueRef};
 use std::alloc::Global;
 use std::marker::Model;
+use std::sync::Arc;
 
 /// A row that may be too long.
 #[derive(Drop)]
@@ -31,8 +33,7 @@ pub struct RowParts {
     id: Id,
     status: Status,
     modified: Moment,
-    fields: Fields,
-    metadata: Metadata,
+    shared: Arc<Shared, Global>,
 }
 
 impl Model for RowParts {
@@ -105,37 +106,27 @@ fn moment_of(value: Option<Value>) -> Moment
     }
 }
 
-// The struct of the values of a kind's own fields, which stand behind the first ones and are taken from the end.
+// The struct of the values of a kind's own fields, which stand behind the common ones and are taken from the end.
 #[tactic(auto, using(crate::proofs::Building::building))]
 fn take_fields(
     alloc: Global,
     kind: Kind,
     values: &mut Vec<Option<Value>>,
-    first: usize,
 ) -> Result<Fields, NoMemory>
-    requires within { first ≤ length values.old.items }
-    requires shapes { shapes_fit (own_fields kind) (drop first values.old.items) ≡ true }
-    ensures values { IfOk result (λ f. values_of f ≡ drop first values.old.items) }
+    requires within { 3 ≤ length values.old.items }
+    requires shapes { shapes_fit (own_fields kind) (drop 3 values.old.items) ≡ true }
+    ensures values { IfOk result (λ f. values_of f ≡ drop 3 values.old.items) }
     ensures kind { IfOk result (λ f. kind_of f ≡ kind) }
-    ensures left { OnOk result (values.new.items ≡ take first values.old.items) }
+    ensures left { OnOk result (values.new.items ≡ take 3 values.old.items) }
 {
     let mut fields = Fields::blank(alloc, kind)?;
-    for place in (0..values.len() - first).rev() {
+    for place in (0..values.len() - COMMON_FIELDS).rev() {
         match take_last(values) {
             Some(value) => fields.put(place, value),
             None => {}
         }
     }
     Ok(fields)
-}
-
-// The struct of the values of a kind's own fields.
-fn build(alloc: Global, kind: Kind, mut values: Vec<Option<Value>>) -> Result<Fields, NoMemory>
-    requires { shapes_fit (own_fields kind) values.items ≡ true }
-    ensures values { IfOk result (λ f. values_of f ≡ values.items) }
-    ensures kind { IfOk result (λ f. kind_of f ≡ kind) }
-{
-    take_fields(alloc, kind, &mut values, 0)
 }
 
 impl RowParts {
@@ -149,17 +140,17 @@ impl RowParts {
         requires { fits_all (table kind) values.old.items ≡ true }
         ensures { IfOk result (λ r. r ≡ record_from kind values.old.items metadata) }
     {
-        let fields = take_fields(alloc, kind, values, COMMON_FIELDS)?;
+        let fields = take_fields(alloc, kind, values)?;
         let modified = moment_of(take_last(values));
         let status = status_of(take_last(values));
         let id = id_of(take_last(values));
         let _ = metadata.entries();
+        let shared = Shared::first(alloc, fields, metadata)?;
         Ok(RowParts {
             id,
             status,
             modified,
-            fields,
-            metadata,
+            shared,
         })
     }
 
@@ -168,7 +159,7 @@ impl RowParts {
         ensures kind { result ≡ self.now.kind }
         ensures fitting { IsFitting self.now }
     {
-        self.fields.kind()
+        self.shared.fields.kind()
     }
 
     /// The id of the row.
@@ -196,7 +187,7 @@ impl RowParts {
     pub fn metadata(&self) -> &Metadata
         ensures { result.now ≡ self.now.metadata }
     {
-        &self.metadata
+        &self.shared.metadata
     }
 
     /// The struct of the row's kind.
@@ -204,7 +195,7 @@ impl RowParts {
         ensures kind { kind_of result.now ≡ self.now.kind }
         ensures values { values_of result.now ≡ self.now.values }
     {
-        &self.fields
+        &self.shared.fields
     }
 
     /// The value of the field at a place in the field table, as it were with this status.
@@ -216,7 +207,7 @@ impl RowParts {
             0 => Some(ValueRef::Id(&self.id)),
             1 => Some(ValueRef::Word(status.word())),
             2 => Some(ValueRef::Moment(&self.modified)),
-            _ => self.fields.value(place - COMMON_FIELDS),
+            _ => self.fields().value(place - COMMON_FIELDS),
         }
     }
 
@@ -229,15 +220,13 @@ impl RowParts {
             id,
             status: _,
             modified: _,
-            fields,
-            metadata,
+            shared,
         } = self;
         RowParts {
             id,
             status,
             modified: at,
-            fields,
-            metadata,
+            shared,
         }
     }
 
@@ -246,7 +235,7 @@ impl RowParts {
         requires { slice_get (table self.now.kind) place ≡ Some (info_of info.now) }
         ensures { IfOk result (λ n. n ≡ min (field_length (info_of info.now) (slice_index_or (all_values (record self.now { status = Status.ToBeDeleted })) place None)) CAP) }
     {
-        let _ = &self.fields;
+        let _ = &self.shared;
         match self.value_with(Status::ToBeDeleted, place) {
             Some(value) => {
                 let value = value_length(alloc, info.form, value)?;
@@ -274,7 +263,7 @@ impl RowParts {
     fn metadata_length(&self) -> u64
         ensures { result ≡ min (metadata_length self.now.metadata) CAP }
     {
-        let entries = self.metadata.entries();
+        let entries = self.metadata().entries();
         if entries.is_empty() {
             return 0;
         }
@@ -299,7 +288,7 @@ impl RowParts {
         requires { slice_get (table self.now.kind) place ≡ Some (info_of info.now) }
         ensures { IsBound result (field_length (info_of info.now) (slice_index_or (all_values (record self.now { status = Status.ToBeDeleted })) place None)) }
     {
-        let _ = &self.fields;
+        let _ = &self.shared;
         let value = self.value_with(Status::ToBeDeleted, place);
         match value {
             Some(value) => add(add(text_bound(info.name), 2), value_bound(info.form, value)),
@@ -322,7 +311,7 @@ impl RowParts {
     fn metadata_bound(&self) -> u64
         ensures { IsBound result (metadata_length self.now.metadata) }
     {
-        add(list_bound(self.metadata.entries()), 12)
+        add(list_bound(self.metadata().entries()), 12)
     }
 
     #[tactic(auto, unfolding(crate::specs::Lengths::object_length))]
@@ -349,7 +338,7 @@ impl RowParts {
         if self.kind() != other.kind() || !self.id.is_same(&other.id) {
             return false;
         }
-        if self.status != other.status || !self.metadata.is_same(&other.metadata) {
+        if self.status != other.status || !self.metadata().is_same(other.metadata()) {
             return false;
         }
         self.has_same_values(other)
@@ -366,16 +355,16 @@ impl RowParts {
             .has_same_values(other.fields(), self.own_len())
     }
 
-    /// An equal copy.
+    /// An equal copy, which shares the values.
     pub fn copy(&self, alloc: Global) -> Result<RowParts, NoMemory>
         ensures { IfOk result (λ r. r ≡ self.now) }
     {
+        let id = self.id.copy(alloc)?;
         Ok(RowParts {
-            id: self.id.copy(alloc)?,
+            id,
             status: self.status,
             modified: self.modified,
-            metadata: self.metadata.copy(alloc)?,
-            fields: build(alloc, self.kind(), self.copied_values(alloc)?)?,
+            shared: Arc::try_clone(&self.shared)?,
         })
     }
 
@@ -384,18 +373,5 @@ impl RowParts {
         ensures { result ≡ length self.now.values }
     {
         fields(self.kind()).len() - COMMON_FIELDS
-    }
-
-    fn copied_values(&self, alloc: Global) -> Result<Vec<Option<Value>>, NoMemory>
-        ensures { IfOk result (λ v. v.items ≡ self.now.values) }
-    {
-        let mut copied = Vec::with_capacity(alloc, self.own_len())?;
-        for place in 0..self.own_len() {
-            match self.fields.value(place) {
-                Some(value) => copied.push(Some(copy_value(alloc, value)?))?,
-                None => copied.push(None)?,
-            }
-        }
-        Ok(copied)
     }
 }

@@ -8,30 +8,35 @@ use Rattle.roster_types.proofs.parts.take_fields.Goals as goal
 pub loop-place-init : goal.loop-place-init
 loop-place-init c =
     let all = c.args.values.now.items in
-    let many : c.len.result - c.args.first ≡ length (drop c.args.first all) = omega (arith, c.len.ensures, length-drop c.args.first all) in
-    let whole : length all ≤ c.args.first + (c.len.result - c.args.first) = omega (arith, c.len.ensures) in
+    let many : c.len-place.result - 3 ≡ length (drop 3 all) = omega (arith, c.len-place.ensures, length-drop 3 all) in
+    let whole : length all ≤ 3 + (c.len-place.result - 3) = omega (arith, c.len-place.ensures) in
     record {
       kind = c.in_ok-fields.ensures.kind;
-      left = sym (take_all (c.args.first + (c.len.result - c.args.first)) all whole);
-      filling = filling_start (own_fields c.args.kind) (drop c.args.first all) (values_of c.in_ok-fields.fields) (c.len.result - c.args.first) c.in_ok-fields.ensures.values c.requires.shapes many;
+      left = sym (take_all (3 + (c.len-place.result - 3)) all whole);
+      filling = filling_start (own_fields c.args.kind) (drop 3 all) (values_of c.in_ok-fields.fields) (c.len-place.result - 3) c.in_ok-fields.ensures.values c.requires.shapes many;
     }
+
+pub put-requires-clause-within : goal.put-requires-clause-within
+put-requires-clause-within c =
+    let all = c.args.values.now.items in
+    omega (arith, c.len-place.ensures, c.loop-place-test.true, length-drop 3 all, c.loop-place.invariant.filling.many)
 
 pub put-requires-clause-shape : goal.put-requires-clause-shape
 put-requires-clause-shape c =
     let all = c.args.values.now.items in
     let some = c.loop-place-test.true in
-    let within : c.args.first + c.loop-place.place ≤ length all = omega (arith, c.len.ensures) in
-    let t = last_taken all c.loop-place.values.items c.take_last.new.values.items _ c.args.first c.loop-place.place some within c.loop-place.invariant.left c.in-Some.ensures.last c.in-Some.ensures.rest in
-    rw c.loop-place.invariant.kind (shape_at_fits (own_fields c.args.kind) (drop c.args.first all) (c.loop-place.place - 1) c.in-Some.value c.requires.shapes (sym t.0))
+    let within : 3 + c.loop-place.place ≤ length all = omega (arith, c.len-place.ensures) in
+    let t = last_taken all c.loop-place.values.items c.take_last.new.values.items _ 3 c.loop-place.place some within c.loop-place.invariant.left c.in-Some.ensures.last c.in-Some.ensures.rest in
+    rw c.loop-place.invariant.kind (shape_at_fits (own_fields c.args.kind) (drop 3 all) (c.loop-place.place - 1) c.in-Some.value c.requires.shapes (sym t.0))
 
 pub loop-place-preserved-in-Some : goal.loop-place-preserved-in-Some
 loop-place-preserved-in-Some c =
     let all = c.args.values.now.items in
     let some = c.loop-place-test.true in
-    let within : c.args.first + c.loop-place.place ≤ length all = omega (arith, c.len.ensures) in
+    let within : 3 + c.loop-place.place ≤ length all = omega (arith, c.len-place.ensures) in
     let one : c.loop-place.place ≡ c.loop-place.place - 1 + 1 = omega arith in
-    let lt : c.loop-place.place - 1 < length (drop c.args.first all) = omega (arith, length-drop c.args.first all) in
-    let t = last_taken all c.loop-place.values.items c.take_last.new.values.items _ c.args.first c.loop-place.place some within c.loop-place.invariant.left c.in-Some.ensures.last c.in-Some.ensures.rest in
+    let lt : c.loop-place.place - 1 < length (drop 3 all) = omega (arith, length-drop 3 all) in
+    let t = last_taken all c.loop-place.values.items c.take_last.new.values.items _ 3 c.loop-place.place some within c.loop-place.invariant.left c.in-Some.ensures.last c.in-Some.ensures.rest in
     record {
       kind = c.put.ensures.kind ∙ c.loop-place.invariant.kind;
       left = t.1;
@@ -42,15 +47,15 @@ pub loop-place-preserved : goal.loop-place-preserved
 loop-place-preserved c =
     let all = c.args.values.now.items in
     let some = c.loop-place-test.true in
-    let within : c.args.first + c.loop-place.place ≤ length all = omega (arith, c.len.ensures) in
+    let within : 3 + c.loop-place.place ≤ length all = omega (arith, c.len-place.ensures) in
     let one : c.loop-place.place ≡ c.loop-place.place - 1 + 1 = omega arith in
-    let lt : c.loop-place.place - 1 < length (drop c.args.first all) = omega (arith, length-drop c.args.first all) in
-    let t = last_taken all c.loop-place.values.items c.take_last.new.values.items _ c.args.first c.loop-place.place some within c.loop-place.invariant.left c.in-None.ensures.last c.in-None.ensures.rest in
+    let lt : c.loop-place.place - 1 < length (drop 3 all) = omega (arith, length-drop 3 all) in
+    let t = last_taken all c.loop-place.values.items c.take_last.new.values.items _ 3 c.loop-place.place some within c.loop-place.invariant.left c.in-None.ensures.last c.in-None.ensures.rest in
     record {
       kind = c.loop-place.invariant.kind;
       left = t.1;
       filling = filling_skip _ _ _ c.loop-place.place (c.loop-place.place - 1) c.loop-place.invariant.filling one t.0
-          (blank_at (own_fields c.args.kind) (drop c.args.first all) (c.loop-place.place - 1) c.requires.shapes lt (sym t.0));
+          (blank_at (own_fields c.args.kind) (drop 3 all) (c.loop-place.place - 1) c.requires.shapes lt (sym t.0));
     }
 
 pub returns-clause-values : goal.returns-clause-values

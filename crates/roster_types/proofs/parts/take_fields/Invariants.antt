@@ -7,6 +7,6 @@ use Rattle.roster_types.proofs.parts.take_fields.Given as goal
 abbrev pub invariant-loop-place : goal.invariant-loop-place
 invariant-loop-place l = record {
   kind : kind_of l.fields ≡ l.fn.kind;
-  left : l.values.items ≡ take (l.fn.first + l.place) l.fn.values.items;
-  filling : Filling (drop l.fn.first l.fn.values.items) (blank_values (own_fields l.fn.kind)) (values_of l.fields) l.place;
+  left : l.values.items ≡ take (3 + l.place) l.fn.values.items;
+  filling : Filling (drop 3 l.fn.values.items) (blank_values (own_fields l.fn.kind)) (values_of l.fields) l.place;
 }

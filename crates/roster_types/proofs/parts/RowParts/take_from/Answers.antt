@@ -1,6 +1,8 @@
-use Rattle.std.proofs.Common.{◌-◌, ap, ◌∙◌, arith, drop, length}
+use Rattle.std.proofs.Common.{◌-◌, List, ap, ◌∙◌, arith, drop, length}
 use Rattle.std.proofs.lemmas.List.{length-take}
-use Rattle.roster_types.specs.Records.{id_in, moment_in, status_in}
+use Rattle.roster_types.specs.declared.metadata.Entry.{Entry}
+use Rattle.std.specs.Arc.{arc_value}
+use Rattle.roster_types.specs.Records.{id_in, moment_in, record_from, status_in}
 use Rattle.roster_types.specs.Shapes.{own_fields}
 use Rattle.roster_types.specs.Structs.{kind_of, values_of}
 use Rattle.roster_types.proofs.Building.{shapes_fit_from_fits_all}
@@ -41,12 +43,17 @@ pub invariant_of-result : goal.invariant_of-result
 invariant_of-result c =
     let t = taken _ _ _ _ _ _ _ (at_least_three c.args.kind c.args.values.now.items c.requires) c.in_ok-fields.ensures.left c.take_last.ensures.last c.take_last.ensures.rest c.take_last-2.ensures.last
     c.take_last-2.ensures.rest c.take_last-3.ensures.last in
-    fitting_from c.args.kind (kind_of c.in_ok-fields.fields) c.args.values.now.items (values_of c.in_ok-fields.fields) c.args.metadata c.id_of-id.result c.status_of-status.result c.moment_of-modified.result c.requires
-    c.entries.ensures.order c.in_ok-fields.ensures.kind (c.id_of-id.ensures ∙ ap id_in t.0) (c.moment_of-modified.ensures ∙ ap moment_in t.2) c.in_ok-fields.ensures.values
+    let s = arc_value c.in_ok-shared.shared in
+    let e = c.in_ok-shared.ensures in
+    fitting_from c.args.kind (kind_of s.fields) c.args.values.now.items (values_of s.fields) s.metadata c.id_of-id.result c.status_of-status.result c.moment_of-modified.result c.requires
+    (rw e.metadata c.entries.ensures.order) (ap kind_of e.fields ∙ c.in_ok-fields.ensures.kind) (c.id_of-id.ensures ∙ ap id_in t.0) (c.moment_of-modified.ensures ∙ ap moment_in t.2) (ap values_of e.fields ∙ c.in_ok-fields.ensures.values)
 
 pub returns : goal.returns
 returns c =
     let t = taken _ _ _ _ _ _ _ (at_least_three c.args.kind c.args.values.now.items c.requires) c.in_ok-fields.ensures.left c.take_last.ensures.last c.take_last.ensures.rest c.take_last-2.ensures.last
     c.take_last-2.ensures.rest c.take_last-3.ensures.last in
-    record_is c.args.kind (kind_of c.in_ok-fields.fields) c.args.values.now.items (values_of c.in_ok-fields.fields) c.args.metadata c.id_of-id.result c.status_of-status.result c.moment_of-modified.result
-    c.in_ok-fields.ensures.kind (c.id_of-id.ensures ∙ ap id_in t.0) (c.status_of-status.ensures ∙ ap status_in t.1) (c.moment_of-modified.ensures ∙ ap moment_in t.2) c.in_ok-fields.ensures.values
+    let s = arc_value c.in_ok-shared.shared in
+    let e = c.in_ok-shared.ensures in
+    record_is c.args.kind (kind_of s.fields) c.args.values.now.items (values_of s.fields) s.metadata c.id_of-id.result c.status_of-status.result c.moment_of-modified.result
+    (ap kind_of e.fields ∙ c.in_ok-fields.ensures.kind) (c.id_of-id.ensures ∙ ap id_in t.0) (c.status_of-status.ensures ∙ ap status_in t.1) (c.moment_of-modified.ensures ∙ ap moment_in t.2) (ap values_of e.fields ∙ c.in_ok-fields.ensures.values)
+    ∙ ap (λ (m : List Entry). record_from c.args.kind c.args.values.now.items m) e.metadata
