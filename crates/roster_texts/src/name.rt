@@ -2,26 +2,27 @@
 
 ghost use Rattle.std.specs.Prelude.{◌≡◌, true, false, ℕ, IfOk, MatchOption, List};
 ghost use Rattle.std.specs.List.{list_all};
-ghost use Rattle.std.specs.String.{string_bytes};
+ghost use Rattle.std.specs.Arc.{arc_str_bytes};
 ghost use Rattle.roster_texts.specs.Texts.{is_name, is_name_byte};
 
 use roster_base::{NoMemory, Same, TryCopy};
 use std::alloc::Global;
 use std::marker::Model;
+use std::sync::ArcStr;
 
 /// The name of a feed or a caller: 1 to 64 letters and digits of ASCII, dots, underscores and dashes.
-/// A clause sees its bytes.
+/// A clause sees its bytes. Copies share one text, since every stored row keeps its owner's name.
 #[derive(Drop)]
 pub struct Name {
-    text: String,
+    text: ArcStr<Global>,
 }
 
 impl Model for Name {
     ghost Value = { List ℕ };
 
-    ghost view = { λ n. string_bytes n.text };
+    ghost view = { λ n. arc_str_bytes n.text };
 
-    ghost invariant = { λ n. is_name (string_bytes n.text) ≡ true };
+    ghost invariant = { λ n. is_name (arc_str_bytes n.text) ≡ true };
 }
 
 impl Name {
@@ -34,7 +35,7 @@ impl Name {
             return Ok(None);
         }
         Ok(Some(Name {
-            text: String::from_str(alloc, text)?,
+            text: ArcStr::from_str(alloc, text)?,
         }))
     }
 
@@ -65,9 +66,9 @@ impl Name {
 }
 
 impl TryCopy for Name {
-    fn copy(&self, alloc: Global) -> Result<Name, NoMemory> {
+    fn copy(&self, _alloc: Global) -> Result<Name, NoMemory> {
         Ok(Name {
-            text: String::from_str(alloc, self.text.as_str())?,
+            text: self.text.clone()?,
         })
     }
 }
