@@ -1,3 +1,4 @@
+pub mod Firsts
 pub mod ListSteps
 pub mod Rising
 pub mod Sorting

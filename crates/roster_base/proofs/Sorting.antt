@@ -33,7 +33,7 @@ holds-values key (p ∷ ps) [] h = absurd h
 holds-values key (p ∷ ps) (x ∷ xs) h = rw (h.1, holds-values key ps xs h.2) refl
 
 -- two texts that tie are one
-tied : (xs ys : List ℕ) → slice_cmp nat_cmp xs ys ≡ Equal → xs ≡ ys
+pub tied : (xs ys : List ℕ) → slice_cmp nat_cmp xs ys ≡ Equal → xs ≡ ys
 tied xs ys e = (bytes_eq-Decides xs ys).0 (sym (is_eq-slice_cmp xs ys) ∙ ap is_eq e)
 
 holds-placed : {A : Type 0} (key : A → List ℕ) (o : Ordering) (p : String Global × A) (y : A) (k : String Global) (x : A) (ps qs : List (String Global × A)) (ys zs : List A)
@@ -81,10 +81,10 @@ moves-end {A} key all left entries m e =
     holds-values key entries _ m.held ∙ ap (λ (xs : List A). in_order key xs) (sym is)
 
 -- the key x is below each of these items' keys
-abbrev Below : {A : Type 0} → (A → List ℕ) → List ℕ → List A → Type 0
+abbrev pub Below : {A : Type 0} → (A → List ℕ) → List ℕ → List A → Type 0
 Below key t xs = AllByRecursion (λ u. slice_cmp nat_cmp t u ≡ Less) (map key xs)
 
-below_all : {A : Type 0} (key : A → List ℕ) (t u : List ℕ) (xs : List A) → slice_cmp nat_cmp t u ≡ Less → Below key u xs → Below key t xs
+pub below_all : {A : Type 0} (key : A → List ℕ) (t u : List ℕ) (xs : List A) → slice_cmp nat_cmp t u ≡ Less → Below key u xs → Below key t xs
 below_all key t u [] l h = tt
 below_all key t u (x ∷ xs) l h = (nat_list_cmp_total.trans t u (key x) l h.0, below_all key t u xs l h.1)
 

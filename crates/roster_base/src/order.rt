@@ -2,8 +2,10 @@
 
 ghost use Rattle.std.specs.Prelude.{◌≡◌, ℕ, List, [], map, true, option_copied, IfOk, OnOk, bytes_eq};
 ghost use Rattle.std.specs.BTreeMap.{values};
+ghost use Rattle.std.specs.Cmp.Lexicographic.{slice_cmp};
 ghost use Rattle.std.specs.List.{IsDistinct};
-ghost use Rattle.std.specs.List.Sorted.{IsPermutation};
+ghost use Rattle.std.specs.List.Sorted.{IsPermutation, IsSortedByKey, IsStableByKey};
+ghost use Rattle.std.specs.Ordering.{nat_cmp};
 ghost use Rattle.roster_base.specs.Order.{PutsAtKey, RiseBy, in_order, is_below};
 
 use crate::memory::NoMemory;
@@ -42,6 +44,16 @@ fn is_in_order<T: Keyed>(items: &[T]) -> bool
     true
 }
 
+// Sorts by key; items with one key stay as they stand.
+fn sort<T: Keyed>(items: &mut Vec<T>) -> Result<(), NoMemory>
+    ensures moved { IsPermutation items.old.items items.new.items }
+    ensures sorted { OnOk result (IsSortedByKey T.key_of (slice_cmp nat_cmp) items.new.items) }
+    ensures stable { IsStableByKey T.key_of (slice_cmp nat_cmp) items.old.items items.new.items }
+{
+    items.sort_by(|one, other| one.key().cmp(other.key()))?;
+    Ok(())
+}
+
 // Puts an item at its key.
 fn put<T: Keyed + Drop>(
     entries: &mut BTreeMap<String, T>,
@@ -76,8 +88,16 @@ fn values_of<T: Drop>(alloc: Global, entries: BTreeMap<String, T>) -> Result<Vec
     Ok(entries.into_values().collect(alloc)?)
 }
 
+// The items in order, of each key the first alone.
+fn firsts<T: Keyed + Drop>(alloc: Global, items: Vec<T>) -> Result<Vec<T>, NoMemory>
+    ensures { IfOk result (λ v. v.items ≡ in_order T.key_of items.items) }
+{
+    let entries = by_key(alloc, items)?;
+    values_of(alloc, entries)
+}
+
 /// The items in ascending order of their keys' bytes. Of two with one key the first stays.
-pub fn sorted<T: Keyed + Drop>(alloc: Global, items: Vec<T>) -> Result<Vec<T>, NoMemory>
+pub fn sorted<T: Keyed + Drop>(alloc: Global, mut items: Vec<T>) -> Result<Vec<T>, NoMemory>
     ensures value { IfOk result (λ v. v.items ≡ in_order T.key_of items.items) }
     ensures rise { IfOk result (λ v. RiseBy T.key_of v.items) }
     ensures all { IsDistinct bytes_eq (map T.key_of items.items) → IfOk result (λ v. IsPermutation items.items v.items) }
@@ -85,6 +105,10 @@ pub fn sorted<T: Keyed + Drop>(alloc: Global, items: Vec<T>) -> Result<Vec<T>, N
     if is_in_order(&items) {
         return Ok(items);
     }
-    let entries = by_key(alloc, items)?;
-    values_of(alloc, entries)
+    sort(&mut items)?;
+    // Keys repeat seldom.
+    if is_in_order(&items) {
+        return Ok(items);
+    }
+    firsts(alloc, items)
 }
