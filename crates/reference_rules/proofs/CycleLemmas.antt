@@ -102,6 +102,10 @@ module _ (rows : List Record) (kind : Kind) where
         marked None e some is = let never : false ≡ true = some in cc
         marked (Some known) e some is = e ∙ ap (λ b. Some b) (are.right y known e ∙ is)
 
+    -- an id that isn't known, whose parent is, is in no cycle
+    pub not_below : (id parent : List ℕ) → parent_of rows kind id ≡ Some parent → IsSome (note_of notes parent) → note_of notes id ≡ None → is_in_cycle rows kind id ≡ false
+    not_below id parent goes some unknown = not_in_cycle id 1 (Some parent) unknown goes some
+
 -- one id more is noted
 module _ (rows : List Record) (kind : Kind) (notes notes' : BTreeMap (Bor (List ℕ)) Bool) (id : List ℕ) (known : Bool) (put : (q : List ℕ) → note_of notes' q ≡ cond (bytes_eq id q) (Some known) (note_of notes q)) where
   pub put_here : note_of notes' id ≡ Some known
@@ -211,6 +215,11 @@ module _ (rows : List Record) (kind : Kind) (notes notes' : BTreeMap (Bor (List 
       let put' = subst (λ (x : List ℕ). (q : List ℕ) → note_of notes' q ≡ cond (bytes_eq x q) (Some false) (note_of notes q)) same put in
       let unknown = unknown_from (note_of notes current) (subst (λ (x : List ℕ). is_some (note_of notes x) ≡ false) same absent) in
       put_false rows kind notes notes' current false put' unknown refl isnt are
+
+  -- the same where its parent is known
+  pub noted_below : AreNotes rows kind notes → note_of notes current ≡ None → (parent : List ℕ) → parent_of rows kind current ≡ Some parent → IsSome (note_of notes parent) → ((q : List ℕ) → note_of notes' q ≡ cond (bytes_eq key q) (Some false) (note_of notes q)) → AreNotes rows kind notes'
+  noted_below are unknown parent goes some put =
+      noted_false are (ap is_some (ap (note_of notes) same ∙ unknown)) (not_below rows kind notes are current parent goes some unknown) put
 
   module _ (turn turns : ℕ) (are : AreNotes rows kind notes) (follows : nth_parent rows kind id turn ≡ Some current) (lt : turn < turns) (well : EndsWell notes (nth_parent rows kind id turns)) (absent : is_some (note_of notes key) ≡ false) (put : (q : List ℕ) → note_of notes' q ≡ cond (bytes_eq key q) (Some false) (note_of notes q)) where
     put' : (q : List ℕ) → note_of notes' q ≡ cond (bytes_eq current q) (Some false) (note_of notes q)

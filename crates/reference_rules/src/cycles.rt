@@ -1,9 +1,9 @@
 //! Cycles of parents. A chain is followed only to an id of which an earlier chain told, so that all rows of a kind take as many steps as
 //! there are rows.
 
-ghost use Rattle.std.specs.Prelude.{◌≡◌, IfOk, IsSome, None, OnOk, option_copied, true};
+ghost use Rattle.std.specs.Prelude.{◌≡◌, IfOk, IsSome, None, OnOk, Some, option_copied, true};
 ghost use Rattle.reference_rules.specs.Notes.{AreNotes, EndsWell, note_of};
-ghost use Rattle.reference_rules.specs.Parents.{is_in_cycle, nth_parent, returns_within};
+ghost use Rattle.reference_rules.specs.Parents.{is_in_cycle, nth_parent, parent_of, returns_within};
 ghost use Rattle.roster_types.specs.Keys.{count_of, look_up, row_key};
 
 use crate::chains::{parent, returns_within};
@@ -187,24 +187,51 @@ fn learn<'a, R: Rows>(
     note_chain(rows, kind, id, end.turns, notes)
 }
 
-// Whether an id is in a cycle of parents.
+// Whether an id whose parent is noted is in a cycle of parents. A cycle is noted whole, so an id that isn't noted is in none.
+fn known_below<'a, R: Rows>(
+    rows: &R,
+    kind: Kind,
+    id: &'a Id,
+    parent: &Id,
+    notes: &mut Notes<'a>,
+) -> Result<bool, NoMemory>
+    requires parent { parent_of (R.rows rows.now) kind id.now ≡ Some parent.now }
+    requires notes { AreNotes (R.rows rows.now) kind notes.old }
+    requires known { IsSome (note_of notes.old parent.now) }
+    ensures notes { OnOk result (AreNotes (R.rows rows.now) kind notes.new) }
+    ensures value { IfOk result (λ known. known ≡ is_in_cycle (R.rows rows.now) kind id.now) }
+{
+    if let Some(known) = notes.get(id.as_str()) {
+        return Ok(*known);
+    }
+    notes.insert(id.as_str(), false)?;
+    Ok(false)
+}
+
+// Whether an id that has this parent is in a cycle of parents. Most ids are noted, or have a parent that is: no chain is followed for them.
 fn known<'a, R: Rows>(
     rows: &'a R,
     kind: Kind,
     id: &'a Id,
+    parent: &'a Id,
     turns: u64,
     notes: &mut Notes<'a>,
 ) -> Result<bool, NoMemory>
+    requires parent { parent_of (R.rows rows.now) kind id.now ≡ Some parent.now }
     requires turns { turns ≡ count_of kind (R.rows rows.now) }
     requires notes { AreNotes (R.rows rows.now) kind notes.old }
     ensures notes { OnOk result (AreNotes (R.rows rows.now) kind notes.new) }
     ensures value { IfOk result (λ known. known ≡ is_in_cycle (R.rows rows.now) kind id.now) }
 {
-    learn(rows, kind, id, turns, notes)?;
-    match notes.get(id.as_str()) {
-        Some(known) => Ok(*known),
-        None => unreachable!(),
+    if let Some(known) = notes.get(id.as_str()) {
+        return Ok(*known);
     }
+    if notes.contains_key(parent.as_str()) {
+        notes.insert(id.as_str(), false)?;
+        return Ok(false);
+    }
+    learn(rows, kind, parent, turns, notes)?;
+    known_below(rows, kind, id, parent, notes)
 }
 
 /// Whether a row is in a cycle of parents.
@@ -222,6 +249,6 @@ pub fn is_in_cycle<'a, R: Rows>(
 {
     match parent_in(row) {
         None => Ok(false),
-        Some(_) => known(rows, row.kind(), row.id(), turns, notes),
+        Some(parent) => known(rows, row.kind(), row.id(), parent, turns, notes),
     }
 }
