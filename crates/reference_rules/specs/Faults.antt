@@ -1,8 +1,8 @@
 -- The broken references of rows, by OneRoster 1.1: a field of the forms of references names rows of its kind.
 use Rattle.std.specs.Prelude.{◌≡◌, ℕ, ℤ, Bool, false, ◌&&◌, ◌++◌, not, int_lt, if◌then◌else◌, List, [], ◌∷◌, Option, Some, None, codes, bytes_eq, filter}
-use Rattle.std.specs.List.{flat_map}
+use Rattle.std.specs.List.{All, flat_map}
 use Rattle.std.specs.Option.{option_map_or}
-use Rattle.roster_types.specs.Keys.{Key, is_of_kind, look_up, row_key}
+use Rattle.roster_types.specs.Keys.{is_of_kind, look_up, row_key}
 use Rattle.roster_types.specs.Records.{Record, all_values, field_of}
 use Rattle.roster_values.specs.declared.kind.Kind.{Kind}
 use Rattle.roster_values.specs.declared.kind.Kind.TheVariants.{AcademicSessions, Classes, Demographics, LineItems, Users}
@@ -104,11 +104,11 @@ faults_of rows = flat_map (row_faults rows) rows
 
 -- each of some rows stands among all under its kind and id
 abbrev pub AreAmong : List Record → List Record → Type 0
-AreAmong rows among = (k : Key) (row : Record) → look_up row_key k among ≡ Some row → look_up row_key k rows ≡ Some row
+AreAmong rows among = All (λ (row : Record). look_up row_key (row_key row) rows ≡ Some row) among
 
--- those that the rows of one kind among some have
-abbrev pub kind_faults : List Record → List Record → Kind → List RefFault
-kind_faults rows among kind = flat_map (row_faults rows) (filter (is_of_kind kind) among)
+-- those that the rows of one kind have
+abbrev pub kind_faults : List Record → Kind → List RefFault
+kind_faults rows kind = flat_map (row_faults rows) (filter (is_of_kind kind) rows)
 
 -- the word in a row's field `type`
 abbrev pub word_in : Option Value → Option (List ℕ)

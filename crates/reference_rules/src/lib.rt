@@ -2,7 +2,7 @@
 //! that come back, and days in the wrong order.
 #![tactic(auto)]
 
-ghost use Rattle.std.specs.Prelude.{◌≡◌, ◌++◌, ◌↔◌, IfOk, IsTrue, List, None, OnOk, Some, option_copied, slice_get, slice_index_or, ℕ};
+ghost use Rattle.std.specs.Prelude.{◌≡◌, ◌++◌, ◌↔◌, IfOk, IsTrue, List, None, OnOk, Some, map, option_copied, slice_get, slice_index_or, ℕ};
 ghost use Rattle.std.specs.List.{flat_map};
 ghost use Rattle.reference_rules.specs.Faults.{AreAmong, faults_of, field_faults, kind_faults, row_faults};
 ghost use Rattle.reference_rules.specs.Parents.{IsInCycle, is_in_cycle};
@@ -13,13 +13,17 @@ ghost use Rattle.roster_values.specs.declared.kind.Kind.{Kind as Kinds};
 
 mod chains;
 mod cycles;
+mod has_row;
 pub mod order;
 pub mod ref_fault;
 mod targets;
 mod typed;
+mod walk;
 
 use crate::cycles::is_in_cycle;
 use crate::targets::add_value_faults;
+use crate::walk::{begun, is_in_cycle_along};
+pub use has_row::HasRow;
 pub use ref_fault::{Fault, RefFault};
 use roster_base::NoMemory;
 use roster_types::row::Row;
@@ -70,23 +74,19 @@ fn add_row_faults<R: Rows>(
     Ok(())
 }
 
-// Adds what is wrong with the rows of a kind among these.
-fn add_kind_faults<'a, R: Rows, C: Rows>(
+// Adds what is wrong with the rows of a kind.
+fn add_kind_faults<'a, R: Rows>(
     alloc: Global,
     rows: &'a R,
-    among: &'a C,
     kind: Kind,
     found: &mut Vec<RefFault>,
 ) -> Result<(), NoMemory>
-    requires { AreAmong (R.rows rows.now) (C.rows among.now) }
-    ensures { OnOk result (found.new.items ≡ found.old.items ++ kind_faults (R.rows rows.now) (C.rows among.now) kind) }
+    ensures { OnOk result (found.new.items ≡ found.old.items ++ kind_faults (R.rows rows.now) kind) }
 {
-    // Counted for its clause `order`.
-    let _ = among.count(kind);
     let turns = rows.count(kind);
     let mut notes = BTreeMap::new(alloc);
     let mut after = None;
-    while let Some(row) = among.next(kind, after) {
+    while let Some(row) = rows.next(kind, after) {
         let in_cycle = is_in_cycle(rows, row, turns, &mut notes)?;
         add_row_faults(alloc, rows, row, in_cycle, found)?;
         after = Some(row.id());
@@ -94,35 +94,19 @@ fn add_kind_faults<'a, R: Rows, C: Rows>(
     Ok(())
 }
 
-// Adds what is wrong with the rows of these kinds among these.
-fn faults_of_kinds<R: Rows, C: Rows>(
+// Adds what is wrong with the rows of these kinds.
+fn faults_of_kinds<R: Rows>(
     alloc: Global,
     rows: &R,
-    among: &C,
     kinds: &[Kind],
 ) -> Result<Vec<RefFault>, NoMemory>
-    requires { AreAmong (R.rows rows.now) (C.rows among.now) }
-    ensures { IfOk result (λ v. v.items ≡ flat_map (kind_faults (R.rows rows.now) (C.rows among.now)) kinds.now) }
+    ensures { IfOk result (λ v. v.items ≡ flat_map (kind_faults (R.rows rows.now)) kinds.now) }
 {
     let mut found = Vec::new(alloc);
     for kind in kinds {
-        add_kind_faults(alloc, rows, among, *kind, &mut found)?;
+        add_kind_faults(alloc, rows, *kind, &mut found)?;
     }
     Ok(found)
-}
-
-/// The broken references that some of the rows have, in the order of `faults`. The other rows are only looked up.
-pub fn faults_among<R: Rows, C: Rows>(
-    alloc: Global,
-    rows: &R,
-    among: &C,
-) -> Result<Vec<RefFault>, NoMemory>
-    requires { AreAmong (R.rows rows.now) (C.rows among.now) }
-    ensures { IfOk result (λ v. v.items ≡ flat_map (row_faults (R.rows rows.now)) (C.rows among.now)) }
-{
-    // Counted for its clause `order`.
-    let _ = among.count(Kind::Orgs);
-    faults_of_kinds(alloc, rows, among, &Kind::ALL)
 }
 
 /// Every broken reference, in the order of kinds, ids, fields (as the field table has them) and places in a list. A row of
@@ -131,7 +115,28 @@ pub fn faults_among<R: Rows, C: Rows>(
 pub fn faults<R: Rows>(alloc: Global, rows: &R) -> Result<Vec<RefFault>, NoMemory>
     ensures { IfOk result (λ v. v.items ≡ faults_of (R.rows rows.now)) }
 {
-    faults_among(alloc, rows, rows)
+    // Counted for its clause `order`.
+    let _ = rows.count(Kind::Orgs);
+    faults_of_kinds(alloc, rows, &Kind::ALL)
+}
+
+/// The broken references that some of the rows have, row by row. The other rows are only looked up. What is known of
+/// parents is kept up to the next row of another kind that names one, so the list had best be in the order of kinds.
+pub fn faults_among<'a, R: Rows, C: HasRow>(
+    alloc: Global,
+    rows: &'a R,
+    among: &'a [C],
+) -> Result<Vec<RefFault>, NoMemory>
+    requires { AreAmong (R.rows rows.now) (map C.row_of among.now) }
+    ensures { IfOk result (λ v. v.items ≡ flat_map (row_faults (R.rows rows.now)) (map C.row_of among.now)) }
+{
+    let mut found = Vec::new(alloc);
+    let mut walk = begun(alloc, rows, Kind::Orgs);
+    for item in among {
+        let in_cycle = is_in_cycle_along(alloc, rows, item.row(), &mut walk)?;
+        add_row_faults(alloc, rows, item.row(), in_cycle, &mut found)?;
+    }
+    Ok(found)
 }
 
 /// The test by which cycles are listed is true exactly where the id is its own n-th parent, for some n from 1 to the number

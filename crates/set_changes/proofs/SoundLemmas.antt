@@ -1,11 +1,12 @@
 -- Sound rows under changes.
-use Rattle.std.proofs.Common.{◌≡◌, ◌==◌, ℕ, suc, length, arith, List, [], ◌∷◌, Bool, true, false, cond, Option, Some, None, option_map, inl, inr, refl, sym, ap, subst, ◌∙◌}
+use Rattle.std.proofs.Common.{◌≡◌, ◌==◌, ℕ, suc, get_or, length, arith, List, [], ◌∷◌, Bool, true, false, cond, Option, Some, None, option_map, inl, inr, refl, sym, ap, subst, ◌∙◌}
 use Rattle.std.specs.List.{flat_map, list_all}
 use Rattle.std.specs.Option.{option_map_or, option_or}
 use Rattle.std.specs.Ordering.{is_eq}
 use Rattle.std.proofs.lemmas.Bool.Decides.{nat_tests}
+use Rattle.std.proofs.lemmas.Cmp.{tied_itself}
 use Rattle.std.proofs.lemmas.Slice.Eq.{bytes_eq-Decides}
-use Rattle.reference_rules.proofs.KeyOrder.{and_first, and_second, found_key}
+use Rattle.reference_rules.proofs.KeyOrder.{and_first, and_second, found_key, key_total}
 use Rattle.reference_rules.proofs.Sound.{StaysAt, none_from, stays_sound}
 use Rattle.reference_rules.specs.Faults.{AreAmong, faults_of, row_faults, type_in}
 use Rattle.reference_rules.specs.declared.ref_fault.RefFault.{RefFault}
@@ -16,8 +17,9 @@ use Rattle.set_changes.specs.Applying.{too_many, unsound}
 use Rattle.set_changes.specs.Steps.{is_one_type, keeps_type, rows_refusal}
 use Rattle.set_changes.specs.declared.publish_fault.PublishFault.{PublishFault}
 use Rattle.version_core.proofs.OrderLemmas.{look_up-overlaid}
-use Rattle.version_core.proofs.RowsOf.{look_up-rows_of}
-use Rattle.version_core.specs.Changes.{change_key, rows_of}
+use Rattle.version_core.proofs.Places.{look_up-at}
+use Rattle.version_core.proofs.RowsOf.{is_sorted-rows_of, look_up-rows_of}
+use Rattle.version_core.specs.Changes.{AreChanges, change_key, rows_of}
 use Rattle.version_core.specs.Order.{overlaid}
 use Rattle.version_core.specs.declared.row_change.RowChange.{RowChange}
 
@@ -47,13 +49,20 @@ module _ (rows changes : List RowChange) where
   under : (k : Key) → look_up row_key k new ≡ option_map (λ change. change.row) (option_or (look_up change_key k changes) (look_up change_key k rows))
   under k = look_up-rows_of k (overlaid change_key rows changes) ∙ ap (option_map (λ (change : RowChange). change.row)) (look_up-overlaid change_key k rows changes)
 
-  -- the changes stand among the new rows
-  pub among : AreAmong new (rows_of changes)
-  among k row e =
+  -- a changed row stands among the new ones
+  stands : (k : Key) (row : Record) → look_up row_key k (rows_of changes) ≡ Some row → look_up row_key k new ≡ Some row
+  stands k row e =
       under k ∙ elim (look_up change_key k changes) as (λ o. option_map (λ (change : RowChange). change.row) o ≡ Some row → option_map (λ (change : RowChange). change.row) (option_or o (look_up change_key k rows)) ≡ Some row) [
         | None ↦ λ no. cc
         | Some change ↦ λ here. here
       ] (sym (look_up-rows_of k changes) ∙ e)
+
+  -- and so does each of them
+  pub among : AreChanges changes → AreAmong new (rows_of changes)
+  among up i d lt =
+      let rise : Ascends row_key (rows_of changes) = is_sorted-rows_of changes ∙ up in
+      let row = get_or (rows_of changes) i d in
+      stands (row_key row) row (look_up-at row_key (rows_of changes) (row_key row) i d rise lt (tied_itself key_total (row_key row)))
 
   module _ (keep : list_all (keeps_type rows) changes ≡ true) (none : flat_map (row_faults new) (rows_of changes) ≡ []) where
     type_stays : (k : Key) (change : RowChange) (stored : Record) → look_up change_key k changes ≡ Some change → look_up row_key k (rows_of rows) ≡ Some stored → type_in change.row ≡ type_in stored
@@ -72,7 +81,7 @@ module _ (rows changes : List RowChange) where
           | None ↦ λ here. inl (under k ∙ ap (λ o. option_map (λ (change : RowChange). change.row) (option_or o (look_up change_key k rows))) here ∙ sym (look_up-rows_of k rows))
           | Some change ↦ λ here.
               let changed = look_up-rows_of k changes ∙ ap (option_map (λ (change : RowChange). change.row)) here in
-              inr (change.row, among k change.row changed, none_from (row_faults new) (rows_of changes) k change.row none changed, λ stored stood. type_stays k change stored here stood)
+              inr (change.row, stands k change.row changed, none_from (row_faults new) (rows_of changes) k change.row none changed, λ stored stood. type_stays k change stored here stood)
         ] refl
 
     -- sound rows stay sound

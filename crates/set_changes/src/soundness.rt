@@ -56,6 +56,6 @@ pub fn stays_sound(alloc: Global, draft: &Draft, is_sound: bool) -> Result<bool,
     }
     // Counted for its clause `order`.
     let _ = draft.count(Kind::Orgs);
-    let found = faults_among(alloc, draft, draft.changes)?;
+    let found = faults_among(alloc, draft, draft.changes.as_slice())?;
     Ok(found.is_empty())
 }

@@ -9,11 +9,10 @@ use Rattle.reference_rules.proofs.add_kind_faults.Given as goal
 abbrev pub invariant-loop-row : goal.invariant-loop-row
 invariant-loop-row g l =
     let rows = g.R.Rows.rows l.rows in
-    let among = g.C.Rows.rows l.among in
     record {
-      found : l.found.items ++ flat_map (row_faults rows) (rest_of l.kind (option_copied l.after) among) ≡ l.fn.found.items ++ kind_faults rows among l.kind;
+      found : l.found.items ++ flat_map (row_faults rows) (rest_of l.kind (option_copied l.after) rows) ≡ l.fn.found.items ++ kind_faults rows l.kind;
       notes : AreNotes rows l.kind l.notes;
     }
 
 abbrev pub decreases-loop-row : goal.decreases-loop-row
-decreases-loop-row g l = length (rest_of l.kind (option_copied l.after) (g.C.Rows.rows l.among))
+decreases-loop-row g l = length (rest_of l.kind (option_copied l.after) (g.R.Rows.rows l.rows))
