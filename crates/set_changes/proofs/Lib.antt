@@ -1,4 +1,5 @@
 mod Answering
+mod Bare
 mod Collecting
 pub mod CountLemmas
 mod IndexLemmas

@@ -1,5 +1,5 @@
 -- What is found on the way from a version to what a set makes of it.
-use Rattle.std.specs.Prelude.{◌≡◌, ℕ, ℤ, bytes_eq, ◌&&◌, if◌then◌else◌, is_some, not, count_by, option_and_then, option_to_list, Bool, true, false, List, [], Option, Some, None}
+use Rattle.std.specs.Prelude.{◌≡◌, ℕ, ℤ, bytes_eq, ◌&&◌, if◌then◌else◌, is_some, map, not, count_by, option_and_then, option_to_list, Bool, true, false, List, [], Option, Some, None}
 use Rattle.std.specs.List.{flat_map}
 use Rattle.std.specs.Option.{option_map_or, option_or}
 use Rattle.reference_rules.specs.Faults.{faults_of, type_in}
@@ -19,6 +19,14 @@ use Rattle.version_core.specs.Version.{after}
 use Rattle.version_core.specs.declared.change.BaseVersion.{BaseVersion}
 use Rattle.version_core.specs.declared.change.Change.{Change}
 use Rattle.version_core.specs.declared.row_change.RowChange.{RowChange}
+
+-- a part without its rows
+abbrev pub bare : SetPart → SetPart
+bare part = record part { rows = [] }
+
+-- a set without its rows
+abbrev pub bare_set : SetRecord → SetRecord
+bare_set set = record set { parts = map bare set.parts }
 
 -- the rows of a part in the order of ids, and those of all parts
 abbrev pub part_indexed : SetPart → List SetRow

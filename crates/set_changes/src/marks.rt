@@ -6,11 +6,12 @@ ghost use Rattle.set_changes.specs.Applying.{is_active, is_bulk, is_left_out, is
 ghost use Rattle.set_changes.specs.Steps.{mark_at, mark_of, marks_of};
 ghost use Rattle.version_core.specs.Changes.{AreChanges, change_key, rows_of};
 
-use crate::index::{Listed, is_listed};
+use crate::index::is_listed;
 use crate::listed::is_own;
 use roster_base::{NoMemory, TryCopy};
 use roster_texts::Moment;
 use roster_types::set::{RosterSet, SetPart};
+use roster_types::set_row::SetRow;
 use roster_types::status::Status;
 use roster_values::{Kind, Mode};
 use std::alloc::Global;
@@ -66,14 +67,14 @@ pub fn marked(alloc: Global, at: Moment, stored: &RowChange) -> Result<RowChange
 fn mark_of(
     alloc: Global,
     set: &RosterSet,
-    index: &[Listed],
+    listed: &[SetRow],
     stored: &RowChange,
     at: Moment,
 ) -> Result<Option<RowChange>, NoMemory>
-    requires { Ascends set_key index.now }
-    ensures { IfOk result (λ mark. mark ≡ mark_of set.now at (look_up set_key (change_key stored.now) index.now) stored.now) }
+    requires { Ascends set_key listed.now }
+    ensures { IfOk result (λ mark. mark ≡ mark_of set.now at (look_up set_key (change_key stored.now) listed.now) stored.now) }
 {
-    if is_listed(index, stored.row.kind(), stored.row.id()) {
+    if is_listed(listed, stored.row.kind(), stored.row.id()) {
         return Ok(None);
     }
     if !is_left_out(set, stored) {
@@ -97,13 +98,13 @@ fn add_marks(
     alloc: Global,
     view: &VersionView,
     set: &RosterSet,
-    index: &[Listed],
+    listed: &[SetRow],
     at: Moment,
     kind: Kind,
     marks: &mut Vec<RowChange>,
 ) -> Result<(), NoMemory>
-    requires { Ascends set_key index.now }
-    ensures { OnOk result (marks.new.items ≡ marks.old.items ++ marks_of set.now at index.now view.now.rows (filter (is_of_kind kind) (rows_of view.now.rows))) }
+    requires { Ascends set_key listed.now }
+    ensures { OnOk result (marks.new.items ≡ marks.old.items ++ marks_of set.now at listed.now view.now.rows (filter (is_of_kind kind) (rows_of view.now.rows))) }
 {
     // The rows of a kind are gone through only where the set may leave some out.
     if !is_whole(set.parts(), kind) {
@@ -111,28 +112,28 @@ fn add_marks(
     }
     let mut after = None;
     while let Some(stored) = view.next_change(kind, after) {
-        let mark = mark_of(alloc, set, index, stored, at)?;
+        let mark = mark_of(alloc, set, listed, stored, at)?;
         add_mark(marks, mark)?;
         after = Some(stored.row.id());
     }
     Ok(())
 }
 
-/// The marks of the rows that a set leaves out, in the order of kinds and ids.
+/// The marks of the rows that a set leaves out where it lists these, in the order of kinds and ids. The set may be bare of its rows.
 pub fn marks_of(
     alloc: Global,
     view: &VersionView,
     set: &RosterSet,
-    index: &[Listed],
+    listed: &[SetRow],
     at: Moment,
 ) -> Result<Vec<RowChange>, NoMemory>
-    requires { Ascends set_key index.now }
+    requires { Ascends set_key listed.now }
     ensures order { IfOk result (λ v. AreChanges v.items) }
-    ensures marks { IfOk result (λ v. (k : Key) → look_up change_key k v.items ≡ mark_at set.now at index.now view.now.rows k) }
+    ensures marks { IfOk result (λ v. (k : Key) → look_up change_key k v.items ≡ mark_at set.now at listed.now view.now.rows k) }
 {
     let mut marks = Vec::new(alloc);
     for kind in Kind::ALL {
-        add_marks(alloc, view, set, index, at, kind, &mut marks)?;
+        add_marks(alloc, view, set, listed, at, kind, &mut marks)?;
     }
     // Asked for its clause `sorted`.
     let _ = view.next_change(Kind::Orgs, None);

@@ -2,15 +2,15 @@
 
 ghost use Rattle.std.specs.Prelude.{IfOk, ◌≡◌, ◌≤◌, None, true};
 ghost use Rattle.std.specs.Option.{ForSome};
-ghost use Rattle.roster_types.specs.Keys.{Key, look_up};
+ghost use Rattle.roster_types.specs.Keys.{Ascends, Key, look_up};
 ghost use Rattle.set_changes.specs.Applying.{Answers, LeadsOn, rows_in, set_key};
-ghost use Rattle.set_changes.specs.Steps.{ChangesAt, IsSound, ListedChangeAt, led_to, mark_at};
+ghost use Rattle.set_changes.specs.Steps.{ChangesAt, IsSound, led_to};
 ghost use Rattle.version_core.specs.Changes.{AreChanges, change_key};
 ghost use Rattle.version_core.specs.Order.{overlaid};
 ghost use Rattle.version_core.specs.Version.{newest_of};
 
 use crate::draft::Draft;
-use crate::index::{index_of, ordered_rows};
+use crate::index::{bare_parts, ordered_rows};
 use crate::limits::LAST_VERSION;
 use crate::listed::listed_changes;
 use crate::marks::marks_of;
@@ -19,6 +19,7 @@ use crate::refusals::{owned_by_other, refusal_of};
 use roster_base::{NoMemory, Refusal};
 use roster_texts::Moment;
 use roster_types::set::RosterSet;
+use roster_types::set_row::SetRow;
 use std::alloc::Global;
 use version_core::change::Change;
 use version_core::merge::merge;
@@ -41,32 +42,20 @@ fn merged(alloc: Global, marks: Vec<RowChange>, listed: SortedRows) -> Result<So
     Ok(SortedRows::from_vec(changes))
 }
 
-// The marks of the rows that a set leaves out.
-fn set_marks(
+// What a set changes where it lists these rows, which move into the changes. The set may be bare of its rows.
+fn changes_of(
     alloc: Global,
     view: &VersionView,
     set: &RosterSet,
-    at: Moment,
-) -> Result<Vec<RowChange>, NoMemory>
-    ensures order { IfOk result (λ v. AreChanges v.items) }
-    ensures marks { IfOk result (λ v. (k : Key) → look_up change_key k v.items ≡ mark_at set.now at (rows_in set.now) view.now.rows k) }
-{
-    let index = index_of(alloc, set)?;
-    marks_of(alloc, view, set, &index, at)
-}
-
-// What the listed rows of a set change. They move into the changes.
-fn set_rows(
-    alloc: Global,
-    view: &VersionView,
-    set: RosterSet,
+    rows: Vec<SetRow>,
     at: Moment,
 ) -> Result<SortedRows, NoMemory>
-    ensures { IfOk result (λ changes. (k : Key) → ListedChangeAt set.feed at (look_up set_key k (rows_in set)) (look_up change_key k view.now.rows) (look_up change_key k changes)) }
+    requires { Ascends set_key rows.items }
+    ensures { IfOk result (λ changes. (k : Key) → ChangesAt set.now at (look_up set_key k rows.items) (look_up change_key k view.now.rows) (look_up change_key k changes)) }
 {
-    let (feed, parts) = set.into_parts();
-    let rows = ordered_rows(alloc, parts)?;
-    listed_changes(alloc, view, &feed, rows, at)
+    let marks = marks_of(alloc, view, set, &rows, at)?;
+    let listed = listed_changes(alloc, view, set.feed(), rows, at)?;
+    merged(alloc, marks, listed)
 }
 
 // The rows that a set changes, each as it becomes.
@@ -78,9 +67,12 @@ fn changed_rows(
 ) -> Result<SortedRows, NoMemory>
     ensures { IfOk result (λ changes. (k : Key) → ChangesAt set at (look_up set_key k (rows_in set)) (look_up change_key k view.now.rows) (look_up change_key k changes)) }
 {
-    let marks = set_marks(alloc, view, &set, at)?;
-    let listed = set_rows(alloc, view, set, at)?;
-    merged(alloc, marks, listed)
+    let (feed, parts) = set.into_parts();
+    let bare = bare_parts(alloc, parts.as_slice())?;
+    let bare = RosterSet::new(feed, bare);
+    // Put in order once, for the marks and for the changes.
+    let rows = ordered_rows(alloc, parts)?;
+    changes_of(alloc, view, &bare, rows, at)
 }
 
 /// What a set makes of the newest version of a table, where it is published at a moment: the change to the next version,

@@ -11,17 +11,17 @@ use Rattle.set_changes.proofs.marks.add_marks.Goals as goal
 
 pub loop-stored-init : goal.loop-stored-init
 loop-stored-init c =
-    ap (λ rest. c.args.marks.now.items ++ marks_of c.args.set.now c.args.at c.args.index.now c.args.view.now.rows rest) (rest_start c.args.kind (rows_of c.args.view.now.rows))
+    ap (λ rest. c.args.marks.now.items ++ marks_of c.args.set.now c.args.at c.args.listed.now c.args.view.now.rows rest) (rest_start c.args.kind (rows_of c.args.view.now.rows))
 
 pub loop-stored-smaller : goal.loop-stored-smaller
 loop-stored-smaller c =
-    let e = ap length (rest_begins c.args.set.now c.args.at c.args.index.now c.args.view.now.rows c.in-Some.ensures.sorted c.args.kind (option_copied c.loop-stored.after) c.in-Some.stored.now c.in-Some.ensures.next) in
+    let e = ap length (rest_begins c.args.set.now c.args.at c.args.listed.now c.args.view.now.rows c.in-Some.ensures.sorted c.args.kind (option_copied c.loop-stored.after) c.in-Some.stored.now c.in-Some.ensures.next) in
     rw c.id.ensures (omega arith)
 
 pub loop-stored-preserved : goal.loop-stored-preserved
 loop-stored-preserved c =
     let set = c.args.set.now in
-    let index = c.args.index.now in
+    let index = c.args.listed.now in
     let rows = c.args.view.now.rows in
     let stored = c.in-Some.stored.now in
     let e = marks_begin set c.args.at index rows c.in-Some.ensures.sorted c.args.kind (option_copied c.loop-stored.after) stored c.in-Some.ensures.next in
@@ -31,11 +31,11 @@ loop-stored-preserved c =
 
 pub returns : goal.returns
 returns c =
-    let e = marks_end c.args.set.now c.args.at c.args.index.now c.args.view.now.rows c.in_default.ensures.sorted c.args.kind (option_copied c.loop-stored.after) c.in_default.ensures.next in
+    let e = marks_end c.args.set.now c.args.at c.args.listed.now c.args.view.now.rows c.in_default.ensures.sorted c.args.kind (option_copied c.loop-stored.after) c.in_default.ensures.next in
     sym (append-nil c.loop-stored.marks.items) ∙ ap (λ ys. c.loop-stored.marks.items ++ ys) (sym e) ∙ c.loop-stored.invariant
 
 -- no row of the kind is left out
 pub returns-then-not-is_whole : goal.returns-then-not-is_whole
 returns-then-not-is_whole c =
     let part = subst (λ (parts : List SetPart). is_whole parts c.args.kind ≡ false) c.parts.ensures.parts (sym c.is_whole.ensures ∙ c.if-not-is_whole.true) in
-    sym (append-nil c.args.marks.now.items) ∙ ap (λ ys. c.args.marks.now.items ++ ys) (sym (none_marked c.args.set.now c.args.at c.args.index.now c.args.view.now.rows c.args.kind part (rows_of c.args.view.now.rows)))
+    sym (append-nil c.args.marks.now.items) ∙ ap (λ ys. c.args.marks.now.items ++ ys) (sym (none_marked c.args.set.now c.args.at c.args.listed.now c.args.view.now.rows c.args.kind part (rows_of c.args.view.now.rows)))

@@ -9,7 +9,7 @@ use Rattle.set_changes.proofs.marks.add_marks.Given as goal
 abbrev pub invariant-loop-stored : goal.invariant-loop-stored
 invariant-loop-stored l =
     let rows = l.view.rows in
-    l.marks.items ++ marks_of l.set l.at l.index rows (rest_of l.kind (option_copied l.after) (rows_of rows)) ≡ l.fn.marks.items ++ marks_of l.set l.at l.index rows (filter (is_of_kind l.kind) (rows_of rows))
+    l.marks.items ++ marks_of l.set l.at l.listed rows (rest_of l.kind (option_copied l.after) (rows_of rows)) ≡ l.fn.marks.items ++ marks_of l.set l.at l.listed rows (filter (is_of_kind l.kind) (rows_of rows))
 
 abbrev pub decreases-loop-stored : goal.decreases-loop-stored
 decreases-loop-stored l = length (rest_of l.kind (option_copied l.after) (rows_of l.view.rows))

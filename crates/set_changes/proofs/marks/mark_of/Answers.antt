@@ -13,7 +13,7 @@ returns c =
     let set = c.args.set.now in
     let at = c.args.at in
     let stored = c.args.stored.now in
-    let unlisted : is_some (look_up set_key (change_key stored) c.args.index.now) ≡ false =
-    (λ i. is_some (look_up set_key (place_of_kind (sym c.kind.ensures.kind i), sym c.id.ensures i) c.args.index.now)) ∙ sym c.is_listed.ensures ∙ (search rules) in
+    let unlisted : is_some (look_up set_key (change_key stored) c.args.listed.now) ≡ false =
+    (λ i. is_some (look_up set_key (place_of_kind (sym c.kind.ensures.kind i), sym c.id.ensures i) c.args.listed.now)) ∙ sym c.is_listed.ensures ∙ (search rules) in
     let left : is_left_out set stored ≡ true = sym c.is_left_out.ensures ∙ (search rules) in
-    ap Some c.in_ok-marked.ensures ∙ sym (ap (λ b. cond b (Some (marked at stored)) None) left) ∙ ap (λ l. mark_of set at l stored) (sym (none_found (look_up set_key (change_key stored) c.args.index.now) unlisted))
+    ap Some c.in_ok-marked.ensures ∙ sym (ap (λ b. cond b (Some (marked at stored)) None) left) ∙ ap (λ l. mark_of set at l stored) (sym (none_found (look_up set_key (change_key stored) c.args.listed.now) unlisted))

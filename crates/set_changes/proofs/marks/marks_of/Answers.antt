@@ -28,18 +28,18 @@ module _ (set : SetRecord) (at : ℤ) (index : List SetRow) (rows : List RowChan
 
 pub loop-kind-preserved : goal.loop-kind-preserved
 loop-kind-preserved c =
-    let marks = of_kind c.args.set.now c.args.at c.args.index.now c.args.view.now.rows in
+    let marks = of_kind c.args.set.now c.args.at c.args.listed.now c.args.view.now.rows in
     let kind = get_or all_kinds c.loop-kind.kind-index Orgs in
     c.in_ok-add_marks.ensures ∙ ap (λ ys. ys ++ marks kind) c.loop-kind.invariant ∙ sym (flat_map_more marks all_kinds c.loop-kind.kind-index kind Orgs c.loop-kind-test.true refl)
 
 pub returns-clause-order : goal.returns-clause-order
 returns-clause-order c =
     let rows = c.args.view.now.rows in
-    let all = all_marks c.args.set.now c.args.at c.args.index.now rows c.loop-kind.marks.items c.loop-kind.kind-index c.next_change.ensures.sorted c.loop-kind.invariant (omega arith) in
-    subst AreChanges (sym all) (marks_ascend c.args.set.now c.args.at c.args.index.now rows c.next_change.ensures.sorted)
+    let all = all_marks c.args.set.now c.args.at c.args.listed.now rows c.loop-kind.marks.items c.loop-kind.kind-index c.next_change.ensures.sorted c.loop-kind.invariant (omega arith) in
+    subst AreChanges (sym all) (marks_ascend c.args.set.now c.args.at c.args.listed.now rows c.next_change.ensures.sorted)
 
 pub returns-clause-marks : goal.returns-clause-marks
 returns-clause-marks c = λ k.
     let rows = c.args.view.now.rows in
-    let all = all_marks c.args.set.now c.args.at c.args.index.now rows c.loop-kind.marks.items c.loop-kind.kind-index c.next_change.ensures.sorted c.loop-kind.invariant (omega arith) in
-    ap (look_up change_key k) all ∙ look_up-marks c.args.set.now c.args.at c.args.index.now rows k
+    let all = all_marks c.args.set.now c.args.at c.args.listed.now rows c.loop-kind.marks.items c.loop-kind.kind-index c.next_change.ensures.sorted c.loop-kind.invariant (omega arith) in
+    ap (look_up change_key k) all ∙ look_up-marks c.args.set.now c.args.at c.args.listed.now rows k

@@ -10,4 +10,4 @@ use Rattle.set_changes.proofs.marks.marks_of.Given as goal
 -- the marks of the kinds so far
 abbrev pub invariant-loop-kind : goal.invariant-loop-kind
 invariant-loop-kind l =
-    l.marks.items ≡ flat_map (λ (kind : Kind). marks_of l.set l.fn.at l.index l.view.rows (filter (is_of_kind kind) (rows_of l.view.rows))) (take l.kind-index all_kinds)
+    l.marks.items ≡ flat_map (λ (kind : Kind). marks_of l.set l.fn.at l.listed l.view.rows (filter (is_of_kind kind) (rows_of l.view.rows))) (take l.kind-index all_kinds)
