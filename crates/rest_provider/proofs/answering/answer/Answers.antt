@@ -1,4 +1,5 @@
 use Rattle.std.proofs.Common.{subst}
+use Rattle.hub_core.specs.Standing.{HeldHub, IsStanding}
 use Rattle.rest_provider.specs.Steps.{CountsFailed}
 use Rattle.rest_provider.proofs.answering.answer.Goals as goal
 
@@ -10,5 +11,5 @@ returns-in-Ok-clause-step g c =
       λ after stands.
           let (before, stood, told, step) = led after stands in
           let first = c.in-Ok.ensures.told before stood in
-          (before, first.0, (λ now. first.1 (told now)), step),
+          (before, subst (λ (hub : HeldHub). IsStanding hub before) c.index.ensures first.0, (λ now. first.1 (told now)), step),
     )
