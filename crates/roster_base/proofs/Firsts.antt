@@ -52,7 +52,7 @@ first_placed {A} key t x (y ∷ ys) = by (slice_cmp nat_cmp (key x) (key y)) ref
         ap (cond (bytes_eq t (key y)) (Some y)) more
         ∙ asked_other (bytes_eq t (key x)) (bytes_eq t (key y)) (Some x) (Some y) (first key t ys) (one_text t (key x) (key y) q)
 
-first-in_order : {A : Type 0} (key : A → List ℕ) (t : List ℕ) (xs : List A) → first key t (in_order key xs) ≡ first key t xs
+pub first-in_order : {A : Type 0} (key : A → List ℕ) (t : List ℕ) (xs : List A) → first key t (in_order key xs) ≡ first key t xs
 first-in_order key t [] = refl
 first-in_order key t (x ∷ xs) = first_placed key t x (in_order key xs) ∙ ap (cond (bytes_eq t (key x)) (Some x)) (first-in_order key t xs)
 
@@ -91,7 +91,7 @@ rest_firsts key x y xs ys same above above' e a = by (bytes_eq (key a) (key x)) 
         let other : bytes_eq (key a) (key y) ≡ false = ap (bytes_eq (key a)) (sym same) ∙ n in
         sym (ap (λ b. cond b (Some x) (first key (key a) xs)) n) ∙ e a ∙ ap (λ b. cond b (Some y) (first key (key a) ys)) other
 
-alike : {A : Type 0} (key : A → List ℕ) (us vs : List A) → RiseBy key us → RiseBy key vs → SameFirsts key us vs → us ≡ vs
+pub alike : {A : Type 0} (key : A → List ℕ) (us vs : List A) → RiseBy key us → RiseBy key vs → SameFirsts key us vs → us ≡ vs
 unfolding IsStrictlySortedBy
 alike key [] [] f g e = refl
 alike key [] (y ∷ ys) f g e = some_none y (sym (at_first key y ys) ∙ sym (e y))

@@ -1,4 +1,5 @@
 pub mod Firsts
+pub mod Kept
 pub mod ListSteps
 pub mod Rising
 pub mod Sorting

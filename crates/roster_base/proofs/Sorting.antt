@@ -1,84 +1,19 @@
 -- Items put in order of their keys.
-use Rattle.std.proofs.Common.{◌≡◌, ℕ, List, [], ◌∷◌, ◌++◌, map, true, false, String, Global, string_bytes, string_cmp, Ordering, Less, Equal, Greater, nat_cmp, is_eq, bytes_eq, refl, sym, ap, ◌∙◌, subst, append_assoc, arith, Result, Vec, IfOk}
+use Rattle.std.proofs.Common.{◌≡◌, ℕ, List, [], ◌∷◌, map, true, false, Global, Ordering, Less, Equal, Greater, nat_cmp, is_eq, bytes_eq, refl, sym, ap, ◌∙◌, subst, arith, Result, Vec, IfOk}
 use Rattle.std.proofs.lemmas.Cmp.{nat_list_cmp_total}
-use Rattle.std.proofs.lemmas.List.{append-nil}
 use Rattle.std.proofs.lemmas.List.Sorted.{IsPermutation-cons, IsPermutation-refl, IsPermutation-trans, IsPermutation-swap}
 use Rattle.std.proofs.lemmas.Map.Text.{is_eq-slice_cmp}
 use Rattle.std.proofs.lemmas.Result.{IfOk-weaker}
 use Rattle.std.proofs.lemmas.Slice.Eq.{bytes_eq-Decides}
-use Rattle.std.specs.BTreeMap.{insert_entry}
 use Rattle.std.specs.Cmp.Lexicographic.{slice_cmp}
 use Rattle.std.specs.List.{AllByRecursion, IsDistinct}
 use Rattle.std.specs.List.Sorted.{IsPermutation, IsStrictlySortedBy}
 use Rattle.std.specs.Ordering.{match_ordering, ordering_reverse}
-use Rattle.std.specs.Prelude.{⊤}
-use Rattle.roster_base.specs.Order.{PutsAtKey, RiseBy, in_order, placed}
-
--- a map's entries are these items, each under its key
-unfoldable pub Holds : {A : Type 0} → (A → List ℕ) → List (String Global × A) → List A → Type 0
-Holds key [] [] = ⊤
-Holds key [] (x ∷ xs) = ⊥
-Holds key (p ∷ ps) [] = ⊥
-Holds key (p ∷ ps) (x ∷ xs) = (string_bytes p.0 ≡ key x) × (p.1 ≡ x) × Holds key ps xs
-
-holds-none : {A : Type 0} (key : A → List ℕ) (ps : List (String Global × A)) → ps ≡ [] → Holds key ps []
-unfolding Holds
-holds-none key ps e = rw e tt
-
-holds-values : {A : Type 0} (key : A → List ℕ) (ps : List (String Global × A)) (xs : List A) → Holds key ps xs → map (λ p. p.1) ps ≡ xs
-unfolding Holds
-holds-values key [] [] h = refl
-holds-values key [] (x ∷ xs) h = absurd h
-holds-values key (p ∷ ps) [] h = absurd h
-holds-values key (p ∷ ps) (x ∷ xs) h = rw (h.1, holds-values key ps xs h.2) refl
+use Rattle.roster_base.specs.Order.{RiseBy, in_order, placed}
 
 -- two texts that tie are one
 pub tied : (xs ys : List ℕ) → slice_cmp nat_cmp xs ys ≡ Equal → xs ≡ ys
 tied xs ys e = (bytes_eq-Decides xs ys).0 (sym (is_eq-slice_cmp xs ys) ∙ ap is_eq e)
-
-holds-placed : {A : Type 0} (key : A → List ℕ) (o : Ordering) (p : String Global × A) (y : A) (k : String Global) (x : A) (ps qs : List (String Global × A)) (ys zs : List A)
-    → string_bytes k ≡ key x → Holds key (p ∷ ps) (y ∷ ys) → Holds key qs zs → (o ≡ Equal → string_bytes k ≡ string_bytes p.0)
-    → Holds key (match_ordering o ((k, x) ∷ p ∷ ps) ((p.0, x) ∷ ps) (p ∷ qs)) (match_ordering o (x ∷ y ∷ ys) (x ∷ ys) (y ∷ zs))
-unfolding Holds
-holds-placed key Less p y k x ps qs ys zs same h more tie = (same, refl, h)
-holds-placed key Equal p y k x ps qs ys zs same h more tie = (sym (tie refl) ∙ same, refl, h.2)
-holds-placed key Greater p y k x ps qs ys zs same h more tie = (h.0, h.1, more)
-
-holds-insert : {A : Type 0} (key : A → List ℕ) (ps : List (String Global × A)) (ys : List A) (k : String Global) (x : A) → string_bytes k ≡ key x → Holds key ps ys
-    → Holds key (insert_entry string_cmp ps k x) (placed key x ys)
-unfolding Holds placed
-holds-insert key [] [] k x same h = (same, refl, tt)
-holds-insert key [] (y ∷ ys) k x same h = absurd h
-holds-insert key (p ∷ ps) [] k x same h = absurd h
-holds-insert {A} key (p ∷ ps) (y ∷ ys) k x same h =
-    let o : Ordering = slice_cmp nat_cmp (string_bytes k) (string_bytes p.0) in
-    let P : Ordering → Type 0 = λ q. Holds key (match_ordering o ((k, x) ∷ p ∷ ps) ((p.0, x) ∷ ps) (p ∷ insert_entry string_cmp ps k x)) (match_ordering q (x ∷ y ∷ ys) (x ∷ ys) (y ∷ placed key x ys)) in
-    let alike : o ≡ slice_cmp nat_cmp (key x) (key y) = ap (λ (t : List ℕ). slice_cmp nat_cmp t (string_bytes p.0)) same ∙ ap (slice_cmp nat_cmp (key x)) h.0 in
-    subst P alike (holds-placed key o p y k x ps (insert_entry string_cmp ps k x) ys (placed key x ys) same h (holds-insert key ps ys k x same h.2) (tied _ _))
-
--- the items that are in the map, behind those that are left
-pub record Moves {A : Type 0} (key : A → List ℕ) (all left : List A) (entries : List (String Global × A)) : Type 0 where
-  pub done : List A
-  pub whole : all ≡ left ++ done
-  pub held : Holds key entries (in_order key done)
-
-pub moves-start : {A : Type 0} (key : A → List ℕ) (all : List A) (entries : List (String Global × A)) → entries ≡ [] → Moves key all all entries
-moves-start key all entries e = record { done = []; whole = sym (append-nil all); held = holds-none key entries e }
-
-pub moves-on : {A : Type 0} (key : A → List ℕ) (all old new : List A) (entries entries2 : List (String Global × A)) (x : A) → old ≡ new ++ x ∷ [] → Moves key all old entries → PutsAtKey key entries entries2 x
-    → Moves key all new entries2
-moves-on key all old new entries entries2 x e m put =
-    let (name, same, is) = put in
-    record {
-      done = x ∷ m.done;
-      whole = m.whole ∙ rw (e, append_assoc) refl;
-      held = rw is (holds-insert key entries (in_order key m.done) name x same m.held);
-    }
-
-pub moves-end : {A : Type 0} (key : A → List ℕ) (all left : List A) (entries : List (String Global × A)) → Moves key all left entries → left ≡ [] → map (λ p. p.1) entries ≡ in_order key all
-moves-end {A} key all left entries m e =
-    let is : all ≡ m.done = m.whole ∙ rw e refl in
-    holds-values key entries _ m.held ∙ ap (λ (xs : List A). in_order key xs) (sym is)
 
 -- the key x is below each of these items' keys
 abbrev pub Below : {A : Type 0} → (A → List ℕ) → List ℕ → List A → Type 0

@@ -1,10 +1,8 @@
 -- Lists in ascending order of their items' keys.
-use Rattle.std.specs.Prelude.{◌≡◌, ℕ, Bool, true, List, [], ◌∷◌, Option, Some, None, map, String, string_bytes, string_cmp}
+use Rattle.std.specs.Prelude.{ℕ, Bool, true, List, [], ◌∷◌, ◌++◌, if◌then◌else◌, Option, Some, None, map}
 use Rattle.std.specs.Cmp.Lexicographic.{slice_cmp}
-use Rattle.std.specs.BTreeMap.{insert_entry}
 use Rattle.std.specs.List.Sorted.{IsStrictlySortedBy}
 use Rattle.std.specs.Ordering.{is_lt, match_ordering, nat_cmp}
-use Rattle.std.specs.declared.alloc.Global.{Global}
 
 -- an item at its place among others that are in order: one with the same key gives way
 unfoldable pub placed : {A : Type 0} → (A → List ℕ) → A → List A → List A
@@ -25,6 +23,12 @@ is_below (Some last) key = is_lt (slice_cmp nat_cmp last key)
 abbrev pub RiseBy : {A : Type 0} → (A → List ℕ) → List A → Type 0
 RiseBy key xs = IsStrictlySortedBy (slice_cmp nat_cmp) (map key xs)
 
--- the new entries are the old ones with this item at its key
-abbrev pub PutsAtKey : {A : Type 0} → (A → List ℕ) → List (String Global × A) → List (String Global × A) → A → Type 0
-PutsAtKey key old new x = (name : String Global) × (string_bytes name ≡ key x) × (new ≡ insert_entry string_cmp old name x)
+-- the key of the last item
+abbrev pub last_key : {A : Type 0} → (A → List ℕ) → List A → Option (List ℕ)
+last_key key [] = None
+last_key key (x ∷ []) = Some (key x)
+last_key key (x ∷ y ∷ ys) = last_key key (y ∷ ys)
+
+-- the items with one more, where its key is above that of the last
+abbrev pub with_item : {A : Type 0} → (A → List ℕ) → List A → A → List A
+with_item key xs x = if is_below (last_key key xs) (key x) then xs ++ x ∷ [] else xs

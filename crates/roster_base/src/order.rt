@@ -1,16 +1,14 @@
 //! Lists in ascending order of their items' keys.
 
 ghost use Rattle.std.specs.Prelude.{◌≡◌, ℕ, List, [], map, true, option_copied, IfOk, OnOk, bytes_eq};
-ghost use Rattle.std.specs.BTreeMap.{values};
 ghost use Rattle.std.specs.Cmp.Lexicographic.{slice_cmp};
 ghost use Rattle.std.specs.List.{IsDistinct};
 ghost use Rattle.std.specs.List.Sorted.{IsPermutation, IsSortedByKey, IsStableByKey};
 ghost use Rattle.std.specs.Ordering.{nat_cmp};
-ghost use Rattle.roster_base.specs.Order.{PutsAtKey, RiseBy, in_order, is_below};
+ghost use Rattle.roster_base.specs.Order.{RiseBy, in_order, is_below, last_key, with_item};
 
 use crate::memory::NoMemory;
 use std::alloc::Global;
-use std::collections::BTreeMap;
 
 /// A value that has a text by which it is found and put in order.
 pub trait Keyed {
@@ -54,46 +52,37 @@ fn sort<T: Keyed>(items: &mut Vec<T>) -> Result<(), NoMemory>
     Ok(())
 }
 
-// Puts an item at its key.
-fn put<T: Keyed + Drop>(
-    entries: &mut BTreeMap<String, T>,
-    alloc: Global,
-    item: T,
-) -> Result<(), NoMemory>
-    ensures { OnOk result (PutsAtKey T.key_of entries.old.entries entries.new.entries item) }
+// Whether an item's key is above that of the last.
+fn is_above_last<T: Keyed>(kept: &[T], item: &T) -> bool
+    ensures { result ≡ is_below (last_key T.key_of kept.now) (T.key_of item.now) }
 {
-    let key = String::from_str(alloc, item.key())?;
-    drop(entries.insert(key, item)?);
+    match kept.last() {
+        None => true,
+        Some(last) => is_below(Some(last.key()), item.key()),
+    }
+}
+
+// Adds an item, where its key is above that of the last.
+fn keep<T: Keyed + Drop>(kept: &mut Vec<T>, item: T) -> Result<(), NoMemory>
+    ensures { OnOk result (kept.new.items ≡ with_item T.key_of kept.old.items item) }
+{
+    if is_above_last(kept, &item) {
+        return Ok(kept.push(item)?);
+    }
+    drop(item);
     Ok(())
 }
 
-// The items by key.
-fn by_key<T: Keyed + Drop>(
-    alloc: Global,
-    mut items: Vec<T>,
-) -> Result<BTreeMap<String, T>, NoMemory>
-    ensures { IfOk result (λ m. values m ≡ in_order T.key_of items.items) }
-{
-    let mut entries = BTreeMap::new(alloc);
-    while let Some(item) = items.pop() {
-        put(&mut entries, alloc, item)?;
-    }
-    Ok(entries)
-}
-
-// The values of a map in order of its keys.
-fn values_of<T: Drop>(alloc: Global, entries: BTreeMap<String, T>) -> Result<Vec<T>, NoMemory>
-    ensures { IfOk result (λ v. v.items ≡ values entries) }
-{
-    Ok(entries.into_values().collect(alloc)?)
-}
-
-// The items in order, of each key the first alone.
+// The items of a sorted list, of each key the first.
 fn firsts<T: Keyed + Drop>(alloc: Global, items: Vec<T>) -> Result<Vec<T>, NoMemory>
+    requires { IsSortedByKey T.key_of (slice_cmp nat_cmp) items.items }
     ensures { IfOk result (λ v. v.items ≡ in_order T.key_of items.items) }
 {
-    let entries = by_key(alloc, items)?;
-    values_of(alloc, entries)
+    let mut kept = Vec::new(alloc);
+    for item in items {
+        keep(&mut kept, item)?;
+    }
+    Ok(kept)
 }
 
 /// The items in ascending order of their keys' bytes. Of two with one key the first stays.
@@ -106,7 +95,7 @@ pub fn sorted<T: Keyed + Drop>(alloc: Global, mut items: Vec<T>) -> Result<Vec<T
         return Ok(items);
     }
     sort(&mut items)?;
-    // Keys repeat seldom.
+    // Where no keys repeat, no second list is made.
     if is_in_order(&items) {
         return Ok(items);
     }
