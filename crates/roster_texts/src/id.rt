@@ -2,26 +2,27 @@
 
 ghost use Rattle.std.specs.Prelude.{◌≡◌, ◌∷◌, [], true, false, ℕ, IfOk, MatchOption, List};
 ghost use Rattle.std.specs.List.{list_all};
-ghost use Rattle.std.specs.String.{string_bytes};
+ghost use Rattle.std.specs.Arc.{arc_str_bytes};
 ghost use Rattle.roster_texts.specs.Texts.{is_id, is_id_byte};
 
 use roster_base::{NoMemory, Same, TryCopy};
 use std::alloc::Global;
 use std::marker::Model;
+use std::sync::ArcStr;
 
 /// A sourcedId: 1 to 255 bytes, no control character, no comma, and no space at either end.
-/// A clause sees its bytes.
+/// A clause sees its bytes. Copies share one text: those of a metadata column's key in each row, and of a row in each index.
 #[derive(Drop)]
 pub struct Id {
-    text: String,
+    text: ArcStr<Global>,
 }
 
 impl Model for Id {
     ghost Value = { List ℕ };
 
-    ghost view = { λ i. string_bytes i.text };
+    ghost view = { λ i. arc_str_bytes i.text };
 
-    ghost invariant = { λ i. is_id (string_bytes i.text) ≡ true };
+    ghost invariant = { λ i. is_id (arc_str_bytes i.text) ≡ true };
 }
 
 impl Id {
@@ -34,7 +35,7 @@ impl Id {
             return Ok(None);
         }
         Ok(Some(Id {
-            text: String::from_str(alloc, text)?,
+            text: ArcStr::from_str(alloc, text)?,
         }))
     }
 
@@ -66,9 +67,9 @@ impl Id {
 }
 
 impl TryCopy for Id {
-    fn copy(&self, alloc: Global) -> Result<Id, NoMemory> {
+    fn copy(&self, _alloc: Global) -> Result<Id, NoMemory> {
         Ok(Id {
-            text: String::from_str(alloc, self.text.as_str())?,
+            text: self.text.clone()?,
         })
     }
 }
