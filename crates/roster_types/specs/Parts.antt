@@ -1,4 +1,5 @@
 -- The parts of a row, as the record that contracts see.
+use Rattle.std.specs.Prelude.{◌≡◌}
 use Rattle.std.specs.Arc.{arc_value}
 use Rattle.roster_types.specs.declared.parts.RowParts.TheInside.{Inside}
 use Rattle.roster_types.specs.declared.shared.Shared.{Shared}
@@ -19,5 +20,6 @@ record_of a = record {
   metadata = (shared_of a).metadata;
 }
 
+-- the kind that stands beside the id is the one that the shared values have
 abbrev pub AreFitting : Inside → Type 0
-AreFitting a = IsFitting (record_of a)
+AreFitting a = IsFitting (record_of a) × (a.kind ≡ kind_of (shared_of a).fields)

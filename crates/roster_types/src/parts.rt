@@ -27,9 +27,10 @@ use std::alloc::Global;
 use std::marker::Model;
 use std::sync::Arc;
 
-/// A row that may be too long.
+/// A row that may be too long. Its kind stands beside its id, since both are read at each step of a search.
 #[derive(Drop)]
 pub struct RowParts {
+    kind: Kind,
     id: Id,
     status: Status,
     modified: Moment,
@@ -147,6 +148,7 @@ impl RowParts {
         let _ = metadata.entries();
         let shared = Shared::first(alloc, fields, metadata)?;
         Ok(RowParts {
+            kind,
             id,
             status,
             modified,
@@ -159,7 +161,7 @@ impl RowParts {
         ensures kind { result ≡ self.now.kind }
         ensures fitting { IsFitting self.now }
     {
-        self.shared.fields.kind()
+        self.kind
     }
 
     /// The id of the row.
@@ -217,12 +219,14 @@ impl RowParts {
     {
         let _ = at.milliseconds();
         let RowParts {
+            kind,
             id,
             status: _,
             modified: _,
             shared,
         } = self;
         RowParts {
+            kind,
             id,
             status,
             modified: at,
@@ -361,6 +365,7 @@ impl RowParts {
     {
         let id = self.id.copy(alloc)?;
         Ok(RowParts {
+            kind: self.kind,
             id,
             status: self.status,
             modified: self.modified,

@@ -7,4 +7,4 @@ use Rattle.roster_types.proofs.parts.RowParts.field_bound.Goals as goal
 
 pub value_bound-requires : goal.value_bound-requires
 value_bound-requires c =
-    value_fits_there c.args.self.now ToBeDeleted c.args.place (info_of c.args.info.now) _ (subst IsFitting c.self.view_is c.self.invariant) c.requires (sym c.in-Some.ensures)
+    value_fits_there c.args.self.now ToBeDeleted c.args.place (info_of c.args.info.now) _ (subst IsFitting c.self.view_is c.self.invariant.0) c.requires (sym c.in-Some.ensures)

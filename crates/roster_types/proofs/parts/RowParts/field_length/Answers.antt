@@ -7,11 +7,11 @@ use Rattle.roster_values.specs.Table.{info_of}
 use Rattle.roster_types.proofs.parts.RowParts.field_length.Goals as goal
 
 pub value_with-requires : goal.value_with-requires
-value_with-requires c = place_within c.args.self.now c.args.place _ (subst IsFitting c.self.view_is c.self.invariant) c.requires
+value_with-requires c = place_within c.args.self.now c.args.place _ (subst IsFitting c.self.view_is c.self.invariant.0) c.requires
 
 pub value_length-requires : goal.value_length-requires
 value_length-requires c =
-    value_fits_there c.args.self.now ToBeDeleted c.args.place (info_of c.args.info.now) _ (subst IsFitting c.self.view_is c.self.invariant) c.requires (sym c.in-Some.ensures)
+    value_fits_there c.args.self.now ToBeDeleted c.args.place (info_of c.args.info.now) _ (subst IsFitting c.self.view_is c.self.invariant.0) c.requires (sym c.in-Some.ensures)
 
 pub returns-in_ok-value-in-Some : goal.returns-in_ok-value-in-Some
 unfolding field_length

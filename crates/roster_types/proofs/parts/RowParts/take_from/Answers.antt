@@ -1,4 +1,4 @@
-use Rattle.std.proofs.Common.{◌-◌, List, ap, ◌∙◌, arith, drop, length}
+use Rattle.std.proofs.Common.{◌≡◌, ◌-◌, List, ap, ◌∙◌, arith, drop, length, sym}
 use Rattle.std.proofs.lemmas.List.{length-take}
 use Rattle.roster_types.specs.declared.metadata.Entry.{Entry}
 use Rattle.std.specs.Arc.{arc_value}
@@ -45,8 +45,11 @@ invariant_of-result c =
     c.take_last-2.ensures.rest c.take_last-3.ensures.last in
     let s = arc_value c.in_ok-shared.shared in
     let e = c.in_ok-shared.ensures in
-    fitting_from c.args.kind (kind_of s.fields) c.args.values.now.items (values_of s.fields) s.metadata c.id_of-id.result c.status_of-status.result c.moment_of-modified.result c.requires
-    (rw e.metadata c.entries.ensures.order) (ap kind_of e.fields ∙ c.in_ok-fields.ensures.kind) (c.id_of-id.ensures ∙ ap id_in t.0) (c.moment_of-modified.ensures ∙ ap moment_in t.2) (ap values_of e.fields ∙ c.in_ok-fields.ensures.values)
+    let of_kind : kind_of s.fields ≡ c.args.kind = ap kind_of e.fields ∙ c.in_ok-fields.ensures.kind in (
+      fitting_from c.args.kind (kind_of s.fields) c.args.values.now.items (values_of s.fields) s.metadata c.id_of-id.result c.status_of-status.result c.moment_of-modified.result c.requires
+      (rw e.metadata c.entries.ensures.order) of_kind (c.id_of-id.ensures ∙ ap id_in t.0) (c.moment_of-modified.ensures ∙ ap moment_in t.2) (ap values_of e.fields ∙ c.in_ok-fields.ensures.values),
+      sym of_kind,
+    )
 
 pub returns : goal.returns
 returns c =
