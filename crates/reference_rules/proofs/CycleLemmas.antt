@@ -1,10 +1,8 @@
 -- Cycles of parents, and what is known of them.
 use Rattle.std.proofs.Common.{◌≡◌, ℕ, zero, suc, ◌+◌, ◌-◌, ◌<◌, ◌≤◌, ◌⊎◌, Bool, true, false, cond, List, [], ◌∷◌, length, Option, Some, None, bytes_eq, option_and_then, refl, sym, ap, subst, ◌∙◌, arith, add_comm, zero-add, suc-add, inl, inr}
 use Rattle.std.specs.Prelude.{IsSome, is_some}
-use Rattle.std.specs.BTreeMap.{BTreeMap, btree_map_len, is_at}
-use Rattle.std.specs.Cmp.Lexicographic.{slice_cmp}
+use Rattle.std.specs.HashMap.{HashMap, hash_map_len}
 use Rattle.std.specs.Map.{lookup}
-use Rattle.std.specs.Ordering.{nat_cmp}
 use Rattle.std.proofs.lemmas.Bool.{cases_lt, false_from_ne_true}
 use Rattle.std.proofs.lemmas.Slice.Eq.{bytes_eq-Decides}
 use Rattle.roster_types.specs.Keys.{count_of}
@@ -74,7 +72,7 @@ module _ (rows : List Record) (kind : Kind) where
       ended zero some back = absurd (omega arith)
       ended (suc q) some back = let no = never q in cc
 
-  module _ (notes : BTreeMap (Bor (List ℕ)) Bool) (are : AreNotes rows kind notes) where
+  module _ {S : Type 0} (notes : HashMap (Bor (List ℕ)) Bool S) (are : AreNotes rows kind notes) where
     -- the ids of a chain from one that is known to be in a cycle are known to be
     all_known : (y z : List ℕ) (n : ℕ) → note_of notes y ≡ Some true → nth_parent rows kind y n ≡ Some z → note_of notes z ≡ Some true
     all_known y z zero known at = let same : y ≡ z = cc in subst (λ x. note_of notes x ≡ Some true) same known
@@ -107,7 +105,7 @@ module _ (rows : List Record) (kind : Kind) where
     not_below id parent goes some unknown = not_in_cycle id 1 (Some parent) unknown goes some
 
 -- one id more is noted
-module _ (rows : List Record) (kind : Kind) (notes notes' : BTreeMap (Bor (List ℕ)) Bool) (id : List ℕ) (known : Bool) (put : (q : List ℕ) → note_of notes' q ≡ cond (bytes_eq id q) (Some known) (note_of notes q)) where
+module _ {S : Type 0} (rows : List Record) (kind : Kind) (notes notes' : HashMap (Bor (List ℕ)) Bool S) (id : List ℕ) (known : Bool) (put : (q : List ℕ) → note_of notes' q ≡ cond (bytes_eq id q) (Some known) (note_of notes q)) where
   pub put_here : note_of notes' id ≡ Some known
   put_here = put id ∙ ap (λ b. cond b (Some known) (note_of notes id)) ((bytes_eq-Decides id id).1 refl)
 
@@ -150,12 +148,12 @@ module _ (rows : List Record) (kind : Kind) (notes notes' : BTreeMap (Bor (List 
       ] refl)
 
 -- the ids of a cycle are noted up to this one
-pub record AreNotesTo (rows : List Record) (kind : Kind) (notes : BTreeMap (Bor (List ℕ)) Bool) (current : List ℕ) : Type 0 where
+pub record AreNotesTo {S : Type 0} (rows : List Record) (kind : Kind) (notes : HashMap (Bor (List ℕ)) Bool S) (current : List ℕ) : Type 0 where
   pub right : (id : List ℕ) (known : Bool) → note_of notes id ≡ Some known → known ≡ is_in_cycle rows kind id
   pub closed : (id parent : List ℕ) → note_of notes id ≡ Some true → parent_of rows kind id ≡ Some parent → (note_of notes parent ≡ Some true) ⊎ (parent ≡ current)
 
 -- one id of a cycle more
-module _ (rows : List Record) (kind : Kind) (notes notes' : BTreeMap (Bor (List ℕ)) Bool) (current : List ℕ) (put : (q : List ℕ) → note_of notes' q ≡ cond (bytes_eq current q) (Some true) (note_of notes q)) (is : is_in_cycle rows kind current ≡ true) (are : AreNotesTo rows kind notes current) where
+module _ {S : Type 0} (rows : List Record) (kind : Kind) (notes notes' : HashMap (Bor (List ℕ)) Bool S) (current : List ℕ) (put : (q : List ℕ) → note_of notes' q ≡ cond (bytes_eq current q) (Some true) (note_of notes q)) (is : is_in_cycle rows kind current ≡ true) (are : AreNotesTo rows kind notes current) where
   pub put_stays : (q : List ℕ) → note_of notes q ≡ Some true → note_of notes' q ≡ Some true
   put_stays q at = put q ∙ ap (cond (bytes_eq current q) (Some true)) at ∙ either (bytes_eq current q)
     where
@@ -201,14 +199,14 @@ module _ (rows : List Record) (kind : Kind) (notes notes' : BTreeMap (Bor (List 
     ];
   }
 
-pub to_start : (rows : List Record) (kind : Kind) (notes : BTreeMap (Bor (List ℕ)) Bool) (id : List ℕ) → AreNotes rows kind notes → AreNotesTo rows kind notes id
+pub to_start : {S : Type 0} (rows : List Record) (kind : Kind) (notes : HashMap (Bor (List ℕ)) Bool S) (id : List ℕ) → AreNotes rows kind notes → AreNotesTo rows kind notes id
 to_start rows kind notes id are = record { right = are.right; closed = λ q parent at goes. inl (are.closed q parent at goes) }
 
 unknown_from : (o : Option Bool) → is_some o ≡ false → o ≡ None
 unknown_from None absent = refl
 unknown_from (Some known) absent = cc
 
-module _ (rows : List Record) (kind : Kind) (notes notes' : BTreeMap (Bor (List ℕ)) Bool) (id current key : List ℕ) (same : key ≡ current) where
+module _ {S : Type 0} (rows : List Record) (kind : Kind) (notes notes' : HashMap (Bor (List ℕ)) Bool S) (id current key : List ℕ) (same : key ≡ current) where
   -- an id that wasn't known is noted to be in no cycle
   pub noted_false : AreNotes rows kind notes → is_some (note_of notes key) ≡ false → is_in_cycle rows kind current ≡ false → ((q : List ℕ) → note_of notes' q ≡ cond (bytes_eq key q) (Some false) (note_of notes q)) → AreNotes rows kind notes'
   noted_false are absent isnt put =
@@ -262,7 +260,7 @@ module _ (rows : List Record) (kind : Kind) (notes notes' : BTreeMap (Bor (List 
     ]
 
 -- where a chain is at an id that is known, and each id after the first made the first known, the first is known
-pub known_at : (rows : List Record) (kind : Kind) (notes : BTreeMap (Bor (List ℕ)) Bool) (id current : List ℕ) (turn : ℕ) → nth_parent rows kind id turn ≡ Some current → (0 < turn → IsSome (note_of notes id)) → IsSome (note_of notes current) → IsSome (note_of notes id)
+pub known_at : {S : Type 0} (rows : List Record) (kind : Kind) (notes : HashMap (Bor (List ℕ)) Bool S) (id current : List ℕ) (turn : ℕ) → nth_parent rows kind id turn ≡ Some current → (0 < turn → IsSome (note_of notes id)) → IsSome (note_of notes current) → IsSome (note_of notes id)
 known_at rows kind notes id current turn follows later here = elim (cases_lt 0 turn) [
   | inl some ↦ later some
   | inr le ↦
@@ -277,11 +275,11 @@ none_in test [] none = refl
 none_in test (e ∷ es) none = absurd (omega arith)
 
 -- nothing is known at first
-pub no_notes : (rows : List Record) (kind : Kind) (notes : BTreeMap (Bor (List ℕ)) Bool) → btree_map_len notes ≡ 0 → AreNotes rows kind notes
+pub no_notes : {S : Type 0} (rows : List Record) (kind : Kind) (notes : HashMap (Bor (List ℕ)) Bool S) → hash_map_len notes ≡ 0 → AreNotes rows kind notes
 no_notes rows kind notes none = record {
   right = λ id known at. let e = nothing id in cc;
   closed = λ id parent at goes. let e = nothing id in cc;
 }
   where
     nothing : (id : List ℕ) → note_of notes id ≡ None
-    nothing id = none_in (is_at (λ k. slice_cmp nat_cmp id k.now)) notes.entries none
+    nothing id = none_in (λ k. bytes_eq id k.now) notes.entries none

@@ -13,10 +13,10 @@ use roster_texts::Id;
 use roster_types::row::Row;
 use roster_types::rows::Rows;
 use roster_values::Kind;
-use std::collections::BTreeMap;
+use std::collections::HashMap;
 
 /// What is known of ids of one kind: whether each is in a cycle of parents.
-pub type Notes<'a> = BTreeMap<&'a str, bool>;
+pub type Notes<'a> = HashMap<&'a str, bool>;
 
 // Where a chain was followed to: so many turns on stands this id, or the chain has ended.
 #[derive(Clone, Copy)]
@@ -208,7 +208,7 @@ fn known_below<'a, R: Rows>(
     Ok(false)
 }
 
-// Whether an id that has this parent is in a cycle of parents. Most ids are noted, or have a parent that is: no chain is followed for them.
+// Whether an id that has this parent is in a cycle of parents. Most have a parent that is noted: no chain is followed for them.
 fn known<'a, R: Rows>(
     rows: &'a R,
     kind: Kind,
@@ -223,14 +223,9 @@ fn known<'a, R: Rows>(
     ensures notes { OnOk result (AreNotes (R.rows rows.now) kind notes.new) }
     ensures value { IfOk result (λ known. known ≡ is_in_cycle (R.rows rows.now) kind id.now) }
 {
-    if let Some(known) = notes.get(id.as_str()) {
-        return Ok(*known);
+    if !notes.contains_key(parent.as_str()) {
+        learn(rows, kind, parent, turns, notes)?;
     }
-    if notes.contains_key(parent.as_str()) {
-        notes.insert(id.as_str(), false)?;
-        return Ok(false);
-    }
-    learn(rows, kind, parent, turns, notes)?;
     known_below(rows, kind, id, parent, notes)
 }
 

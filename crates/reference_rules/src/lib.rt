@@ -31,7 +31,7 @@ use roster_types::rows::Rows;
 use roster_values::fields::fields;
 use roster_values::{FieldInfo, Kind};
 use std::alloc::Global;
-use std::collections::BTreeMap;
+use std::collections::HashMap;
 pub use typed::type_in;
 
 // Adds what is wrong with the field at a place of the field table.
@@ -84,7 +84,7 @@ fn add_kind_faults<'a, R: Rows>(
     ensures { OnOk result (found.new.items ≡ found.old.items ++ kind_faults (R.rows rows.now) kind) }
 {
     let turns = rows.count(kind);
-    let mut notes = BTreeMap::new(alloc);
+    let mut notes = HashMap::new(alloc);
     let mut after = None;
     while let Some(row) = rows.next(kind, after) {
         let in_cycle = is_in_cycle(rows, row, turns, &mut notes)?;

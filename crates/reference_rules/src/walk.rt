@@ -12,7 +12,7 @@ use roster_types::row::Row;
 use roster_types::rows::Rows;
 use roster_values::Kind;
 use std::alloc::Global;
-use std::collections::BTreeMap;
+use std::collections::HashMap;
 
 /// The kind of the last row that named a parent, how many rows are of it, and what is known of their ids.
 #[derive(Drop)]
@@ -30,7 +30,7 @@ pub fn begun<'a, R: Rows>(alloc: Global, rows: &R, kind: Kind) -> Walk<'a>
     Walk {
         kind,
         turns: rows.count(kind),
-        notes: BTreeMap::new(alloc),
+        notes: HashMap::new(alloc),
     }
 }
 

@@ -1,5 +1,5 @@
 use Rattle.std.proofs.Common.{◌≡◌, None, Some, false, sym, ap, ◌∙◌}
-use Rattle.std.proofs.lemmas.Map.Text.{btree_map_updates_str}
+use Rattle.std.proofs.lemmas.Map.Text.{hash_map_updates_str}
 use Rattle.reference_rules.specs.Notes.{note_of}
 use Rattle.reference_rules.proofs.CycleLemmas.{not_below, noted_below}
 use Rattle.reference_rules.proofs.cycles.known_below.Goals as goal
@@ -9,7 +9,7 @@ returns-in-Some-clause-value g c = c.requires.notes.right c.args.id.now c.in-Som
 
 pub returns-clause-notes : goal.returns-clause-notes
 returns-clause-notes g c =
-    let put = btree_map_updates_str c.as_str-2.result.now c.args.notes.now c.insert.new.self (Some false) c.in_ok-insert.ensures.updates in
+    let put = hash_map_updates_str c.as_str-2.result.now c.args.notes.now c.insert.new.self (Some false) c.in_ok-insert.ensures.updates in
     let unknown : note_of c.args.notes.now c.args.id.now ≡ None = ap (note_of c.args.notes.now) (sym c.as_str.ensures.text) ∙ sym c.in_default.ensures.value in
     noted_below (g.R.Rows.rows c.args.rows.now) c.args.kind c.args.notes.now c.insert.new.self c.args.id.now c.args.id.now c.as_str-2.result.now c.as_str-2.ensures.text c.requires.notes unknown c.args.parent.now c.requires.parent c.requires.known put
 

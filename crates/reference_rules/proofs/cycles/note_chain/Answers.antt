@@ -1,6 +1,6 @@
 use Rattle.std.proofs.Common.{◌≡◌, ℕ, List, false, Some, sym, subst, ◌∙◌}
 use Rattle.std.specs.Prelude.{IsSome, is_some}
-use Rattle.std.proofs.lemmas.Map.Text.{btree_map_updates_str}
+use Rattle.std.proofs.lemmas.Map.Text.{hash_map_updates_str}
 use Rattle.reference_rules.specs.Notes.{note_of}
 use Rattle.reference_rules.proofs.CycleLemmas.{chain_end, chain_known, chain_notes, known_at}
 use Rattle.reference_rules.proofs.ParentChains.{follows_more}
@@ -13,7 +13,7 @@ returns-then-contains_key-clause-known g c =
 
 pub returns-in-None-clause-notes : goal.returns-in-None-clause-notes
 returns-in-None-clause-notes g c =
-    let put = btree_map_updates_str c.as_str-in-loop-turn.result.now c.loop-turn.notes c.insert.new.self (Some false) c.in_ok-insert.ensures.updates in
+    let put = hash_map_updates_str c.as_str-in-loop-turn.result.now c.loop-turn.notes c.insert.new.self (Some false) c.in_ok-insert.ensures.updates in
     let absent : is_some (note_of c.loop-turn.notes c.as_str-in-loop-turn.result.now) ≡ false =
     subst (λ (x : List ℕ). is_some (note_of c.loop-turn.notes x) ≡ false) (c.as_str.ensures.text ∙ sym c.as_str-in-loop-turn.ensures.text) (sym c.contains_key.ensures ∙ c.if-contains_key.false) in
     chain_notes (g.R.Rows.rows c.args.rows.now) c.args.kind c.loop-turn.notes c.insert.new.self c.args.id.now c.loop-turn.current.now c.as_str-in-loop-turn.result.now c.as_str-in-loop-turn.ensures.text
@@ -21,7 +21,7 @@ returns-in-None-clause-notes g c =
 
 pub returns-in-None-clause-known : goal.returns-in-None-clause-known
 returns-in-None-clause-known g c =
-    let put = btree_map_updates_str c.as_str-in-loop-turn.result.now c.loop-turn.notes c.insert.new.self (Some false) c.in_ok-insert.ensures.updates in
+    let put = hash_map_updates_str c.as_str-in-loop-turn.result.now c.loop-turn.notes c.insert.new.self (Some false) c.in_ok-insert.ensures.updates in
     let absent : is_some (note_of c.loop-turn.notes c.as_str-in-loop-turn.result.now) ≡ false =
     subst (λ (x : List ℕ). is_some (note_of c.loop-turn.notes x) ≡ false) (c.as_str.ensures.text ∙ sym c.as_str-in-loop-turn.ensures.text) (sym c.contains_key.ensures ∙ c.if-contains_key.false) in
     chain_known (g.R.Rows.rows c.args.rows.now) c.args.kind c.loop-turn.notes c.insert.new.self c.args.id.now c.loop-turn.current.now c.as_str-in-loop-turn.result.now c.as_str-in-loop-turn.ensures.text
@@ -29,7 +29,7 @@ returns-in-None-clause-known g c =
 
 pub loop-turn-preserved : goal.loop-turn-preserved
 loop-turn-preserved g c =
-    let put = btree_map_updates_str c.as_str-in-loop-turn.result.now c.loop-turn.notes c.insert.new.self (Some false) c.in_ok-insert.ensures.updates in
+    let put = hash_map_updates_str c.as_str-in-loop-turn.result.now c.loop-turn.notes c.insert.new.self (Some false) c.in_ok-insert.ensures.updates in
     let absent : is_some (note_of c.loop-turn.notes c.as_str-in-loop-turn.result.now) ≡ false =
     subst (λ (x : List ℕ). is_some (note_of c.loop-turn.notes x) ≡ false) (c.as_str.ensures.text ∙ sym c.as_str-in-loop-turn.ensures.text) (sym c.contains_key.ensures ∙ c.if-contains_key.false) in
     record {
