@@ -1,6 +1,6 @@
 -- Cycles of parents, and what is known of them.
 use Rattle.std.proofs.Common.{◌≡◌, ℕ, zero, suc, ◌+◌, ◌-◌, ◌<◌, ◌≤◌, ◌⊎◌, Bool, true, false, cond, List, [], ◌∷◌, length, Option, Some, None, bytes_eq, option_and_then, refl, sym, ap, subst, ◌∙◌, arith, add_comm, zero-add, suc-add, inl, inr}
-use Rattle.std.specs.Prelude.{IsSome, is_some}
+use Rattle.std.specs.Prelude.{IsSome}
 use Rattle.std.specs.HashMap.{HashMap, hash_map_len}
 use Rattle.std.specs.Map.{lookup}
 use Rattle.std.proofs.lemmas.Bool.{cases_lt, false_from_ne_true}
@@ -109,17 +109,6 @@ module _ {S : Type 0} (rows : List Record) (kind : Kind) (notes notes' : HashMap
   pub put_here : note_of notes' id ≡ Some known
   put_here = put id ∙ ap (λ b. cond b (Some known) (note_of notes id)) ((bytes_eq-Decides id id).1 refl)
 
-  pub put_keeps : (q : List ℕ) → IsSome (note_of notes q) → IsSome (note_of notes' q)
-  put_keeps q some = subst IsSome (sym (put q)) (either (bytes_eq id q))
-    where
-      either : (b : Bool) → IsSome (cond b (Some known) (note_of notes q))
-      either true = refl
-      either false = some
-
-  pub put_well : (o : Option (List ℕ)) → EndsWell notes o → EndsWell notes' o
-  put_well None well = tt
-  put_well (Some y) well = put_keeps y well
-
   pub put_right : is_in_cycle rows kind id ≡ known → ((q : List ℕ) (k : Bool) → note_of notes q ≡ Some k → k ≡ is_in_cycle rows kind q) → (q : List ℕ) (k : Bool) → note_of notes' q ≡ Some k → k ≡ is_in_cycle rows kind q
   put_right is right q k at =
       elim (bytes_eq id q) as (λ b. bytes_eq id q ≡ b → cond b (Some known) (note_of notes q) ≡ Some k → k ≡ is_in_cycle rows kind q) [
@@ -129,23 +118,6 @@ module _ {S : Type 0} (rows : List Record) (kind : Kind) (notes notes' : HashMap
             sym value ∙ sym is ∙ ap (is_in_cycle rows kind) same
         | false ↦ λ _ there. right q k there
       ] refl (sym (put q) ∙ at)
-
-  -- that is in no cycle
-  pub put_false : note_of notes id ≡ None → known ≡ false → is_in_cycle rows kind id ≡ false → AreNotes rows kind notes → AreNotes rows kind notes'
-  put_false unknown isnt is are = record {
-    right = put_right (is ∙ sym isnt) are.right;
-    closed = λ q parent at goes.
-        elim (bytes_eq id q) as (λ b. cond b (Some known) (note_of notes q) ≡ Some true → note_of notes' parent ≡ Some true) [
-          | true ↦ λ here. let value : known ≡ true = cc in cc
-          | false ↦ λ there. stays parent (are.closed q parent there goes)
-        ] (sym (put q) ∙ at);
-  }
-    where
-      stays : (parent : List ℕ) → note_of notes parent ≡ Some true → note_of notes' parent ≡ Some true
-      stays parent at = put parent ∙ (elim (bytes_eq id parent) as (λ b. bytes_eq id parent ≡ b → cond b (Some known) (note_of notes parent) ≡ Some true) [
-        | true ↦ λ tested. let same : id ≡ parent = (bytes_eq-Decides id parent).0 tested in let there = ap (note_of notes) same in cc
-        | false ↦ λ _. at
-      ] refl)
 
 -- the ids of a cycle are noted up to this one
 pub record AreNotesTo {S : Type 0} (rows : List Record) (kind : Kind) (notes : HashMap (Bor (List ℕ)) Bool S) (current : List ℕ) : Type 0 where
@@ -202,48 +174,7 @@ module _ {S : Type 0} (rows : List Record) (kind : Kind) (notes notes' : HashMap
 pub to_start : {S : Type 0} (rows : List Record) (kind : Kind) (notes : HashMap (Bor (List ℕ)) Bool S) (id : List ℕ) → AreNotes rows kind notes → AreNotesTo rows kind notes id
 to_start rows kind notes id are = record { right = are.right; closed = λ q parent at goes. inl (are.closed q parent at goes) }
 
-unknown_from : (o : Option Bool) → is_some o ≡ false → o ≡ None
-unknown_from None absent = refl
-unknown_from (Some known) absent = cc
-
 module _ {S : Type 0} (rows : List Record) (kind : Kind) (notes notes' : HashMap (Bor (List ℕ)) Bool S) (id current key : List ℕ) (same : key ≡ current) where
-  -- an id that wasn't known is noted to be in no cycle
-  pub noted_false : AreNotes rows kind notes → is_some (note_of notes key) ≡ false → is_in_cycle rows kind current ≡ false → ((q : List ℕ) → note_of notes' q ≡ cond (bytes_eq key q) (Some false) (note_of notes q)) → AreNotes rows kind notes'
-  noted_false are absent isnt put =
-      let put' = subst (λ (x : List ℕ). (q : List ℕ) → note_of notes' q ≡ cond (bytes_eq x q) (Some false) (note_of notes q)) same put in
-      let unknown = unknown_from (note_of notes current) (subst (λ (x : List ℕ). is_some (note_of notes x) ≡ false) same absent) in
-      put_false rows kind notes notes' current false put' unknown refl isnt are
-
-  -- the same where its parent is known
-  pub noted_below : AreNotes rows kind notes → note_of notes current ≡ None → (parent : List ℕ) → parent_of rows kind current ≡ Some parent → IsSome (note_of notes parent) → ((q : List ℕ) → note_of notes' q ≡ cond (bytes_eq key q) (Some false) (note_of notes q)) → AreNotes rows kind notes'
-  noted_below are unknown parent goes some put =
-      noted_false are (ap is_some (ap (note_of notes) same ∙ unknown)) (not_below rows kind notes are current parent goes some unknown) put
-
-  module _ (turn turns : ℕ) (are : AreNotes rows kind notes) (follows : nth_parent rows kind id turn ≡ Some current) (lt : turn < turns) (well : EndsWell notes (nth_parent rows kind id turns)) (absent : is_some (note_of notes key) ≡ false) (put : (q : List ℕ) → note_of notes' q ≡ cond (bytes_eq key q) (Some false) (note_of notes q)) where
-    put' : (q : List ℕ) → note_of notes' q ≡ cond (bytes_eq current q) (Some false) (note_of notes q)
-    put' = subst (λ (x : List ℕ). (q : List ℕ) → note_of notes' q ≡ cond (bytes_eq x q) (Some false) (note_of notes q)) same put
-
-    -- one id more of a chain that ends, or comes to an id that is known
-    pub chain_notes : AreNotes rows kind notes'
-    chain_notes =
-        let unknown = unknown_from (note_of notes current) (subst (λ (x : List ℕ). is_some (note_of notes x) ≡ false) same absent) in
-        let sum : (turns - turn) + turn ≡ turns = omega (arith, lt) in
-        let rest : nth_parent rows kind current (turns - turn) ≡ nth_parent rows kind id turns = sym (nth_from rows kind id current turn (turns - turn) follows) ∙ ap (nth_parent rows kind id) sum in
-        put_false rows kind notes notes' current false put' unknown refl (not_in_cycle rows kind notes are current (turns - turn) (nth_parent rows kind id turns) unknown rest well) are
-
-    pub chain_end : EndsWell notes' (nth_parent rows kind id turns)
-    chain_end = put_well rows kind notes notes' current false put' (nth_parent rows kind id turns) well
-
-    pub chain_known : (0 < turn → IsSome (note_of notes id)) → IsSome (note_of notes' id)
-    chain_known before = elim (cases_lt 0 turn) [
-      | inl some ↦ put_keeps rows kind notes notes' current false put' id (before some)
-      | inr le ↦
-          let start : 0 ≡ turn = omega (arith, le) in
-          let first : Some id ≡ Some current = ap (nth_parent rows kind id) start ∙ follows in
-          let here : id ≡ current = cc in
-          subst (λ (x : List ℕ). IsSome (note_of notes' x)) (sym here) (ap is_some (put_here rows kind notes notes' current false put'))
-    ]
-
   module _ (turn : ℕ) (follows : nth_parent rows kind id turn ≡ Some current) (put : (q : List ℕ) → note_of notes' q ≡ cond (bytes_eq key q) (Some true) (note_of notes q)) where
     pub cycle_put : (q : List ℕ) → note_of notes' q ≡ cond (bytes_eq current q) (Some true) (note_of notes q)
     cycle_put = subst (λ (x : List ℕ). (q : List ℕ) → note_of notes' q ≡ cond (bytes_eq x q) (Some true) (note_of notes q)) same put
@@ -258,17 +189,6 @@ module _ {S : Type 0} (rows : List Record) (kind : Kind) (notes notes' : HashMap
           let here : id ≡ current = cc in
           subst (λ (x : List ℕ). note_of notes' x ≡ Some true) (sym here) (put_here rows kind notes notes' current true cycle_put)
     ]
-
--- where a chain is at an id that is known, and each id after the first made the first known, the first is known
-pub known_at : {S : Type 0} (rows : List Record) (kind : Kind) (notes : HashMap (Bor (List ℕ)) Bool S) (id current : List ℕ) (turn : ℕ) → nth_parent rows kind id turn ≡ Some current → (0 < turn → IsSome (note_of notes id)) → IsSome (note_of notes current) → IsSome (note_of notes id)
-known_at rows kind notes id current turn follows later here = elim (cases_lt 0 turn) [
-  | inl some ↦ later some
-  | inr le ↦
-      let start : 0 ≡ turn = omega (arith, le) in
-      let first : Some id ≡ Some current = ap (nth_parent rows kind id) start ∙ follows in
-      let same : id ≡ current = cc in
-      subst (λ (x : List ℕ). IsSome (note_of notes x)) (sym same) here
-]
 
 none_in : (test : Bor (List ℕ) → Bool) (es : List (Bor (List ℕ) × Bool)) → length es ≡ 0 → lookup test es ≡ None
 none_in test [] none = refl

@@ -1,6 +1,7 @@
 -- What is known of ids: whether each is in a cycle of parents.
-use Rattle.std.specs.Prelude.{◌≡◌, Bool, List, Option, Some, None, ⊤, IsSome, bytes_eq, true, ℕ}
+use Rattle.std.specs.Prelude.{◌≡◌, Bool, List, Option, Some, None, ⊤, IsSome, bytes_eq, cond, false, true, ℕ}
 use Rattle.std.specs.HashMap.{HashMap, get_by}
+use Rattle.std.specs.Option.{option_or}
 use Rattle.roster_types.specs.Records.{Record}
 use Rattle.roster_values.specs.declared.kind.Kind.{Kind}
 use Rattle.reference_rules.specs.Parents.{is_in_cycle, parent_of}
@@ -18,3 +19,7 @@ pub record AreNotes {S : Type 0} (rows : List Record) (kind : Kind) (notes : Has
 abbrev pub EndsWell : {S : Type 0} → HashMap (Bor (List ℕ)) Bool S → Option (List ℕ) → Type 0
 EndsWell notes None = ⊤
 EndsWell notes (Some id) = IsSome (note_of notes id)
+
+-- what was noted stays, and beside it the ids that pass the test are noted to be in no cycle
+abbrev pub AreNotedBeside : {S : Type 0} → (List ℕ → Bool) → HashMap (Bor (List ℕ)) Bool S → HashMap (Bor (List ℕ)) Bool S → Type 0
+AreNotedBeside test old new = (id : List ℕ) → note_of new id ≡ option_or (note_of old id) (cond (test id) (Some false) None)

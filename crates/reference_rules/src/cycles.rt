@@ -1,9 +1,10 @@
 //! Cycles of parents. A chain is followed only to an id of which an earlier chain told, so that all rows of a kind take as many steps as
 //! there are rows.
 
-ghost use Rattle.std.specs.Prelude.{◌≡◌, IfOk, IsSome, None, OnOk, Some, option_copied, true};
-ghost use Rattle.reference_rules.specs.Notes.{AreNotes, EndsWell, note_of};
-ghost use Rattle.reference_rules.specs.Parents.{is_in_cycle, nth_parent, parent_of, returns_within};
+ghost use Rattle.std.specs.Prelude.{◌≡◌, IfOk, IsSome, None, OnOk, Some, bytes_eq, length, option_copied, true};
+ghost use Rattle.std.specs.List.{list_any};
+ghost use Rattle.reference_rules.specs.Notes.{AreNotedBeside, AreNotes, EndsWell, note_of};
+ghost use Rattle.reference_rules.specs.Parents.{ArePassed, is_in_cycle, nth_parent, parent_of, returns_within};
 ghost use Rattle.roster_types.specs.Keys.{count_of, look_up, row_key};
 
 use crate::chains::{parent, returns_within};
@@ -13,61 +14,63 @@ use roster_texts::Id;
 use roster_types::row::Row;
 use roster_types::rows::Rows;
 use roster_values::Kind;
+use std::alloc::Global;
 use std::collections::HashMap;
 
 /// What is known of ids of one kind: whether each is in a cycle of parents.
 pub type Notes<'a> = HashMap<&'a str, bool>;
 
-// Where a chain was followed to: so many turns on stands this id, or the chain has ended.
-#[derive(Clone, Copy)]
-struct ChainEnd<'a> {
-    turns: u64,
-    id: Option<&'a Id>,
+// The ids that a chain passes, and the id at which it was left, unless it ended.
+#[derive(Drop)]
+struct Chain<'a> {
+    passed: Vec<&'a Id>,
+    end: Option<&'a Id>,
 }
 
 // Follows a chain to an id that is known, to one that was met before, or to its end. Each power of two of turns is a place to which a
 // cycle may come back.
-fn chain_end<'a, R: Rows>(
+fn follow<'a, R: Rows>(
+    alloc: Global,
     rows: &'a R,
     kind: Kind,
     id: &'a Id,
     turns: u64,
     notes: &Notes<'a>,
-) -> ChainEnd<'a>
-    ensures { nth_parent (R.rows rows.now) kind id.now result.turns ≡ option_copied result.id }
+) -> Result<Chain<'a>, NoMemory>
+    ensures passed { IfOk result (λ chain. ArePassed (R.rows rows.now) kind id.now chain.passed.items) }
+    ensures end { IfOk result (λ chain. nth_parent (R.rows rows.now) kind id.now (length chain.passed.items) ≡ option_copied chain.end) }
 {
+    let mut passed = Vec::new(alloc);
     let mut current = id;
     let mut met = id;
     for turn in 0..turns {
         if notes.contains_key(current.as_str()) {
-            return ChainEnd {
-                turns: turn,
-                id: Some(current),
-            };
+            break;
         }
+        passed.push(current)?;
         match parent(rows, kind, current) {
-            None => {
-                return ChainEnd {
-                    turns: turn + 1,
-                    id: None,
-                };
-            }
+            None => return Ok(Chain { passed, end: None }),
             Some(parent) => current = parent,
         }
         if current.is_same(met) {
-            return ChainEnd {
-                turns: turn + 1,
-                id: Some(current),
-            };
+            break;
         }
         if (turn + 1).is_power_of_two() {
             met = current;
         }
     }
-    ChainEnd {
-        turns,
-        id: Some(current),
-    }
+    Ok(Chain {
+        passed,
+        end: Some(current),
+    })
+}
+
+// Notes an id to be in no cycle, unless it is known, and says what is known of it then.
+fn note_unless_known<'a>(id: &'a Id, notes: &mut Notes<'a>) -> Result<bool, NoMemory>
+    ensures notes { OnOk result (AreNotedBeside (λ q. bytes_eq q id.now) notes.old notes.new) }
+    ensures known { IfOk result (λ known. note_of notes.new id.now ≡ Some known) }
+{
+    Ok(*notes.entry(id.as_str())?.or_insert(false))
 }
 
 // Notes the ids of a cycle, from one on.
@@ -119,7 +122,7 @@ fn note_id<'a, R: Rows>(
     if returns_within(rows, kind, id, turns) {
         return note_cycle(rows, kind, id, turns, notes);
     }
-    notes.insert(id.as_str(), false)?;
+    note_unless_known(id, notes)?;
     Ok(())
 }
 
@@ -142,35 +145,20 @@ fn note_end<'a, R: Rows>(
     }
 }
 
-// Notes the ids of a chain of so many turns to an id that is known, or to its end. Those that aren't known yet are in no cycle.
-fn note_chain<'a, R: Rows>(
-    rows: &'a R,
-    kind: Kind,
-    id: &'a Id,
-    turns: u64,
-    notes: &mut Notes<'a>,
-) -> Result<(), NoMemory>
-    requires notes { AreNotes (R.rows rows.now) kind notes.old }
-    requires end { EndsWell notes.old (nth_parent (R.rows rows.now) kind id.now turns) }
-    ensures notes { OnOk result (AreNotes (R.rows rows.now) kind notes.new) }
-    ensures known { OnOk result (IsSome (note_of notes.new id.now)) }
+// Notes ids to be in no cycle, unless they are known.
+fn note_passed<'a>(passed: &[&'a Id], notes: &mut Notes<'a>) -> Result<(), NoMemory>
+    ensures { OnOk result (AreNotedBeside (λ q. list_any (λ id. bytes_eq q id.now) passed.now) notes.old notes.new) }
 {
-    let mut current = id;
-    for _turn in 0..turns {
-        if notes.contains_key(current.as_str()) {
-            return Ok(());
-        }
-        notes.insert(current.as_str(), false)?;
-        match parent(rows, kind, current) {
-            None => return Ok(()),
-            Some(parent) => current = parent,
-        }
+    for id in passed {
+        note_unless_known(*id, notes)?;
     }
     Ok(())
 }
 
-// Notes an id, and the ids of its chain up to one that is known.
+// Notes an id, and the ids of its chain up to one that is known. A cycle that the chain comes to is noted before the ids that it passes,
+// so that those that aren't known then are in none.
 fn learn<'a, R: Rows>(
+    alloc: Global,
     rows: &'a R,
     kind: Kind,
     id: &'a Id,
@@ -182,9 +170,9 @@ fn learn<'a, R: Rows>(
     ensures notes { OnOk result (AreNotes (R.rows rows.now) kind notes.new) }
     ensures known { OnOk result (IsSome (note_of notes.new id.now)) }
 {
-    let end = chain_end(rows, kind, id, turns, notes);
-    note_end(rows, kind, end.id, turns, notes)?;
-    note_chain(rows, kind, id, end.turns, notes)
+    let chain = follow(alloc, rows, kind, id, turns, notes)?;
+    note_end(rows, kind, chain.end, turns, notes)?;
+    note_passed(chain.passed.as_slice(), notes)
 }
 
 // Whether an id whose parent is noted is in a cycle of parents. A cycle is noted whole, so an id that isn't noted is in none.
@@ -201,15 +189,12 @@ fn known_below<'a, R: Rows>(
     ensures notes { OnOk result (AreNotes (R.rows rows.now) kind notes.new) }
     ensures value { IfOk result (λ known. known ≡ is_in_cycle (R.rows rows.now) kind id.now) }
 {
-    if let Some(known) = notes.get(id.as_str()) {
-        return Ok(*known);
-    }
-    notes.insert(id.as_str(), false)?;
-    Ok(false)
+    note_unless_known(id, notes)
 }
 
 // Whether an id that has this parent is in a cycle of parents. Most have a parent that is noted: no chain is followed for them.
 fn known<'a, R: Rows>(
+    alloc: Global,
     rows: &'a R,
     kind: Kind,
     id: &'a Id,
@@ -224,13 +209,14 @@ fn known<'a, R: Rows>(
     ensures value { IfOk result (λ known. known ≡ is_in_cycle (R.rows rows.now) kind id.now) }
 {
     if !notes.contains_key(parent.as_str()) {
-        learn(rows, kind, parent, turns, notes)?;
+        learn(alloc, rows, kind, parent, turns, notes)?;
     }
     known_below(rows, kind, id, parent, notes)
 }
 
 /// Whether a row is in a cycle of parents.
 pub fn is_in_cycle<'a, R: Rows>(
+    alloc: Global,
     rows: &'a R,
     row: &'a Row,
     turns: u64,
@@ -244,6 +230,6 @@ pub fn is_in_cycle<'a, R: Rows>(
 {
     match parent_in(row) {
         None => Ok(false),
-        Some(parent) => known(rows, row.kind(), row.id(), parent, turns, notes),
+        Some(parent) => known(alloc, rows, row.kind(), row.id(), parent, turns, notes),
     }
 }

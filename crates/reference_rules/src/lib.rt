@@ -87,7 +87,7 @@ fn add_kind_faults<'a, R: Rows>(
     let mut notes = HashMap::new(alloc);
     let mut after = None;
     while let Some(row) = rows.next(kind, after) {
-        let in_cycle = is_in_cycle(rows, row, turns, &mut notes)?;
+        let in_cycle = is_in_cycle(alloc, rows, row, turns, &mut notes)?;
         add_row_faults(alloc, rows, row, in_cycle, found)?;
         after = Some(row.id());
     }

@@ -61,5 +61,5 @@ pub fn is_in_cycle_along<'a, R: Rows>(
         return Ok(false);
     };
     turn_to(alloc, rows, row.kind(), walk);
-    is_in_cycle(rows, row, walk.turns, &mut walk.notes)
+    is_in_cycle(alloc, rows, row, walk.turns, &mut walk.notes)
 }
