@@ -1,21 +1,15 @@
--- The rows of a file, record by record.
-use Rattle.std.proofs.Common.{◌≡◌, ◌≤◌, ◌+◌, ◌-◌, ◌==◌, ℕ, List, [], ◌∷◌, ◌++◌, get_or, length, map, Bool, true, false, not, Option, Some, None, Result, Ok, Err, IfOk, refl, sym, ap, ◌∙◌, arith, bytes_eq, cond, String, BTreeSet, Global, Vec, string_bytes, string_cmp, nat_lt, pos, is_some, slice_index_or}
+-- The rows of a file.
+use Rattle.std.proofs.Common.{◌≡◌, ◌≤◌, ◌+◌, ◌==◌, ℕ, List, [], ◌∷◌, ◌++◌, length, map, Bool, true, false, not, Option, Some, None, Result, Ok, Err, IfOk, refl, arith, bytes_eq, Global, Vec, nat_lt, pos, is_some, slice_index_or}
 use Rattle.std.proofs.lemmas.List.Elements.{All-nil, All-push}
-use Rattle.std.proofs.lemmas.List.{get_or_push, length-append, length-map, map_push}
-use Rattle.std.proofs.lemmas.List.Folds.{list_any-append}
-use Rattle.std.proofs.lemmas.Map.Text.{btree_set_updates_text}
+use Rattle.std.proofs.lemmas.List.{length-map, map_push}
 use Rattle.std.proofs.lemmas.Bool.Decides.{nat_tests}
 use Rattle.std.proofs.lemmas.Str.{IsUtf8-from_is_utf8, is_utf8-from_IsUtf8}
-use Rattle.std.specs.BTreeSet as sorted
-use Rattle.std.specs.Cmp.Lexicographic.{slice_cmp}
 use Rattle.std.specs.List.{All, AllByRecursion, IsDistinct}
-use Rattle.std.specs.Ordering.{nat_cmp}
 use Rattle.std.specs.Str.{is_utf8}
 use Rattle.std.specs.Prelude.{IsUtf8, ◌||◌, if◌then◌else◌}
 use Rattle.csv.specs.Reading.{default_config, records, strip_bom}
-use Rattle.roster_base.specs.Reading.{Fails, Gives, ◌>>=◌}
+use Rattle.roster_base.specs.Reading.{Gives, ◌>>=◌}
 use Rattle.roster_base.specs.declared.refusal.Refusal.{Refusal}
-use Rattle.roster_base.specs.declared.refusal.Refusal.TheVariants as refusal
 use Rattle.roster_types.specs.declared.metadata.Entry.{Entry}
 use Rattle.roster_types.specs.declared.set_row.SetRow.{SetRow}
 use Rattle.roster_types.specs.Lengths.{row_length}
@@ -30,66 +24,9 @@ use Rattle.csv_sets.specs.declared.fault.RowFault.{RowFault}
 use Rattle.csv_sets.specs.declared.fault.SetFault.{SetFault}
 use Rattle.csv_sets.specs.declared.fault.SetFault.TheVariants.{NotUtf8, RepeatedId}
 use Rattle.csv_sets.specs.declared.fault.SetFile.TheVariants.{RowsOf}
-use Rattle.csv_sets.specs.Files.{HoldsIds, file_of, has_id, in_record, largest, rows_after, rows_of}
+use Rattle.csv_sets.specs.Files.{file_of, has_id, in_record, largest, rows_after, rows_of}
 use Rattle.csv_sets.specs.Headers.{Header, columns_checked, columns_of, header_from, header_of, place_of, required_checked}
-use Rattle.csv_sets.specs.Left.{AllRowsText}
-use Rattle.csv_sets.proofs.RecordSteps.{text_behind}
 use Rattle.csv_sets.specs.Rows.{metadata_at, row_at, set_row, values_at}
-
--- how far the reading has come: the records that are left lead to the whole answer
-pub record Leads (kind : Kind) (mode : Mode) (header : Header) (front : List SetRow) (number : ℕ) (left whole : List (List (List ℕ))) : Type 0 where
-  pub same : rows_after kind mode header front number left ≡ rows_after kind mode header [] 2 whole
-  pub text : AllRowsText left
-  pub count : number + length left ≡ 2 + length whole
-
-pub leads_start : (kind : Kind) (mode : Mode) (header : Header) (whole : List (List (List ℕ))) → AllRowsText whole → Leads kind mode header [] 2 whole whole
-leads_start kind mode header whole text = record { same = refl; text = text; count = refl }
-
-pub leads_end : {kind : Kind} {mode : Mode} {header : Header} {front : List SetRow} {number : ℕ} {left whole : List (List (List ℕ))} → Leads kind mode header front number left whole → left ≡ []
-    → rows_after kind mode header [] 2 whole ≡ Ok front
-unfolding rows_after
-leads_end l e = sym l.same ∙ rw e refl
-
-pub leads_fail : {kind : Kind} {mode : Mode} {header : Header} {front : List SetRow} {number : ℕ} {left whole : List (List (List ℕ))} (cells : List (List ℕ)) (new : List (List (List ℕ))) (e : Refusal SetFault)
-    → Leads kind mode header front number left whole → left ≡ cells ∷ new → Fails e (in_record kind number (row_at kind mode header cells)) → Fails e (rows_after kind mode header [] 2 whole)
-unfolding rows_after
-leads_fail cells new refusal.NoMemory l d h = tt
-leads_fail cells new (refusal.Fault f) l d h = rw (sym l.same, d, h) refl
-
-pub leads_repeated : {kind : Kind} {mode : Mode} {header : Header} {front : List SetRow} {number : ℕ} {left whole : List (List (List ℕ))} (cells : List (List ℕ)) (new : List (List (List ℕ))) (row : SetRow)
-    → Leads kind mode header front number left whole → left ≡ cells ∷ new → in_record kind number (row_at kind mode header cells) ≡ Ok row → has_id row.row.id front ≡ true
-    → rows_after kind mode header [] 2 whole ≡ Err (RepeatedId (RowsOf kind) number)
-unfolding rows_after
-leads_repeated cells new row l d h r = sym l.same ∙ rw (d, h, r) refl
-
-pub leads_on : {kind : Kind} {mode : Mode} {header : Header} {front : List SetRow} {number : ℕ} {left whole : List (List (List ℕ))} (cells : List (List ℕ)) (new : List (List (List ℕ))) (row : SetRow)
-    → Leads kind mode header front number left whole → left ≡ cells ∷ new → in_record kind number (row_at kind mode header cells) ≡ Ok row → has_id row.row.id front ≡ false
-    → Leads kind mode header (front ++ row ∷ []) (number + 1) new whole
-unfolding rows_after
-leads_on {number = number} {left} cells new row l d h r = record {
-  same = rw (d, h, r) at l.same;
-  text = text_behind left cells new d l.text;
-  count = omega (arith, ap length d, l.count);
-}
-
-either : (a b : Bool) → cond b true a ≡ (a || (b || false))
-either true true = refl
-either true false = refl
-either false true = refl
-either false false = refl
-
--- the ids of the rows, with one more
-pub ids_after : (ids new : BTreeSet (String Global)) (key : String Global) (rows : List SetRow) (row : SetRow) → HoldsIds ids rows → string_bytes key ≡ row.row.id
-    → sorted.UpdatesBy string_cmp (λ k. slice_cmp nat_cmp (string_bytes key) (string_bytes k)) ids new true → HoldsIds new (rows ++ row ∷ [])
-ids_after ids new key rows row h same updates q =
-    btree_set_updates_text (string_bytes key) ids new true updates q
-    ∙ rw (h q, same, list_any-append (λ (r : SetRow). bytes_eq r.row.id q) rows (row ∷ [])) (either (has_id q rows) (bytes_eq row.row.id q))
-
--- the row that was put last
-pub last_row : (rows new : List SetRow) (row last : SetRow) (i : ℕ) → new ≡ rows ++ row ∷ [] → i ≡ length new - 1 → last ≡ get_or new i last → last ≡ row
-last_row rows new row last i e at is =
-    let here : length rows ≡ i = omega (arith, ap length e, length-append rows (row ∷ [])) in
-    is ∙ rw e (get_or_push rows row last i here)
 
 -- rows of one kind, whose ids differ, and which carry the moment 0 where they bring no date
 pub record AreRows (kind : Kind) (rows : List SetRow) : Type 0 where

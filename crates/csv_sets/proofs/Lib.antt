@@ -11,6 +11,7 @@ mod MetadataSteps
 mod PlaceSteps
 mod ReadBack
 mod RecordLaws
+mod RepeatSteps
 mod RisingIds
 pub mod RecordSteps
 mod SetSteps

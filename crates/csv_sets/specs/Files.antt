@@ -1,12 +1,11 @@
 -- The rows of a file: those that its records spell, in their order, or the file's first fault.
-use Rattle.std.specs.Prelude.{◌≡◌, ◌≤◌, ◌+◌, ℕ, Bool, true, List, [], ◌∷◌, ◌++◌, Option, Some, None, Result, Ok, Err, String, bytes_eq, drop, length, map, nat_lt, not, if◌then◌else◌}
-use Rattle.std.specs.BTreeSet.{BTreeSet, contains_text}
+use Rattle.std.specs.Prelude.{◌≡◌, ◌≤◌, ◌+◌, ℕ, Bool, true, List, [], ◌∷◌, ◌++◌, Option, Some, None, Result, Ok, Err, ⊤, bytes_eq, drop, length, map, nat_lt, not, if◌then◌else◌}
 use Rattle.std.specs.List.{AllZip, IsDistinct, list_any}
 use Rattle.std.specs.Str.{is_utf8}
-use Rattle.std.specs.declared.alloc.Global.{Global}
 use Rattle.csv.specs.Reading.{default_config, records, strip_bom}
-use Rattle.roster_base.specs.Order.{RiseBy}
 use Rattle.roster_base.specs.Reading.{◌>>=◌}
+use Rattle.roster_base.specs.declared.refusal.Refusal.{Refusal}
+use Rattle.roster_base.specs.declared.refusal.Refusal.TheVariants as refusal
 use Rattle.roster_values.specs.declared.kind.Kind.{Kind}
 use Rattle.roster_values.specs.declared.mode.Mode.{Mode}
 use Rattle.roster_types.specs.declared.set_row.SetRow.{SetRow}
@@ -53,17 +52,24 @@ file_of kind mode bytes =
     else if not (is_utf8 bytes) then Err (NotUtf8 (RowsOf kind))
     else rows_of kind mode (records default_config (strip_bom bytes))
 
--- a set holds the ids of these rows and no others
-abbrev pub HoldsIds : BTreeSet (String Global) → List SetRow → Type 0
-HoldsIds ids rows = (q : List ℕ) → contains_text ids q ≡ has_id q rows
-
 abbrev pub id_in : SetRow → List ℕ
 id_in listed = listed.row.id
 
--- rows whose ids rise need no set; else it holds them
-abbrev pub KnowsIds : Option (BTreeSet (String Global)) → List SetRow → Type 0
-KnowsIds None rows = RiseBy id_in rows
-KnowsIds (Some ids) rows = HoldsIds ids rows
+-- the place of the first row whose id is among those before it, behind the rows in front
+abbrev pub first_repeat : List SetRow → List SetRow → Option ℕ
+first_repeat front [] = None
+first_repeat front (row ∷ rows) = if has_id row.row.id front then Some (length front) else first_repeat (front ++ row ∷ []) rows
+
+-- what was found, unless a row repeats an id: the first record below the header has the number 2
+abbrev pub repeat_first : Kind → Option ℕ → Result (List SetRow) SetFault → Result (List SetRow) SetFault
+repeat_first kind None found = found
+repeat_first kind (Some place) found = Err (RepeatedId (RowsOf kind) (place + 2))
+
+-- what a reading of all rows, or of those in front of the first record at fault, says of the whole
+abbrev pub Finds : Kind → List SetRow → Result ⊤ (Refusal SetFault) → Result (List SetRow) SetFault → Type 0
+Finds kind rows (Ok x) whole = whole ≡ repeat_first kind (first_repeat [] rows) (Ok rows)
+Finds kind rows (Err (refusal.Fault f)) whole = whole ≡ repeat_first kind (first_repeat [] rows) (Err f)
+Finds kind rows (Err refusal.NoMemory) whole = ⊤
 
 -- the cells of the first record, none where there is no record
 abbrev pub first_of : List (List (List ℕ)) → List (List ℕ)

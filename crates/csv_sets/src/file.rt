@@ -1,8 +1,7 @@
 //! The rows of a file.
 
-ghost use Rattle.std.specs.Prelude.{◌≡◌, ◌≤◌, ◌<◌, ◌^◌, ◌++◌, ◌∷◌, [], List, Ok, bytes_eq, length, map, not, true, false, IfOk, OnOk};
+ghost use Rattle.std.specs.Prelude.{◌≡◌, ◌≤◌, ◌<◌, ◌+◌, ◌^◌, ◌++◌, ◌∷◌, [], List, Ok, Err, bytes_eq, length, map, true, IfOk, IfSome, OnOk};
 ghost use Rattle.std.specs.List.{All, IsDistinct};
-ghost use Rattle.std.specs.Option.{ForSome};
 ghost use Rattle.csv.specs.Reading.{default_config, records, strip_bom};
 ghost use Rattle.csv.specs.Records.{AllText, fields_of};
 ghost use Rattle.roster_base.specs.Order.{RiseBy};
@@ -10,8 +9,10 @@ ghost use Rattle.roster_base.specs.Reading.{Gives};
 ghost use Rattle.roster_types.specs.Sets.{IsDatedOrZero};
 ghost use Rattle.roster_values.specs.Table.{table};
 ghost use Rattle.roster_types.specs.declared.set_row.SetRow.{SetRow as SetRows};
-ghost use Rattle.csv_sets.specs.Files.{AreRowsIn, HoldsIds, KnowsIds, file_of, has_id, id_in, in_record, largest, rows_after, rows_of};
+ghost use Rattle.csv_sets.specs.Files.{AreRowsIn, Finds, file_of, first_repeat, id_in, in_record, largest, repeat_first, rows_after, rows_of};
 ghost use Rattle.csv_sets.specs.Left.{AllRowsText};
+ghost use Rattle.csv_sets.specs.declared.fault.SetFault.TheVariants.{RepeatedId};
+ghost use Rattle.csv_sets.specs.declared.fault.SetFile.TheVariants.{RowsOf};
 ghost use Rattle.csv_sets.specs.Rows.{row_at};
 
 use crate::fault::{SetError, SetFault, SetFile};
@@ -23,7 +24,7 @@ use roster_base::{NoMemory, Refusal};
 use roster_types::set_row::SetRow;
 use roster_values::{Kind, Mode, Value};
 use std::alloc::Global;
-use std::collections::BTreeSet;
+use std::collections::HashSet;
 
 /// The greatest size of a file in bytes: 64 MiB.
 pub const LARGEST: usize = 67_108_864;
@@ -56,7 +57,7 @@ fn row_in(
 
 // Whether a row's id is above that of the last row, if there is one.
 fn rises(rows: &[SetRow], row: &SetRow) -> bool
-    ensures { result ≡ true → RiseBy id_in rows.now → RiseBy id_in (rows.now ++ row.now ∷ []) × (has_id row.now.row.id rows.now ≡ false) }
+    ensures { result ≡ true → RiseBy id_in rows.now → RiseBy id_in (rows.now ++ row.now ∷ []) }
 {
     match rows.last() {
         None => true,
@@ -64,74 +65,120 @@ fn rises(rows: &[SetRow], row: &SetRow) -> bool
     }
 }
 
-// The ids of rows.
-fn ids_of(alloc: Global, rows: &[SetRow]) -> Result<BTreeSet<String>, NoMemory>
-    ensures { IfOk result (λ ids. HoldsIds ids rows.now) }
-{
-    let mut ids = BTreeSet::new(alloc);
-    for row in rows {
-        let _ = ids.insert(String::from_str(alloc, row.row.id().as_str())?)?;
-    }
-    Ok(ids)
-}
-
-// The ids of these rows, where none is held yet.
-fn held_ids(
-    alloc: Global,
-    rows: &[SetRow],
-    ids: Option<BTreeSet<String>>,
-) -> Result<BTreeSet<String>, NoMemory>
-    requires { ForSome ids (λ ids. HoldsIds ids rows.now) }
-    ensures { IfOk result (λ ids. HoldsIds ids rows.now) }
-{
-    match ids {
-        Some(ids) => Ok(ids),
-        None => ids_of(alloc, rows),
-    }
-}
-
-// Adds the id of the last row, and says whether it is new among those before it.
-fn add_id(
-    alloc: Global,
-    front: &[SetRow],
-    last: &SetRow,
-    ids: &mut Option<BTreeSet<String>>,
-) -> Result<bool, NoMemory>
-    requires { ForSome ids.old (λ ids. HoldsIds ids front.now) }
-    ensures told { IfOk result (λ is_new. is_new ≡ not (has_id last.now.row.id front.now)) }
-    ensures ids { IfOk result (λ is_new. KnowsIds ids.new (front.now ++ last.now ∷ [])) }
-{
-    let mut held = held_ids(alloc, front, ids.take())?;
-    let is_new = held.insert(String::from_str(alloc, last.row.id().as_str())?)?;
-    *ids = Some(held);
-    Ok(is_new)
-}
-
-// Adds a row behind the others, and says whether its id is new among theirs. While the ids rise, as in most files, none is kept.
-fn add(
-    alloc: Global,
-    rows: &mut Vec<SetRow>,
-    ids: &mut Option<BTreeSet<String>>,
-    row: SetRow,
-) -> Result<bool, NoMemory>
-    requires { KnowsIds ids.old rows.old.items }
+// Adds a row behind the others, and keeps in mind whether the ids have all risen.
+fn add(rows: &mut Vec<SetRow>, rise: &mut bool, row: SetRow) -> Result<(), NoMemory>
+    requires { rise.old ≡ true → RiseBy id_in rows.old.items }
     ensures rows { OnOk result (rows.new.items ≡ rows.old.items ++ row ∷ []) }
-    ensures told { IfOk result (λ is_new. is_new ≡ not (has_id row.row.id rows.old.items)) }
-    ensures ids { IfOk result (λ is_new. is_new ≡ true → KnowsIds ids.new rows.new.items) }
+    ensures rise { rise.new ≡ true → RiseBy id_in rows.new.items }
+    ensures few { length rows.new.items ≤ length rows.old.items + 1 }
 {
-    let goes_on = ids.is_none() && rises(rows, &row);
-    // The row goes in before its id is tried, so that no path drops it here: the check of such a drop takes many minutes.
+    *rise = *rise && rises(rows, &row);
     rows.push(row)?;
-    if goes_on {
-        return Ok(true);
+    Ok(())
+}
+
+// Reads the rows of the records below the header up to the first at fault, and minds whether their ids all rise, but not
+// whether one repeats.
+fn read_rows(
+    alloc: Global,
+    kind: Kind,
+    mode: Mode,
+    header: &Header,
+    reader: &mut RecordReader<'_>,
+    rows: &mut Vec<SetRow>,
+    rise: &mut bool,
+) -> Result<(), SetError>
+    requires places { length header.now.places ≡ length (table kind) }
+    requires text { AllRowsText reader.old }
+    requires few { length reader.old < 2 ^ 32 }
+    requires none { rows.old.items ≡ [] }
+    ensures whole { Finds kind rows.new.items result (rows_after kind mode header.now [] 2 reader.old) }
+    ensures rise { rise.new ≡ true → RiseBy id_in rows.new.items }
+    ensures few { length rows.new.items ≤ length reader.old }
+{
+    let mut cells = ByteRecord::new(alloc);
+    let mut values = Vec::new(alloc);
+    let mut number = 2;
+    while reader.read(&mut cells)? {
+        let row = row_in(alloc, kind, mode, header, number, &cells, &mut values)?;
+        add(rows, rise, row)?;
+        number += 1;
     }
-    match rows.split_last() {
-        Some((last, front)) => add_id(alloc, front, last, ids),
-        None => unreachable!(),
+    Ok(())
+}
+
+// The place of the first row whose id an earlier row has.
+fn first_repeat(alloc: Global, rows: &[SetRow]) -> Result<Option<usize>, NoMemory>
+    ensures first { IfOk result (λ place. place ≡ first_repeat [] rows.now) }
+    ensures within { IfOk result (λ place. IfSome place (λ p. p < length rows.now)) }
+{
+    let mut ids = HashSet::with_capacity(alloc, rows.len())?;
+    for (place, row) in rows.iter().enumerate() {
+        if !ids.insert(row.row.id().as_str())? {
+            return Ok(Some(place));
+        }
+    }
+    Ok(None)
+}
+
+// The fault of the record whose row is at a place: the header is the first record, and has no row.
+fn repeat_fault(kind: Kind, place: usize) -> SetFault
+    requires { place < 2 ^ 32 }
+    ensures { result ≡ RepeatedId (RowsOf kind) (place + 2) }
+{
+    SetFault::RepeatedId {
+        file: SetFile::RowsOf(kind),
+        record_no: place as u64 + 2,
     }
 }
 
-// The rows of the records below the header.
+// Whether the ids of rows all differ, or the fault of the first that repeats. Ids that rise differ, and need no set.
+fn check_ids(alloc: Global, kind: Kind, rows: &[SetRow], rise: bool) -> Result<(), SetError>
+    requires rise { rise ≡ true → RiseBy id_in rows.now }
+    requires few { length rows.now < 2 ^ 32 }
+    ensures { Gives (λ _. rows.now) result (repeat_first kind (first_repeat [] rows.now) (Ok rows.now)) }
+{
+    if rise {
+        return Ok(());
+    }
+    match first_repeat(alloc, rows)? {
+        None => Ok(()),
+        Some(place) => Err(Refusal::Fault(repeat_fault(kind, place))),
+    }
+}
+
+// The rows of all records, or the first repeat among them.
+fn checked_rows(
+    alloc: Global,
+    kind: Kind,
+    rows: Vec<SetRow>,
+    rise: bool,
+) -> Result<Vec<SetRow>, SetError>
+    requires rise { rise ≡ true → RiseBy id_in rows.items }
+    requires few { length rows.items < 2 ^ 32 }
+    ensures { Gives (λ v. v.items) result (repeat_first kind (first_repeat [] rows.items) (Ok rows.items)) }
+{
+    check_ids(alloc, kind, &rows, rise)?;
+    Ok(rows)
+}
+
+// The first fault of a file: a repeat among the rows in front of a record at fault goes before its fault.
+fn first_fault(
+    alloc: Global,
+    kind: Kind,
+    rows: &[SetRow],
+    rise: bool,
+    fault: SetFault,
+) -> Result<Vec<SetRow>, SetError>
+    requires rise { rise ≡ true → RiseBy id_in rows.now }
+    requires few { length rows.now < 2 ^ 32 }
+    ensures { Gives (λ v. v.items) result (repeat_first kind (first_repeat [] rows.now) (Err fault)) }
+{
+    check_ids(alloc, kind, rows, rise)?;
+    Err(Refusal::Fault(fault))
+}
+
+// The rows of the records below the header. A repeated id is looked for once the rows are read, by a set that lends the ids.
 fn rows_under(
     alloc: Global,
     kind: Kind,
@@ -145,21 +192,12 @@ fn rows_under(
     ensures { Gives (λ v. v.items) result (rows_after kind mode header.now [] 2 reader.old) }
 {
     let mut rows = Vec::new(alloc);
-    let mut ids = None;
-    let mut cells = ByteRecord::new(alloc);
-    let mut values = Vec::new(alloc);
-    let mut number = 2;
-    while reader.read(&mut cells)? {
-        let row = row_in(alloc, kind, mode, header, number, &cells, &mut values)?;
-        if !add(alloc, &mut rows, &mut ids, row)? {
-            return Err(Refusal::Fault(SetFault::RepeatedId {
-                file: SetFile::RowsOf(kind),
-                record_no: number,
-            }));
-        }
-        number += 1;
+    let mut rise = true;
+    match read_rows(alloc, kind, mode, header, reader, &mut rows, &mut rise) {
+        Ok(()) => checked_rows(alloc, kind, rows, rise),
+        Err(Refusal::Fault(fault)) => first_fault(alloc, kind, &rows, rise, fault),
+        Err(Refusal::NoMemory) => Err(Refusal::NoMemory),
     }
-    Ok(rows)
 }
 
 // The rows of all records, of which the first is the header: without records there is a header of no column.
