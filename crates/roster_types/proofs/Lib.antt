@@ -1,5 +1,4 @@
 pub mod BoundLaws
-pub mod Building
 pub mod Dates
 pub mod Fitting
 pub mod HrefLaws
@@ -7,3 +6,4 @@ pub mod MetadataLaws
 pub mod Places
 pub mod SameRows
 pub mod Sums
+pub mod Taking

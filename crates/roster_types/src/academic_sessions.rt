@@ -1,16 +1,14 @@
 //! The fields that an academic session has beside the common ones, by their places in the field table.
 
-ghost use Rattle.std.specs.Prelude.{◌≡◌, ◌<◌, true, None, Some, IfOk, option_map, slice_index_or, slice_set};
-ghost use Rattle.roster_types.specs.Shapes.{blank_values, own_fields, shape_at};
+ghost use Rattle.std.specs.Prelude.{◌≡◌, ◌<◌, true, None, option_map, slice_index_or};
+ghost use Rattle.roster_types.specs.Shapes.{own_fields, shapes_fit};
 ghost use Rattle.roster_types.specs.Structs.{academic_session_values};
-ghost use Rattle.roster_values.specs.Shape.{has_shape};
 ghost use Rattle.roster_values.specs.Value.{shown};
 
-use crate::blanks::{blank_day, blank_text, blank_word};
-use roster_base::{NoMemory, Text};
+use crate::taken::{day, optional_reference, text, word, year};
+use roster_base::Text;
 use roster_texts::{Day, Id};
 use roster_values::{Kind, Value, ValueRef, Word};
-use std::alloc::Global;
 
 /// What an academic session says of itself beside its id, its status and its moment.
 #[derive(Drop)]
@@ -45,33 +43,18 @@ impl AcademicSession {
         }
     }
 
-    /// Puts a value of the field's form at a place.
-    pub fn put(&mut self, place: usize, value: Value)
-        requires within { place < 6 }
-        requires shape { has_shape (shape_at (own_fields Kind.AcademicSessions) place) value ≡ true }
-        ensures { academic_session_values self.new ≡ slice_set (academic_session_values self.old) place (Some value) }
+    /// The struct of the values of the kind's own fields, which are taken out of their places.
+    pub fn take_from(values: &mut [Option<Value>]) -> AcademicSession
+        requires { shapes_fit (own_fields Kind.AcademicSessions) values.old ≡ true }
+        ensures { academic_session_values result ≡ values.old }
     {
-        match place {
-            0 => self.title = value.into_text(),
-            1 => self.type_word = value.into_word(),
-            2 => self.start_date = value.into_day(),
-            3 => self.end_date = value.into_day(),
-            4 => self.parent = Some(value.into_reference()),
-            _ => self.school_year = value.into_year(),
+        AcademicSession {
+            title: text(values, 0),
+            type_word: word(values, 1),
+            start_date: day(values, 2),
+            end_date: day(values, 3),
+            parent: optional_reference(values, 4),
+            school_year: year(values, 5),
         }
-    }
-
-    /// The struct with stand-ins for what is required and nothing else, until its values are put.
-    pub fn blank(alloc: Global) -> Result<AcademicSession, NoMemory>
-        ensures { IfOk result (λ s. academic_session_values s ≡ blank_values (own_fields Kind.AcademicSessions)) }
-    {
-        Ok(AcademicSession {
-            title: blank_text(alloc),
-            type_word: blank_word(),
-            start_date: blank_day(),
-            end_date: blank_day(),
-            parent: None,
-            school_year: 0,
-        })
     }
 }

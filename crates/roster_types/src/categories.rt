@@ -1,15 +1,13 @@
 //! The fields that a category of line items has beside the common ones, by their places in the field table.
 
-ghost use Rattle.std.specs.Prelude.{◌≡◌, ◌<◌, true, None, Some, IfOk, option_map, slice_index_or, slice_set};
-ghost use Rattle.roster_types.specs.Shapes.{blank_values, own_fields, shape_at};
+ghost use Rattle.std.specs.Prelude.{◌≡◌, ◌<◌, true, None, option_map, slice_index_or};
+ghost use Rattle.roster_types.specs.Shapes.{own_fields, shapes_fit};
 ghost use Rattle.roster_types.specs.Structs.{category_values};
-ghost use Rattle.roster_values.specs.Shape.{has_shape};
 ghost use Rattle.roster_values.specs.Value.{shown};
 
-use crate::blanks::blank_text;
-use roster_base::{NoMemory, Text};
+use crate::taken::text;
+use roster_base::Text;
 use roster_values::{Kind, Value, ValueRef};
-use std::alloc::Global;
 
 /// What a category of line items says of itself beside its id, its status and its moment.
 #[derive(Drop)]
@@ -29,23 +27,13 @@ impl Category {
         }
     }
 
-    /// Puts a value of the field's form at a place.
-    pub fn put(&mut self, place: usize, value: Value)
-        requires within { place < 1 }
-        requires shape { has_shape (shape_at (own_fields Kind.Categories) place) value ≡ true }
-        ensures { category_values self.new ≡ slice_set (category_values self.old) place (Some value) }
+    /// The struct of the values of the kind's own fields, which are taken out of their places.
+    pub fn take_from(values: &mut [Option<Value>]) -> Category
+        requires { shapes_fit (own_fields Kind.Categories) values.old ≡ true }
+        ensures { category_values result ≡ values.old }
     {
-        match place {
-            _ => self.title = value.into_text(),
+        Category {
+            title: text(values, 0),
         }
-    }
-
-    /// The struct with stand-ins for what is required and nothing else, until its values are put.
-    pub fn blank(alloc: Global) -> Result<Category, NoMemory>
-        ensures { IfOk result (λ s. category_values s ≡ blank_values (own_fields Kind.Categories)) }
-    {
-        Ok(Category {
-            title: blank_text(alloc),
-        })
     }
 }

@@ -1,16 +1,14 @@
 //! The fields that a class has beside the common ones, by their places in the field table.
 
-ghost use Rattle.std.specs.Prelude.{◌≡◌, ◌<◌, true, None, Some, IfOk, option_map, slice_index_or, slice_set};
-ghost use Rattle.roster_types.specs.Shapes.{blank_values, own_fields, shape_at};
+ghost use Rattle.std.specs.Prelude.{◌≡◌, ◌<◌, true, None, option_map, slice_index_or};
+ghost use Rattle.roster_types.specs.Shapes.{own_fields, shapes_fit};
 ghost use Rattle.roster_types.specs.Structs.{class_values};
-ghost use Rattle.roster_values.specs.Shape.{has_shape};
 ghost use Rattle.roster_values.specs.Value.{shown};
 
-use crate::blanks::{blank_id, blank_text, blank_word};
-use roster_base::{Items, NoMemory, Text};
+use crate::taken::{optional_text, optional_texts, reference, references, text, word};
+use roster_base::Text;
 use roster_texts::Id;
 use roster_values::{Ids, Kind, Texts, Value, ValueRef, Word};
-use std::alloc::Global;
 
 /// What a class says of itself beside its id, its status and its moment.
 #[derive(Drop)]
@@ -60,43 +58,23 @@ impl Class {
         }
     }
 
-    /// Puts a value of the field's form at a place.
-    pub fn put(&mut self, place: usize, value: Value)
-        requires within { place < 11 }
-        requires shape { has_shape (shape_at (own_fields Kind.Classes) place) value ≡ true }
-        ensures { class_values self.new ≡ slice_set (class_values self.old) place (Some value) }
+    /// The struct of the values of the kind's own fields, which are taken out of their places.
+    pub fn take_from(values: &mut [Option<Value>]) -> Class
+        requires { shapes_fit (own_fields Kind.Classes) values.old ≡ true }
+        ensures { class_values result ≡ values.old }
     {
-        match place {
-            0 => self.title = value.into_text(),
-            1 => self.grades = Some(value.into_texts()),
-            2 => self.course = value.into_reference(),
-            3 => self.class_code = Some(value.into_text()),
-            4 => self.class_type = value.into_word(),
-            5 => self.location = Some(value.into_text()),
-            6 => self.school = value.into_reference(),
-            7 => self.terms = value.into_references(),
-            8 => self.subjects = Some(value.into_texts()),
-            9 => self.subject_codes = Some(value.into_texts()),
-            _ => self.periods = Some(value.into_texts()),
+        Class {
+            title: text(values, 0),
+            grades: optional_texts(values, 1),
+            course: reference(values, 2),
+            class_code: optional_text(values, 3),
+            class_type: word(values, 4),
+            location: optional_text(values, 5),
+            school: reference(values, 6),
+            terms: references(values, 7),
+            subjects: optional_texts(values, 8),
+            subject_codes: optional_texts(values, 9),
+            periods: optional_texts(values, 10),
         }
-    }
-
-    /// The struct with stand-ins for what is required and nothing else, until its values are put.
-    pub fn blank(alloc: Global) -> Result<Class, NoMemory>
-        ensures { IfOk result (λ s. class_values s ≡ blank_values (own_fields Kind.Classes)) }
-    {
-        Ok(Class {
-            title: blank_text(alloc),
-            grades: None,
-            course: blank_id(alloc)?,
-            class_code: None,
-            class_type: blank_word(),
-            location: None,
-            school: blank_id(alloc)?,
-            terms: Items::new(alloc),
-            subjects: None,
-            subject_codes: None,
-            periods: None,
-        })
     }
 }

@@ -1,16 +1,14 @@
 //! The fields that a course has beside the common ones, by their places in the field table.
 
-ghost use Rattle.std.specs.Prelude.{◌≡◌, ◌<◌, true, None, Some, IfOk, option_map, slice_index_or, slice_set};
-ghost use Rattle.roster_types.specs.Shapes.{blank_values, own_fields, shape_at};
+ghost use Rattle.std.specs.Prelude.{◌≡◌, ◌<◌, true, None, option_map, slice_index_or};
+ghost use Rattle.roster_types.specs.Shapes.{own_fields, shapes_fit};
 ghost use Rattle.roster_types.specs.Structs.{course_values};
-ghost use Rattle.roster_values.specs.Shape.{has_shape};
 ghost use Rattle.roster_values.specs.Value.{shown};
 
-use crate::blanks::{blank_id, blank_text};
-use roster_base::{NoMemory, Text};
+use crate::taken::{optional_reference, optional_text, optional_texts, reference, text};
+use roster_base::Text;
 use roster_texts::Id;
 use roster_values::{Kind, Texts, Value, ValueRef};
-use std::alloc::Global;
 
 /// What a course says of itself beside its id, its status and its moment.
 #[derive(Drop)]
@@ -48,35 +46,19 @@ impl Course {
         }
     }
 
-    /// Puts a value of the field's form at a place.
-    pub fn put(&mut self, place: usize, value: Value)
-        requires within { place < 7 }
-        requires shape { has_shape (shape_at (own_fields Kind.Courses) place) value ≡ true }
-        ensures { course_values self.new ≡ slice_set (course_values self.old) place (Some value) }
+    /// The struct of the values of the kind's own fields, which are taken out of their places.
+    pub fn take_from(values: &mut [Option<Value>]) -> Course
+        requires { shapes_fit (own_fields Kind.Courses) values.old ≡ true }
+        ensures { course_values result ≡ values.old }
     {
-        match place {
-            0 => self.school_year = Some(value.into_reference()),
-            1 => self.title = value.into_text(),
-            2 => self.course_code = Some(value.into_text()),
-            3 => self.grades = Some(value.into_texts()),
-            4 => self.org = value.into_reference(),
-            5 => self.subjects = Some(value.into_texts()),
-            _ => self.subject_codes = Some(value.into_texts()),
+        Course {
+            school_year: optional_reference(values, 0),
+            title: text(values, 1),
+            course_code: optional_text(values, 2),
+            grades: optional_texts(values, 3),
+            org: reference(values, 4),
+            subjects: optional_texts(values, 5),
+            subject_codes: optional_texts(values, 6),
         }
-    }
-
-    /// The struct with stand-ins for what is required and nothing else, until its values are put.
-    pub fn blank(alloc: Global) -> Result<Course, NoMemory>
-        ensures { IfOk result (λ s. course_values s ≡ blank_values (own_fields Kind.Courses)) }
-    {
-        Ok(Course {
-            school_year: None,
-            title: blank_text(alloc),
-            course_code: None,
-            grades: None,
-            org: blank_id(alloc)?,
-            subjects: None,
-            subject_codes: None,
-        })
     }
 }

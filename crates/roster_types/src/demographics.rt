@@ -1,16 +1,15 @@
 //! The fields that the demographics of a user has beside the common ones, by their places in the field table.
 
-ghost use Rattle.std.specs.Prelude.{◌≡◌, ◌<◌, true, None, Some, IfOk, option_map, slice_index_or, slice_set};
-ghost use Rattle.roster_types.specs.Shapes.{blank_values, own_fields, shape_at};
+ghost use Rattle.std.specs.Prelude.{◌≡◌, ◌<◌, true, None, option_map, slice_index_or};
+ghost use Rattle.roster_types.specs.Shapes.{own_fields, shapes_fit};
 ghost use Rattle.roster_types.specs.Structs.{demographic_values};
-ghost use Rattle.roster_values.specs.Shape.{has_shape};
 ghost use Rattle.roster_values.specs.Value.{shown};
 ghost use Rattle.roster_values.specs.declared.value.Value.TheVariants as FieldValue;
 
-use roster_base::{NoMemory, Text};
+use crate::taken::{optional_day, optional_flag, optional_text, optional_word};
+use roster_base::Text;
 use roster_texts::Day;
 use roster_values::{Kind, Value, ValueRef, Word};
-use std::alloc::Global;
 
 /// What the demographics of a user says of itself beside its id, its status and its moment.
 #[derive(Drop)]
@@ -84,48 +83,26 @@ impl Demographic {
         }
     }
 
-    /// Puts a value of the field's form at a place.
-    pub fn put(&mut self, place: usize, value: Value)
-        requires within { place < 13 }
-        requires shape { has_shape (shape_at (own_fields Kind.Demographics) place) value ≡ true }
-        ensures { demographic_values self.new ≡ slice_set (demographic_values self.old) place (Some value) }
+    /// The struct of the values of the kind's own fields, which are taken out of their places.
+    pub fn take_from(values: &mut [Option<Value>]) -> Demographic
+        requires { shapes_fit (own_fields Kind.Demographics) values.old ≡ true }
+        ensures { demographic_values result ≡ values.old }
     {
-        match place {
-            0 => self.birth_date = Some(value.into_day()),
-            1 => self.sex = Some(value.into_word()),
-            2 => self.american_indian_or_alaska_native = Some(value.into_flag()),
-            3 => self.asian = Some(value.into_flag()),
-            4 => self.black_or_african_american = Some(value.into_flag()),
-            5 => self.native_hawaiian_or_other_pacific_islander = Some(value.into_flag()),
-            6 => self.white = Some(value.into_flag()),
-            7 => self.demographic_race_two_or_more_races = Some(value.into_flag()),
-            8 => self.hispanic_or_latino_ethnicity = Some(value.into_flag()),
-            9 => self.country_of_birth_code = Some(value.into_text()),
-            10 => self.state_of_birth_abbreviation = Some(value.into_text()),
-            11 => self.city_of_birth = Some(value.into_text()),
-            _ => self.public_school_residence_status = Some(value.into_text()),
+        Demographic {
+            birth_date: optional_day(values, 0),
+            sex: optional_word(values, 1),
+            american_indian_or_alaska_native: optional_flag(values, 2),
+            asian: optional_flag(values, 3),
+            black_or_african_american: optional_flag(values, 4),
+            native_hawaiian_or_other_pacific_islander: optional_flag(values, 5),
+            white: optional_flag(values, 6),
+            demographic_race_two_or_more_races: optional_flag(values, 7),
+            hispanic_or_latino_ethnicity: optional_flag(values, 8),
+            country_of_birth_code: optional_text(values, 9),
+            state_of_birth_abbreviation: optional_text(values, 10),
+            city_of_birth: optional_text(values, 11),
+            public_school_residence_status: optional_text(values, 12),
         }
-    }
-
-    /// The struct with stand-ins for what is required and nothing else, until its values are put.
-    pub fn blank(alloc: Global) -> Result<Demographic, NoMemory>
-        ensures { IfOk result (λ s. demographic_values s ≡ blank_values (own_fields Kind.Demographics)) }
-    {
-        Ok(Demographic {
-            birth_date: None,
-            sex: None,
-            american_indian_or_alaska_native: None,
-            asian: None,
-            black_or_african_american: None,
-            native_hawaiian_or_other_pacific_islander: None,
-            white: None,
-            demographic_race_two_or_more_races: None,
-            hispanic_or_latino_ethnicity: None,
-            country_of_birth_code: None,
-            state_of_birth_abbreviation: None,
-            city_of_birth: None,
-            public_school_residence_status: None,
-        })
     }
 }
 

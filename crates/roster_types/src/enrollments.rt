@@ -1,16 +1,13 @@
 //! The fields that an enrollment has beside the common ones, by their places in the field table.
 
-ghost use Rattle.std.specs.Prelude.{◌≡◌, ◌<◌, true, None, Some, IfOk, option_map, slice_index_or, slice_set};
-ghost use Rattle.roster_types.specs.Shapes.{blank_values, own_fields, shape_at};
+ghost use Rattle.std.specs.Prelude.{◌≡◌, ◌<◌, true, None, option_map, slice_index_or};
+ghost use Rattle.roster_types.specs.Shapes.{own_fields, shapes_fit};
 ghost use Rattle.roster_types.specs.Structs.{enrollment_values};
-ghost use Rattle.roster_values.specs.Shape.{has_shape};
 ghost use Rattle.roster_values.specs.Value.{shown};
 
-use crate::blanks::{blank_id, blank_word};
-use roster_base::NoMemory;
+use crate::taken::{optional_day, optional_flag, reference, word};
 use roster_texts::{Day, Id};
 use roster_values::{Kind, Value, ValueRef, Word};
-use std::alloc::Global;
 
 /// What an enrollment says of itself beside its id, its status and its moment.
 #[derive(Drop)]
@@ -48,35 +45,19 @@ impl Enrollment {
         }
     }
 
-    /// Puts a value of the field's form at a place.
-    pub fn put(&mut self, place: usize, value: Value)
-        requires within { place < 7 }
-        requires shape { has_shape (shape_at (own_fields Kind.Enrollments) place) value ≡ true }
-        ensures { enrollment_values self.new ≡ slice_set (enrollment_values self.old) place (Some value) }
+    /// The struct of the values of the kind's own fields, which are taken out of their places.
+    pub fn take_from(values: &mut [Option<Value>]) -> Enrollment
+        requires { shapes_fit (own_fields Kind.Enrollments) values.old ≡ true }
+        ensures { enrollment_values result ≡ values.old }
     {
-        match place {
-            0 => self.class_id = value.into_reference(),
-            1 => self.school = value.into_reference(),
-            2 => self.user = value.into_reference(),
-            3 => self.role = value.into_word(),
-            4 => self.primary = Some(value.into_flag()),
-            5 => self.begin_date = Some(value.into_day()),
-            _ => self.end_date = Some(value.into_day()),
+        Enrollment {
+            class_id: reference(values, 0),
+            school: reference(values, 1),
+            user: reference(values, 2),
+            role: word(values, 3),
+            primary: optional_flag(values, 4),
+            begin_date: optional_day(values, 5),
+            end_date: optional_day(values, 6),
         }
-    }
-
-    /// The struct with stand-ins for what is required and nothing else, until its values are put.
-    pub fn blank(alloc: Global) -> Result<Enrollment, NoMemory>
-        ensures { IfOk result (λ s. enrollment_values s ≡ blank_values (own_fields Kind.Enrollments)) }
-    {
-        Ok(Enrollment {
-            class_id: blank_id(alloc)?,
-            school: blank_id(alloc)?,
-            user: blank_id(alloc)?,
-            role: blank_word(),
-            primary: None,
-            begin_date: None,
-            end_date: None,
-        })
     }
 }

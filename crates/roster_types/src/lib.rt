@@ -3,7 +3,6 @@
 #![tactic(auto)]
 
 pub mod academic_sessions;
-mod blanks;
 pub mod bounds;
 pub mod categories;
 pub mod cells;
@@ -25,6 +24,7 @@ pub mod set_row;
 mod shared;
 pub mod status;
 pub mod structs;
+mod taken;
 pub mod users;
 
 pub use roster_base::{Items, NoMemory, Text};

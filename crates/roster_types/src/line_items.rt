@@ -1,16 +1,14 @@
 //! The fields that a line item of a gradebook has beside the common ones, by their places in the field table.
 
-ghost use Rattle.std.specs.Prelude.{◌≡◌, ◌<◌, true, None, Some, IfOk, option_map, slice_index_or, slice_set};
-ghost use Rattle.roster_types.specs.Shapes.{blank_values, own_fields, shape_at};
+ghost use Rattle.std.specs.Prelude.{◌≡◌, ◌<◌, true, None, option_map, slice_index_or};
+ghost use Rattle.roster_types.specs.Shapes.{own_fields, shapes_fit};
 ghost use Rattle.roster_types.specs.Structs.{line_item_values};
-ghost use Rattle.roster_values.specs.Shape.{has_shape};
 ghost use Rattle.roster_values.specs.Value.{shown};
 
-use crate::blanks::{blank_day, blank_id, blank_text};
-use roster_base::{NoMemory, Text};
+use crate::taken::{day, optional_number, optional_reference, optional_text, reference, text};
+use roster_base::Text;
 use roster_texts::{Day, Id};
 use roster_values::{Kind, Value, ValueRef};
-use std::alloc::Global;
 
 /// What a line item of a gradebook says of itself beside its id, its status and its moment.
 #[derive(Drop)]
@@ -54,39 +52,21 @@ impl LineItem {
         }
     }
 
-    /// Puts a value of the field's form at a place.
-    pub fn put(&mut self, place: usize, value: Value)
-        requires within { place < 9 }
-        requires shape { has_shape (shape_at (own_fields Kind.LineItems) place) value ≡ true }
-        ensures { line_item_values self.new ≡ slice_set (line_item_values self.old) place (Some value) }
+    /// The struct of the values of the kind's own fields, which are taken out of their places.
+    pub fn take_from(values: &mut [Option<Value>]) -> LineItem
+        requires { shapes_fit (own_fields Kind.LineItems) values.old ≡ true }
+        ensures { line_item_values result ≡ values.old }
     {
-        match place {
-            0 => self.title = value.into_text(),
-            1 => self.description = Some(value.into_text()),
-            2 => self.assign_date = value.into_day(),
-            3 => self.due_date = value.into_day(),
-            4 => self.class_id = value.into_reference(),
-            5 => self.category = value.into_reference(),
-            6 => self.grading_period = Some(value.into_reference()),
-            7 => self.result_value_min = Some(value.into_number()),
-            _ => self.result_value_max = Some(value.into_number()),
+        LineItem {
+            title: text(values, 0),
+            description: optional_text(values, 1),
+            assign_date: day(values, 2),
+            due_date: day(values, 3),
+            class_id: reference(values, 4),
+            category: reference(values, 5),
+            grading_period: optional_reference(values, 6),
+            result_value_min: optional_number(values, 7),
+            result_value_max: optional_number(values, 8),
         }
-    }
-
-    /// The struct with stand-ins for what is required and nothing else, until its values are put.
-    pub fn blank(alloc: Global) -> Result<LineItem, NoMemory>
-        ensures { IfOk result (λ s. line_item_values s ≡ blank_values (own_fields Kind.LineItems)) }
-    {
-        Ok(LineItem {
-            title: blank_text(alloc),
-            description: None,
-            assign_date: blank_day(),
-            due_date: blank_day(),
-            class_id: blank_id(alloc)?,
-            category: blank_id(alloc)?,
-            grading_period: None,
-            result_value_min: None,
-            result_value_max: None,
-        })
     }
 }

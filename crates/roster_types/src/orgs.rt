@@ -1,16 +1,14 @@
 //! The fields that an org has beside the common ones, by their places in the field table.
 
-ghost use Rattle.std.specs.Prelude.{◌≡◌, ◌<◌, true, None, Some, IfOk, option_map, slice_index_or, slice_set};
-ghost use Rattle.roster_types.specs.Shapes.{blank_values, own_fields, shape_at};
+ghost use Rattle.std.specs.Prelude.{◌≡◌, ◌<◌, true, None, option_map, slice_index_or};
+ghost use Rattle.roster_types.specs.Shapes.{own_fields, shapes_fit};
 ghost use Rattle.roster_types.specs.Structs.{org_values};
-ghost use Rattle.roster_values.specs.Shape.{has_shape};
 ghost use Rattle.roster_values.specs.Value.{shown};
 
-use crate::blanks::{blank_text, blank_word};
-use roster_base::{NoMemory, Text};
+use crate::taken::{optional_reference, optional_text, text, word};
+use roster_base::Text;
 use roster_texts::Id;
 use roster_values::{Kind, Value, ValueRef, Word};
-use std::alloc::Global;
 
 /// What an org says of itself beside its id, its status and its moment.
 #[derive(Drop)]
@@ -39,29 +37,16 @@ impl Org {
         }
     }
 
-    /// Puts a value of the field's form at a place.
-    pub fn put(&mut self, place: usize, value: Value)
-        requires within { place < 4 }
-        requires shape { has_shape (shape_at (own_fields Kind.Orgs) place) value ≡ true }
-        ensures { org_values self.new ≡ slice_set (org_values self.old) place (Some value) }
+    /// The struct of the values of the kind's own fields, which are taken out of their places.
+    pub fn take_from(values: &mut [Option<Value>]) -> Org
+        requires { shapes_fit (own_fields Kind.Orgs) values.old ≡ true }
+        ensures { org_values result ≡ values.old }
     {
-        match place {
-            0 => self.name = value.into_text(),
-            1 => self.type_word = value.into_word(),
-            2 => self.identifier = Some(value.into_text()),
-            _ => self.parent = Some(value.into_reference()),
+        Org {
+            name: text(values, 0),
+            type_word: word(values, 1),
+            identifier: optional_text(values, 2),
+            parent: optional_reference(values, 3),
         }
-    }
-
-    /// The struct with stand-ins for what is required and nothing else, until its values are put.
-    pub fn blank(alloc: Global) -> Result<Org, NoMemory>
-        ensures { IfOk result (λ s. org_values s ≡ blank_values (own_fields Kind.Orgs)) }
-    {
-        Ok(Org {
-            name: blank_text(alloc),
-            type_word: blank_word(),
-            identifier: None,
-            parent: None,
-        })
     }
 }

@@ -1,12 +1,12 @@
 //! The parts of a row, before its length is tested.
 
-ghost use Rattle.std.specs.Prelude.{◌≡◌, ◌+◌, ◌-◌, ◌<◌, ◌≤◌, true, pos, None, Some, IfOk, OnOk, drop, length, min, option_map, slice_get, slice_index_or, sum_by, take};
+ghost use Rattle.std.specs.Prelude.{◌≡◌, ◌+◌, ◌-◌, ◌<◌, ◌≤◌, true, pos, None, Some, IfOk, length, min, option_map, slice_get, slice_index_or, sum_by, take};
 ghost use Rattle.std.specs.Bool.{Decides};
 ghost use Rattle.roster_types.specs.Bounds.{IsBound};
 ghost use Rattle.roster_types.specs.Lengths.{field_length, fields_length, metadata_length, row_length};
 ghost use Rattle.roster_types.specs.Records.{IsFitting, SameButDate, all_values, id_in, moment_in, record_from, status_in};
 ghost use Rattle.roster_types.specs.Rows.{longest};
-ghost use Rattle.roster_types.specs.Shapes.{fits_all, own_fields, shapes_fit};
+ghost use Rattle.roster_types.specs.Shapes.{fits_all};
 ghost use Rattle.roster_types.specs.Structs.{kind_of, values_of};
 ghost use Rattle.roster_values.specs.Fit.{fits_parts};
 ghost use Rattle.roster_values.specs.Table.{IdForm, info_of, table};
@@ -107,29 +107,6 @@ fn moment_of(value: Option<Value>) -> Moment
     }
 }
 
-// The struct of the values of a kind's own fields, which stand behind the common ones and are taken from the end.
-#[tactic(auto, using(crate::proofs::Building::building))]
-fn take_fields(
-    alloc: Global,
-    kind: Kind,
-    values: &mut Vec<Option<Value>>,
-) -> Result<Fields, NoMemory>
-    requires within { 3 ≤ length values.old.items }
-    requires shapes { shapes_fit (own_fields kind) (drop 3 values.old.items) ≡ true }
-    ensures values { IfOk result (λ f. values_of f ≡ drop 3 values.old.items) }
-    ensures kind { IfOk result (λ f. kind_of f ≡ kind) }
-    ensures left { OnOk result (values.new.items ≡ take 3 values.old.items) }
-{
-    let mut fields = Fields::blank(alloc, kind)?;
-    for place in (0..values.len() - COMMON_FIELDS).rev() {
-        match take_last(values) {
-            Some(value) => fields.put(place, value),
-            None => {}
-        }
-    }
-    Ok(fields)
-}
-
 impl RowParts {
     /// The row that the values of all its fields give. They are taken, so that their vector can be filled again.
     pub fn take_from(
@@ -141,7 +118,7 @@ impl RowParts {
         requires { fits_all (table kind) values.old.items ≡ true }
         ensures { IfOk result (λ r. r ≡ record_from kind values.old.items metadata) }
     {
-        let fields = take_fields(alloc, kind, values)?;
+        let fields = Fields::take_from(alloc, kind, values)?;
         let modified = moment_of(take_last(values));
         let status = status_of(take_last(values));
         let id = id_of(take_last(values));

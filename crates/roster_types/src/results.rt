@@ -1,16 +1,14 @@
 //! The fields that a result of a line item has beside the common ones, by their places in the field table.
 
-ghost use Rattle.std.specs.Prelude.{◌≡◌, ◌<◌, true, None, Some, IfOk, option_map, slice_index_or, slice_set};
-ghost use Rattle.roster_types.specs.Shapes.{blank_values, own_fields, shape_at};
+ghost use Rattle.std.specs.Prelude.{◌≡◌, ◌<◌, true, None, option_map, slice_index_or};
+ghost use Rattle.roster_types.specs.Shapes.{own_fields, shapes_fit};
 ghost use Rattle.roster_types.specs.Structs.{score_values};
-ghost use Rattle.roster_values.specs.Shape.{has_shape};
 ghost use Rattle.roster_values.specs.Value.{shown};
 
-use crate::blanks::{blank_day, blank_id, blank_word};
-use roster_base::{NoMemory, Text};
+use crate::taken::{day, optional_number, optional_text, reference, word};
+use roster_base::Text;
 use roster_texts::{Day, Id};
 use roster_values::{Kind, Value, ValueRef, Word};
-use std::alloc::Global;
 
 /// What a result of a line item says of itself beside its id, its status and its moment.
 #[derive(Drop)]
@@ -45,33 +43,18 @@ impl Score {
         }
     }
 
-    /// Puts a value of the field's form at a place.
-    pub fn put(&mut self, place: usize, value: Value)
-        requires within { place < 6 }
-        requires shape { has_shape (shape_at (own_fields Kind.Results) place) value ≡ true }
-        ensures { score_values self.new ≡ slice_set (score_values self.old) place (Some value) }
+    /// The struct of the values of the kind's own fields, which are taken out of their places.
+    pub fn take_from(values: &mut [Option<Value>]) -> Score
+        requires { shapes_fit (own_fields Kind.Results) values.old ≡ true }
+        ensures { score_values result ≡ values.old }
     {
-        match place {
-            0 => self.line_item = value.into_reference(),
-            1 => self.student = value.into_reference(),
-            2 => self.score_status = value.into_word(),
-            3 => self.score = Some(value.into_number()),
-            4 => self.score_date = value.into_day(),
-            _ => self.comment = Some(value.into_text()),
+        Score {
+            line_item: reference(values, 0),
+            student: reference(values, 1),
+            score_status: word(values, 2),
+            score: optional_number(values, 3),
+            score_date: day(values, 4),
+            comment: optional_text(values, 5),
         }
-    }
-
-    /// The struct with stand-ins for what is required and nothing else, until its values are put.
-    pub fn blank(alloc: Global) -> Result<Score, NoMemory>
-        ensures { IfOk result (λ s. score_values s ≡ blank_values (own_fields Kind.Results)) }
-    {
-        Ok(Score {
-            line_item: blank_id(alloc)?,
-            student: blank_id(alloc)?,
-            score_status: blank_word(),
-            score: None,
-            score_date: blank_day(),
-            comment: None,
-        })
     }
 }

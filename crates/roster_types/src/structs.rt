@@ -1,10 +1,9 @@
-//! The structs of the ten kinds as one, read and written by place.
+//! The structs of the ten kinds as one, read by place.
 
-ghost use Rattle.std.specs.Prelude.{◌≡◌, ◌<◌, true, None, Ok, Some, IfOk, length, option_map, slice_index_or, slice_set};
+ghost use Rattle.std.specs.Prelude.{◌≡◌, ◌<◌, ◌≤◌, true, None, IfOk, OnOk, drop, length, option_map, slice_index_or, take};
 ghost use Rattle.std.specs.Bool.{Decides};
-ghost use Rattle.roster_types.specs.Shapes.{blank_values, own_fields, shape_at};
+ghost use Rattle.roster_types.specs.Shapes.{own_fields, shapes_fit};
 ghost use Rattle.roster_types.specs.Structs.{kind_of, values_of};
-ghost use Rattle.roster_values.specs.Shape.{has_shape};
 ghost use Rattle.roster_values.specs.Value.{shown};
 
 use crate::academic_sessions::AcademicSession;
@@ -18,6 +17,7 @@ use crate::orgs::Org;
 use crate::results::Score;
 use crate::users::User;
 use roster_base::NoMemory;
+use roster_values::fields::COMMON_FIELDS;
 use roster_values::{Kind, Value, ValueRef, are_same_fields};
 use std::alloc::Global;
 
@@ -36,10 +36,10 @@ pub enum Fields {
     Results(Box<Score>),
 }
 
-fn boxed<T: Drop>(alloc: Global, made: Result<T, NoMemory>) -> Result<Box<T>, NoMemory>
-    ensures { IfOk result (λ b. made ≡ Ok b.value) }
+fn boxed<T: Drop>(alloc: Global, made: T) -> Result<Box<T>, NoMemory>
+    ensures { IfOk result (λ b. b.value ≡ made) }
 {
-    Ok(Box::new(alloc, made?)?)
+    Ok(Box::new(alloc, made)?)
 }
 
 impl Fields {
@@ -94,46 +94,44 @@ impl Fields {
         true
     }
 
-    /// Puts a value of the field's form at a place.
-    pub fn put(&mut self, place: usize, value: Value)
-        requires within { place < length (values_of self.old) }
-        requires shape { has_shape (shape_at (own_fields (kind_of self.old)) place) value ≡ true }
-        ensures values { values_of self.new ≡ slice_set (values_of self.old) place (Some value) }
-        ensures kind { kind_of self.new ≡ kind_of self.old }
+    /// The struct of a kind, made of the values of its own fields. They stand behind those of the common fields, which are left.
+    pub fn take_from(
+        alloc: Global,
+        kind: Kind,
+        values: &mut Vec<Option<Value>>,
+    ) -> Result<Fields, NoMemory>
+        requires within { 3 ≤ length values.old.items }
+        requires shapes { shapes_fit (own_fields kind) (drop 3 values.old.items) ≡ true }
+        ensures values { IfOk result (λ f. values_of f ≡ drop 3 values.old.items) }
+        ensures kind { IfOk result (λ f. kind_of f ≡ kind) }
+        ensures left { OnOk result (values.new.items ≡ take 3 values.old.items) }
     {
-        match self {
-            Fields::Orgs(fields) => fields.put(place, value),
-            Fields::AcademicSessions(fields) => fields.put(place, value),
-            Fields::Courses(fields) => fields.put(place, value),
-            Fields::Classes(fields) => fields.put(place, value),
-            Fields::Users(fields) => fields.put(place, value),
-            Fields::Enrollments(fields) => fields.put(place, value),
-            Fields::Demographics(fields) => fields.put(place, value),
-            Fields::Categories(fields) => fields.put(place, value),
-            Fields::LineItems(fields) => fields.put(place, value),
-            Fields::Results(fields) => fields.put(place, value),
-        }
+        let fields = Fields::made_of(alloc, kind, &mut values[COMMON_FIELDS..])?;
+        values.truncate(COMMON_FIELDS);
+        Ok(fields)
     }
 
-    /// The struct of a kind with stand-ins for what is required.
-    pub fn blank(alloc: Global, kind: Kind) -> Result<Fields, NoMemory>
-        ensures values { IfOk result (λ f. values_of f ≡ blank_values (own_fields kind)) }
+    // The struct of these values, on the heap.
+    fn made_of(alloc: Global, kind: Kind, values: &mut [Option<Value>]) -> Result<Fields, NoMemory>
+        requires { shapes_fit (own_fields kind) values.old ≡ true }
+        ensures values { IfOk result (λ f. values_of f ≡ values.old) }
         ensures kind { IfOk result (λ f. kind_of f ≡ kind) }
     {
         Ok(match kind {
-            Kind::Orgs => Fields::Orgs(boxed(alloc, Org::blank(alloc))?),
-            Kind::AcademicSessions => Fields::AcademicSessions(boxed(
-                alloc,
-                AcademicSession::blank(alloc),
-            )?),
-            Kind::Courses => Fields::Courses(boxed(alloc, Course::blank(alloc))?),
-            Kind::Classes => Fields::Classes(boxed(alloc, Class::blank(alloc))?),
-            Kind::Users => Fields::Users(boxed(alloc, User::blank(alloc))?),
-            Kind::Enrollments => Fields::Enrollments(boxed(alloc, Enrollment::blank(alloc))?),
-            Kind::Demographics => Fields::Demographics(boxed(alloc, Demographic::blank(alloc))?),
-            Kind::Categories => Fields::Categories(boxed(alloc, Category::blank(alloc))?),
-            Kind::LineItems => Fields::LineItems(boxed(alloc, LineItem::blank(alloc))?),
-            Kind::Results => Fields::Results(boxed(alloc, Score::blank(alloc))?),
+            Kind::Orgs => Fields::Orgs(boxed(alloc, Org::take_from(values))?),
+            Kind::AcademicSessions => {
+                Fields::AcademicSessions(boxed(alloc, AcademicSession::take_from(values))?)
+            }
+            Kind::Courses => Fields::Courses(boxed(alloc, Course::take_from(values))?),
+            Kind::Classes => Fields::Classes(boxed(alloc, Class::take_from(values))?),
+            Kind::Users => Fields::Users(boxed(alloc, User::take_from(values))?),
+            Kind::Enrollments => Fields::Enrollments(boxed(alloc, Enrollment::take_from(values))?),
+            Kind::Demographics => {
+                Fields::Demographics(boxed(alloc, Demographic::take_from(values))?)
+            }
+            Kind::Categories => Fields::Categories(boxed(alloc, Category::take_from(values))?),
+            Kind::LineItems => Fields::LineItems(boxed(alloc, LineItem::take_from(values))?),
+            Kind::Results => Fields::Results(boxed(alloc, Score::take_from(values))?),
         })
     }
 }

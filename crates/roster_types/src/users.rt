@@ -1,15 +1,16 @@
 //! The fields that a user has beside the common ones, by their places in the field table.
 
-ghost use Rattle.std.specs.Prelude.{◌≡◌, ◌<◌, true, None, Some, IfOk, option_map, slice_index_or, slice_set};
-ghost use Rattle.roster_types.specs.Shapes.{blank_values, own_fields, shape_at};
+ghost use Rattle.std.specs.Prelude.{◌≡◌, ◌<◌, true, None, option_map, slice_index_or};
+ghost use Rattle.roster_types.specs.Shapes.{own_fields, shapes_fit};
 ghost use Rattle.roster_types.specs.Structs.{user_values};
-ghost use Rattle.roster_values.specs.Shape.{has_shape};
 ghost use Rattle.roster_values.specs.Value.{shown};
 
-use crate::blanks::{blank_text, blank_word};
-use roster_base::{Items, NoMemory, Text};
+use crate::taken::{
+    flag, optional_references, optional_text, optional_texts, optional_user_ids, references, text,
+    word,
+};
+use roster_base::Text;
 use roster_values::{Ids, Kind, Texts, UserIds, Value, ValueRef, Word};
-use std::alloc::Global;
 
 /// What a user says of itself beside its id, its status and its moment.
 #[derive(Drop)]
@@ -68,49 +69,26 @@ impl User {
         }
     }
 
-    /// Puts a value of the field's form at a place.
-    pub fn put(&mut self, place: usize, value: Value)
-        requires within { place < 14 }
-        requires shape { has_shape (shape_at (own_fields Kind.Users) place) value ≡ true }
-        ensures { user_values self.new ≡ slice_set (user_values self.old) place (Some value) }
+    /// The struct of the values of the kind's own fields, which are taken out of their places.
+    pub fn take_from(values: &mut [Option<Value>]) -> User
+        requires { shapes_fit (own_fields Kind.Users) values.old ≡ true }
+        ensures { user_values result ≡ values.old }
     {
-        match place {
-            0 => self.enabled_user = value.into_flag(),
-            1 => self.orgs = value.into_references(),
-            2 => self.role = value.into_word(),
-            3 => self.username = value.into_text(),
-            4 => self.user_ids = Some(value.into_user_ids()),
-            5 => self.given_name = value.into_text(),
-            6 => self.family_name = value.into_text(),
-            7 => self.middle_name = Some(value.into_text()),
-            8 => self.identifier = Some(value.into_text()),
-            9 => self.email = Some(value.into_text()),
-            10 => self.sms = Some(value.into_text()),
-            11 => self.phone = Some(value.into_text()),
-            12 => self.agents = Some(value.into_references()),
-            _ => self.grades = Some(value.into_texts()),
+        User {
+            enabled_user: flag(values, 0),
+            orgs: references(values, 1),
+            role: word(values, 2),
+            username: text(values, 3),
+            user_ids: optional_user_ids(values, 4),
+            given_name: text(values, 5),
+            family_name: text(values, 6),
+            middle_name: optional_text(values, 7),
+            identifier: optional_text(values, 8),
+            email: optional_text(values, 9),
+            sms: optional_text(values, 10),
+            phone: optional_text(values, 11),
+            agents: optional_references(values, 12),
+            grades: optional_texts(values, 13),
         }
-    }
-
-    /// The struct with stand-ins for what is required and nothing else, until its values are put.
-    pub fn blank(alloc: Global) -> Result<User, NoMemory>
-        ensures { IfOk result (λ s. user_values s ≡ blank_values (own_fields Kind.Users)) }
-    {
-        Ok(User {
-            enabled_user: false,
-            orgs: Items::new(alloc),
-            role: blank_word(),
-            username: blank_text(alloc),
-            user_ids: None,
-            given_name: blank_text(alloc),
-            family_name: blank_text(alloc),
-            middle_name: None,
-            identifier: None,
-            email: None,
-            sms: None,
-            phone: None,
-            agents: None,
-            grades: None,
-        })
     }
 }

@@ -5,12 +5,12 @@ use Rattle.std.specs.Arc.{arc_value}
 use Rattle.roster_types.specs.Records.{id_in, moment_in, record_from, status_in}
 use Rattle.roster_types.specs.Shapes.{own_fields}
 use Rattle.roster_types.specs.Structs.{kind_of, values_of}
-use Rattle.roster_types.proofs.Building.{shapes_fit_from_fits_all}
+use Rattle.roster_types.proofs.Taking.{shapes_fit_from_fits_all}
 use Rattle.roster_types.proofs.Fitting.{at_least_three, fitting_from, id_fit, own_fit, record_is, taken}
 use Rattle.roster_types.proofs.parts.RowParts.take_from.Goals as goal
 
-pub take_fields-requires : goal.take_fields-requires
-take_fields-requires c = record {
+pub take_from-requires : goal.take_from-requires
+take_from-requires c = record {
   within = at_least_three c.args.kind c.args.values.now.items c.requires;
   shapes = shapes_fit_from_fits_all (own_fields c.args.kind) (drop 3 c.args.values.now.items) (own_fit c.args.kind c.args.values.now.items c.requires);
 }
@@ -23,13 +23,13 @@ take_last-requires c =
 pub take_last-requires-2 : goal.take_last-requires-2
 take_last-requires-2 c =
     let n = at_least_three c.args.kind c.args.values.now.items c.requires in
-    let ts = c.take_fields.new.values.items in
+    let ts = c.take_from.new.values.items in
     omega (arith, n, ap length c.in_ok-fields.ensures.left, length-take 3 c.args.values.now.items, ap length c.take_last.ensures.rest, length-take (length ts - 1) ts)
 
 pub take_last-requires-3 : goal.take_last-requires-3
 take_last-requires-3 c =
     let n = at_least_three c.args.kind c.args.values.now.items c.requires in
-    let ts = c.take_fields.new.values.items in
+    let ts = c.take_from.new.values.items in
     let us = c.take_last.new.values.items in
     omega (arith, n, ap length c.in_ok-fields.ensures.left, length-take 3 c.args.values.now.items, ap length c.take_last.ensures.rest, length-take (length ts - 1) ts, ap length c.take_last-2.ensures.rest, length-take (length us - 1) us)
 
