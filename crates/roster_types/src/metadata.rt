@@ -1,6 +1,6 @@
 //! Metadata: what a district says of a row beside the standard's fields.
 
-use roster_base::{Items, NoMemory, Same, Text, TryCopy, are_same};
+use roster_base::{Items, NoMemory, Same, Text, are_same};
 use roster_texts::Id;
 use std::alloc::Global;
 use std::marker::Model;
@@ -10,15 +10,6 @@ use std::marker::Model;
 pub struct Entry {
     pub key: Id,
     pub text: Text,
-}
-
-impl TryCopy for Entry {
-    fn copy(&self, alloc: Global) -> Result<Entry, NoMemory> {
-        Ok(Entry {
-            key: self.key.copy(alloc)?,
-            text: self.text.copy(alloc)?,
-        })
-    }
 }
 
 impl Same for Entry {
@@ -46,7 +37,7 @@ impl Model for Metadata {
 }
 
 impl Metadata {
-    ghost use Rattle.std.specs.Prelude.{◌≡◌, ◌++◌, ◌∷◌, [], true, IfOk, OnOk, OnErr};
+    ghost use Rattle.std.specs.Prelude.{◌≡◌, ◌++◌, ◌∷◌, [], true, OnOk, OnErr};
     ghost use Rattle.std.specs.Bool.{Decides};
     ghost use Rattle.roster_base.specs.Order.{RiseBy};
     ghost use Rattle.roster_types.specs.Records.{IsMetadata, key_of};
@@ -86,14 +77,5 @@ impl Metadata {
         ensures { Decides result (self.now ≡ other.now) }
     {
         are_same(self.entries(), other.entries())
-    }
-
-    /// An equal copy.
-    pub fn copy(&self, alloc: Global) -> Result<Metadata, NoMemory>
-        ensures { IfOk result (λ m. m ≡ self.now) }
-    {
-        Ok(Metadata {
-            entries: self.entries.copy(alloc)?,
-        })
     }
 }

@@ -123,7 +123,7 @@ impl RowParts {
         let status = status_of(take_last(values));
         let id = id_of(take_last(values));
         let _ = metadata.entries();
-        let shared = Shared::first(alloc, fields, metadata)?;
+        let shared = Shared::new(alloc, fields, metadata)?;
         Ok(RowParts {
             kind,
             id,

@@ -18,7 +18,7 @@ pub struct Shared {
 
 impl Shared {
     /// The values as the first copy holds them.
-    pub fn first(
+    pub fn new(
         alloc: Global,
         fields: Fields,
         metadata: Metadata,
