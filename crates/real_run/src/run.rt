@@ -20,6 +20,7 @@ use peer_links::{NoLink, SocketLink};
 use roster_base::{NoMemory, Refusal, Text};
 use sqlite::{Connection, File, FileStore};
 use std::alloc::Global;
+use std::mem::forget;
 
 // Where a run finds its files, and the hub that it copies.
 #[derive(Drop)]
@@ -94,8 +95,9 @@ fn run_in_memory<O: Sink>(
     let mut keeper = MemHub::new(alloc, keep);
     let mut copy = MemCopy::new(alloc);
     let status = run_over(rt, alloc, words, around, &mut keeper, &mut copy, out);
-    drop(keeper);
-    drop(copy);
+    // The process ends with its run, and its memory with it: a roster isn't gone through once more to be let go row by row.
+    forget(keeper);
+    forget(copy);
     status
 }
 
