@@ -27,6 +27,24 @@ fn noon(rt: &impl Abort) -> Moment {
     }
 }
 
+// Fills a keeper, which keeps all from version 0 on then.
+fn fill_whole(rt: &impl Abort, alloc: Global, keeper: &mut MemHub) -> Result<(), Fail> {
+    fill(rt, alloc, keeper)?;
+    assert!(rt; keeps_all(alloc, keeper)?, "not from version 0 on");
+    Ok(())
+}
+
+fn filled(rt: &impl Abort, alloc: Global) -> Result<MemHub, Fail> {
+    let mut keeper = MemHub::new(alloc, 8);
+    match fill_whole(rt, alloc, &mut keeper) {
+        Ok(()) => Ok(keeper),
+        Err(fail) => {
+            drop(keeper);
+            Err(fail)
+        }
+    }
+}
+
 /// A world of the district, of whose exchanges these are lost.
 pub fn world(
     rt: &impl Abort,
@@ -34,12 +52,7 @@ pub fn world(
     requests: Vec<u64>,
     replies: Vec<u64>,
 ) -> Result<WorldLink, Fail> {
-    let mut keeper = MemHub::new(alloc, 8);
-    fill(rt, alloc, &mut keeper)?;
-    if !keeps_all(alloc, &mut keeper)? {
-        panic!(rt; "not from version 0 on");
-    }
-    match WorldLink::over(alloc, keeper, noon(rt)) {
+    match WorldLink::over(alloc, filled(rt, alloc)?, noon(rt)) {
         Ok(link) => Ok(link.with_losses(requests, replies)),
         Err(_) => panic!(rt; "no world"),
     }
