@@ -1,6 +1,6 @@
 -- The rows of a file, record by record, and the first whose id repeats.
-use Rattle.std.proofs.Common.{◌≡◌, ◌≤◌, ◌<◌, ◌+◌, ℕ, Bool, true, false, List, [], ◌∷◌, ◌++◌, append_assoc, append-nil, cond, drop, get_or, length, take, Option, Some, None, Result, Ok, Err, HashSet, bytes_eq, nat_eq, refl, sym, ap, subst, ◌∙◌, arith}
-use Rattle.std.proofs.lemmas.List.{drop_all, length-take-le, length_push, take_more}
+use Rattle.std.proofs.Common.{◌≡◌, ◌<◌, ◌+◌, ℕ, Bool, true, false, List, [], ◌∷◌, ◌++◌, append_assoc, append-nil, cond, drop, get_or, length, take, Option, Some, None, Result, Ok, Err, HashSet, bytes_eq, nat_eq, refl, sym, ap, subst, ◌∙◌, arith}
+use Rattle.std.proofs.lemmas.List.{length-take-le, length_push, take_more}
 use Rattle.std.proofs.lemmas.List.Folds.{list_any-append}
 use Rattle.std.specs.Borrow.{Bor}
 use Rattle.std.specs.Cmp.Lexicographic.{pointwise}
@@ -122,6 +122,3 @@ pub seeks_found : {S : Type 0} {ids : HashSet (Bor (List ℕ)) S} {rows : List S
 seeks_found {S} {ids} {rows} {place} row s within is e =
     let here : length (take place rows) ≡ place = length-take-le place rows (omega (arith, within)) in
     sym ((rw (next_item rows place row row within is, e) at s.rest) ∙ ap (λ (k : ℕ). Some k) here)
-
-pub seeks_end : {S : Type 0} {ids : HashSet (Bor (List ℕ)) S} {rows : List SetRow} {place : ℕ} → Seeks ids rows place → length rows ≤ place → None ≡ first_repeat [] rows
-seeks_end {S} {ids} {rows} {place} s over = sym (rw (drop_all place rows over) at s.rest)

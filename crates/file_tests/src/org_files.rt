@@ -113,6 +113,18 @@ const RECORDS: &[(&str, &str)] = &[
         "orgs.csv 4: repeated id",
     ),
     (
+        "sourcedId,name,type\nb,B,school\na,A,school\nc,C,school\n",
+        "b;a;c;",
+    ),
+    (
+        "sourcedId,name,type\nb,B,school\na,A,school\na,A,school\nc,C,academy\n",
+        "orgs.csv 4: repeated id",
+    ),
+    (
+        "sourcedId,name,type\nb,B,school\na,A,school\nc,C,academy\na,A,school\n",
+        "orgs.csv 4: type NotInList",
+    ),
+    (
         "metadata.m,sourcedId,name,type,metadata.k,metadata.l\n3,a,A,school, 1 ,  \n",
         "a k=1 m=3;",
     ),
