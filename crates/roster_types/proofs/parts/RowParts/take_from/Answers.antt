@@ -47,7 +47,7 @@ invariant_of-result c =
     let e = c.in_ok-shared.ensures in
     let of_kind : kind_of s.fields ≡ c.args.kind = ap kind_of e.fields ∙ c.in_ok-fields.ensures.kind in (
       fitting_from c.args.kind (kind_of s.fields) c.args.values.now.items (values_of s.fields) s.metadata c.id_of-id.result c.status_of-status.result c.moment_of-modified.result c.requires
-      (rw e.metadata c.entries.ensures.order) of_kind (c.id_of-id.ensures ∙ ap id_in t.0) (c.moment_of-modified.ensures ∙ ap moment_in t.2) (ap values_of e.fields ∙ c.in_ok-fields.ensures.values),
+          (rw e.metadata c.entries.ensures.order) of_kind (c.id_of-id.ensures ∙ ap id_in t.0) (c.moment_of-modified.ensures ∙ ap moment_in t.2) (ap values_of e.fields ∙ c.in_ok-fields.ensures.values),
       sym of_kind,
     )
 
