@@ -1,6 +1,6 @@
 -- The next row of a kind, in histories.
 use Rattle.std.proofs.Common.{◌≡◌, ℕ, suc, ◌+◌, ◌<◌, ◌≤◌, List, [], ◌∷◌, ◌++◌, Option, None, Some, Bool, true, false, cond, not, ◌&&◌, eqb, length, take, drop, get_or, find, refl, sym, ap, subst, ◌∙◌, arith, inl, inr}
-use Rattle.std.proofs.lemmas.Bool.{cases_eq, false_from_ne_true, true_from_ne_false}
+use Rattle.std.proofs.lemmas.Bool.{cases_eq, cases_lt, false_from_ne_true, true_from_ne_false}
 use Rattle.std.proofs.lemmas.Bool.Decides.{nat_tests}
 use Rattle.std.proofs.lemmas.List.Folds.{find-append}
 use Rattle.std.proofs.lemmas.List.{get_or_default, take_more}
@@ -11,15 +11,15 @@ use Rattle.std.specs.Option.{option_or, option_to_list}
 use Rattle.std.specs.Ordering.{is_gt, is_lt, nat_cmp, ordering_reverse}
 use Rattle.std.specs.declared.cmp.Ordering.{Ordering}
 use Rattle.std.specs.declared.cmp.Ordering.TheVariants.{Less, Equal, Greater}
-use Rattle.reference_rules.proofs.KeyOrder.{and_first, and_second, key_total, kind_le, less_from_is_lt, same_kind}
-use Rattle.roster_types.specs.Keys.{Key, is_after, key_cmp}
+use Rattle.reference_rules.proofs.KeyOrder.{and_first, and_second, key_exact, key_total, kind_le, less_from_is_lt, same_kind}
+use Rattle.roster_types.specs.Keys.{Ascends, Key, is_after, key_cmp}
 use Rattle.version_core.specs.Changes.{change_key}
-use Rattle.version_core.specs.History.{ArePasts, IsPast, history_key, is_beyond_key, past_key, past_of, pasts_of, rows_at}
+use Rattle.version_core.specs.History.{ArePasts, IsAt, IsGap, IsPast, history_key, is_beyond_key, past_key, past_of, pasts_of, rows_at}
 use Rattle.version_core.specs.Since.{standing}
 use Rattle.version_core.specs.declared.history.History.{History}
 use Rattle.version_core.specs.declared.row_change.RowChange.{RowChange}
 use Rattle.version_core.proofs.HistoryLemmas.{Ascends-histories, all_at, all_before, all_drop, all_from, all_map, all_take, all_unmap, drop_at, find_none, pasts_of-append, rows_at-append, split_at, standing_keyed}
-use Rattle.version_core.proofs.Places.{less_at}
+use Rattle.version_core.proofs.Places.{greater_from_less, less_at}
 
 module _ (place : ℕ) (after : Option (List ℕ)) where
   abbrev pub is_next_key : Key → Bool
@@ -55,13 +55,14 @@ beyond_more place None key later less e = let le = kind_le key later less in gri
 beyond_more place (Some after) key later less e =
     beyond_lt place after later ∙ ap is_lt (key_total.trans (place, after) key later (less_from_is_lt _ (sym (beyond_lt place after key) ∙ e)) less)
 
-module _ (version place : ℕ) (after : Option (List ℕ)) (histories : List History) (are : ArePasts (pasts_of histories)) where
+module _ (place : ℕ) (after : Option (List ℕ)) (histories : List History) (are : ArePasts (pasts_of histories)) where
   pub parted : IsPartitionedBy (λ history. not (is_beyond_key place after (history_key history))) histories
   parted i j d le len before = elim (cases_eq i j) [
     | inl same ↦ subst (λ k. not (is_beyond_key place after (history_key (get_or histories k d))) ≡ true) (sym same) before
     | inr differ ↦ true_from_ne_false _ (λ beyond. grind (arith, beyond_more place after (history_key (get_or histories i d)) (history_key (get_or histories j d)) (less_at history_key histories i j d (Ascends-histories histories are.ascend) (omega arith) len)))
   ]
 
+module _ (version place : ℕ) (after : Option (List ℕ)) (histories : List History) (are : ArePasts (pasts_of histories)) where
   are_past : AllByRecursion (λ history. IsPast (past_of history)) histories
   are_past = all_unmap IsPast past_of histories are.all
 
@@ -69,7 +70,7 @@ module _ (version place : ℕ) (after : Option (List ℕ)) (histories : List His
   none_of : (some : List History) → AllByRecursion (λ history. IsPast (past_of history)) some → AllByRecursion (λ history. is_next_key place after (history_key history) ≡ false) some → find (λ change. is_next_key place after (change_key change)) (rows_at version (pasts_of some)) ≡ None
   none_of some all none = find_none version (is_next_key place after) (pasts_of some) (all_map IsPast past_of some all) (all_map (λ past. is_next_key place after (past_key past) ≡ false) past_of some none)
 
-  pub none_before : (n : ℕ) → n ≤ length histories → AllWithin (λ history. not (is_beyond_key place after (history_key history)) ≡ true) histories 0 n → find (λ change. is_next_key place after (change_key change)) (rows_at version (pasts_of (take n histories))) ≡ None
+  pub none_before : (n : ℕ) → n ≤ length histories → AllWithin (λ history. is_beyond_key place after (history_key history) ≡ false) histories 0 n → find (λ change. is_next_key place after (change_key change)) (rows_at version (pasts_of (take n histories))) ≡ None
   none_before n le before =
       none_of (take n histories) (all_take (λ history. IsPast (past_of history)) histories n are_past)
       (all_before (λ history. is_next_key place after (history_key history) ≡ false) histories n le (λ i d lt. false_from_ne_true _ (λ next. grind (arith, before i d (omega arith) lt, beyond_from_next place after (history_key (get_or histories i d)) next))))
@@ -123,6 +124,22 @@ module _ (version place : ℕ) (after : Option (List ℕ)) (histories : List His
         ] in
         absurd (omega arith))))
 
+-- behind the history that has the key
+pub gap_behind : (place : ℕ) (after : List ℕ) (histories : List History) (i gap : ℕ) → Ascends history_key histories → i + 1 ≡ gap → IsAt (place, after) histories i → IsGap place (Some after) histories gap
+gap_behind place after histories i gap up next at = record {
+  bound = let lt = at.bound in omega arith;
+  before = λ j d le lt. elim (cases_lt j i) [
+    | inl below ↦ ap is_gt (subst (λ k. key_cmp (history_key (get_or histories j d)) k ≡ Less) (key_exact _ _ (at.same d)) (less_at history_key histories j i d up below at.bound))
+    | inr from ↦ ap is_gt (ap (λ m. key_cmp (history_key (get_or histories m d)) (place, after)) (let same : j ≡ i = omega arith in same) ∙ at.same d)
+  ];
+  beyond = λ j d le lt.
+      ap is_gt (subst (λ k. key_cmp (history_key (get_or histories j d)) k ≡ Greater) (key_exact _ _ (at.same d)) (greater_from_less _ _ (less_at history_key histories i j d up (omega arith) lt)));
+}
+
 pub from_not : (b : Bool) → not b ≡ false → b ≡ true
 from_not true e = refl
 from_not false e = sym e
+
+pub from_not_true : (b : Bool) → not b ≡ true → b ≡ false
+from_not_true true e = sym e
+from_not_true false e = refl

@@ -1,8 +1,8 @@
 -- The rows of one kind and id, and of all.
-use Rattle.std.specs.Prelude.{◌≡◌, ◌<◌, ◌≤◌, ℕ, Bool, List, [], ◌∷◌, ◌++◌, Option, None, Some, length, map, nat_le, option_to_list, reverse, vec_capacity, vec_len}
+use Rattle.std.specs.Prelude.{◌≡◌, ◌<◌, ◌≤◌, ℕ, Bool, List, [], ◌∷◌, ◌++◌, Option, None, Some, false, get_or, length, map, nat_le, option_to_list, reverse, true, vec_capacity, vec_len}
 use Rattle.std.specs.Ordering.{is_gt}
-use Rattle.std.specs.List.{AllByRecursion}
-use Rattle.std.specs.declared.cmp.Ordering.TheVariants.{Less}
+use Rattle.std.specs.List.{AllByRecursion, AllWithin}
+use Rattle.std.specs.declared.cmp.Ordering.TheVariants.{Equal, Less}
 use Rattle.roster_types.specs.Keys.{Ascends, Key, key_cmp}
 use Rattle.version_core.specs.Changes.{change_key}
 use Rattle.version_core.specs.Order.{overlaid, put}
@@ -52,6 +52,17 @@ AreUpTo version pasts = AllByRecursion (λ past. AllByRecursion (λ entry. entry
 abbrev pub is_beyond_key : ℕ → Option (List ℕ) → Key → Bool
 is_beyond_key place None key = nat_le place key.0
 is_beyond_key place (Some after) key = is_gt (key_cmp key (place, after))
+
+-- the history at the place has the key
+pub record IsAt (k : Key) (histories : List History) (place : ℕ) : Type 0 where
+  pub bound : place < length histories
+  pub same : (default : History) → key_cmp (history_key (get_or histories place default)) k ≡ Equal
+
+-- the histories before the gap don't stand after all keys of the kind at a place up to the id `after`, and those from it on do
+pub record IsGap (place : ℕ) (after : Option (List ℕ)) (histories : List History) (gap : ℕ) : Type 0 where
+  pub bound : gap ≤ length histories
+  pub before : AllWithin (λ history. is_beyond_key place after (history_key history) ≡ false) histories 0 gap
+  pub beyond : AllWithin (λ history. is_beyond_key place after (history_key history) ≡ true) histories gap (length histories)
 
 -- each entry is older than the version
 abbrev pub AreBefore : ℕ → List Past → Type 0

@@ -11,7 +11,7 @@ ghost use Rattle.version_core.specs.History.{ArePasts, AreUpTo, history_key, pas
 ghost use Rattle.version_core.specs.Version.{IsVersion, row_limit};
 
 use crate::grant_row::{GrantRow, row_of_caller, row_of_token};
-use crate::histories::{following, found};
+use crate::histories::{following, following_near, found, found_near};
 use crate::history::History;
 use crate::ref_index::{RefRun, indexed};
 use crate::references::{Refs, next_referring};
@@ -174,12 +174,34 @@ impl<'a> VersionView<'a> {
         found(self.histories, self.version, kind, id)
     }
 
+    /// As `change`, where `near` is the place at which the last look-up ended: begin with 0. Of rows asked for in their order each
+    /// is found in one step. Any other value is as right, and only slower.
+    pub fn change_near(&self, kind: Kind, id: &Id, near: &mut usize) -> Option<&RowChange>
+        ensures { option_copied result ≡ look_up change_key (place_of_kind kind, id.now) self.now.rows }
+    {
+        found_near(self.histories, self.version, kind, id, near)
+    }
+
     /// The row of this kind with the least id above `after`, or with the least of all, with its owner.
     pub fn next_change(&self, kind: Kind, after: Option<&Id>) -> Option<&RowChange>
         ensures next { option_copied result ≡ find (λ change. is_next kind (option_copied after.entry) change.row) self.now.rows }
         ensures sorted { AreChanges self.now.rows }
     {
         following(self.histories, self.version, kind, after)
+    }
+
+    /// As `next_change`, where `near` is the place at which the last look-up ended: begin with 0. Where `after` is the row found
+    /// last, the next is found in one step. Any other value is as right, and only slower.
+    pub fn next_change_near(
+        &self,
+        kind: Kind,
+        after: Option<&Id>,
+        near: &mut usize,
+    ) -> Option<&RowChange>
+        ensures next { option_copied result ≡ find (λ change. is_next kind (option_copied after.entry) change.row) self.now.rows }
+        ensures sorted { AreChanges self.now.rows }
+    {
+        following_near(self.histories, self.version, kind, after, near)
     }
 
     /// The owner of the row of this kind and id.

@@ -1,22 +1,15 @@
 use Rattle.roster_values.specs.Kinds.{place_of_kind}
-use Rattle.std.proofs.Common.{sym, ◌∙◌, get_or, not, option_copied, arith, rules}
-use Rattle.std.proofs.lemmas.List.Sorted.{IsPartitionPoint-from_clause}
-use Rattle.version_core.specs.History.{history_key, is_beyond_key}
-use Rattle.version_core.specs.declared.history.History.{History}
-use Rattle.version_core.proofs.HistoryNext.{from_not, next_here, none_before, none_from, none_more, parted}
-use Rattle.version_core.proofs.histories.following.Goals as goal
+use Rattle.std.proofs.Common.{sym, ◌∙◌, option_copied, arith}
+use Rattle.version_core.proofs.HistoryNext.{next_here, none_before, none_from, none_more}
+use Rattle.version_core.proofs.histories.following_near.Goals as goal
 
 pub loop-place-init : goal.loop-place-init
 loop-place-init c =
-    let histories = c.args.histories.now in
-    let after = option_copied c.args.after in
-    let k = place_of_kind c.args.kind in
-    let n = c.partition_point-place.result in
-    let split = IsPartitionPoint-from_clause (λ (history : History). not (is_beyond_key k after (history_key history))) histories n c.partition_point-place.ensures.partitioned (parted c.args.version k after histories c.requires) (λ a r f called. (search rules, search rules)) in
+    let gap = c.gap_near-place.ensures in
     record {
-      in_range = c.partition_point-place.ensures.bound;
-      none = none_before c.args.version k after histories c.requires n c.partition_point-place.ensures.bound split.0;
-      beyond = λ i d le lt. from_not (is_beyond_key k after (history_key (get_or histories i d))) (split.1 i d le lt);
+      in_range = gap.bound;
+      none = none_before c.args.version (place_of_kind c.args.kind) (option_copied c.args.after) c.args.histories.now c.requires c.gap_near-place.result gap.bound gap.before;
+      beyond = gap.beyond;
     }
 
 -- the history is of a later kind
