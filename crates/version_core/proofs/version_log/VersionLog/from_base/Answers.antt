@@ -1,4 +1,4 @@
-use Rattle.std.proofs.Common.{◌≡◌, ◌+◌, ◌≤◌, ◌∷◌, [], ℤ, List, None, length, vec_len, sym, ap, subst, ◌∙◌, arith, unwrap_or}
+use Rattle.std.proofs.Common.{◌≡◌, ◌+◌, ◌≤◌, ◌∷◌, [], ℤ, List, None, vec_len, sym, ap, subst, ◌∙◌, arith, unwrap_or}
 use Rattle.std.specs.List.{AllByRecursion}
 use Rattle.version_core.specs.History.{AreHistoriesOf, AreUpTo, pasts_of}
 use Rattle.version_core.specs.Since.{standing}
