@@ -132,17 +132,28 @@ fn sink_of(alloc: Global, failing: &[u64]) -> Result<MemSink, Fail> {
     Ok(MemSink::new(alloc, 8192, failing.to_vec(alloc)?)?)
 }
 
-/// A keeper of the example district and its grants.
-pub fn lake_keeper(alloc: Global) -> Result<MemHub, Fail> {
-    let mut keeper = MemHub::new(alloc, 2);
+// Publishes the example district, and its grants.
+fn fill_lake(alloc: Global, keeper: &mut MemHub) -> Result<(), Fail> {
     let mut sink = sink_of(alloc, &[])?;
-    run_with(alloc, "publish sis=lake", "", &mut keeper, &mut sink)?;
-    run_with(alloc, "grant g.csv", "", &mut keeper, &mut sink)?;
-    Ok(keeper)
+    run_with(alloc, "publish sis=lake", "", keeper, &mut sink)?;
+    run_with(alloc, "grant g.csv", "", keeper, &mut sink)?;
+    Ok(())
 }
 
-/// Runs `ask` over a file of these bytes, and tells the status and the bytes that are wanted from others.
-pub fn assert_stream(
+// A keeper of the example district and its grants.
+fn lake_keeper(alloc: Global) -> Result<MemHub, Fail> {
+    let mut keeper = MemHub::new(alloc, 2);
+    match fill_lake(alloc, &mut keeper) {
+        Ok(()) => Ok(keeper),
+        Err(fail) => {
+            drop(keeper);
+            Err(fail)
+        }
+    }
+}
+
+// Runs `ask` over a file of these bytes, and tells the status and the bytes that are wanted from others.
+fn assert_stream(
     rt: &impl Abort,
     alloc: Global,
     keeper: &mut MemHub,
@@ -159,13 +170,33 @@ pub fn assert_stream(
     Ok(())
 }
 
-#[test]
-fn streams_are_answered(rt: HostRuntime) -> Result<(), Fail> {
-    let mut keeper = lake_keeper(rt.alloc())?;
-    for case in &STREAMS {
-        assert_stream(&rt, rt.alloc(), &mut keeper, case)?;
+fn assert_over(
+    rt: &impl Abort,
+    alloc: Global,
+    keeper: &mut MemHub,
+    cases: &[(&str, u8, &str)],
+) -> Result<(), Fail> {
+    for case in cases {
+        assert_stream(rt, alloc, keeper, case)?;
     }
     Ok(())
+}
+
+/// Runs `ask` over the example district for each of these.
+pub fn assert_streams(
+    rt: &impl Abort,
+    alloc: Global,
+    cases: &[(&str, u8, &str)],
+) -> Result<(), Fail> {
+    let mut keeper = lake_keeper(alloc)?;
+    let asserted = assert_over(rt, alloc, &mut keeper, cases);
+    drop(keeper);
+    asserted
+}
+
+#[test]
+fn streams_are_answered(rt: HostRuntime) -> Result<(), Fail> {
+    assert_streams(&rt, rt.alloc(), &STREAMS)
 }
 
 // Whether the write with this number fails. A front of what is wanted is written then, and else all of it.
@@ -188,16 +219,23 @@ fn assert_cut_off(
     Ok(answered == 1)
 }
 
-#[test]
-fn each_write_may_fail(rt: HostRuntime) -> Result<(), Fail> {
-    let mut keeper = lake_keeper(rt.alloc())?;
+// The number of the last write that fails, where each fails in turn.
+fn last_failed(rt: &impl Abort, alloc: Global, keeper: &mut MemHub) -> Result<u64, Fail> {
     let mut failed = 0;
     for number in 1..1_000 {
-        if !assert_cut_off(&rt, rt.alloc(), &mut keeper, number, &STREAMS[15])? {
+        if !assert_cut_off(rt, alloc, keeper, number, &STREAMS[15])? {
             break;
         }
         failed = number;
     }
-    assert!(rt; failed > 20);
+    Ok(failed)
+}
+
+#[test]
+fn each_write_may_fail(rt: HostRuntime) -> Result<(), Fail> {
+    let mut keeper = lake_keeper(rt.alloc())?;
+    let failed = last_failed(&rt, rt.alloc(), &mut keeper);
+    drop(keeper);
+    assert!(rt; failed? > 20);
     Ok(())
 }

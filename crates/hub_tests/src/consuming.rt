@@ -125,19 +125,33 @@ fn replies_of(alloc: Global, case: &Case) -> Result<Vec<Option<Vec<u8>>>, Fail> 
     Ok(replies)
 }
 
+// What the words print over a new copy and these replies.
+fn told_over(
+    alloc: Global,
+    line: &str,
+    replies: Vec<Option<Vec<u8>>>,
+) -> Result<(u8, String), Fail> {
+    let mut copy = MemCopy::new(alloc);
+    let told = run_with_copy(alloc, line, &mut copy, replies);
+    drop(copy);
+    told
+}
+
+fn assert_ended(rt: &impl Abort, alloc: Global, case: &Case) -> Result<(), Fail> {
+    let (status, line) = told_over(alloc, "sync tok-e 100 1", replies_of(alloc, case)?)?;
+    assert_eq!(rt;
+        (status, line.as_str()),
+        (case.status, case.line),
+        "{}",
+        case.first
+    );
+    Ok(())
+}
+
 #[test]
 fn replies_that_end_it(rt: HostRuntime) -> Result<(), Fail> {
     for case in &CASES {
-        let replies = replies_of(rt.alloc(), case)?;
-        let mut copy = MemCopy::new(rt.alloc());
-        let told = run_with_copy(rt.alloc(), "sync tok-e 100 1", &mut copy, replies)?;
-        drop(copy);
-        assert_eq!(rt;
-            (told.0, told.1.as_str()),
-            (case.status, case.line),
-            "{}",
-            case.first
-        );
+        assert_ended(&rt, rt.alloc(), case)?;
     }
     Ok(())
 }
@@ -191,9 +205,8 @@ fn numbers(alloc: Global, numbers: &[u64]) -> Result<Vec<u64>, Fail> {
 
 // A keeper of a hub that fails when the hub is opened.
 fn failing_hub(alloc: Global) -> Result<MemHub, Fail> {
-    let none = Vec::new(alloc);
-    let other = Vec::new(alloc);
-    Ok(MemHub::new(alloc, 2).with_failures(none, other, numbers(alloc, &[1])?))
+    let loads = numbers(alloc, &[1])?;
+    Ok(MemHub::new(alloc, 2).with_failures(Vec::new(alloc), Vec::new(alloc), loads))
 }
 
 fn assert_turn(
@@ -215,16 +228,28 @@ fn assert_turn(
     Ok(())
 }
 
+fn assert_turns(
+    rt: &impl Abort,
+    alloc: Global,
+    keeper: &mut MemHub,
+    copy: &mut MemCopy,
+) -> Result<(), Fail> {
+    let mut link = PeerLink::new(alloc, pages(alloc)?);
+    for turn in &TURNS {
+        assert_turn(rt, alloc, keeper, copy, &mut link, turn)?;
+    }
+    Ok(())
+}
+
 // The hub of the program isn't opened, so that its keeper's failures don't show.
 #[test]
 fn what_is_copied_is_listed(rt: HostRuntime) -> Result<(), Fail> {
     let mut keeper = failing_hub(rt.alloc())?;
     let mut copy = MemCopy::new(rt.alloc());
-    let mut link = PeerLink::new(rt.alloc(), pages(rt.alloc())?);
-    for turn in &TURNS {
-        assert_turn(&rt, rt.alloc(), &mut keeper, &mut copy, &mut link, turn)?;
-    }
-    Ok(())
+    let asserted = assert_turns(&rt, rt.alloc(), &mut keeper, &mut copy);
+    drop(copy);
+    drop(keeper);
+    asserted
 }
 
 // Which call of a copy's keeper fails: a commit before or after it acted, or a read.
@@ -239,21 +264,28 @@ enum Call {
 fn copy_with(alloc: Global, call: Call) -> Result<MemCopy, Fail> {
     let none = Vec::new(alloc);
     let other = Vec::new(alloc);
-    let copy = MemCopy::new(alloc);
-    Ok(match call {
-        Call::Before(n) => copy.with_failures(numbers(alloc, &[n])?, none, other),
-        Call::After(n) => copy.with_failures(none, numbers(alloc, &[n])?, other),
-        Call::Read(n) => copy.with_failures(none, other, numbers(alloc, &[n])?),
-    })
+    let (before, after, reads) = match call {
+        Call::Before(n) => (numbers(alloc, &[n])?, none, other),
+        Call::After(n) => (none, numbers(alloc, &[n])?, other),
+        Call::Read(n) => (none, other, numbers(alloc, &[n])?),
+    };
+    Ok(MemCopy::new(alloc).with_failures(before, after, reads))
+}
+
+// What the words print over an empty copy of which the call fails.
+fn told_failing(alloc: Global, call: Call, line: &str) -> Result<(u8, String), Fail> {
+    let pages = pages(alloc)?;
+    let mut copy = copy_with(alloc, call)?;
+    let told = run_with_copy(alloc, line, &mut copy, pages);
+    drop(copy);
+    told
 }
 
 // Runs the words over an empty copy of which the call fails, and tells the status and the text that are wanted from others.
 fn assert_failing(rt: &impl Abort, alloc: Global, call: Call, line: &str) -> Result<(), Fail> {
-    let mut copy = copy_with(alloc, call)?;
-    let told = run_with_copy(alloc, line, &mut copy, pages(alloc)?)?;
-    drop(copy);
+    let (status, text) = told_failing(alloc, call, line)?;
     assert_eq!(rt;
-        (told.0, told.1.as_str()),
+        (status, text.as_str()),
         (6, "copy store failed\n"),
         "{line}"
     );
@@ -272,23 +304,22 @@ fn each_call_of_the_copy_may_fail(rt: HostRuntime) -> Result<(), Fail> {
     assert_failing(&rt, rt.alloc(), Call::Read(1), "list orgs")
 }
 
-// A copy whose run is the last one.
-fn last_copy(alloc: Global) -> Result<MemCopy, Fail> {
-    let mut copy = MemCopy::new(alloc);
+// What a synchronisation prints over the copy, once its run is the last one.
+fn told_behind_last(alloc: Global, copy: &mut MemCopy) -> Result<(u8, String), Fail> {
     copy.commit(alloc, CopyChange::Run { run: LAST })?;
-    Ok(copy)
+    run_with_copy(alloc, "sync tok-e 100 1", copy, pages(alloc)?)
+}
+
+fn told_last(alloc: Global) -> Result<(u8, String), Fail> {
+    let mut copy = MemCopy::new(alloc);
+    let told = told_behind_last(alloc, &mut copy);
+    drop(copy);
+    told
 }
 
 #[test]
 fn the_last_run_is_over(rt: HostRuntime) -> Result<(), Fail> {
-    let mut copy = last_copy(rt.alloc())?;
-    let told = run_with_copy(
-        rt.alloc(),
-        "sync tok-e 100 1",
-        &mut copy,
-        pages(rt.alloc())?,
-    )?;
-    drop(copy);
-    assert_eq!(rt; (told.0, told.1.as_str()), (16, "last number\n"));
+    let (status, text) = told_last(rt.alloc())?;
+    assert_eq!(rt; (status, text.as_str()), (16, "last number\n"));
     Ok(())
 }

@@ -256,12 +256,10 @@ fn assert_next(rt: &impl Abort, alloc: Global, keeper: &mut MemHub, run: &Run) -
 }
 
 fn keeper_of(alloc: Global, before: &[u64], after: &[u64], loads: &[u64]) -> Result<MemHub, Fail> {
-    let keeper = MemHub::new(alloc, 2);
-    Ok(keeper.with_failures(
-        before.to_vec(alloc)?,
-        after.to_vec(alloc)?,
-        loads.to_vec(alloc)?,
-    ))
+    let before = before.to_vec(alloc)?;
+    let after = after.to_vec(alloc)?;
+    let loads = loads.to_vec(alloc)?;
+    Ok(MemHub::new(alloc, 2).with_failures(before, after, loads))
 }
 
 fn assert_runs(
@@ -280,7 +278,9 @@ fn assert_runs(
 fn runs_over_one_keeper(rt: HostRuntime) -> Result<(), Fail> {
     for (before, after, loads, runs) in &RUNS {
         let mut keeper = keeper_of(rt.alloc(), before, after, loads)?;
-        assert_runs(&rt, rt.alloc(), &mut keeper, runs)?;
+        let asserted = assert_runs(&rt, rt.alloc(), &mut keeper, runs);
+        drop(keeper);
+        asserted?;
     }
     Ok(())
 }

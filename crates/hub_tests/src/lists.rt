@@ -1,6 +1,6 @@
 //! The worked reads of lists: their requests, and the bytes of their replies, which were made outside the program.
 
-use crate::asking::{assert_stream, lake_keeper};
+use crate::asking::assert_streams;
 use std::test::Fail;
 
 // The bytes of a file, the status of `ask`, and what it writes: a limit above the greatest, an offset at the end, two pages of a filtered
@@ -40,9 +40,5 @@ static PAGES: [(&str, u8, &str); 6] = [
 
 #[test]
 fn lists_are_answered(rt: HostRuntime) -> Result<(), Fail> {
-    let mut keeper = lake_keeper(rt.alloc())?;
-    for case in &PAGES {
-        assert_stream(&rt, rt.alloc(), &mut keeper, case)?;
-    }
-    Ok(())
+    assert_streams(&rt, rt.alloc(), &PAGES)
 }

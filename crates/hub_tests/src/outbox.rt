@@ -113,46 +113,63 @@ fn replies(alloc: Global, reply: &str) -> Result<Vec<Option<Vec<u8>>>, Fail> {
     Ok(replies)
 }
 
-fn assert_printed(
+// Runs the words with a new keeper of a hub, and gives the status.
+fn run_turn(
+    alloc: Global,
+    line: &str,
+    folder: &mut MemFolder,
+    copy: &mut MemCopy,
+    link: &mut PeerLink,
+    sink: &mut MemSink,
+) -> Result<u8, Fail> {
+    let mut keeper = MemHub::new(alloc, 2);
+    let status = run_among(alloc, line, folder, &mut keeper, copy, link, sink);
+    drop(keeper);
+    status
+}
+
+fn assert_turn(
     rt: &impl Abort,
     alloc: Global,
     folder: &mut MemFolder,
     copy: &mut MemCopy,
-    link: &mut PeerLink,
-    line: &str,
-    want: (u8, &str),
+    turn: &Turn,
 ) -> Result<(), Fail> {
-    let mut keeper = MemHub::new(alloc, 2);
+    let (line, reply, status, want) = turn;
+    let mut link = PeerLink::new(alloc, replies(alloc, reply)?);
     let mut sink = MemSink::new(alloc, 8192, Vec::new(alloc))?;
-    let status = run_among(alloc, line, folder, &mut keeper, copy, link, &mut sink)?;
+    let answered = run_turn(alloc, line, folder, copy, &mut link, &mut sink)?;
     assert_eq!(rt;
-        (status, str::from_utf8(sink.written())),
-        (want.0, Ok(want.1)),
+        (answered, str::from_utf8(sink.written())),
+        (*status, Ok(*want)),
         "{line}"
     );
     Ok(())
 }
 
-#[test]
-fn replies_that_leave_a_write_waiting(rt: HostRuntime) -> Result<(), Fail> {
-    let alloc = rt.alloc();
-    let tables: [&[Turn]; 2] = [&WAITING, &REFUSED];
-    for turns in &tables {
-        let mut folder = MemFolder::new(files(alloc)?, Vec::new(alloc));
-        let mut copy = MemCopy::new(alloc);
-        for (line, reply, status, want) in *turns {
-            let mut link = PeerLink::new(alloc, replies(alloc, reply)?);
-            assert_printed(
-                &rt,
-                alloc,
-                &mut folder,
-                &mut copy,
-                &mut link,
-                line,
-                (*status, want),
-            )?;
-        }
-        drop(copy);
+fn assert_turns(
+    rt: &impl Abort,
+    alloc: Global,
+    copy: &mut MemCopy,
+    turns: &[Turn],
+) -> Result<(), Fail> {
+    let mut folder = MemFolder::new(files(alloc)?, Vec::new(alloc));
+    for turn in turns {
+        assert_turn(rt, alloc, &mut folder, copy, turn)?;
     }
     Ok(())
+}
+
+// The turns, over a new copy.
+fn assert_told(rt: &impl Abort, alloc: Global, turns: &[Turn]) -> Result<(), Fail> {
+    let mut copy = MemCopy::new(alloc);
+    let asserted = assert_turns(rt, alloc, &mut copy, turns);
+    drop(copy);
+    asserted
+}
+
+#[test]
+fn replies_that_leave_a_write_waiting(rt: HostRuntime) -> Result<(), Fail> {
+    assert_told(&rt, rt.alloc(), &WAITING)?;
+    assert_told(&rt, rt.alloc(), &REFUSED)
 }

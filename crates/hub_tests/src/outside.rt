@@ -101,6 +101,20 @@ pub fn run_between(
     run_among(alloc, line, &mut folder, keeper, copy, link, sink)
 }
 
+// The status and the text of the words between spaces over a keeper, a copy and a link.
+fn told_between(
+    alloc: Global,
+    line: &str,
+    keeper: &mut MemHub,
+    copy: &mut MemCopy,
+    link: &mut PeerLink,
+) -> Result<(u8, String), Fail> {
+    let mut sink = MemSink::new(alloc, 8192, Vec::new(alloc))?;
+    let status = run_between(alloc, line, keeper, copy, link, &mut sink)?;
+    let text = String::from_str(alloc, str::from_utf8(sink.written())?)?;
+    Ok((status, text))
+}
+
 /// The status and the text of the words between spaces over a copy and these replies.
 pub fn run_with_copy(
     alloc: Global,
@@ -110,12 +124,9 @@ pub fn run_with_copy(
 ) -> Result<(u8, String), Fail> {
     let mut keeper = MemHub::new(alloc, 2);
     let mut link = PeerLink::new(alloc, replies);
-    let mut sink = MemSink::new(alloc, 8192, Vec::new(alloc))?;
-    let status = run_between(alloc, line, &mut keeper, copy, &mut link, &mut sink)?;
-    Ok((
-        status,
-        String::from_str(alloc, str::from_utf8(sink.written())?)?,
-    ))
+    let told = told_between(alloc, line, &mut keeper, copy, &mut link);
+    drop(keeper);
+    told
 }
 
 /// The same, over a new keeper.
@@ -125,7 +136,10 @@ pub fn run_line(
     folder: &mut MemFolder,
     sink: &mut MemSink,
 ) -> Result<u8, Fail> {
-    run_over(alloc, line, folder, &mut MemHub::new(alloc, 10_000), sink)
+    let mut keeper = MemHub::new(alloc, 10_000);
+    let status = run_over(alloc, line, folder, &mut keeper, sink);
+    drop(keeper);
+    status
 }
 
 /// Runs the words over the files, and tells the status and the text that are wanted from others.

@@ -105,6 +105,15 @@ static RUNS: [Run; 7] = [
     Run::Page(100, 200, MIDDLE_LINKS),
 ];
 
+// The reply with the page behind an offset, of the users up to a number.
+fn reply(alloc: Global, offset: u32, last: u32, links: &str) -> Result<String, Fail> {
+    let body = body(alloc, offset.saturating_add(1), last.saturating_add(1))?;
+    let len = body.as_str().len();
+    Ok(format!(in alloc;
+        "HTTP/1.1 200 OK\r\nContent-Type: application/json\r\nX-Total-Count: 250\r\nLink: {links}\r\nX-Hub-Version: 3\r\nContent-Length: {len}\r\n\r\n{body}"
+    )?)
+}
+
 // The page behind an offset is asked for, and is that of the users up to a number.
 fn assert_page(
     rt: &impl Abort,
@@ -117,11 +126,7 @@ fn assert_page(
     let stream = format!(in alloc;
         "GET /ims/oneroster/v1p1/users?limit=100&offset={offset}&hubVersion=3 HTTP/1.1\r\nHost: hub\r\nAuthorization: Bearer tok-a\r\n\r\n"
     )?;
-    let body = body(alloc, offset.saturating_add(1), last.saturating_add(1))?;
-    let len = body.as_str().len();
-    let want = format!(in alloc;
-        "HTTP/1.1 200 OK\r\nContent-Type: application/json\r\nX-Total-Count: 250\r\nLink: {links}\r\nX-Hub-Version: 3\r\nContent-Length: {len}\r\n\r\n{body}"
-    )?;
+    let want = reply(alloc, offset, last, links)?;
     let (status, sink) = ran(alloc, "ask r.http", stream.as_str(), keeper)?;
     assert_eq!(rt;
         (status, str::from_utf8(sink.written())),
@@ -147,16 +152,24 @@ fn assert_printed(
     Ok(())
 }
 
+fn assert_run(rt: &impl Abort, alloc: Global, keeper: &mut MemHub, run: &Run) -> Result<(), Fail> {
+    match run {
+        Run::Prints(line, want) => assert_printed(rt, alloc, keeper, line, want),
+        Run::Page(offset, last, links) => assert_page(rt, alloc, keeper, *offset, *last, links),
+    }
+}
+
+fn assert_runs(rt: &impl Abort, alloc: Global, keeper: &mut MemHub) -> Result<(), Fail> {
+    for run in &RUNS {
+        assert_run(rt, alloc, keeper, run)?;
+    }
+    Ok(())
+}
+
 #[test]
 fn pages_of_a_version_stay(rt: HostRuntime) -> Result<(), Fail> {
     let mut keeper = MemHub::new(rt.alloc(), 2);
-    for run in &RUNS {
-        match run {
-            Run::Prints(line, want) => assert_printed(&rt, rt.alloc(), &mut keeper, line, want)?,
-            Run::Page(offset, last, links) => {
-                assert_page(&rt, rt.alloc(), &mut keeper, *offset, *last, links)?
-            }
-        }
-    }
-    Ok(())
+    let asserted = assert_runs(&rt, rt.alloc(), &mut keeper);
+    drop(keeper);
+    asserted
 }

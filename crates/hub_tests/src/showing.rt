@@ -121,26 +121,39 @@ fn each_kind_is_shown(rt: HostRuntime) -> Result<(), Fail> {
 }
 
 // The call of the folder that fails, the sink's room, its write that fails, the status, and what is written.
-static FAULTS: [(&[u64], u64, &[u64], u8, &str); 4] = [
+type Fault = (&'static [u64], u64, &'static [u64], u8, &'static str);
+
+static FAULTS: [Fault; 4] = [
     (&[1], 100, &[], 3, "folder failed\n"),
     (&[], 100, &[1], 1, "{\"orgs"),
     (&[], 5, &[], 1, "{\"org"),
     (&[1], 100, &[1], 1, "folder "),
 ];
 
+// A folder with a header of orgs, of which calls fail.
+fn failing_folder(alloc: Global, failing: &[u64]) -> Result<MemFolder, Fail> {
+    let failing = failing.to_vec(alloc)?;
+    let files = one_file(alloc, "orgs.csv", "sourcedId,name,type\n")?;
+    Ok(MemFolder::new(files, failing))
+}
+
+fn assert_fault(rt: &impl Abort, alloc: Global, fault: &Fault) -> Result<(), Fail> {
+    let (failing, room, listed, status, want) = fault;
+    let mut sink = MemSink::new(alloc, *room, listed.to_vec(alloc)?)?;
+    let mut folder = failing_folder(alloc, failing)?;
+    let answered = run_line(alloc, "show orgs", &mut folder, &mut sink)?;
+    assert_eq!(rt;
+        (answered, sink.written()),
+        (*status, want.as_bytes()),
+        "{want}"
+    );
+    Ok(())
+}
+
 #[test]
 fn faults_of_the_outside(rt: HostRuntime) -> Result<(), Fail> {
-    let alloc = rt.alloc();
-    for (failing, room, listed, status, want) in &FAULTS {
-        let files = one_file(alloc, "orgs.csv", "sourcedId,name,type\n")?;
-        let mut folder = MemFolder::new(files, failing.to_vec(alloc)?);
-        let mut sink = MemSink::new(alloc, *room, listed.to_vec(alloc)?)?;
-        let answered = run_line(alloc, "show orgs", &mut folder, &mut sink)?;
-        assert_eq!(rt;
-            (answered, sink.written()),
-            (*status, want.as_bytes()),
-            "{want}"
-        );
+    for fault in &FAULTS {
+        assert_fault(&rt, rt.alloc(), fault)?;
     }
     Ok(())
 }
