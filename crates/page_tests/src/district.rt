@@ -77,11 +77,21 @@ pub fn put_line(
     }
 }
 
+fn put_all(rt: &impl Abort, alloc: Global, rows: &mut SortedRows) -> Result<(), Fail> {
+    for (kind, line) in &LINES {
+        put_line(rt, alloc, rows, *kind, line)?;
+    }
+    Ok(())
+}
+
 /// The rows of the district.
 pub fn district(rt: &impl Abort, alloc: Global) -> Result<SortedRows, Fail> {
     let mut rows = SortedRows::new(alloc);
-    for (kind, line) in &LINES {
-        put_line(rt, alloc, &mut rows, *kind, line)?;
+    match put_all(rt, alloc, &mut rows) {
+        Ok(()) => Ok(rows),
+        Err(fail) => {
+            drop(rows);
+            Err(fail)
+        }
     }
-    Ok(rows)
 }

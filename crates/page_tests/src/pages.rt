@@ -64,18 +64,35 @@ fn line_of(alloc: Global, page: Option<Page>) -> Result<String, Fail> {
     Ok(line)
 }
 
-// What is shown of a path and a query.
-fn shown<R: Refs>(
+// The page that a path and a query ask for.
+fn page_of<R: Refs>(
     rt: &impl Abort,
     alloc: Global,
     router: &PathRouter,
     rows: &R,
     path: &str,
     query: &str,
-) -> Result<String, Fail> {
+) -> Result<Option<Page>, Fail> {
     let path = path_of(rt, alloc, router, path)?;
     let query = query_of(rt, alloc, &path, query)?;
-    line_of(alloc, page(alloc, rows, VERSION, &path, &query)?)
+    let page = page(alloc, rows, VERSION, &path, &query);
+    drop(query);
+    Ok(page?)
+}
+
+// What is shown of a path and a query is this.
+fn assert_shown<R: Refs>(
+    rt: &impl Abort,
+    alloc: Global,
+    router: &PathRouter,
+    rows: &R,
+    path: &str,
+    query: &str,
+    want: &str,
+) -> Result<(), Fail> {
+    let line = line_of(alloc, page_of(rt, alloc, router, rows, path, query)?)?;
+    assert_eq!(rt; line.as_str(), want);
+    Ok(())
 }
 
 // Paths, and the rows that they list.
@@ -126,16 +143,26 @@ static LISTS: [(&str, &str); 42] = [
     ("schools/x/classes/k1/students", "no object"),
 ];
 
+fn assert_lists<R: Refs>(
+    rt: &impl Abort,
+    alloc: Global,
+    router: &PathRouter,
+    rows: &R,
+) -> Result<(), Fail> {
+    for (path, want) in &LISTS {
+        assert_shown(rt, alloc, router, rows, path, "", want)?;
+    }
+    Ok(())
+}
+
 #[test]
 fn paths_list_their_rows(rt: HostRuntime) -> Result<(), Fail> {
     let alloc = rt.alloc();
     let router = PathRouter::new(alloc)?;
     let rows = district(&rt, alloc)?;
-    for (path, want) in &LISTS {
-        let line = shown(&rt, alloc, &router, &rows, path, "")?;
-        assert_eq!(rt; line.as_str(), *want);
-    }
-    Ok(())
+    let asserted = assert_lists(&rt, alloc, &router, &rows);
+    drop(rows);
+    asserted
 }
 
 // Queries on users, and what is shown.
@@ -161,16 +188,26 @@ static QUERIES: [(&str, &str); 14] = [
     ),
 ];
 
+fn assert_queries<R: Refs>(
+    rt: &impl Abort,
+    alloc: Global,
+    router: &PathRouter,
+    rows: &R,
+) -> Result<(), Fail> {
+    for (query, want) in &QUERIES {
+        assert_shown(rt, alloc, router, rows, "users", query, want)?;
+    }
+    Ok(())
+}
+
 #[test]
 fn queries_choose_and_order(rt: HostRuntime) -> Result<(), Fail> {
     let alloc = rt.alloc();
     let router = PathRouter::new(alloc)?;
     let rows = district(&rt, alloc)?;
-    for (query, want) in &QUERIES {
-        let line = shown(&rt, alloc, &router, &rows, "users", query)?;
-        assert_eq!(rt; line.as_str(), *want);
-    }
-    Ok(())
+    let asserted = assert_queries(&rt, alloc, &router, &rows);
+    drop(rows);
+    asserted
 }
 
 // The row that a path names.
@@ -198,16 +235,28 @@ static OBJECTS: [(&str, &str); 9] = [
     ("results/x", "no object"),
 ];
 
+fn assert_objects<R: Refs>(
+    rt: &impl Abort,
+    alloc: Global,
+    router: &PathRouter,
+    rows: &R,
+) -> Result<(), Fail> {
+    for (text, want) in &OBJECTS {
+        let path = path_of(rt, alloc, router, text)?;
+        let line = single_line(alloc, rows, &path)?;
+        assert_eq!(rt; line.as_str(), *want);
+    }
+    Ok(())
+}
+
 #[test]
 fn paths_name_their_objects(rt: HostRuntime) -> Result<(), Fail> {
     let alloc = rt.alloc();
     let router = PathRouter::new(alloc)?;
     let rows = district(&rt, alloc)?;
-    for (text, want) in &OBJECTS {
-        let path = path_of(&rt, alloc, &router, text)?;
-        assert_eq!(rt; single_line(alloc, &rows, &path)?.as_str(), *want);
-    }
-    Ok(())
+    let asserted = assert_objects(&rt, alloc, &router, &rows);
+    drop(rows);
+    asserted
 }
 
 // The one school of that id.
@@ -234,22 +283,45 @@ static SEEN: [(&str, &str); 6] = [
     ("classes/k2/results", "no object"),
 ];
 
+// The page that a path asks for of what a grant at the schools sees.
+fn seen_page_of<R: Refs>(
+    rt: &impl Abort,
+    alloc: Global,
+    router: &PathRouter,
+    rows: &R,
+    schools: &Schools,
+    path: &str,
+) -> Result<Option<Page>, Fail> {
+    let path = path_of(rt, alloc, router, path)?;
+    let query = query_of(rt, alloc, &path, "")?;
+    let page = seen_page(alloc, rows, schools, VERSION, &path, &query);
+    drop(query);
+    Ok(page?)
+}
+
+fn assert_seen<R: Refs>(
+    rt: &impl Abort,
+    alloc: Global,
+    router: &PathRouter,
+    rows: &R,
+) -> Result<(), Fail> {
+    let schools = school(rt, alloc, "s1")?;
+    for (path, want) in &SEEN {
+        let page = seen_page_of(rt, alloc, router, rows, &schools, path)?;
+        let line = line_of(alloc, page)?;
+        assert_eq!(rt; line.as_str(), *want);
+    }
+    Ok(())
+}
+
 #[test]
 fn seen_rows_are_listed(rt: HostRuntime) -> Result<(), Fail> {
     let alloc = rt.alloc();
     let router = PathRouter::new(alloc)?;
     let rows = district(&rt, alloc)?;
-    let schools = school(&rt, alloc, "s1")?;
-    for (text, want) in &SEEN {
-        let path = path_of(&rt, alloc, &router, text)?;
-        let query = query_of(&rt, alloc, &path, "")?;
-        let line = line_of(
-            alloc,
-            seen_page(alloc, &rows, &schools, VERSION, &path, &query)?,
-        )?;
-        assert_eq!(rt; line.as_str(), *want);
-    }
-    Ok(())
+    let asserted = assert_seen(&rt, alloc, &router, &rows);
+    drop(rows);
+    asserted
 }
 
 fn word(rel: Rel) -> &'static str {
@@ -285,10 +357,9 @@ fn linked<R: Refs>(
     path: &str,
     query: &str,
 ) -> Result<String, Fail> {
-    let path = path_of(rt, alloc, router, path)?;
-    let query = query_of(rt, alloc, &path, query)?;
+    let page = page_of(rt, alloc, router, rows, path, query)?;
     let mut lines = String::new(alloc);
-    if let Some(page) = page(alloc, rows, VERSION, &path, &query)? {
+    if let Some(page) = page {
         push_links(&mut lines, page.links.as_slice())?;
     }
     Ok(lines)
@@ -336,14 +407,25 @@ last schools/s1/classes/k1/enrollments?limit=1000&offset=0&filter=role%3D%27stud
     ("schools/x/classes", "", ""),
 ];
 
+fn assert_links<R: Refs>(
+    rt: &impl Abort,
+    alloc: Global,
+    router: &PathRouter,
+    rows: &R,
+) -> Result<(), Fail> {
+    for (path, query, want) in &LINKS {
+        let lines = linked(rt, alloc, router, rows, path, query)?;
+        assert_eq!(rt; lines.as_str(), *want);
+    }
+    Ok(())
+}
+
 #[test]
 fn pages_name_the_others(rt: HostRuntime) -> Result<(), Fail> {
     let alloc = rt.alloc();
     let router = PathRouter::new(alloc)?;
     let rows = district(&rt, alloc)?;
-    for (path, query, want) in &LINKS {
-        let lines = linked(&rt, alloc, &router, &rows, path, query)?;
-        assert_eq!(rt; lines.as_str(), *want);
-    }
-    Ok(())
+    let asserted = assert_links(&rt, alloc, &router, &rows);
+    drop(rows);
+    asserted
 }

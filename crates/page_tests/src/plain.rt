@@ -103,13 +103,28 @@ fn plain_line(
     Ok(line)
 }
 
-fn rows_of(rt: &impl Abort, alloc: Global, roster: &[Person]) -> Result<SortedRows, Fail> {
-    let mut rows = SortedRows::new(alloc);
+fn put_roster(
+    rt: &impl Abort,
+    alloc: Global,
+    rows: &mut SortedRows,
+    roster: &[Person],
+) -> Result<(), Fail> {
     for (id, given, family, role) in roster {
         let line = format!(in alloc; "{id};;;true;s1;{role};{id};;{given};{family};;;;;;;")?;
-        put_line(rt, alloc, &mut rows, Kind::Users, line.as_str())?;
+        put_line(rt, alloc, rows, Kind::Users, line.as_str())?;
     }
-    Ok(rows)
+    Ok(())
+}
+
+fn rows_of(rt: &impl Abort, alloc: Global, roster: &[Person]) -> Result<SortedRows, Fail> {
+    let mut rows = SortedRows::new(alloc);
+    match put_roster(rt, alloc, &mut rows, roster) {
+        Ok(()) => Ok(rows),
+        Err(fail) => {
+            drop(rows);
+            Err(fail)
+        }
+    }
 }
 
 // Adds the ids of a page.
@@ -122,7 +137,9 @@ fn push_page<R: Refs>(
     query: &str,
 ) -> Result<(), Fail> {
     let query = query_of(rt, alloc, path, query)?;
-    match page(alloc, rows, VERSION, path, &query)? {
+    let page = page(alloc, rows, VERSION, path, &query);
+    drop(query);
+    match page? {
         Some(page) => push_ids(line, page.rows.as_slice()),
         None => Ok(()),
     }
@@ -147,15 +164,27 @@ fn joined_line<R: Refs>(
     Ok(line)
 }
 
-// The pages of one roster, for every query.
-fn compare(rt: &impl Abort, alloc: Global, path: &Path, roster: &[Person]) -> Result<(), Fail> {
-    let rows = rows_of(rt, alloc, roster)?;
+// The pages of the rows of one roster, for every query.
+fn compare_over<R: Refs>(
+    rt: &impl Abort,
+    alloc: Global,
+    rows: &R,
+    path: &Path,
+    roster: &[Person],
+) -> Result<(), Fail> {
     for (text, word, column, descends) in &QUERIES {
-        let joined = joined_line(rt, alloc, &rows, path, text)?;
+        let joined = joined_line(rt, alloc, rows, path, text)?;
         let plain = plain_line(alloc, roster, word, *column, *descends)?;
         assert_eq!(rt; joined.as_str(), plain.as_str(), "{text}");
     }
     Ok(())
+}
+
+fn compare(rt: &impl Abort, alloc: Global, path: &Path, roster: &[Person]) -> Result<(), Fail> {
+    let rows = rows_of(rt, alloc, roster)?;
+    let compared = compare_over(rt, alloc, &rows, path, roster);
+    drop(rows);
+    compared
 }
 
 #[test]
