@@ -8,7 +8,7 @@ use http_wire::{WireReader, write_reply};
 use hub_paths::PathRouter;
 use outside_ports::{MemSink, MemSource};
 use rest_provider::answer_read;
-use status_info::{Request, Verb};
+use status_info::{Reply, Request, Verb};
 use std::alloc::Global;
 use std::process::Abort;
 use std::test::Fail;
@@ -34,6 +34,27 @@ fn writes(verb: Verb) -> bool
     }
 }
 
+fn reply_to(
+    rt: &impl Abort,
+    alloc: Global,
+    router: &PathRouter,
+    table: &Table,
+    text: &str,
+) -> Result<Reply, Fail> {
+    let request = request(rt, alloc, text)?;
+    assert!(rt; !writes(request.verb));
+    let reply = answer_read(alloc, router, table, &request);
+    drop(request);
+    Ok(reply)
+}
+
+/// What is written for a reply.
+pub fn written(alloc: Global, reply: &Reply) -> Result<MemSink, Fail> {
+    let mut sink = MemSink::new(alloc, 4096, Vec::new(alloc))?;
+    write_reply(&mut sink, reply)?;
+    Ok(sink)
+}
+
 // What is written for a request.
 fn replied(
     rt: &impl Abort,
@@ -42,12 +63,10 @@ fn replied(
     table: &Table,
     text: &str,
 ) -> Result<MemSink, Fail> {
-    let request = request(rt, alloc, text)?;
-    assert!(rt; !writes(request.verb));
-    let reply = answer_read(alloc, router, table, &request);
-    let mut sink = MemSink::new(alloc, 4096, Vec::new(alloc))?;
-    write_reply(&mut sink, &reply)?;
-    Ok(sink)
+    let reply = reply_to(rt, alloc, router, table, text)?;
+    let sink = written(alloc, &reply);
+    drop(reply);
+    sink
 }
 
 // Requests, and what is written for them.
@@ -103,14 +122,25 @@ static REPLIES: [(&str, &str); 10] = [
     ),
 ];
 
+fn assert_replies(
+    rt: &impl Abort,
+    alloc: Global,
+    router: &PathRouter,
+    table: &Table,
+) -> Result<(), Fail> {
+    for (text, want) in &REPLIES {
+        let sink = replied(rt, alloc, router, table, text)?;
+        assert_eq!(rt; sink.written(), want.as_bytes(), "{text}");
+    }
+    Ok(())
+}
+
 #[test]
 fn reads_are_answered(rt: HostRuntime) -> Result<(), Fail> {
     let alloc = rt.alloc();
     let router = PathRouter::new(alloc)?;
     let table = table(&rt, alloc)?;
-    for (text, want) in &REPLIES {
-        let sink = replied(&rt, alloc, &router, &table, text)?;
-        assert_eq!(rt; sink.written(), want.as_bytes(), "{text}");
-    }
-    Ok(())
+    let asserted = assert_replies(&rt, alloc, &router, &table);
+    drop(table);
+    asserted
 }

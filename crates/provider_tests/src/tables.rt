@@ -2,6 +2,8 @@
 
 ghost use Rattle.std.specs.Prelude.{IfOk};
 ghost use Rattle.hub_core.specs.Standing.{KeeperFits};
+ghost use Rattle.set_changes.specs.Applying.{LeadsOn};
+ghost use Rattle.version_core.specs.Version.{newest_of};
 
 use csv_sets::read_set;
 use grant_changes::granting::grants_change;
@@ -17,6 +19,7 @@ use set_changes::publish::set_change;
 use std::alloc::Global;
 use std::process::Abort;
 use std::test::Fail;
+use version_core::change::Change;
 use version_core::table::Table;
 
 static FILES: [(&str, &str); 2] = [
@@ -74,14 +77,25 @@ pub fn moment(rt: &impl Abort) -> Moment {
     }
 }
 
-// The version that a set leads to.
-fn publish(rt: &impl Abort, alloc: Global, table: &mut Table, set: RosterSet) -> Result<(), Fail> {
-    match set_change(alloc, table, set, moment(rt)) {
-        Ok(Some(change)) => {
-            table.reserve(&change)?;
+fn add(table: &mut Table, change: Change) -> Result<(), Fail>
+    requires { LeadsOn (newest_of table.old) change }
+{
+    match table.reserve(&change) {
+        Ok(()) => {
             table.add(change);
             Ok(())
         }
+        Err(error) => {
+            drop(change);
+            Err(Fail::from(error))
+        }
+    }
+}
+
+// The version that a set leads to.
+fn publish(rt: &impl Abort, alloc: Global, table: &mut Table, set: RosterSet) -> Result<(), Fail> {
+    match set_change(alloc, table, set, moment(rt)) {
+        Ok(Some(change)) => add(table, change),
         Ok(None) | Err(Refusal::Fault(_)) => panic!(rt; "no version"),
         Err(Refusal::NoMemory) => panic!(rt; "no memory"),
     }
@@ -90,11 +104,7 @@ fn publish(rt: &impl Abort, alloc: Global, table: &mut Table, set: RosterSet) ->
 // The version that grants lead to.
 fn grant(rt: &impl Abort, alloc: Global, table: &mut Table, list: &GrantList) -> Result<(), Fail> {
     match grants_change(alloc, table, list, moment(rt)) {
-        Ok(Some(change)) => {
-            table.reserve(&change)?;
-            table.add(change);
-            Ok(())
-        }
+        Ok(Some(change)) => add(table, change),
         Ok(None) | Err(Refusal::Fault(_)) => panic!(rt; "no version"),
         Err(Refusal::NoMemory) => panic!(rt; "no memory"),
     }
@@ -108,12 +118,21 @@ pub fn grants(rt: &impl Abort, alloc: Global) -> Result<GrantList, Fail> {
     }
 }
 
+fn fill_table(rt: &impl Abort, alloc: Global, table: &mut Table) -> Result<(), Fail> {
+    publish(rt, alloc, table, set(rt, alloc)?)?;
+    grant(rt, alloc, table, &grants(rt, alloc)?)
+}
+
 /// The table: rows in version 1, grants in version 2.
 pub fn table(rt: &impl Abort, alloc: Global) -> Result<Table, Fail> {
     let mut table = Table::new(alloc, 1);
-    publish(rt, alloc, &mut table, set(rt, alloc)?)?;
-    grant(rt, alloc, &mut table, &grants(rt, alloc)?)?;
-    Ok(table)
+    match fill_table(rt, alloc, &mut table) {
+        Ok(()) => Ok(table),
+        Err(fail) => {
+            drop(table);
+            Err(fail)
+        }
+    }
 }
 
 // Rows in version 1, grants in version 2.
@@ -126,8 +145,8 @@ fn fill<H: HubKeeper>(
     requires { KeeperFits (H.stands_for keeper.old) hub.old }
     ensures { KeeperFits (H.stands_for keeper.new) hub.new }
 {
-    let set = set(rt, alloc)?;
     let list = grants(rt, alloc)?;
+    let set = set(rt, alloc)?;
     let published = hub.publish(alloc, keeper, set, moment(rt));
     drop(published);
     let granted = hub.set_grants(alloc, keeper, &list, moment(rt));

@@ -2,17 +2,33 @@
 
 ghost use Rattle.hub_core.specs.Standing.{KeeperFits};
 
-use crate::reads::request;
+use crate::reads::{request, written};
 use crate::tables::{moment, opened};
-use http_wire::write_reply;
 use hub_core::Hub;
 use hub_paths::PathRouter;
 use keeper_memory::{HubKeeper, MemHub};
-use outside_ports::MemSink;
 use rest_provider::answer;
+use status_info::Reply;
 use std::alloc::Global;
 use std::process::Abort;
 use std::test::Fail;
+
+fn reply_to<H: HubKeeper>(
+    rt: &impl Abort,
+    alloc: Global,
+    router: &PathRouter,
+    hub: &mut Hub,
+    keeper: &mut H,
+    text: &str,
+) -> Result<Reply, Fail>
+    requires { KeeperFits (H.stands_for keeper.old) hub.old }
+    ensures { KeeperFits (H.stands_for keeper.new) hub.new }
+{
+    let request = request(rt, alloc, text)?;
+    let reply = answer(alloc, router, hub, keeper, &request, moment(rt));
+    drop(request);
+    Ok(reply)
+}
 
 // What is written for a request is this.
 fn compare<H: HubKeeper>(
@@ -27,10 +43,10 @@ fn compare<H: HubKeeper>(
     requires { KeeperFits (H.stands_for keeper.old) hub.old }
     ensures { KeeperFits (H.stands_for keeper.new) hub.new }
 {
-    let request = request(rt, alloc, text)?;
-    let reply = answer(alloc, router, hub, keeper, &request, moment(rt));
-    let mut sink = MemSink::new(alloc, 4096, Vec::new(alloc))?;
-    write_reply(&mut sink, &reply)?;
+    let reply = reply_to(rt, alloc, router, hub, keeper, text)?;
+    let sink = written(alloc, &reply);
+    drop(reply);
+    let sink = sink?;
     assert_eq!(rt; sink.written(), want.as_bytes(), "{text}");
     Ok(())
 }
