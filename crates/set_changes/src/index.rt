@@ -1,6 +1,6 @@
 //! The rows of a set in the order of kinds and ids, so that one is found without going through all.
 
-ghost use Rattle.std.specs.Prelude.{◌≡◌, IfOk, flat_map, is_some, map};
+ghost use Rattle.std.specs.Prelude.{◌≡◌, ◌<◌, IfOk, flat_map, is_some, length, map, true};
 ghost use Rattle.roster_types.specs.Keys.{Ascends, Key, look_up};
 ghost use Rattle.roster_types.specs.Sets.{AreParts};
 ghost use Rattle.roster_values.specs.Kinds.{place_of_kind};
@@ -44,18 +44,42 @@ pub fn ordered_rows(alloc: Global, parts: Items<SetPart>) -> Result<Vec<SetRow>,
     Ok(all)
 }
 
-/// Whether a row of this kind and id is among rows in order.
-pub fn is_listed(rows: &[SetRow], kind: Kind, id: &Id) -> bool
+// Whether the row at a place has this kind and id.
+fn is_at(rows: &[SetRow], kind: Kind, id: &Id, place: usize) -> bool
+    requires { Ascends set_key rows.now }
+    ensures bound { result ≡ true → place < length rows.now }
+    ensures listed { result ≡ true → is_some (look_up set_key (place_of_kind kind, id.now) rows.now) ≡ true }
+{
+    if place >= rows.len() {
+        return false;
+    }
+    let listed = &rows[place].row;
+    order::compare(listed.kind(), listed.id(), kind, id).is_eq()
+}
+
+/// Whether a row of this kind and id is among rows in order. They are looked for at the place `near` first, which is then the one
+/// behind them: of rows asked for in their order each is found in one step.
+pub fn is_listed(rows: &[SetRow], kind: Kind, id: &Id, near: &mut usize) -> bool
     requires { Ascends set_key rows.now }
     ensures { result ≡ is_some (look_up set_key (place_of_kind kind, id.now) rows.now) }
 {
+    if is_at(rows, kind, id, *near) {
+        *near += 1;
+        return true;
+    }
     match rows.binary_search_by(|listed| order::compare(
         listed.row.kind(),
         listed.row.id(),
         kind,
         id,
     )) {
-        Ok(_) => true,
-        Err(_) => false,
+        Ok(place) => {
+            *near = place + 1;
+            true
+        }
+        Err(gap) => {
+            *near = gap;
+            false
+        }
     }
 }

@@ -97,8 +97,10 @@ pub fn listed_changes(
     ensures { IfOk result (λ changes. (k : Key) → ListedChangeAt feed.now at (look_up set_key k rows.items) (look_up change_key k view.now.rows) (look_up change_key k changes)) }
 {
     let mut changes = SortedRows::new(alloc);
+    // The listed rows are in order, so each stands right behind the one before.
+    let mut near = 0;
     for listed in rows {
-        let stored = view.change(listed.row.kind(), listed.row.id());
+        let stored = view.change_near(listed.row.kind(), listed.row.id(), &mut near);
         let change = listed_change(alloc, feed, listed, stored, at)?;
         add_change(&mut changes, change)?;
     }

@@ -63,18 +63,19 @@ pub fn marked(alloc: Global, at: Moment, stored: &RowChange) -> Result<RowChange
     Ok(RowChange { row, owner })
 }
 
-// The mark of a stored row, where it is left out.
+// The mark of a stored row, where it is left out. It is looked for among the listed rows at the place `near` first.
 fn mark_of(
     alloc: Global,
     set: &RosterSet,
     listed: &[SetRow],
     stored: &RowChange,
     at: Moment,
+    near: &mut usize,
 ) -> Result<Option<RowChange>, NoMemory>
     requires { Ascends set_key listed.now }
     ensures { IfOk result (λ mark. mark ≡ mark_of set.now at (look_up set_key (change_key stored.now) listed.now) stored.now) }
 {
-    if is_listed(listed, stored.row.kind(), stored.row.id()) {
+    if is_listed(listed, stored.row.kind(), stored.row.id(), near) {
         return Ok(None);
     }
     if !is_left_out(set, stored) {
@@ -110,9 +111,12 @@ fn add_marks(
     if !is_whole(set.parts(), kind) {
         return Ok(());
     }
+    // Where the last look-ups among the listed rows and the stored ones ended.
+    let mut listed_near = 0;
+    let mut stored_near = 0;
     let mut after = None;
-    while let Some(stored) = view.next_change(kind, after) {
-        let mark = mark_of(alloc, set, listed, stored, at)?;
+    while let Some(stored) = view.next_change_near(kind, after, &mut stored_near) {
+        let mark = mark_of(alloc, set, listed, stored, at, &mut listed_near)?;
         add_mark(marks, mark)?;
         after = Some(stored.row.id());
     }

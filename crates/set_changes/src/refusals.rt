@@ -53,8 +53,9 @@ fn part_owned_by_other(
 ) -> Result<Option<PublishFault>, NoMemory>
     ensures { IfOk result (λ fault. fault ≡ owned_by_other feed.now view.now.rows rows.now) }
 {
+    let mut near = 0;
     for listed in rows {
-        let stored = view.change(listed.row.kind(), listed.row.id());
+        let stored = view.change_near(listed.row.kind(), listed.row.id(), &mut near);
         if let Some(fault) = fault_of_owner(alloc, feed, listed, stored)? {
             return Ok(Some(fault));
         }

@@ -14,7 +14,7 @@ pub returns-in-Ok : goal.returns-in-Ok
 returns-in-Ok c =
     let k : Key = (place_of_kind c.args.kind, c.args.id.now) in
     let here = c.in-Ok.ensures.position (λ (listed : SetRow). key_cmp (set_key listed) k) (always_returns_same _ _ _ (λ a r f called. (search rules, search rules))) in
-    sym (found_somewhere c.args.rows.now k c.in-Ok.field-0 c.requires c.in-Ok.ensures.bound here)
+    sym (found_somewhere c.args.rows.now k c.in-Ok.place c.requires c.in-Ok.ensures.bound here)
 
 -- it stands nowhere
 pub returns-in-Err : goal.returns-in-Err

@@ -21,7 +21,7 @@ loop-listed-preserved c =
     let whole : at.yielded ++ listed ∷ into_iter_items c.next.new.self ≡ all = rw (← steps) at.invariant.whole in
     let kind = ap place_of_kind c.kind.ensures.kind in
     let id = c.id.ensures in
-    let stored : option_copied c.change-stored.result ≡ look_up change_key (set_key listed) rows = c.change-stored.ensures ∙ (λ i. look_up change_key (kind i, id i) rows) in
+    let stored : option_copied c.change_near-stored.result ≡ look_up change_key (set_key listed) rows = c.change_near-stored.ensures ∙ (λ i. look_up change_key (kind i, id i) rows) in
     let is : IsListedChange feed c.args.at listed (look_up change_key (set_key listed) rows) change =
     subst (λ s. IsListedChange feed c.args.at listed s change) stored c.in_ok-change.ensures in
     record {
