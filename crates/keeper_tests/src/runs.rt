@@ -4,10 +4,10 @@ ghost use Rattle.hub_core.specs.Standing.{KeeperFits};
 
 use crate::lists::{LISTS, lists};
 use crate::plain::{Answer, Plain, Plan};
-use crate::sets::{moment_of, set_at};
+use crate::sets::{categories_at, moment_of, set_of};
 use crate::told::{push_answer, push_keeper, push_plain, push_plain_answer, push_table};
 use grant_scopes::GrantList;
-use hub_core::Hub;
+use hub_core::{Hub, HubError};
 use keeper_memory::{HubKeeper, MemHub};
 use std::alloc::Global;
 use std::process::Abort;
@@ -61,11 +61,11 @@ fn publish<H: HubKeeper>(
     requires { KeeperFits (H.stands_for keeper.old) hub.old }
     ensures { KeeperFits (H.stands_for keeper.new) hub.new }
 {
-    let at = moment_of(rt);
-    let Some(set) = set_at(rt, alloc, place)? else {
+    let Some(categories) = categories_at(place) else {
         return Ok(());
     };
-    let answer = hub.publish(alloc, keeper, set, at);
+    let set = set_of(rt, alloc, categories)?;
+    let answer = hub.publish(alloc, keeper, set, moment_of(rt));
     push_answer(rt, alloc, told, &answer)
 }
 
@@ -125,6 +125,29 @@ fn take_all<H: HubKeeper>(
     Ok(told)
 }
 
+// Takes all turns in a hub that was opened, and tells what it and its keeper have in the end.
+fn run_open<H: HubKeeper>(
+    rt: &impl Abort,
+    alloc: Global,
+    mut hub: Hub,
+    keeper: &mut H,
+    given: &Given,
+    turns: &[Turn],
+) -> Result<String, Fail>
+    requires { KeeperFits (H.stands_for keeper.old) hub }
+{
+    let told = take_all(rt, alloc, &mut hub, keeper, given, turns);
+    drop(hub);
+    let mut told = told?;
+    push_keeper(alloc, &mut told, keeper)?;
+    Ok(told)
+}
+
+fn not_opened(alloc: Global, error: HubError) -> Result<String, Fail> {
+    drop(error);
+    Ok(String::from_str(alloc, "not opened")?)
+}
+
 /// Opens a hub and takes all turns, and tells what the hub and its keeper have in the end.
 pub fn run<H: HubKeeper>(
     rt: &impl Abort,
@@ -133,14 +156,10 @@ pub fn run<H: HubKeeper>(
     given: &Given,
     turns: &[Turn],
 ) -> Result<String, Fail> {
-    let Ok(mut hub) = Hub::open(alloc, keeper) else {
-        return Ok(String::from_str(alloc, "not opened")?);
-    };
-    let told = take_all(rt, alloc, &mut hub, keeper, given, turns);
-    drop(hub);
-    let mut told = told?;
-    push_keeper(alloc, &mut told, keeper)?;
-    Ok(told)
+    match Hub::open(alloc, keeper) {
+        Ok(hub) => run_open(rt, alloc, hub, keeper, given, turns),
+        Err(error) => not_opened(alloc, error),
+    }
 }
 
 /// The same over a keeper in memory.

@@ -31,14 +31,18 @@ fn folder(alloc: Global, categories: &str) -> Result<MemFolder, Fail> {
     Ok(MemFolder::new(files, Vec::new(alloc)))
 }
 
-fn set_of(
-    rt: &impl Abort,
-    alloc: Global,
-    feed: &Name,
-    categories: &str,
-) -> Result<RosterSet, Fail> {
+fn feed(rt: &impl Abort, alloc: Global) -> Result<Name, Fail> {
+    match Name::read(alloc, "sis")? {
+        Some(name) => Ok(name),
+        None => panic!(rt; "no name"),
+    }
+}
+
+/// The set of a feed with the categories of a file.
+pub fn set_of(rt: &impl Abort, alloc: Global, categories: &str) -> Result<RosterSet, Fail> {
+    let feed = feed(rt, alloc)?;
     let mut folder = folder(alloc, categories)?;
-    match read_set(alloc, &mut folder, "lake", feed) {
+    match read_set(alloc, &mut folder, "lake", &feed) {
         Ok(set) => Ok(set),
         Err(_) => panic!(rt; "no set"),
     }
@@ -52,13 +56,7 @@ pub fn moment_of(rt: &impl Abort) -> Moment {
     }
 }
 
-/// The set of a feed with the category a, b or c, by its place.
-pub fn set_at(rt: &impl Abort, alloc: Global, place: usize) -> Result<Option<RosterSet>, Fail> {
-    let Some(feed) = Name::read(alloc, "sis")? else {
-        panic!(rt; "no name");
-    };
-    match CATEGORIES.get(place) {
-        Some(categories) => Ok(Some(set_of(rt, alloc, &feed, categories)?)),
-        None => Ok(None),
-    }
+/// The file with the category a, b or c, by its place.
+pub fn categories_at(place: usize) -> Option<&'static str> {
+    CATEGORIES.get(place).copied()
 }
