@@ -5,19 +5,20 @@ ghost use Rattle.std.specs.List.{All};
 ghost use Rattle.roster_types.specs.Sets.{IsDatedOrZero};
 ghost use Rattle.roster_types.specs.declared.set_row.SetRow.{SetRow as SetRows};
 
-use crate::samples::{name_of, row_of};
-use roster_base::{Items, Refusal};
+use crate::samples::{name_of, push_title, row_of};
+use roster_base::{Items, NoMemory, Refusal};
 use roster_texts::{Moment, Name};
 use roster_types::owner::Owner;
 use roster_types::rows::Rows;
 use roster_types::set::{RosterSet, SetPart};
 use roster_types::set_row::SetRow;
-use roster_values::{Kind, Mode, Value};
+use roster_values::{Kind, Mode};
 use set_changes::publish::set_change;
 use set_changes::publish_fault::PublishFault;
 use std::alloc::Global;
 use std::process::Abort;
 use std::test::Fail;
+use version_core::row_change::RowChange;
 use version_core::table::Table;
 use version_core::view::VersionView;
 
@@ -227,23 +228,26 @@ fn told_entries(alloc: Global, entries: &[Entry]) -> Result<String, Fail> {
     Ok(told)
 }
 
+fn push_stored(alloc: Global, told: &mut String, stored: &RowChange) -> Result<(), Fail> {
+    let row = &stored.row;
+    told.push_str(row.id().as_str())?;
+    told.push_str(row.status().word())?;
+    row.modified().push_to(told)?;
+    push_title(alloc, told, row)?;
+    if let Owner::Feed(feed) = &stored.owner {
+        told.push_str(feed.as_str())?;
+    }
+    told.push(' ')?;
+    Ok(())
+}
+
 fn told_version(alloc: Global, version: &VersionView) -> Result<String, Fail> {
     let mut told = String::new(alloc);
     let mut after = None;
     for _ in 0..version.count(Kind::Categories) {
         if let Some(stored) = version.next_change(Kind::Categories, after) {
-            let row = &stored.row;
-            told.push_str(row.id().as_str())?;
-            told.push_str(row.status().word())?;
-            row.modified().push_to(&mut told)?;
-            if let Some(Value::Text(title)) = row.field(alloc, "title")? {
-                told.push_str(title.as_str())?;
-            }
-            if let Owner::Feed(feed) = &stored.owner {
-                told.push_str(feed.as_str())?;
-            }
-            told.push(' ')?;
-            after = Some(row.id());
+            push_stored(alloc, &mut told, stored)?;
+            after = Some(stored.row.id());
         }
     }
     Ok(told)
@@ -313,6 +317,13 @@ static CASES: [Case; 14] = [
     (1, 3, true, None, "new"),
 ];
 
+fn moment_of(rt: &impl Abort, at: u8) -> Moment {
+    match Moment::read(date_text(at).as_bytes()) {
+        Some(moment) => moment,
+        None => panic!(rt; "no moment"),
+    }
+}
+
 /// Applies a set, and tells what it made.
 pub fn publish(
     rt: &impl Abort,
@@ -321,12 +332,12 @@ pub fn publish(
     set: RosterSet,
     at: u8,
 ) -> Result<&'static str, Fail> {
-    let Some(at) = Moment::read(date_text(at).as_bytes()) else {
-        panic!(rt; "no moment");
-    };
-    match set_change(alloc, table, set, at) {
+    match set_change(alloc, table, set, moment_of(rt, at)) {
         Ok(Some(change)) => {
-            table.reserve(&change)?;
+            let Ok(()) = table.reserve(&change) else {
+                drop(change);
+                return Err(Fail::from(NoMemory));
+            };
             table.add(change);
             Ok("new")
         }
@@ -418,16 +429,21 @@ fn first_versions(alloc: Global) -> Result<Vec<Vec<Entry>>, Fail> {
     Ok(versions)
 }
 
-#[test]
-fn publications(rt: HostRuntime) -> Result<(), Fail> {
-    let alloc = rt.alloc();
-    let mut table = Table::new(alloc, 2);
+fn publish_cases(rt: &impl Abort, alloc: Global, table: &mut Table) -> Result<(), Fail> {
     let mut versions = first_versions(alloc)?;
     for case in &CASES {
-        publish_case(&rt, alloc, &mut table, &mut versions, case)?;
-        compare_kept(&rt, alloc, &table, &versions)?;
+        publish_case(rt, alloc, table, &mut versions, case)?;
+        compare_kept(rt, alloc, table, &versions)?;
     }
     Ok(())
+}
+
+#[test]
+fn publications(rt: HostRuntime) -> Result<(), Fail> {
+    let mut table = Table::new(rt.alloc(), 2);
+    let published = publish_cases(&rt, rt.alloc(), &mut table);
+    drop(table);
+    published
 }
 
 /// Draws numbers one after another, by a linear congruence.
@@ -472,46 +488,71 @@ impl Dice {
     }
 }
 
-// Publishes at random in a table that keeps so many versions beside the newest.
-fn publish_at_random(rt: &impl Abort, alloc: Global, keep: u64) -> Result<(), Fail> {
-    let mut table = Table::new(alloc, keep);
+// Publishes, and compares whether it is refused.
+fn publish_one(
+    rt: &impl Abort,
+    alloc: Global,
+    table: &mut Table,
+    versions: &mut Vec<Vec<Entry>>,
+    publication: Publication,
+) -> Result<(), Fail> {
+    let refused = match versions.last() {
+        Some(entries) => is_refused(entries, publication),
+        None => false,
+    };
+    let made = publish_both(rt, alloc, table, versions, publication)?;
+    assert_eq!(rt; made == "owned by other", refused);
+    Ok(())
+}
+
+fn publish_many(rt: &impl Abort, alloc: Global, table: &mut Table, seed: u64) -> Result<(), Fail> {
     let mut versions = first_versions(alloc)?;
-    let mut dice = Dice { seed: keep };
+    let mut dice = Dice { seed };
     for _ in 0..40 {
-        let publication = dice.publication();
-        let refused = match versions.last() {
-            Some(entries) => is_refused(entries, publication),
-            None => false,
-        };
-        let made = publish_both(rt, alloc, &mut table, &mut versions, publication)?;
-        assert_eq!(rt; made == "owned by other", refused);
-        compare_kept(rt, alloc, &table, &versions)?;
+        publish_one(rt, alloc, table, &mut versions, dice.publication())?;
+        compare_kept(rt, alloc, table, &versions)?;
     }
     Ok(())
 }
 
+// Publishes at random in a table that keeps so many versions beside the newest.
+fn publish_at_random(rt: &impl Abort, alloc: Global, keep: u64) -> Result<(), Fail> {
+    let mut table = Table::new(alloc, keep);
+    let published = publish_many(rt, alloc, &mut table, keep);
+    drop(table);
+    published
+}
+
+static KEPT: [u64; 3] = [1, 2, 5];
+
 #[test]
 fn kept_versions(rt: HostRuntime) -> Result<(), Fail> {
     let alloc = rt.alloc();
-    for keep in &[1, 2, 5] {
+    for keep in &KEPT {
         publish_at_random(&rt, alloc, *keep)?;
     }
     Ok(())
 }
 
-#[test]
-fn broken_references(rt: HostRuntime) -> Result<(), Fail> {
-    let alloc = rt.alloc();
-    let mut table = Table::new(alloc, 2);
-    let feed = name_of(&rt, alloc, feed_text(0))?;
+// The set of a school whose parent no version has.
+fn broken_set(rt: &impl Abort, alloc: Global) -> Result<RosterSet, Fail> {
+    let feed = name_of(rt, alloc, feed_text(0))?;
     let rows = one_row(
-        &rt,
+        rt,
         alloc,
         Kind::Orgs,
         &["s", "", "", "West", "school", "", "d"],
     )?;
-    let set = set_of(alloc, feed, Kind::Orgs, Mode::Delta, rows)?;
-    let made = publish(&rt, alloc, &mut table, set, 1)?;
-    assert_eq!(rt; made, "unsound");
+    set_of(alloc, feed, Kind::Orgs, Mode::Delta, rows)
+}
+
+#[test]
+fn broken_references(rt: HostRuntime) -> Result<(), Fail> {
+    let alloc = rt.alloc();
+    let set = broken_set(&rt, alloc)?;
+    let mut table = Table::new(alloc, 2);
+    let made = publish(&rt, alloc, &mut table, set, 1);
+    drop(table);
+    assert_eq!(rt; made?, "unsound");
     Ok(())
 }

@@ -542,11 +542,18 @@ fn told_slowly(alloc: Global, lines: &[Line]) -> Result<String, Fail> {
     Ok(told)
 }
 
+// What is listed of the rows of these lines.
+fn told_found(rt: &impl Abort, alloc: Global, lines: &[Line]) -> Result<String, Fail> {
+    let rows = few_rows(rt, alloc, lines)?;
+    let found = faults(alloc, &rows);
+    drop(rows);
+    let found = found?;
+    told(alloc, &found)
+}
+
 // What is listed of the rows of these lines, by the code and by the plain program.
 fn check_lines(rt: &impl Abort, alloc: Global, lines: &[Line], want: &str) -> Result<(), Fail> {
-    let rows = few_rows(rt, alloc, lines)?;
-    let found = faults(alloc, &rows)?;
-    let found = told(alloc, &found)?;
+    let found = told_found(rt, alloc, lines)?;
     let slowly = told_slowly(alloc, lines)?;
     assert_eq!(rt; (found.as_str(), slowly.as_str()), (want, want));
     Ok(())

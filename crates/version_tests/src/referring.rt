@@ -189,26 +189,34 @@ fn compare_kept(rt: &impl Abort, alloc: Global, table: &Table) -> Result<(), Fai
     compare_version(rt, alloc, &table.newest_rows())
 }
 
-// Publishes at random in a table that keeps so many versions beside the newest. Its rows are gone through at first, and found by an index
-// that is made of several versions later on.
-fn publish_at_random(rt: &impl Abort, alloc: Global, keep: u64) -> Result<(), Fail> {
-    let mut table = Table::new(alloc, keep);
-    let mut dice = Dice { seed: keep };
+// Publishes at random. The rows are gone through at first, and found by an index that is made of several versions later on.
+fn publish_many(rt: &impl Abort, alloc: Global, table: &mut Table, seed: u64) -> Result<(), Fail> {
+    let mut dice = Dice { seed };
     for turn in 0..30 {
         if turn == 10 {
             table.index();
         }
-        publish_org(rt, alloc, &mut table, &mut dice)?;
-        publish_user(rt, alloc, &mut table, &mut dice)?;
-        compare_kept(rt, alloc, &table)?;
+        publish_org(rt, alloc, table, &mut dice)?;
+        publish_user(rt, alloc, table, &mut dice)?;
+        compare_kept(rt, alloc, table)?;
     }
     Ok(())
 }
 
+// Publishes in a table that keeps so many versions beside the newest.
+fn publish_at_random(rt: &impl Abort, alloc: Global, keep: u64) -> Result<(), Fail> {
+    let mut table = Table::new(alloc, keep);
+    let published = publish_many(rt, alloc, &mut table, keep);
+    drop(table);
+    published
+}
+
+static KEPT: [u64; 3] = [1, 2, 5];
+
 #[test]
 fn references_of_kept_versions(rt: HostRuntime) -> Result<(), Fail> {
     let alloc = rt.alloc();
-    for keep in &[1, 2, 5] {
+    for keep in &KEPT {
         publish_at_random(&rt, alloc, *keep)?;
     }
     Ok(())
@@ -257,18 +265,23 @@ fn compare_many(rt: &impl Abort, alloc: Global, version: &VersionView) -> Result
     Ok(())
 }
 
+fn publish_namers(rt: &impl Abort, alloc: Global, table: &mut Table) -> Result<(), Fail> {
+    let mut dice = Dice { seed: 7 };
+    publish_orgs(rt, alloc, table)?;
+    for _ in 0..150 {
+        publish_namer(rt, alloc, table, &mut dice)?;
+        compare_many(rt, alloc, &table.rows_at(table.oldest()))?;
+        compare_many(rt, alloc, &table.newest_rows())?;
+    }
+    Ok(())
+}
+
 // With one version beside the newest most references are soon of none, and go from the index time and again.
 #[test]
 fn references_that_no_version_has(rt: HostRuntime) -> Result<(), Fail> {
-    let alloc = rt.alloc();
-    let mut table = Table::new(alloc, 1);
+    let mut table = Table::new(rt.alloc(), 1);
     table.index();
-    let mut dice = Dice { seed: 7 };
-    publish_orgs(&rt, alloc, &mut table)?;
-    for _ in 0..150 {
-        publish_namer(&rt, alloc, &mut table, &mut dice)?;
-        compare_many(&rt, alloc, &table.rows_at(table.oldest()))?;
-        compare_many(&rt, alloc, &table.newest_rows())?;
-    }
-    Ok(())
+    let published = publish_namers(&rt, rt.alloc(), &mut table);
+    drop(table);
+    published
 }

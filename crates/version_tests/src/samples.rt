@@ -38,6 +38,21 @@ pub fn row_of(rt: &impl Abort, alloc: Global, kind: Kind, cells: &[&str]) -> Res
     }
 }
 
+fn push_text(told: &mut String, value: &Option<Value>) -> Result<(), Fail> {
+    match value {
+        Some(Value::Text(text)) => Ok(told.push_str(text.as_str())?),
+        _ => Ok(()),
+    }
+}
+
+/// Tells a row's title, where it has one.
+pub fn push_title(alloc: Global, told: &mut String, row: &Row) -> Result<(), Fail> {
+    let title = row.field(alloc, "title")?;
+    let pushed = push_text(told, &title);
+    drop(title);
+    pushed
+}
+
 pub fn name_of(rt: &impl Abort, alloc: Global, text: &str) -> Result<Name, Fail>
     ensures { IfOk result (λ name. name ≡ text.now) }
 {

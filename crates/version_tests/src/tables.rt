@@ -4,13 +4,13 @@ ghost use Rattle.std.specs.Prelude.{◌≡◌, ◌∷◌, [], IfOk, None, Some, 
 ghost use Rattle.version_core.specs.Tables.{AreTables};
 ghost use Rattle.version_tests.specs.Samples.{AreFewRows, IsBase, IsChange, IsMark, first_grants, granted, later_grants};
 
-use crate::samples::{name_of, row_of};
+use crate::samples::{name_of, push_title, row_of};
 use grant_scopes::{Grant, Schools, Scopes};
 use roster_base::{Bytes, Items};
 use roster_texts::{Id, Moment, Name, Token};
 use roster_types::owner::Owner;
 use roster_types::rows::Rows;
-use roster_values::{Kind, Value};
+use roster_values::Kind;
 use std::alloc::Global;
 use std::process::Abort;
 use std::test::Fail;
@@ -195,9 +195,7 @@ fn told(alloc: Global, version: &VersionView) -> Result<String, Fail> {
     for _ in 0..version.count(Kind::Categories) {
         if let Some(row) = version.next(Kind::Categories, after) {
             told.push_str(row.id().as_str())?;
-            if let Some(Value::Text(title)) = row.field(alloc, "title")? {
-                told.push_str(title.as_str())?;
-            }
+            push_title(alloc, &mut told, row)?;
             told.push(' ')?;
             after = Some(row.id());
         }
@@ -220,26 +218,33 @@ fn check_version(
     Ok(())
 }
 
-#[test]
-fn versions_of_tables(rt: HostRuntime) -> Result<(), Fail> {
-    let alloc = rt.alloc();
-    let tables = tables(&rt, alloc)?;
-    let table = Table::from_tables(alloc, &tables)?;
-    drop(tables);
+fn check_versions(rt: &impl Abort, alloc: Global, table: &Table) -> Result<(), Fail> {
     assert!(rt; table.oldest() == 3 && table.newest() == 5);
-    check_version(&rt, alloc, &table.rows_at(3), (3_000, "aQuiz cTest lms "))?;
+    check_version(rt, alloc, &table.rows_at(3), (3_000, "aQuiz cTest lms "))?;
     check_version(
-        &rt,
+        rt,
         alloc,
         &table.rows_at(4),
         (4_000, "aQuiz bExam cHomework lms "),
     )?;
     check_version(
-        &rt,
+        rt,
         alloc,
         &table.newest_rows(),
         (5_000, "aQuiz bExam cHomework lis lms "),
     )
+}
+
+#[test]
+fn versions_of_tables(rt: HostRuntime) -> Result<(), Fail> {
+    let alloc = rt.alloc();
+    let tables = tables(&rt, alloc)?;
+    let table = Table::from_tables(alloc, &tables);
+    drop(tables);
+    let table = table?;
+    let checked = check_versions(&rt, alloc, &table);
+    drop(table);
+    checked
 }
 
 // Whether a mark of a caller and number is held.
@@ -254,8 +259,9 @@ fn holds(marks: &Marks, caller: &Name, number: u64) -> bool {
 fn marks_of_tables(rt: HostRuntime) -> Result<(), Fail> {
     let alloc = rt.alloc();
     let tables = tables(&rt, alloc)?;
-    let mut marks = Marks::from_tables(alloc, &tables)?;
+    let marks = Marks::from_tables(alloc, &tables);
     drop(tables);
+    let mut marks = marks?;
     let caller = name_of(&rt, alloc, "lms")?;
     assert!(rt; marks.get(&caller, 0).is_none());
     let new = mark(&rt, alloc, "lms", 0)?;

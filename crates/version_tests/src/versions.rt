@@ -2,11 +2,13 @@
 
 ghost use Rattle.std.specs.Prelude.{◌≡◌, [], None};
 
-use crate::samples::{name_of, row_of};
+use crate::samples::{name_of, push_title, row_of};
+use roster_base::NoMemory;
 use roster_texts::{Id, Moment};
 use roster_types::owner::Owner;
+use roster_types::row::Row;
 use roster_types::rows::Rows;
-use roster_values::{Kind, Value};
+use roster_values::Kind;
 use std::alloc::Global;
 use std::process::Abort;
 use std::test::Fail;
@@ -14,6 +16,7 @@ use version_core::change::Change;
 use version_core::row_change::RowChange;
 use version_core::sorted_rows::SortedRows;
 use version_core::table::Table;
+use version_core::view::VersionView;
 
 // Puts a category of a feed.
 fn put_category(
@@ -29,20 +32,28 @@ fn put_category(
     Ok(rows.put(RowChange { row, owner })?)
 }
 
+fn push_category(
+    alloc: Global,
+    told: &mut String,
+    rows: &SortedRows,
+    row: &Row,
+) -> Result<(), Fail> {
+    told.push_str(row.id().as_str())?;
+    push_title(alloc, told, row)?;
+    if let Some(Owner::Feed(feed)) = rows.owner(Kind::Categories, row.id()) {
+        told.push_str(feed.as_str())?;
+    }
+    told.push(' ')?;
+    Ok(())
+}
+
 // The categories in order, each as its id, its title and its feed.
 fn told(alloc: Global, rows: &SortedRows) -> Result<String, Fail> {
     let mut told = String::new(alloc);
     let mut after = None;
     for _ in 0..rows.count(Kind::Categories) {
         if let Some(row) = rows.next(Kind::Categories, after) {
-            told.push_str(row.id().as_str())?;
-            if let Some(Value::Text(title)) = row.field(alloc, "title")? {
-                told.push_str(title.as_str())?;
-            }
-            if let Some(Owner::Feed(feed)) = rows.owner(Kind::Categories, row.id()) {
-                told.push_str(feed.as_str())?;
-            }
-            told.push(' ')?;
+            push_category(alloc, &mut told, rows, row)?;
             after = Some(row.id());
         }
     }
@@ -73,25 +84,28 @@ fn rows_stand_in_order(rt: HostRuntime) -> Result<(), Fail> {
     Ok(())
 }
 
+// The moment of a version, how many orgs it has, and whether one of them is found.
+fn orgs_of(version: &VersionView, id: &Id) -> (i64, u64, bool) {
+    let found = version.row(Kind::Orgs, id).is_some()
+        || version.next(Kind::Orgs, None).is_some()
+        || version.owner(Kind::Orgs, id).is_some();
+    (
+        version.moment().milliseconds(),
+        version.count(Kind::Orgs),
+        found,
+    )
+}
+
 #[test]
 fn version_0_is_empty(rt: HostRuntime) -> Result<(), Fail> {
     let alloc = rt.alloc();
-    let table = Table::new(alloc, 7);
     let Some(id) = Id::read(alloc, "a")? else {
         panic!(rt; "no id");
     };
-    let version = table.rows_at(0);
-    let found = version.row(Kind::Orgs, &id).is_some()
-        || version.next(Kind::Orgs, None).is_some()
-        || version.owner(Kind::Orgs, &id).is_some();
-    assert_eq!(rt;
-        (
-            version.moment().milliseconds(),
-            version.count(Kind::Orgs),
-            found
-        ),
-        (0, 0, false)
-    );
+    let table = Table::new(alloc, 7);
+    let orgs = orgs_of(&table.rows_at(0), &id);
+    drop(table);
+    assert_eq!(rt; orgs, (0, 0, false));
     Ok(())
 }
 
@@ -117,13 +131,22 @@ fn the_oldest_version_goes(rt: HostRuntime) -> Result<(), Fail> {
     let alloc = rt.alloc();
     let mut table = Table::new(alloc, 1);
     let first = bare_change(&rt, alloc, 1);
-    table.reserve(&first)?;
+    let Ok(()) = table.reserve(&first) else {
+        drop(first);
+        drop(table);
+        return Err(Fail::from(NoMemory));
+    };
     table.add(first);
     let before = (table.oldest(), table.newest());
     let second = bare_change(&rt, alloc, 2);
-    table.reserve(&second)?;
+    let Ok(()) = table.reserve(&second) else {
+        drop(second);
+        drop(table);
+        return Err(Fail::from(NoMemory));
+    };
     table.add(second);
     let after = (table.oldest(), table.newest());
+    drop(table);
     assert_eq!(rt; (before, after), ((0, 1), (1, 2)));
     Ok(())
 }
