@@ -7,7 +7,7 @@ use item_maps::Item;
 use keeper_items::StoredItems;
 use keeper_sqlite::{ClosedStore, SqlItems};
 use roster_base::NoMemory;
-use sqlite::{Connection, MemStore};
+use sqlite::{Alter, Connection};
 use std::alloc::Global;
 use std::test::Fail;
 
@@ -79,11 +79,11 @@ static COPY: [Step; 3] = [
 ];
 
 // Takes steps over items, tells whether memory sufficed, and gives them back.
-fn filled(
+fn filled<S: Alter + Drop>(
     alloc: Global,
-    mut items: SqlItems<MemStore>,
+    mut items: SqlItems<S>,
     steps: &[Step],
-) -> (bool, SqlItems<MemStore>) {
+) -> (bool, SqlItems<S>) {
     let mut filled = true;
     for step in steps {
         let (told, left) = step_over(alloc, items, 2, step);
@@ -105,7 +105,7 @@ fn push_items(bytes: &mut Vec<u8>, items: &[Item]) -> Result<(), NoMemory> {
 static AREAS: [u32; 9] = [0, 1, 2, 3, 4, 5, 6, 32, 64];
 
 // Labels and bodies of all areas, one behind the other.
-fn listing(alloc: Global, items: &mut SqlItems<MemStore>) -> Result<Vec<u8>, NoMemory> {
+fn listing<I: StoredItems>(alloc: Global, items: &mut I) -> Result<Vec<u8>, NoMemory> {
     let mut bytes = Vec::new(alloc);
     for area in &AREAS {
         match items.all_of(alloc, *area, &[], &[255, 255]) {
@@ -117,9 +117,9 @@ fn listing(alloc: Global, items: &mut SqlItems<MemStore>) -> Result<Vec<u8>, NoM
 }
 
 // What a step tells over a connection, and whether the items stay.
-fn visited(
+fn visited<S: Alter + Drop>(
     alloc: Global,
-    connection: Connection<MemStore>,
+    connection: Connection<S>,
     step: &Step,
 ) -> Result<(String, bool), NoMemory> {
     let mut items = SqlItems::adopt(connection);
@@ -132,19 +132,29 @@ fn visited(
     Ok((format!(in alloc; "{}, {faults} before", told?)?, stays))
 }
 
-// What a step tells over a filled store over which statements were run, and whether these ran and the items stay.
+// What a step tells over a connection that is filled and over which statements are run, and whether these ran and the items stay.
+fn broken_over<S: Alter + Drop>(
+    alloc: Global,
+    connection: Connection<S>,
+    steps: &[Step],
+    sql: &str,
+    step: &Step,
+) -> Result<(String, bool), NoMemory> {
+    let (filled, items) = filled(alloc, SqlItems::adopt(connection), steps);
+    let mut connection = items.release();
+    let ran = filled && connection.execute_batch(sql).is_ok();
+    let (told, stays) = visited(alloc, connection, step)?;
+    Ok((told, ran && stays))
+}
+
+// The same over a new connection.
 fn broken(
     alloc: Global,
     steps: &[Step],
     sql: &str,
     step: &Step,
 ) -> Result<(String, bool), NoMemory> {
-    let items = SqlItems::adopt(Connection::open_in_memory(alloc)?);
-    let (filled, items) = filled(alloc, items, steps);
-    let mut connection = items.release();
-    let ran = filled && connection.execute_batch(sql).is_ok();
-    let (told, stays) = visited(alloc, connection, step)?;
-    Ok((told, ran && stays))
+    broken_over(alloc, Connection::open_in_memory(alloc)?, steps, sql, step)
 }
 
 static GONE: Step = Step::Hub("publish sis=gone");

@@ -3,6 +3,9 @@
 use crate::kept::empty;
 use crate::steps::{Reply, Step, Turn, step_in, turn_told};
 use copy_keeper::MemCopy;
+use roster_base::NoMemory;
+use std::alloc::Global;
+use std::process::Abort;
 use std::test::Fail;
 
 /// The first entry is settled.
@@ -108,22 +111,40 @@ static TURNS: [(Turn, &str); 22] = [
     (Turn("outbox", 0, &[]), "0 1 201 3\n2 204 4\n"),
 ];
 
+// Compares what a turn told over the files, and what it tells over the copy in memory.
+fn assert_turn(
+    rt: &impl Abort,
+    alloc: Global,
+    (turn, want): &(Turn, &str),
+    stored: Result<String, NoMemory>,
+    plain: &mut MemCopy,
+) -> Result<(), Fail> {
+    let kept = turn_told(alloc, turn, plain)?;
+    let stored = stored?;
+    assert_eq!(rt;
+        (stored.as_str(), kept.as_str()),
+        (*want, *want),
+        "{}",
+        turn.0
+    );
+    Ok(())
+}
+
+fn assert_turns(rt: &impl Abort, alloc: Global, plain: &mut MemCopy) -> Result<(), Fail> {
+    let mut files = empty(alloc);
+    for case in &TURNS {
+        let (stored, left) = step_in(alloc, files, 0, &Step::Copy(case.0));
+        files = left;
+        assert_turn(rt, alloc, case, stored, plain)?;
+    }
+    drop(files);
+    Ok(())
+}
+
 #[test]
 fn copies_last(rt: HostRuntime) -> Result<(), Fail> {
-    let alloc = rt.alloc();
-    let mut plain = MemCopy::new(alloc);
-    let mut files = empty(alloc);
-    for (turn, want) in &TURNS {
-        let (stored, left) = step_in(alloc, files, 0, &Step::Copy(*turn));
-        files = left;
-        let kept = turn_told(alloc, turn, &mut plain)?;
-        let stored = stored?;
-        assert_eq!(rt;
-            (stored.as_str(), kept.as_str()),
-            (*want, *want),
-            "{}",
-            turn.0
-        );
-    }
-    Ok(())
+    let mut plain = MemCopy::new(rt.alloc());
+    let asserted = assert_turns(&rt, rt.alloc(), &mut plain);
+    drop(plain);
+    asserted
 }

@@ -3,6 +3,7 @@
 use crate::steps::{Step, step_in};
 use crate::words::told;
 use keeper_memory::MemHub;
+use roster_base::NoMemory;
 use sqlite::Files;
 use sqlite_disk::Memory;
 use std::alloc::Global;
@@ -34,17 +35,36 @@ fn asked(keep: u32, place: usize) -> u32 {
     if place == 0 { keep } else { 9 }
 }
 
+// Compares what the words told over the files, and what they tell over the keeper in memory.
+fn assert_line(
+    rt: &impl Abort,
+    alloc: Global,
+    (keep, line): (u32, &str),
+    stored: Result<String, NoMemory>,
+    plain: &mut MemHub,
+) -> Result<(), Fail> {
+    let kept = told(alloc, line, plain)?;
+    assert_eq!(rt; stored?.as_str(), kept.as_str(), "{keep} {line}");
+    Ok(())
+}
+
 // The words one after another over files, which are closed in between, and over a keeper in memory.
-fn assert_kept(rt: &impl Abort, alloc: Global, keep: u32) -> Result<(), Fail> {
-    let mut plain = MemHub::new(alloc, keep);
+fn assert_lines(rt: &impl Abort, alloc: Global, keep: u32, plain: &mut MemHub) -> Result<(), Fail> {
     let mut files = empty(alloc);
     for (place, line) in LINES.iter().enumerate() {
         let (stored, left) = step_in(alloc, files, asked(keep, place), &Step::Hub(*line));
         files = left;
-        let kept = told(alloc, line, &mut plain)?;
-        assert_eq!(rt; stored?.as_str(), kept.as_str(), "{keep} {line}");
+        assert_line(rt, alloc, (keep, *line), stored, plain)?;
     }
+    drop(files);
     Ok(())
+}
+
+fn assert_kept(rt: &impl Abort, alloc: Global, keep: u32) -> Result<(), Fail> {
+    let mut plain = MemHub::new(alloc, keep);
+    let asserted = assert_lines(rt, alloc, keep, &mut plain);
+    drop(plain);
+    asserted
 }
 
 static KEEPS: [u32; 3] = [0, 1, 2];
