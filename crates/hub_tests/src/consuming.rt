@@ -304,15 +304,17 @@ fn each_call_of_the_copy_may_fail(rt: HostRuntime) -> Result<(), Fail> {
     assert_failing(&rt, rt.alloc(), Call::Read(1), "list orgs")
 }
 
-// What a synchronisation prints over the copy, once its run is the last one.
-fn told_behind_last(alloc: Global, copy: &mut MemCopy) -> Result<(u8, String), Fail> {
+// A copy whose run is the last one.
+fn last_copy(alloc: Global) -> Result<MemCopy, Fail> {
+    let mut copy = MemCopy::new(alloc);
     copy.commit(alloc, CopyChange::Run { run: LAST })?;
-    run_with_copy(alloc, "sync tok-e 100 1", copy, pages(alloc)?)
+    Ok(copy)
 }
 
 fn told_last(alloc: Global) -> Result<(u8, String), Fail> {
-    let mut copy = MemCopy::new(alloc);
-    let told = told_behind_last(alloc, &mut copy);
+    let pages = pages(alloc)?;
+    let mut copy = last_copy(alloc)?;
+    let told = run_with_copy(alloc, "sync tok-e 100 1", &mut copy, pages);
     drop(copy);
     told
 }
