@@ -1,5 +1,8 @@
 //! Worlds of the example district.
 
+ghost use Rattle.std.specs.Prelude.{◌≡◌, IfOk, OnOk};
+ghost use Rattle.keeper_memory.specs.Kept.{oldest_kept};
+
 use crate::lake::folder;
 use crate::runs::{NOON, run_hub_over};
 use keeper_memory::MemHub;
@@ -28,13 +31,19 @@ fn noon(rt: &impl Abort) -> Moment {
 }
 
 // Fills a keeper, which keeps all from version 0 on then.
-fn fill_whole(rt: &impl Abort, alloc: Global, keeper: &mut MemHub) -> Result<(), Fail> {
+fn fill_whole(rt: &impl Abort, alloc: Global, keeper: &mut MemHub) -> Result<(), Fail>
+    ensures { OnOk result ((oldest_kept keeper.new.kept.versions).number ≡ 0) }
+{
     fill(rt, alloc, keeper)?;
-    assert!(rt; keeps_all(alloc, keeper)?, "not from version 0 on");
+    if !keeps_all(alloc, keeper)? {
+        panic!(rt; "not from version 0 on");
+    }
     Ok(())
 }
 
-fn filled(rt: &impl Abort, alloc: Global) -> Result<MemHub, Fail> {
+fn filled(rt: &impl Abort, alloc: Global) -> Result<MemHub, Fail>
+    ensures { IfOk result (λ keeper. (oldest_kept keeper.kept.versions).number ≡ 0) }
+{
     let mut keeper = MemHub::new(alloc, 8);
     match fill_whole(rt, alloc, &mut keeper) {
         Ok(()) => Ok(keeper),
