@@ -57,13 +57,13 @@ def programs():
     return {"hub": HUB, "plain": plain} if plain else {"hub": HUB}
 
 
-def run_once(program, folder, words, output):
-    """Runs a program in a folder, and gives its user seconds and its peak of memory in MiB."""
+def run_once(program, folder, words, output, wanted=0):
+    """Runs a program in a folder, which must end with the status that is wanted, and gives its user seconds and its peak of memory in MiB."""
     with open(output, "wb") as file:
-        child = subprocess.Popen([program, *words], cwd=folder, stdout=file)
+        child = subprocess.Popen([program, *words], cwd=folder, stdout=file, stderr=subprocess.DEVNULL if wanted else None)
         _, status, used = os.wait4(child.pid, 0)
     child.returncode = os.waitstatus_to_exitcode(status)
-    if child.returncode:
+    if child.returncode != wanted:
         sys.exit(f"{program} {' '.join(words)[:80]} ended with status {child.returncode}")
     return used.ru_utime, used.ru_maxrss / 1024
 
@@ -73,13 +73,14 @@ def print_head():
 
 
 class Case:
-    """A case of a series: its label, the folder and words of a run, and what tests the output."""
+    """A case of a series: its label, the folder and words of a run, what tests the output, and the status that is wanted."""
 
-    def __init__(self, label, folder, words, check=None):
+    def __init__(self, label, folder, words, check=None, status=0):
         self.label = label
         self.folder = folder
         self.words = words
         self.check = check
+        self.status = status
 
     def runs(self, times):
         """The seconds and peaks of each program, taken in turn."""
@@ -87,7 +88,7 @@ class Case:
         output = os.path.join(self.folder, "output")
         for _ in range(times):
             for name, program in programs().items():
-                found[name].append(run_once(program, self.folder, self.words, output))
+                found[name].append(run_once(program, self.folder, self.words, output, self.status))
                 if self.check:
                     apart(self.check, output)
         return found

@@ -128,12 +128,12 @@ def write_feed(folder, name, count):
         file.writelines(f"{name}-u{number:06},true,{name}-s1,student,u{number},Ann,Oak\n" for number in range(count))
 
 
-def write_chain(folder, count):
-    """Orgs of which each is the parent of the next, with ids in another order."""
+def write_chain(folder, count, is_ring=False):
+    """Orgs of which each is the parent of the next, with ids in another order; in a ring the last is that of the first."""
     write_manifest(folder, ["orgs"])
     ids = list(numbers_of(count))
     with open(os.path.join(folder, "orgs.csv"), "w", encoding="utf-8") as file:
         file.write(ORG + "\n")
         for place, number in enumerate(ids):
-            parent = f"org-{ids[place - 1]:06}" if place else ""
+            parent = f"org-{ids[place - 1]:06}" if place or is_ring else ""
             file.write(f"org-{number:06},{AT},Org {number},school,,{parent}\n")
