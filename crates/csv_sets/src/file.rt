@@ -178,7 +178,7 @@ fn first_fault(
     Err(Refusal::Fault(fault))
 }
 
-// The rows of the records below the header. A repeated id is looked for once the rows are read, by a set that lends the ids.
+// The rows of the records below the header. A repeated id is looked for once the rows are read, by a set of ids that they lend.
 fn rows_under(
     alloc: Global,
     kind: Kind,
