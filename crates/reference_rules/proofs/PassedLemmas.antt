@@ -1,6 +1,7 @@
 -- The ids that a chain passes, and their notes.
-use Rattle.std.proofs.Common.{◌≡◌, ℕ, zero, suc, ◌+◌, ◌-◌, ◌⊎◌, ◌||◌, Bool, true, false, cond, List, [], ◌∷◌, ◌++◌, length, Option, Some, None, Result, Ok, Err, IfOk, OnOk, bytes_eq, slice_get, refl, sym, ap, subst, ◌∙◌, arith, inl, inr}
+use Rattle.std.proofs.Common.{◌≡◌, ℕ, zero, suc, ◌+◌, ◌-◌, ◌<◌, ◌⊎◌, ◌||◌, Bool, true, false, cond, List, [], ◌∷◌, ◌++◌, length, Option, Some, None, Result, Ok, Err, IfOk, OnOk, bytes_eq, option_and_then, slice_get, refl, sym, ap, subst, ◌∙◌, arith, inl, inr}
 use Rattle.std.specs.Prelude.{IsSome, is_some}
+use Rattle.std.proofs.lemmas.Bool.{cases_lt}
 use Rattle.std.specs.HashMap.{HashMap}
 use Rattle.std.specs.List.{list_any}
 use Rattle.std.specs.Option.{option_or}
@@ -10,9 +11,10 @@ use Rattle.std.proofs.lemmas.Option.{slice_get_within}
 use Rattle.std.proofs.lemmas.Slice.Eq.{bytes_eq-Decides}
 use Rattle.roster_types.specs.Records.{Record}
 use Rattle.roster_values.specs.declared.kind.Kind.{Kind}
-use Rattle.reference_rules.proofs.CycleLemmas.{not_in_cycle, nth_from}
+use Rattle.reference_rules.proofs.CycleLemmas.{in_cycle_on, not_in_cycle, nth_from}
 use Rattle.reference_rules.proofs.ParentChains.{follows_more}
-use Rattle.reference_rules.specs.Notes.{AreNotedBeside, AreNotes, EndsWell, note_of}
+use Rattle.reference_rules.proofs.Pigeonhole.{in_cycle_from_turns}
+use Rattle.reference_rules.specs.Notes.{AreNotedBeside, AreNotedOver, AreNotes, EndsWell, note_of}
 use Rattle.reference_rules.specs.Parents.{ArePassed, is_in_cycle, nth_parent, parent_of}
 use denote.Ref.{Bor}
 
@@ -121,3 +123,62 @@ module _ {S : Type 0} (rows : List Record) (kind : Kind) (notes notes' : HashMap
         let same : id ≡ p.now = cc in
         inr (any_passes_from_place (λ (k : Bor (List ℕ)). bytes_eq id k.now) passed 0 p at ((bytes_eq-Decides id p.now).1 same))
   ] refl)
+
+item_at : {X : Type 0} (xs : List X) (n : ℕ) → n < length xs → (x : X) × (slice_get xs n ≡ Some x)
+item_at [] n lt = absurd (omega (arith, lt))
+item_at (x ∷ xs) zero lt = (x, refl)
+item_at (x ∷ xs) (suc n) lt = item_at xs n (omega (arith, lt))
+
+-- a chain came back to its first id, so that all that it passed are in a cycle, and are noted so
+module _ {S : Type 0} (rows : List Record) (kind : Kind) (notes notes' : HashMap (Bor (List ℕ)) Bool S) (id : List ℕ) (passed : List (Bor (List ℕ))) (some : 0 < length passed) (firsts : ArePassed rows kind id passed) (back : nth_parent rows kind id (length passed) ≡ Some id) (over : AreNotedOver (among passed) notes notes') where
+  place_of : (q : List ℕ) → among passed q ≡ true → (n : ℕ) × (n < length passed) × (nth_parent rows kind id n ≡ Some q)
+  place_of q is =
+      let found = any_place (λ (k : Bor (List ℕ)). bytes_eq q k.now) passed is in
+      let same : q ≡ found.1.now = (bytes_eq-Decides q found.1.now).0 found.3 in
+      (found.0, slice_get_within passed found.0 found.1 found.2, firsts found.0 found.1 found.2 ∙ ap (λ x. Some x) (sym same))
+
+  among_at : (n : ℕ) (q : List ℕ) → n < length passed → nth_parent rows kind id n ≡ Some q → among passed q ≡ true
+  among_at n q lt here =
+      let item = item_at passed n lt in
+      let at = firsts n item.0 item.1 in
+      let same : q ≡ item.0.now = cc in
+      any_passes_from_place (λ (k : Bor (List ℕ)). bytes_eq q k.now) passed n item.0 item.1 ((bytes_eq-Decides q item.0.now).1 same)
+
+  noted_at : (q : List ℕ) → among passed q ≡ true → note_of notes' q ≡ Some true
+  noted_at q is = over q ∙ ap (λ b. cond b (Some true) (note_of notes q)) is
+
+  noted_still : (q : List ℕ) → note_of notes q ≡ Some true → note_of notes' q ≡ Some true
+  noted_still q was = over q ∙ ap (cond (among passed q) (Some true)) was ∙ either (among passed q)
+    where
+      either : (b : Bool) → cond b (Some true) (Some true) ≡ Some true
+      either true = refl
+      either false = refl
+
+  pub lap_notes : AreNotes rows kind notes → AreNotes rows kind notes'
+  lap_notes are = record {
+    right = λ q known at. elim (among passed q) as (λ b. among passed q ≡ b → cond b (Some true) (note_of notes q) ≡ Some known → known ≡ is_in_cycle rows kind q) [
+      | true ↦ λ is here.
+          let place = place_of q is in
+          let value : true ≡ known = cc in
+          sym value ∙ sym (in_cycle_on rows kind id q place.0 place.2 (in_cycle_from_turns rows kind id (length passed) some back))
+      | false ↦ λ _ there. are.right q known there
+    ] refl (sym (over q) ∙ at);
+    closed = λ q parent at goes. elim (among passed q) as (λ b. among passed q ≡ b → cond b (Some true) (note_of notes q) ≡ Some true → note_of notes' parent ≡ Some true) [
+      | true ↦ λ is _.
+          let place = place_of q is in
+          let next : nth_parent rows kind id (suc place.0) ≡ Some parent = ap (option_and_then (parent_of rows kind)) place.2 ∙ goes in
+          noted_at parent (elim (cases_lt (suc place.0) (length passed)) [
+            | inl lt ↦ among_at (suc place.0) parent lt next
+            | inr le ↦
+                let lt = place.1 in
+                let last : length passed ≡ suc place.0 = omega (arith, le, lt) in
+                let first : Some id ≡ Some parent = sym back ∙ ap (nth_parent rows kind id) last ∙ next in
+                let same : id ≡ parent = cc in
+                subst (λ x. among passed x ≡ true) same (among_at 0 id some refl)
+          ])
+      | false ↦ λ _ there. noted_still parent (are.closed q parent there goes)
+    ] refl (sym (over q) ∙ at);
+  }
+
+  pub lap_known : IsSome (note_of notes' id)
+  lap_known = ap is_some (noted_at id (among_at 0 id some refl))

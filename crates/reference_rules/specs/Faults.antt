@@ -1,5 +1,5 @@
 -- The broken references of rows, by OneRoster 1.1: a field of the forms of references names rows of its kind.
-use Rattle.std.specs.Prelude.{◌≡◌, ℕ, ℤ, Bool, false, ◌&&◌, ◌++◌, not, int_lt, if◌then◌else◌, List, [], ◌∷◌, Option, Some, None, codes, bytes_eq, filter}
+use Rattle.std.specs.Prelude.{◌≡◌, ℕ, ℤ, Bool, false, true, ◌&&◌, ◌++◌, not, int_lt, if◌then◌else◌, List, [], ◌∷◌, Option, Some, None, codes, bytes_eq, filter}
 use Rattle.std.specs.List.{All, flat_map}
 use Rattle.std.specs.Option.{option_map_or}
 use Rattle.roster_types.specs.Keys.{is_of_kind, look_up, row_key}
@@ -97,6 +97,14 @@ faults_in rows row _ _ = []
 -- a row's broken references
 abbrev pub row_faults : List Record → Record → List RefFault
 row_faults rows row = faults_in rows row (table row.kind) (all_values row)
+
+abbrev pub is_cycle_fault : Fault → Bool
+is_cycle_fault Cycle = true
+is_cycle_fault _ = false
+
+-- a broken reference tells of a cycle of parents
+abbrev pub is_cycle : RefFault → Bool
+is_cycle broken = is_cycle_fault broken.fault
 
 -- every broken reference, in the order of the rows
 abbrev pub faults_of : List Record → List RefFault

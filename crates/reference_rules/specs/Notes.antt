@@ -23,3 +23,7 @@ EndsWell notes (Some id) = IsSome (note_of notes id)
 -- what was noted stays, and beside it the ids that pass the test are noted to be in no cycle
 abbrev pub AreNotedBeside : {S : Type 0} → (List ℕ → Bool) → HashMap (Bor (List ℕ)) Bool S → HashMap (Bor (List ℕ)) Bool S → Type 0
 AreNotedBeside test old new = (id : List ℕ) → note_of new id ≡ option_or (note_of old id) (cond (test id) (Some false) None)
+
+-- the ids that pass the test are noted to be in a cycle, and else stays what was noted
+abbrev pub AreNotedOver : {S : Type 0} → (List ℕ → Bool) → HashMap (Bor (List ℕ)) Bool S → HashMap (Bor (List ℕ)) Bool S → Type 0
+AreNotedOver test old new = (id : List ℕ) → note_of new id ≡ cond (test id) (Some true) (note_of old id)

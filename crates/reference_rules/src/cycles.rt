@@ -1,9 +1,9 @@
 //! Cycles of parents. A chain is followed only to an id of which an earlier chain told, so that all rows of a kind take as many steps as
 //! there are rows.
 
-ghost use Rattle.std.specs.Prelude.{◌≡◌, IfOk, IsSome, None, OnOk, Some, bytes_eq, length, option_copied, true};
+ghost use Rattle.std.specs.Prelude.{◌≡◌, ◌<◌, IfOk, IsSome, None, OnOk, Some, bytes_eq, length, option_copied, true};
 ghost use Rattle.std.specs.List.{list_any};
-ghost use Rattle.reference_rules.specs.Notes.{AreNotedBeside, AreNotes, EndsWell, note_of};
+ghost use Rattle.reference_rules.specs.Notes.{AreNotedBeside, AreNotedOver, AreNotes, EndsWell, note_of};
 ghost use Rattle.reference_rules.specs.Parents.{ArePassed, is_in_cycle, nth_parent, parent_of, returns_within};
 ghost use Rattle.roster_types.specs.Keys.{count_of, look_up, row_key};
 
@@ -27,8 +27,8 @@ struct Chain<'a> {
     end: Option<&'a Id>,
 }
 
-// Follows a chain to an id that is known, to one that was met before, or to its end. Each power of two of turns is a place to which a
-// cycle may come back.
+// Follows a chain to an id that is known, back to the first, to one that was met before, or to its end. Each power of two of turns is a
+// place to which a cycle may come back that doesn't go through the first.
 fn follow<'a, R: Rows>(
     alloc: Global,
     rows: &'a R,
@@ -52,7 +52,7 @@ fn follow<'a, R: Rows>(
             None => return Ok(Chain { passed, end: None }),
             Some(parent) => current = parent,
         }
-        if current.is_same(met) {
+        if current.is_same(met) || current.is_same(id) {
             break;
         }
         if (turn + 1).is_power_of_two() {
@@ -155,6 +155,27 @@ fn note_passed<'a>(passed: &[&'a Id], notes: &mut Notes<'a>) -> Result<(), NoMem
     Ok(())
 }
 
+// Notes the ids of a cycle.
+fn note_lap<'a>(passed: &[&'a Id], notes: &mut Notes<'a>) -> Result<(), NoMemory>
+    ensures { OnOk result (AreNotedOver (λ q. list_any (λ id. bytes_eq q id.now) passed.now) notes.old notes.new) }
+{
+    for id in passed {
+        notes.insert(id.as_str(), true)?;
+    }
+    Ok(())
+}
+
+// Whether a chain came back to the id that it began with: then it passed the ids of a cycle, and no others.
+fn came_back(chain: &Chain, id: &Id) -> bool
+    ensures some { result ≡ true → 0 < length chain.now.passed.items }
+    ensures end { result ≡ true → option_copied chain.now.end ≡ Some id.now }
+{
+    match chain.end {
+        Some(end) => !chain.passed.is_empty() && end.is_same(id),
+        None => false,
+    }
+}
+
 // Notes an id, and the ids of its chain up to one that is known. A cycle that the chain comes to is noted before the ids that it passes,
 // so that those that aren't known then are in none.
 fn learn<'a, R: Rows>(
@@ -171,6 +192,9 @@ fn learn<'a, R: Rows>(
     ensures known { OnOk result (IsSome (note_of notes.new id.now)) }
 {
     let chain = follow(alloc, rows, kind, id, turns, notes)?;
+    if came_back(&chain, id) {
+        return note_lap(chain.passed.as_slice(), notes);
+    }
     note_end(rows, kind, chain.end, turns, notes)?;
     note_passed(chain.passed.as_slice(), notes)
 }

@@ -24,7 +24,7 @@ use crate::cycles::is_in_cycle;
 use crate::targets::add_value_faults;
 use crate::walk::{begun, is_in_cycle_along};
 pub use has_row::HasRow;
-pub use ref_fault::{Fault, RefFault};
+pub use ref_fault::{Fault, RefFault, has_cycle};
 use roster_base::NoMemory;
 use roster_types::row::Row;
 use roster_types::rows::Rows;

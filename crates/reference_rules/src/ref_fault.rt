@@ -1,5 +1,9 @@
 //! Broken references.
 
+ghost use Rattle.std.specs.Prelude.{◌≡◌};
+ghost use Rattle.std.specs.List.{list_any};
+ghost use Rattle.reference_rules.specs.Faults.{is_cycle};
+
 use roster_base::Text;
 use roster_texts::Id;
 use roster_values::Kind;
@@ -26,4 +30,13 @@ pub struct RefFault {
     /// Nothing where days are in the wrong order.
     pub target: Option<Id>,
     pub fault: Fault,
+}
+
+/// Whether one of these broken references is that of a row in a cycle of parents.
+pub fn has_cycle(broken: &[RefFault]) -> bool
+    ensures { result ≡ list_any is_cycle broken.now }
+{
+    broken
+        .iter()
+        .any(|reference| matches!(reference.fault, Fault::Cycle))
 }

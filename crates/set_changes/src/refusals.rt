@@ -11,8 +11,8 @@ use crate::draft::Draft;
 use crate::limits::ROW_LIMIT;
 use crate::listed::is_own;
 use crate::publish_fault::PublishFault;
-use crate::soundness::stays_sound;
-use reference_rules::{RefFault, faults};
+use crate::soundness::draft_faults;
+use reference_rules::RefFault;
 use roster_base::{Items, NoMemory, TryCopy};
 use roster_texts::Name;
 use roster_types::rows::Rows;
@@ -102,8 +102,7 @@ fn unsound(faults: Vec<RefFault>) -> Option<PublishFault>
     Some(PublishFault::Unsound(Items::from_vec(faults)))
 }
 
-/// The refusal of new rows, whoever publishes them. Where the rows that stood are known to be sound, the references of those that
-/// change are checked first, and the others' only where these don't tell.
+/// The refusal of new rows, whoever publishes them. It is found faster where the rows that stood are known to be sound.
 pub fn refusal_of(
     alloc: Global,
     draft: &Draft,
@@ -115,8 +114,5 @@ pub fn refusal_of(
     if let Some(fault) = too_many(draft, &Kind::ALL) {
         return Ok(Some(fault));
     }
-    if stays_sound(alloc, draft, is_sound)? {
-        return Ok(None);
-    }
-    Ok(unsound(faults(alloc, draft)?))
+    Ok(unsound(draft_faults(alloc, draft, is_sound)?))
 }

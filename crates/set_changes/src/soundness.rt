@@ -1,14 +1,14 @@
-//! Whether sound rows stay sound under changes, told by the rows that change.
+//! The broken references of rows under changes, told by the rows that change where these tell.
 
-ghost use Rattle.std.specs.Prelude.{◌≡◌, IfOk, [], true};
-ghost use Rattle.std.specs.List.{list_all};
-ghost use Rattle.reference_rules.specs.Faults.{faults_of, type_in};
+ghost use Rattle.std.specs.Prelude.{◌≡◌, ◌⊎◌, IfOk, [], false, true};
+ghost use Rattle.std.specs.List.{list_all, list_any};
+ghost use Rattle.reference_rules.specs.Faults.{faults_of, is_cycle, type_in};
 ghost use Rattle.set_changes.specs.Steps.{is_one_type, keeps_type};
 ghost use Rattle.version_core.specs.Changes.{change_key, rows_of};
 ghost use Rattle.version_core.specs.Order.{overlaid};
 
 use crate::draft::Draft;
-use reference_rules::{faults_among, type_in};
+use reference_rules::{RefFault, faults, faults_among, has_cycle, type_in};
 use roster_base::NoMemory;
 use roster_types::row::Row;
 use roster_types::rows::Rows;
@@ -45,17 +45,28 @@ fn keep_types(view: &VersionView, changes: &[RowChange]) -> bool
     changes.iter().all(|change| keeps_type(view, change))
 }
 
-/// Whether the rows are sound because those that stood are, and those that change have no broken references and keep their types.
-/// Where not, they may still be sound.
-pub fn stays_sound(alloc: Global, draft: &Draft, is_sound: bool) -> Result<bool, NoMemory>
+// Whether the broken references of the rows that change are all: a cycle may go through rows that don't change.
+fn are_all(view: &VersionView, found: &[RefFault]) -> bool
+    ensures { result ≡ true → (view.now.rows ≡ []) ⊎ (list_any is_cycle found.now ≡ false) }
+{
+    view.is_empty() || !has_cycle(found)
+}
+
+/// The broken references of the rows as they become. Where those that stood are known to be sound and keep their types, the rows that
+/// change are checked first, and the others only where these don't tell.
+pub fn draft_faults(alloc: Global, draft: &Draft, is_sound: bool) -> Result<Vec<RefFault>, NoMemory>
     requires { is_sound ≡ true → faults_of (rows_of draft.now.view.now.rows) ≡ [] }
-    ensures { IfOk result (λ is. is ≡ true → faults_of (rows_of (overlaid change_key draft.now.view.now.rows draft.now.changes.now)) ≡ []) }
+    ensures { IfOk result (λ v. v.items ≡ faults_of (rows_of (overlaid change_key draft.now.view.now.rows draft.now.changes.now))) }
 {
     if !is_sound || !keep_types(draft.view, draft.changes.as_slice()) {
-        return Ok(false);
+        return faults(alloc, draft);
     }
     // Counted for its clause `order`.
     let _ = draft.count(Kind::Orgs);
     let found = faults_among(alloc, draft, draft.changes.as_slice())?;
-    Ok(found.is_empty())
+    if !are_all(draft.view, found.as_slice()) {
+        drop(found);
+        return faults(alloc, draft);
+    }
+    Ok(found)
 }
