@@ -34,7 +34,7 @@ fn files_of(alloc: Global, first: &[File]) -> Result<Files, Fail> {
 }
 
 // The words, the files in front of those of `lake`, the status, and what is printed.
-static CASES: [(&str, &[File], u8, &str); 16] = [
+static CASES: [(&str, &[File], u8, &str); 18] = [
     ("publish sis=lake", &[], 0, "sis version 1\n"),
     (
         "publish sis=lake sis=lake",
@@ -174,6 +174,39 @@ static CASES: [(&str, &[File], u8, &str); 16] = [
         ],
         4,
         "refused: orgs x parent y: missing\n",
+    ),
+    // Over rows that stand a changed row is told of alone, unless it closes a ring of them.
+    (
+        "publish sis=lake sis=lost",
+        &[
+            ("lost", "manifest.csv", SOME_ORGS),
+            (
+                "lost",
+                "orgs.csv",
+                "sourcedId,status,dateLastModified,name,type,parentSourcedId\nx,active,2024-09-01T00:00:00.000Z,X,state,y\n",
+            ),
+        ],
+        4,
+        "sis version 1\nrefused: orgs x parent y: missing\n",
+    ),
+    (
+        "publish a=line a=ring",
+        &[
+            ("line", "manifest.csv", ORGS),
+            (
+                "line",
+                "orgs.csv",
+                "sourcedId,name,type,parentSourcedId\na,A,district,b\nb,B,district,\nc,C,district,a\nd,D,district,c\n",
+            ),
+            ("ring", "manifest.csv", SOME_ORGS),
+            (
+                "ring",
+                "orgs.csv",
+                "sourcedId,status,dateLastModified,name,type,parentSourcedId\nb,active,2024-09-01T00:00:00.000Z,B,district,c\n",
+            ),
+        ],
+        4,
+        "a version 1\nrefused: orgs a parent b: cycle\nrefused: orgs b parent c: cycle\nrefused: orgs c parent a: cycle\n",
     ),
     (
         "publish sis=lake",
