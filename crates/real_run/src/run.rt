@@ -6,7 +6,7 @@ ghost use Rattle.roster_base.specs.Faults.{Rose};
 ghost use Rattle.hub_cli.specs.Words.{keep_in, split, store_in};
 ghost use Rattle.real_run.specs.RealRuns.{AnswersFrom, AnswersOver, IsRealAnswer, Runs, Tells, TellsPart};
 
-use crate::store::{COPY_FILE, HUB_FILE, open_store};
+use crate::store::{COPY_FILE, HUB_FILE, OpenStore, open_store};
 use copy_keeper::{CopyKeeper, MemCopy};
 use exchange_link::Link;
 use hub_cli::lines::NO_MEMORY;
@@ -18,7 +18,8 @@ use keeper_sqlite::{ClosedStore, SqlItems};
 use outside_ports::{DirFolder, Sink, SystemClock};
 use peer_links::{NoLink, SocketLink};
 use roster_base::{NoMemory, Refusal, Text};
-use sqlite::{Connection, File, FileStore};
+use sqlite::{Connection, FileStore};
+use sqlite_disk::Disk;
 use std::alloc::Global;
 use std::mem::forget;
 
@@ -27,6 +28,21 @@ use std::mem::forget;
 struct Surroundings {
     root: String,
     peer: Option<Text>,
+}
+
+// What a store keeps: a hub, of which a new one keeps so many versions beside the newest, or a consumer's copy.
+#[derive(Clone, Copy)]
+enum Kept {
+    Hub { keep: u32 },
+    Copy,
+}
+
+// The file in the folder of a store.
+fn file_of(kept: Kept) -> &'static str {
+    match kept {
+        Kept::Hub { .. } => HUB_FILE,
+        Kept::Copy => COPY_FILE,
+    }
 }
 
 // Runs the words over keepers and a link, over the real folder and clock.
@@ -137,42 +153,78 @@ fn run_with_copy<C: CopyKeeper, O: Sink>(
     status
 }
 
-// Runs words over the hub that a database keeps, and closes the database.
-fn run_over_hub<O: Sink>(
+// Runs words over the hub that an open store keeps, and closes the store. This goes over any store and any disk: a proof over the files
+// of the system takes long for each call that names their types.
+fn run_over_hub<S: OpenStore, O: Sink>(
     rt: HostRuntime,
     alloc: Global,
     words: &[String],
     around: Surroundings,
     keep: u32,
-    connection: Connection<FileStore<File>>,
+    items: S,
     out: &mut O,
 ) -> u8
     requires { IsSome (store_in (split (map string_bytes words.now))) }
     ensures { Runs (IsRealAnswer (split (map string_bytes words.now))) (split (map string_bytes words.now)) result (O.written out.old) (O.written out.new) (O.faults out.old) (O.faults out.new) }
 {
-    let mut keeper = ItemHub::adopt(SqlItems::adopt(connection), keep);
+    let mut keeper = ItemHub::adopt(items, keep);
     let status = run_with_hub(rt, alloc, words, around, &mut keeper, out);
-    // What was committed stands in the log of the database: where it can't be closed, nothing is lost.
-    let _ = keeper.release().release().close();
+    keeper.release().close();
     status
 }
 
-// Runs words over the copy that a database keeps, and closes the database.
-fn run_over_copy<O: Sink>(
+// Runs words over the copy that an open store keeps, and closes the store.
+fn run_over_copy<S: OpenStore, O: Sink>(
     rt: HostRuntime,
     alloc: Global,
     words: &[String],
     around: Surroundings,
-    connection: Connection<FileStore<File>>,
+    items: S,
     out: &mut O,
 ) -> u8
     requires { IsSome (store_in (split (map string_bytes words.now))) }
     ensures { Runs (IsRealAnswer (split (map string_bytes words.now))) (split (map string_bytes words.now)) result (O.written out.old) (O.written out.new) (O.faults out.old) (O.faults out.new) }
 {
-    let mut copy = ItemCopy::adopt(SqlItems::adopt(connection));
+    let mut copy = ItemCopy::adopt(items);
     let status = run_with_copy(rt, alloc, words, around, &mut copy, out);
-    let _ = copy.release().release().close();
+    copy.release().close();
     status
+}
+
+// Runs words over what an open store keeps, and closes the store.
+fn run_over_items<S: OpenStore, O: Sink>(
+    rt: HostRuntime,
+    alloc: Global,
+    words: &[String],
+    around: Surroundings,
+    kept: Kept,
+    items: S,
+    out: &mut O,
+) -> u8
+    requires { IsSome (store_in (split (map string_bytes words.now))) }
+    ensures { Runs (IsRealAnswer (split (map string_bytes words.now))) (split (map string_bytes words.now)) result (O.written out.old) (O.written out.new) (O.faults out.old) (O.faults out.new) }
+{
+    match kept {
+        Kept::Hub { keep } => run_over_hub(rt, alloc, words, around, keep, items, out),
+        Kept::Copy => run_over_copy(rt, alloc, words, around, items, out),
+    }
+}
+
+// Runs words over what a database keeps, and closes the database.
+fn run_connected<D: Disk + Drop, O: Sink>(
+    rt: HostRuntime,
+    alloc: Global,
+    words: &[String],
+    around: Surroundings,
+    kept: Kept,
+    connection: Connection<FileStore<D>>,
+    out: &mut O,
+) -> u8
+    requires { IsSome (store_in (split (map string_bytes words.now))) }
+    ensures { Runs (IsRealAnswer (split (map string_bytes words.now))) (split (map string_bytes words.now)) result (O.written out.old) (O.written out.new) (O.faults out.old) (O.faults out.new) }
+{
+    let items = SqlItems::adopt(connection);
+    run_over_items(rt, alloc, words, around, kept, items, out)
 }
 
 // Runs words over a hub whose store couldn't be opened.
@@ -205,41 +257,40 @@ fn run_closed_copy<O: Sink>(
     run_with_copy(rt, alloc, words, around, &mut copy, out)
 }
 
-// Runs words over the hub whose store stands in a folder.
-fn run_stored_hub<O: Sink>(
+// Runs words over what a store keeps that couldn't be opened.
+fn run_closed<O: Sink>(
     rt: HostRuntime,
     alloc: Global,
     words: &[String],
     around: Surroundings,
-    keep: u32,
-    folder: &str,
+    kept: Kept,
     out: &mut O,
 ) -> u8
     requires { IsSome (store_in (split (map string_bytes words.now))) }
     ensures { Runs (IsRealAnswer (split (map string_bytes words.now))) (split (map string_bytes words.now)) result (O.written out.old) (O.written out.new) (O.faults out.old) (O.faults out.new) }
 {
-    match open_store(rt, alloc, folder, HUB_FILE) {
-        Ok(Some(connection)) => run_over_hub(rt, alloc, words, around, keep, connection, out),
-        Ok(None) => run_closed_hub(rt, alloc, words, around, out),
-        Err(NoMemory) => print(out, 17, NO_MEMORY),
+    match kept {
+        Kept::Hub { .. } => run_closed_hub(rt, alloc, words, around, out),
+        Kept::Copy => run_closed_copy(rt, alloc, words, around, out),
     }
 }
 
-// Runs words over the copy whose store stands in a folder.
-fn run_stored_copy<O: Sink>(
+// Runs words over what a store keeps in a folder.
+fn run_stored<O: Sink>(
     rt: HostRuntime,
     alloc: Global,
     words: &[String],
     around: Surroundings,
+    kept: Kept,
     folder: &str,
     out: &mut O,
 ) -> u8
     requires { IsSome (store_in (split (map string_bytes words.now))) }
     ensures { Runs (IsRealAnswer (split (map string_bytes words.now))) (split (map string_bytes words.now)) result (O.written out.old) (O.written out.new) (O.faults out.old) (O.faults out.new) }
 {
-    match open_store(rt, alloc, folder, COPY_FILE) {
-        Ok(Some(connection)) => run_over_copy(rt, alloc, words, around, connection, out),
-        Ok(None) => run_closed_copy(rt, alloc, words, around, out),
+    match open_store(rt, alloc, folder, file_of(kept)) {
+        Ok(Some(connection)) => run_connected(rt, alloc, words, around, kept, connection, out),
+        Ok(None) => run_closed(rt, alloc, words, around, kept, out),
         Err(NoMemory) => print(out, 17, NO_MEMORY),
     }
 }
@@ -300,6 +351,15 @@ fn setting_of(alloc: Global, words: &[String]) -> Result<Setting, NoMemory>
     })
 }
 
+// What the store keeps of a setting.
+fn kept_in(keep: u32, is_consumer: bool) -> Kept {
+    if is_consumer {
+        Kept::Copy
+    } else {
+        Kept::Hub { keep }
+    }
+}
+
 // Runs words in the setting that they say.
 fn run_in<O: Sink>(
     rt: HostRuntime,
@@ -320,10 +380,10 @@ fn run_in<O: Sink>(
     } = setting;
     match store {
         None => run_in_memory(rt, alloc, words, around, keep, out),
-        Some(folder) if is_consumer => {
-            run_stored_copy(rt, alloc, words, around, folder.as_str(), out)
+        Some(folder) => {
+            let kept = kept_in(keep, is_consumer);
+            run_stored(rt, alloc, words, around, kept, folder.as_str(), out)
         }
-        Some(folder) => run_stored_hub(rt, alloc, words, around, keep, folder.as_str(), out),
     }
 }
 
