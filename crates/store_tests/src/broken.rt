@@ -79,11 +79,7 @@ static COPY: [Step; 3] = [
 ];
 
 // Takes steps over items, tells whether memory sufficed, and gives them back.
-fn filled<S: Alter + Drop>(
-    alloc: Global,
-    mut items: SqlItems<S>,
-    steps: &[Step],
-) -> (bool, SqlItems<S>) {
+fn filled<I: StoredItems>(alloc: Global, mut items: I, steps: &[Step]) -> (bool, I) {
     let mut filled = true;
     for step in steps {
         let (told, left) = step_over(alloc, items, 2, step);
@@ -116,13 +112,12 @@ fn listing<I: StoredItems>(alloc: Global, items: &mut I) -> Result<Vec<u8>, NoMe
     Ok(bytes)
 }
 
-// What a step tells over a connection, and whether the items stay.
-fn visited<S: Alter + Drop>(
+// What a step tells over items, and whether they stay.
+fn visited<I: StoredItems>(
     alloc: Global,
-    connection: Connection<S>,
+    mut items: I,
     step: &Step,
 ) -> Result<(String, bool), NoMemory> {
-    let mut items = SqlItems::adopt(connection);
     let before = listing(alloc, &mut items);
     let faults = items.faults();
     let (told, mut items) = step_over(alloc, items, 2, step);
@@ -143,7 +138,7 @@ fn broken_over<S: Alter + Drop>(
     let (filled, items) = filled(alloc, SqlItems::adopt(connection), steps);
     let mut connection = items.release();
     let ran = filled && connection.execute_batch(sql).is_ok();
-    let (told, stays) = visited(alloc, connection, step)?;
+    let (told, stays) = visited(alloc, SqlItems::adopt(connection), step)?;
     Ok((told, ran && stays))
 }
 

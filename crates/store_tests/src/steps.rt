@@ -4,12 +4,12 @@ use crate::words::{printed, told};
 use copy_keeper::CopyKeeper;
 use item_laws::opened;
 use keeper_copies::ItemCopy;
-use keeper_items::ItemHub;
+use keeper_items::{ItemHub, StoredItems};
 use keeper_memory::MemHub;
 use keeper_sqlite::SqlItems;
 use peer_links::PeerLink;
 use roster_base::NoMemory;
-use sqlite::{Alter, Connection, FileStore, Files, Options};
+use sqlite::{Connection, FileStore, Files, Options};
 use sqlite_disk::Disk;
 use std::alloc::Global;
 
@@ -65,35 +65,35 @@ pub fn turn_told<C: CopyKeeper>(
 }
 
 // Runs the words over a hub that these items keep, and gives them back.
-fn hub_over<S: Alter + Drop>(
+fn hub_over<I: StoredItems>(
     alloc: Global,
-    items: SqlItems<S>,
+    items: I,
     keep: u32,
     line: &str,
-) -> (Result<String, NoMemory>, SqlItems<S>) {
+) -> (Result<String, NoMemory>, I) {
     let mut keeper = ItemHub::adopt(items, keep);
     let told = told(alloc, line, &mut keeper);
     (told, keeper.release())
 }
 
 // Runs a turn over a copy that these items keep, and gives them back.
-fn copy_over<S: Alter + Drop>(
+fn copy_over<I: StoredItems>(
     alloc: Global,
-    items: SqlItems<S>,
+    items: I,
     turn: &Turn,
-) -> (Result<String, NoMemory>, SqlItems<S>) {
+) -> (Result<String, NoMemory>, I) {
     let mut copy = ItemCopy::adopt(items);
     let told = turn_told(alloc, turn, &mut copy);
     (told, copy.release())
 }
 
 /// Takes a step over these items, and gives them back. A new hub keeps so many versions.
-pub fn step_over<S: Alter + Drop>(
+pub fn step_over<I: StoredItems>(
     alloc: Global,
-    items: SqlItems<S>,
+    items: I,
     keep: u32,
     step: &Step,
-) -> (Result<String, NoMemory>, SqlItems<S>) {
+) -> (Result<String, NoMemory>, I) {
     match step {
         Step::Hub(line) => hub_over(alloc, items, keep, line),
         Step::Copy(turn) => copy_over(alloc, items, turn),
