@@ -98,6 +98,7 @@ faults_in rows row _ _ = []
 abbrev pub row_faults : List Record → Record → List RefFault
 row_faults rows row = faults_in rows row (table row.kind) (all_values row)
 
+-- a fault is a cycle of parents
 abbrev pub is_cycle_fault : Fault → Bool
 is_cycle_fault Cycle = true
 is_cycle_fault _ = false

@@ -43,8 +43,8 @@ module _ {A : Type 0} (version : ℕ) where
   standing-trimmed oldest [] le = refl
   standing-trimmed oldest (first ∷ []) le = refl
   standing-trimmed oldest (first ∷ second ∷ entries) le =
-      elim (leb second.version oldest) as (λ b. leb second.version oldest ≡ b → standing version (if b then second ∷ entries else first ∷ second ∷ entries) ≡ standing version (first ∷ second ∷ entries)) [
-        | true ↦ λ early. hidden (standing version entries) (leb second.version version) (let e = early in grind (arith, nat_tests, le))
+      elim (leb second.version oldest) as (λ b. leb second.version oldest ≡ b → standing version (if b then trimmed oldest (second ∷ entries) else first ∷ second ∷ entries) ≡ standing version (first ∷ second ∷ entries)) [
+        | true ↦ λ early. standing-trimmed oldest (second ∷ entries) le ∙ hidden (standing version entries) (leb second.version version) (let e = early in grind (arith, nat_tests, le))
         | false ↦ λ _. refl
       ] refl
     where

@@ -15,24 +15,28 @@ use Rattle.version_core.specs.declared.row_change.RowChange.{RowChange}
 use Rattle.version_core.specs.declared.since.Since.{Since}
 use Rattle.version_core.proofs.SinceLemmas.{standing-trimmed}
 
+-- without its first entry a past of more than one is one
+without_first : (x y : Since RowChange) (past : Past) → IsPast (x ∷ y ∷ past) → IsPast (y ∷ past)
+without_first x y past is = record { some = omega arith; same = subst (λ k. AllByRecursion (λ (e : Since RowChange). change_key e.value ≡ k) (y ∷ past)) (sym is.same.1.0) is.same.1 }
+
 pub trimmed_key : (version : ℕ) (past : Past) → IsPast past → past_key (trimmed version past) ≡ past_key past
 trimmed_key version [] is = refl
 trimmed_key version (x ∷ []) is = refl
-trimmed_key version (x ∷ y ∷ past) is = elim (leb y.version version) as (λ b. past_key (if b then y ∷ past else x ∷ y ∷ past) ≡ change_key x.value) [ true ↦ is.same.1.0 | false ↦ refl ]
+trimmed_key version (x ∷ y ∷ past) is = elim (leb y.version version) as (λ b. past_key (if b then trimmed version (y ∷ past) else x ∷ y ∷ past) ≡ change_key x.value) [ true ↦ trimmed_key version (y ∷ past) (without_first x y past is) ∙ is.same.1.0 | false ↦ refl ]
 
 pub trimmed_past : (version : ℕ) (past : Past) → IsPast past → IsPast (trimmed version past)
 trimmed_past version [] is = is
 trimmed_past version (x ∷ []) is = is
 trimmed_past version (x ∷ y ∷ past) is =
-    elim (leb y.version version) as (λ b. IsPast (if b then y ∷ past else x ∷ y ∷ past)) [
-      | true ↦ record { some = omega arith; same = subst (λ k. AllByRecursion (λ (e : Since RowChange). change_key e.value ≡ k) (y ∷ past)) (sym is.same.1.0) is.same.1 }
+    elim (leb y.version version) as (λ b. IsPast (if b then trimmed version (y ∷ past) else x ∷ y ∷ past)) [
+      | true ↦ trimmed_past version (y ∷ past) (without_first x y past is)
       | false ↦ is
     ]
 
 pub trimmed_all : {A : Type 0} (P : Since A → Type 0) (version : ℕ) (entries : List (Since A)) → AllByRecursion P entries → AllByRecursion P (trimmed version entries)
 trimmed_all P version [] all = all
 trimmed_all P version (x ∷ []) all = all
-trimmed_all P version (x ∷ y ∷ entries) all = elim (leb y.version version) as (λ b. AllByRecursion P (if b then y ∷ entries else x ∷ y ∷ entries)) [ true ↦ all.1 | false ↦ all ]
+trimmed_all P version (x ∷ y ∷ entries) all = elim (leb y.version version) as (λ b. AllByRecursion P (if b then trimmed version (y ∷ entries) else x ∷ y ∷ entries)) [ true ↦ trimmed_all P version (y ∷ entries) all.1 | false ↦ all ]
 
 below_set : (k : Key) (histories : List History) (n : ℕ) (new : History) → ((d : History) → history_key new ≡ history_key (get_or histories n d)) → n < length histories → entries.below_all key_cmp k (keyed past_key (pasts_of (set histories n new))) ≡ entries.below_all key_cmp k (keyed past_key (pasts_of histories))
 below_set k [] n new same lt = absurd (omega arith)

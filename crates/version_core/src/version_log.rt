@@ -10,7 +10,7 @@ ghost use Rattle.version_core.specs.Version.{IsVersion, after, empty_version, fi
 use crate::change::{BaseVersion, Change};
 use crate::copies::copied;
 use crate::grant_row::GrantRow;
-use crate::histories::{put_rows, trim_all};
+use crate::histories::{put_rows, trim_share};
 use crate::history::{History, Place};
 use crate::ref_index::{RefRun, pasts_are_said, stay_said};
 use crate::ref_runs::{limit_of, runs_of, sweep};
@@ -47,6 +47,10 @@ pub struct VersionLog {
     limit: usize,
     // Whether `refs` has all that the rows of the versions name.
     is_indexed: bool,
+    // From which history on a retirement goes through them, and through how many: twice as many as rows changed since, and some more, so
+    // that none is left behind for long.
+    swept: usize,
+    share: usize,
 }
 
 impl Model for VersionLog {
@@ -79,6 +83,8 @@ impl VersionLog {
             refs: Vec::new(alloc),
             limit: 0,
             is_indexed: false,
+            swept: 0,
+            share: 0,
         }
     }
 
@@ -102,6 +108,8 @@ impl VersionLog {
             refs: Vec::new(alloc),
             limit: 0,
             is_indexed: false,
+            swept: 0,
+            share: 0,
         })
     }
 
@@ -220,6 +228,7 @@ impl VersionLog {
             grants,
         } = change;
         self.is_indexed = stay_said(self.is_indexed, &self.refs, rows.as_slice());
+        self.share = share_after(self.share, rows.as_slice().len());
         put_rows(
             &mut self.histories,
             &mut self.spare,
@@ -231,7 +240,8 @@ impl VersionLog {
         self.moments.push_reserved(moment);
     }
 
-    /// Lets the oldest version go, with the rows and grants that stand in no later one. No memory is taken.
+    /// Lets the oldest version go, with the grants that stand in no later one, and rows that stand in none. These go bit by bit, so that
+    /// a retirement takes no longer than the changes before it. No memory is taken.
     pub fn retire(&mut self)
         requires { 2 ≤ length self.old.versions }
         ensures { self.new ≡ record { versions = drop 1 self.old.versions; room = None } }
@@ -240,8 +250,17 @@ impl VersionLog {
         self.moment = self.moments.remove(0);
         self.number += 1;
         trim(&mut self.grants, self.number);
-        trim_all(&mut self.histories, self.number);
+        self.swept = trim_share(&mut self.histories, self.swept, self.share, self.number);
+        self.share = 0;
     }
+}
+
+// Through how many histories the next retirement goes, once so many rows more have changed.
+fn share_after(share: usize, changed: usize) -> usize {
+    share
+        .saturating_add(changed)
+        .saturating_add(changed)
+        .saturating_add(8)
 }
 
 // The moment of version 0.

@@ -1,6 +1,6 @@
 use Rattle.std.proofs.Common.{◌≡◌, vec_len}
 use Rattle.version_core.specs.History.{StandsFrom, pasts_of}
-use Rattle.version_core.proofs.histories.trim_all.Given as goal
+use Rattle.version_core.proofs.histories.trim_share.Given as goal
 
 -- what is trimmed so far
 abbrev pub invariant-loop-place : goal.invariant-loop-place

@@ -4,7 +4,7 @@ use Rattle.version_core.specs.History.{past_of, pasts_of}
 use Rattle.version_core.specs.Since.{trimmed}
 use Rattle.version_core.specs.declared.history.History.{History}
 use Rattle.version_core.proofs.TrimLemmas.{stands_next, stands_same, trims_at}
-use Rattle.version_core.proofs.histories.trim_all.Goals as goal
+use Rattle.version_core.proofs.histories.trim_share.Goals as goal
 
 pub loop-place-init : goal.loop-place-init
 loop-place-init c = record { stands = stands_same c.args.version (pasts_of c.args.histories.now.items); len = refl }
@@ -15,7 +15,7 @@ loop-place-preserved c =
     let items = c.loop-place.histories.items in
     let place = c.loop-place.place in
     let old = c.index_mut.result.now in
-    let lt : place < length items = omega (arith, c.loop-place-test.true, loop.len, c.len-place-end.ensures) in
+    let lt : place < length items = omega (arith, c.loop-place-test.true, loop.len, c.min-end.ensures, c.len-2.ensures) in
     let is = λ (d : History). c.trim.ensures ∙ ap (λ (h : History). trimmed c.args.version (past_of h)) (c.index_mut.ensures.value ∙ get_or_default items place old d lt) in
     record {
       stands = stands_next c.args.version (pasts_of c.args.histories.now.items) (pasts_of items) (pasts_of (set items place c.trim.new.self)) loop.stands (trims_at c.args.version items place c.trim.new.self is lt);
