@@ -1,8 +1,8 @@
 //! The laws of the store, as they run.
 
-use crate::samples::{first_edits, found_over, items_line};
+use crate::samples::{commit_over, first_edits, found_over, items_line};
 use item_laws::{fresh, opened, read_back, reopen};
-use item_store::{Edit, ItemStore};
+use item_store::Edit;
 use roster_base::KeeperError;
 use sqlite::{Connection, FileStore, Files, Options};
 use sqlite_disk::Memory;
@@ -37,9 +37,8 @@ fn committed(
     conn: Connection<FileStore<Memory>>,
     edits: &[Edit],
 ) -> Result<Option<Vec<u8>>, KeeperError> {
-    let mut store = ItemStore::adopt(conn);
-    let committed = store.commit(edits);
-    let found = found_again(alloc, store.release());
+    let (committed, conn) = commit_over(conn, edits);
+    let found = found_again(alloc, conn);
     committed?;
     Ok(found)
 }

@@ -123,6 +123,16 @@ pub fn area_1<S: Alter + Drop>(
     listed(alloc, store, &(1, "", "z", 10, ""))
 }
 
+/// Commits the edits over a connection, and gives it back.
+pub fn commit_over<S: Alter + Drop>(
+    conn: Connection<S>,
+    edits: &[Edit],
+) -> (Result<(), KeeperError>, Connection<S>) {
+    let mut store = ItemStore::adopt(conn);
+    let committed = store.commit(edits);
+    (committed, store.release())
+}
+
 /// All items of area 1 over a connection; nothing where they can't be read.
 pub fn found_over<S: Alter + Drop>(alloc: Global, conn: Connection<S>) -> Option<Vec<u8>> {
     let mut store = ItemStore::adopt(conn);

@@ -1,8 +1,8 @@
 //! Commits over disks that stop.
 
-use crate::samples::{first_edits, found_over, second_edits};
+use crate::samples::{commit_over, first_edits, found_over, second_edits};
 use item_laws::opened;
-use item_store::{Edit, ItemStore};
+use item_store::Edit;
 use sqlite::{Connection, FileStore, Files, Options};
 use sqlite_disk::{Crash, Disk, Fuse, Memory};
 use std::alloc::Global;
@@ -10,16 +10,18 @@ use std::process::Abort;
 use std::test::Fail;
 
 // Commits over a connection, and gives its files back.
-fn commit_over<D: Disk + Drop>(conn: Connection<FileStore<D>>, edits: &[Edit]) -> (bool, Files<D>) {
-    let mut store = ItemStore::adopt(conn);
-    let committed = store.commit(edits).is_ok();
-    (committed, store.release().into_store().close())
+fn commit_and_close<D: Disk + Drop>(
+    conn: Connection<FileStore<D>>,
+    edits: &[Edit],
+) -> (bool, Files<D>) {
+    let (committed, conn) = commit_over(conn, edits);
+    (committed.is_ok(), conn.into_store().close())
 }
 
 // Opens the files and commits, and gives the files back.
 fn commit_to<D: Disk + Drop>(alloc: Global, files: Files<D>, edits: &[Edit]) -> (bool, Files<D>) {
     match opened(alloc, files, Options::new(7)) {
-        Ok(conn) => commit_over(conn, edits),
+        Ok(conn) => commit_and_close(conn, edits),
         Err(files) => (false, files),
     }
 }

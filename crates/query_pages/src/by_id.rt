@@ -10,11 +10,11 @@ use crate::list_test::ListTest;
 use filter_grammar::Query;
 use roster_base::{Items, NoMemory, TryCopy};
 use roster_types::row::Row;
-use roster_types::rows::Rows;
 use std::alloc::Global;
+use version_core::references::Refs;
 
 /// The part that a query asks for of a list by id. Rows outside of it are counted, and not copied.
-pub fn part_by_id<R: Rows, T: ListTest>(
+pub fn part_by_id<R: Refs, T: ListTest>(
     alloc: Global,
     rows: &R,
     test: &T,
@@ -25,8 +25,8 @@ pub fn part_by_id<R: Rows, T: ListTest>(
     ensures order { Ascends row_key (R.rows rows.now) }
 {
     let kind = test.kind();
-    // The list isn't longer, so that the count doesn't wrap.
-    let _all = rows.count(kind);
+    // For the order of the rows, and so that their count doesn't wrap.
+    rows.ascend();
     let mut found = Vec::new(alloc);
     let mut total: u64 = 0;
     let mut after = None;

@@ -10,9 +10,9 @@ use crate::list_test::ListTest;
 use crate::sorting::{Sorting, directed};
 use roster_base::{Items, NoMemory, TryCopy};
 use roster_types::row::Row;
-use roster_types::rows::Rows;
 use row_queries::SortKey;
 use std::alloc::Global;
+use version_core::references::Refs;
 
 /// A row with its key.
 #[derive(Drop)]
@@ -22,7 +22,7 @@ pub struct Placed<'r> {
 }
 
 /// The rows of a list as they stand, each with its key.
-pub fn gathered<'r, R: Rows, T: ListTest>(
+pub fn gathered<'r, R: Refs, T: ListTest>(
     alloc: Global,
     rows: &'r R,
     test: &T,
@@ -32,8 +32,8 @@ pub fn gathered<'r, R: Rows, T: ListTest>(
     ensures keys { IfOk result (λ v. AreKeyed (sorting_shown sorting.entry) v.items) }
 {
     let kind = test.kind();
-    // Rows tell that they ascend where they are counted.
-    let _all = rows.count(kind);
+    // For the order of the rows.
+    rows.ascend();
     let mut found = Vec::new(alloc);
     let mut after = None;
     while let Some(row) = rows.next(kind, after) {

@@ -9,7 +9,8 @@ pub mod list_test;
 mod pages;
 mod row_tests;
 mod sorting;
+mod whole;
 
 pub use list_part::{Part, part_of};
 pub use list_test::ListTest;
-pub use pages::{one, page, seen_page};
+pub use pages::{one, page, seen_page, version_page};

@@ -13,8 +13,8 @@ use crate::sorting::Sorting;
 use filter_grammar::{Order, Query};
 use roster_base::{Items, NoMemory};
 use roster_types::row::Row;
-use roster_types::rows::Rows;
 use std::alloc::Global;
+use version_core::references::Refs;
 
 /// Rows of a list from an offset on, at most a limit of them, and the length of the whole list.
 #[derive(Drop)]
@@ -24,7 +24,7 @@ pub struct Part {
 }
 
 // The part that a query asks for of a list in another order than by ascending id.
-fn part_sorted<R: Rows, T: ListTest>(
+fn part_sorted<R: Refs, T: ListTest>(
     alloc: Global,
     rows: &R,
     test: &T,
@@ -43,7 +43,7 @@ fn part_sorted<R: Rows, T: ListTest>(
 }
 
 /// The part that a query asks for of the rows that pass a test, in the order that it asks for.
-pub fn part_of<R: Rows, T: ListTest>(
+pub fn part_of<R: Refs, T: ListTest>(
     alloc: Global,
     rows: &R,
     test: &T,

@@ -1,14 +1,17 @@
 //! What paths list.
 
-ghost use Rattle.std.specs.Prelude.{◌≡◌, ◌≤◌, true, IfOk, option_copied, option_map};
+ghost use Rattle.std.specs.Prelude.{◌≡◌, ◌≤◌, true, IfOk, filter, option_copied, option_map};
 ghost use Rattle.hub_views.specs.Lists as spec;
-ghost use Rattle.hub_views.specs.Pages.{page_of};
+ghost use Rattle.hub_views.specs.Pages.{page_of, page_of_list};
 ghost use Rattle.hub_views.specs.Seen.{seen};
 ghost use Rattle.query_pages.specs.Listed.{linked, part_of_list};
+ghost use Rattle.roster_types.specs.Keys.{Ascends, is_of_kind, row_key};
+ghost use Rattle.version_core.specs.Changes.{rows_of};
 
 use crate::belonging::{belongs, has_objects, id_at};
 use crate::list_part::{Part, part_of};
 use crate::list_test::ListTest;
+use crate::whole::{kind_part, whole_kind};
 use filter_grammar::Query;
 use grant_scopes::Schools;
 use hub_paths::Path;
@@ -21,6 +24,7 @@ use row_queries::passes;
 use seen_rows::SeenRows;
 use std::alloc::Global;
 use version_core::references::Refs;
+use version_core::view::VersionView;
 
 /// The rows that belong to a path and pass the filter of a query.
 #[derive(Drop)]
@@ -127,4 +131,57 @@ pub fn seen_page<R: Refs>(
     ensures { IfOk result (λ o. o ≡ page_of (seen schools.now (R.rows rows.now)) version path.now query.now) }
 {
     page(alloc, &SeenRows::new(schools, rows), version, path, query)
+}
+
+// The page of all rows of a kind, with its links.
+fn kind_page(
+    alloc: Global,
+    view: &VersionView<'_>,
+    kind: Kind,
+    version: u64,
+    path: &Path,
+    query: &Query,
+) -> Result<Page, NoMemory>
+    requires { 1 ≤ query.now.limit }
+    ensures page { IfOk result (λ p. p ≡ page_of_list path.now query.now version (filter (is_of_kind kind) (rows_of view.now.rows))) }
+    ensures order { Ascends row_key (rows_of view.now.rows) }
+{
+    let part = kind_part(alloc, view, kind, query)?;
+    linked(alloc, part, version, path, query)
+}
+
+// The page of a path among all rows of a version.
+fn whole_page(
+    alloc: Global,
+    view: &VersionView<'_>,
+    version: u64,
+    path: &Path,
+    query: &Query,
+) -> Result<Option<Page>, NoMemory>
+    requires { 1 ≤ query.now.limit }
+    ensures { IfOk result (λ o. o ≡ page_of (rows_of view.now.rows) version path.now query.now) }
+{
+    match whole_kind(path, query) {
+        Some(kind) => Ok(Some(kind_page(alloc, view, kind, version, path, query)?)),
+        None => page(alloc, view, version, path, query),
+    }
+}
+
+/// The page that a query asks for of the list of a path among the rows that a grant at these schools sees of a version, which the
+/// links name by this number; nothing where an object that the path names isn't seen.
+pub fn version_page(
+    alloc: Global,
+    view: &VersionView<'_>,
+    schools: &Schools,
+    version: u64,
+    path: &Path,
+    query: &Query,
+) -> Result<Option<Page>, NoMemory>
+    requires { 1 ≤ query.now.limit }
+    ensures { IfOk result (λ o. o ≡ page_of (seen schools.now (rows_of view.now.rows)) version path.now query.now) }
+{
+    match schools {
+        Schools::All => whole_page(alloc, view, version, path, query),
+        Schools::Listed(_) => seen_page(alloc, view, schools, version, path, query),
+    }
 }

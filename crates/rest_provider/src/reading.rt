@@ -26,7 +26,7 @@ use crate::refusals::{Stop, refused_at};
 use filter_grammar::{Query, read_query};
 use grant_scopes::{Grant, opens};
 use hub_paths::{Path, Route};
-use query_pages::seen_page;
+use query_pages::version_page;
 use roster_base::{NoMemory, Refusal};
 use roster_values::Kind;
 use seen_rows::SeenRows;
@@ -130,7 +130,7 @@ impl<'a> Reading<'a> {
         ensures { IfOk result (λ c. option_map contents_shown c
             ≡ reads.contents_of (seen self.entry.grant.now.schools (rows_of view.now.rows)) self.entry.version self.entry.path.now query.now) }
     {
-        match seen_page(
+        match version_page(
             alloc,
             view,
             &self.grant.schools,

@@ -129,4 +129,8 @@ impl<'a, R: Refs> Refs for SeenRows<'a, R> {
     fn referring(&self, kind: Kind, name: &str, target: &Id, after: Option<&Id>) -> Option<&Row> {
         seen_referring(self.schools, &self.known, kind, name, target, after)
     }
+
+    fn ascend(&self) {
+        self.known.rows.ascend();
+    }
 }

@@ -1,9 +1,11 @@
 -- The rows of one kind and id, and of all.
-use Rattle.std.specs.Prelude.{◌≡◌, ◌<◌, ◌≤◌, ℕ, Bool, List, [], ◌∷◌, ◌++◌, Option, None, Some, false, get_or, length, map, nat_le, option_to_list, reverse, true, vec_capacity, vec_len}
+use Rattle.std.specs.Prelude.{◌≡◌, ◌==◌, ◌<◌, ◌≤◌, ℕ, Bool, List, [], ◌∷◌, ◌++◌, Option, None, Some, false, get_or, length, map, nat_le, option_to_list, reverse, true, vec_capacity, vec_len}
 use Rattle.std.specs.Ordering.{is_gt}
 use Rattle.std.specs.List.{AllByRecursion, AllWithin}
 use Rattle.std.specs.declared.cmp.Ordering.TheVariants.{Equal, Less}
 use Rattle.roster_types.specs.Keys.{Ascends, Key, key_cmp}
+use Rattle.roster_values.specs.Kinds.{place_of_kind}
+use Rattle.roster_values.specs.declared.kind.Kind.{Kind}
 use Rattle.version_core.specs.Changes.{change_key}
 use Rattle.version_core.specs.Order.{overlaid, put}
 use Rattle.version_core.specs.Since.{standing}
@@ -25,6 +27,10 @@ past_key (entry ∷ entries) = change_key entry.value
 
 abbrev pub history_key : History → Key
 history_key history = past_key (past_of history)
+
+-- the history is of the kind
+abbrev pub is_past_of : Kind → History → Bool
+is_past_of kind history = (history_key history).0 == place_of_kind kind
 
 -- all entries are of one kind and id, and there is one
 pub record IsPast (past : Past) : Type 0 where

@@ -15,8 +15,9 @@ use roster_values::{FieldInfo, Kind, ValueRef};
 
 /// Rows that are found by what they refer to. No call takes memory.
 pub trait Refs: Rows {
-    ghost use Rattle.std.specs.Prelude.{◌≡◌, option_copied};
-    ghost use Rattle.roster_types.specs.Keys.{Ascends, row_key};
+    ghost use Rattle.std.specs.Prelude.{◌≡◌, ◌<◌, option_copied};
+    ghost use Rattle.roster_types.specs.Keys.{Ascends, count_of, row_key};
+    ghost use Rattle.roster_values.specs.declared.kind.Kind.{Kind as Kinds};
     ghost use Rattle.version_core.specs.References.{next_referring};
 
     /// The row of this kind with the least id above `after`, or with the least of all, whose field `name` names the target.
@@ -24,6 +25,11 @@ pub trait Refs: Rows {
     fn referring(&self, kind: Kind, name: &str, target: &Id, after: Option<&Id>) -> Option<&Row>
         ensures next { option_copied result ≡ next_referring kind name.now target.now (option_copied after.entry) (Self.rows self.now) }
         ensures order { Ascends row_key (Self.rows self.now) };
+
+    /// The rows ascend, and a `u64` counts those of each kind. Nothing is done.
+    fn ascend(&self)
+        ensures order { Ascends row_key (Self.rows self.now) }
+        ensures few { (kind : Kinds) → count_of kind (Self.rows self.now) < 18446744073709551616 };
 }
 
 /// The value of the field with that JSON name; nothing where it is absent or no such field is. No memory is taken.

@@ -1,14 +1,16 @@
 //! One version, read.
 
-ghost use Rattle.std.specs.Prelude.{◌≡◌, ◌+◌, ◌≤◌, ◌==◌, [], Some, count_by, true, option_copied, option_map, length, take, find};
-ghost use Rattle.roster_types.specs.Keys.{Ascends, count_of, look_up};
+ghost use Rattle.std.specs.Prelude.{◌≡◌, ◌≤◌, [], true, count_by, filter, find, is_some, length, nat_le, nat_lt, option_copied, option_map, slice_get};
+ghost use Rattle.std.specs.List.{AllByRecursion, prefix_len};
+ghost use Rattle.roster_types.specs.Keys.{is_of_kind, look_up};
 ghost use Rattle.version_core.specs.Changes.{AreChanges, change_key, is_next, rows_of};
 ghost use Rattle.roster_values.specs.Kinds.{place_of_kind};
 ghost use Rattle.version_core.specs.Grants.{grant_of, grant_row_of};
 ghost use Rattle.version_core.specs.RefIndex.{AreIndexed};
 ghost use Rattle.version_core.specs.View.{earlier};
-ghost use Rattle.version_core.specs.History.{ArePasts, AreUpTo, history_key, pasts_of, rows_at};
-ghost use Rattle.version_core.specs.Version.{IsVersion, row_limit};
+ghost use Rattle.version_core.specs.History.{ArePasts, AreUpTo, IsPast, history_key, is_past_of, past_of, pasts_of, rows_at};
+ghost use Rattle.version_core.specs.Since.{standing};
+ghost use Rattle.version_core.specs.Version.{IsVersion};
 
 use crate::grant_row::{GrantRow, row_of_caller, row_of_token};
 use crate::histories::{following, following_near, found, found_near};
@@ -71,30 +73,80 @@ pub fn earlier<'a>(
     }
 }
 
-// How many histories are of this kind.
-fn histories_of_kind(histories: &[History], kind: Kind) -> u64
+// How many histories are of kinds before the one at this place.
+fn count_before(histories: &[History], place: u64) -> usize
     requires { ArePasts (pasts_of histories.now) }
-    ensures { result ≡ count_by (λ history. (history_key history).0 == place_of_kind kind) histories.now }
+    ensures count { result ≡ prefix_len (λ history. nat_lt (history_key history).0 place) histories.now }
+    ensures bound { result ≤ length histories.now }
 {
-    let place = kind.place() as u64;
-    let below = histories.partition_point(|history| history.place() < place);
-    let through = histories.partition_point(|history| history.place() <= place);
-    (through - below) as u64
+    histories.partition_point(|history| history.place() < place)
 }
 
-// How many rows are of this kind at a version, one after another.
-fn count_at(histories: &[History], version: u64, kind: Kind) -> u64
-    requires pasts { ArePasts (pasts_of histories.now) }
-    requires few { count_of kind (rows_of (rows_at version (pasts_of histories.now))) ≤ row_limit }
-    ensures { result ≡ count_of kind (rows_of (rows_at version (pasts_of histories.now))) }
+// How many histories are of kinds up to the one at this place.
+fn count_through(histories: &[History], place: u64) -> usize
+    requires { ArePasts (pasts_of histories.now) }
+    ensures count { result ≡ prefix_len (λ history. nat_le (history_key history).0 place) histories.now }
+    ensures bound { result ≤ length histories.now }
 {
-    let mut count = 0;
-    let mut after = None;
-    while let Some(change) = following(histories, version, kind, after) {
-        count += 1;
-        after = Some(change.row.id());
+    histories.partition_point(|history| history.place() <= place)
+}
+
+// The histories of this kind, which lie side by side.
+fn histories_of_kind(histories: &[History], kind: Kind) -> &[History]
+    requires { ArePasts (pasts_of histories.now) }
+    ensures { result.now ≡ filter (is_past_of kind) histories.now }
+{
+    let place = kind.place() as u64;
+    &histories[count_before(histories, place)..count_through(histories, place)]
+}
+
+// How many of the histories have a row that stands at a version.
+fn count_standing(histories: &[History], version: u64) -> u64
+    ensures { result ≡ count_by (λ history. is_some (standing version (past_of history))) histories.now }
+{
+    histories
+        .iter()
+        .filter(|history| history.at(version).is_some())
+        .count() as u64
+}
+
+// The row that stands in a history at a version.
+fn standing_row(history: &History, version: u64) -> Option<&Row>
+    ensures { option_copied result ≡ option_map (λ change. change.row) (standing version (past_of history.now)) }
+{
+    match history.at(version) {
+        Some(change) => Some(&change.row),
+        None => None,
     }
-    count
+}
+
+// The row before which so many stand at a version, where each history has one that stands.
+fn row_of_each(histories: &[History], version: u64, place: u64) -> Option<&Row>
+    requires pasts { AllByRecursion IsPast (pasts_of histories.now) }
+    requires newest { AreUpTo version (pasts_of histories.now) }
+    ensures { option_copied result ≡ slice_get (rows_of (rows_at version (pasts_of histories.now))) place }
+{
+    if place >= histories.len() as u64 {
+        return None;
+    }
+    standing_row(&histories[place as usize], version)
+}
+
+// The same where some histories have none, gone through one after another.
+fn row_of_some(histories: &[History], version: u64, place: u64) -> Option<&Row>
+    ensures { option_copied result ≡ slice_get (rows_of (rows_at version (pasts_of histories.now))) place }
+{
+    let mut left = place;
+    for history in histories {
+        let Some(row) = standing_row(history, version) else {
+            continue;
+        };
+        if left == 0 {
+            return Some(row);
+        }
+        left -= 1;
+    }
+    None
 }
 
 impl<'a> VersionView<'a> {
@@ -204,6 +256,17 @@ impl<'a> VersionView<'a> {
         following_near(self.histories, self.version, kind, after, near)
     }
 
+    /// The row of this kind before which so many of the kind stand. In the newest version it is found at once.
+    pub fn row_at(&self, kind: Kind, place: u64) -> Option<&Row>
+        ensures { option_copied result ≡ slice_get (filter (is_of_kind kind) (rows_of self.now.rows)) place }
+    {
+        let histories = histories_of_kind(self.histories, kind);
+        if self.newest {
+            return row_of_each(histories, self.version, place);
+        }
+        row_of_some(histories, self.version, place)
+    }
+
     /// The owner of the row of this kind and id.
     pub fn owner(&self, kind: Kind, id: &Id) -> Option<&Owner>
         ensures { option_copied result ≡ option_map (λ change. change.owner) (look_up change_key (place_of_kind kind, id.now) self.now.rows) }
@@ -235,10 +298,11 @@ impl<'a> Rows for VersionView<'a> {
     }
 
     fn count(&self, kind: Kind) -> u64 {
+        let histories = histories_of_kind(self.histories, kind);
         if self.newest {
-            return histories_of_kind(self.histories, kind);
+            return histories.len() as u64;
         }
-        count_at(self.histories, self.version, kind)
+        count_standing(histories, self.version)
     }
 }
 
@@ -256,5 +320,10 @@ impl<'a> Refs for VersionView<'a> {
             );
         }
         next_referring(self, kind, name, target, after)
+    }
+
+    fn ascend(&self) {
+        // Read for the invariant.
+        let _ = &self.histories;
     }
 }

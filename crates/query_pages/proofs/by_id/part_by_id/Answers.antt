@@ -26,7 +26,7 @@ loop-row-preserved-then-not-branch g c =
     let query = c.args.query.now in
     let listed = g.T.ListTest.passes c.args.test.now in
     let whole = slice query.limit query.offset (filter listed rows) in
-    let past = left_past listed c.kind-kind.result (option_copied c.loop-row.after) rows c.in-Some.row.now c.count-all.ensures.order (sym c.in-Some.ensures) (sym c.in_ok-passes.ensures ∙ c.if-not-branch.true) in
+    let past = left_past listed c.kind-kind.result (option_copied c.loop-row.after) rows c.in-Some.row.now c.ascend.ensures.order (sym c.in-Some.ensures) (sym c.in_ok-passes.ensures ∙ c.if-not-branch.true) in
     rw c.id.ensures (record {
       part = subst (λ (left : List Record). Parts query.limit query.offset c.loop-row.total c.loop-row.found.items left whole) past c.loop-row.invariant.part;
       total = subst (λ (left : List Record). c.loop-row.total + length left ≡ length (filter listed rows)) past c.loop-row.invariant.total;
@@ -34,7 +34,7 @@ loop-row-preserved-then-not-branch g c =
 
 pub loop-row-smaller-then-not-branch : goal.loop-row-smaller-then-not-branch
 loop-row-smaller-then-not-branch g c =
-    let e = ap length (rest_at c.kind-kind.result (option_copied c.loop-row.after) (g.R.Rows.rows c.args.rows.now) c.in-Some.row.now c.count-all.ensures.order (sym c.in-Some.ensures)) in
+    let e = ap length (rest_at c.kind-kind.result (option_copied c.loop-row.after) (g.R.Rows.rows c.args.rows.now) c.in-Some.row.now c.ascend.ensures.order (sym c.in-Some.ensures)) in
     rw c.id.ensures (omega arith)
 
 pub loop-row-preserved : goal.loop-row-preserved
@@ -45,7 +45,7 @@ loop-row-preserved g c =
     let listed = g.T.ListTest.passes c.args.test.now in
     let whole = slice query.limit query.offset (filter listed rows) in
     let left = filter listed (rest_of c.kind-kind.result (Some row.id) rows) in
-    let here = left_here listed c.kind-kind.result (option_copied c.loop-row.after) rows row c.count-all.ensures.order (sym c.in-Some.ensures) (sym c.in_ok-passes.ensures ∙ c.if-not-branch.false) in
+    let here = left_here listed c.kind-kind.result (option_copied c.loop-row.after) rows row c.ascend.ensures.order (sym c.in-Some.ensures) (sym c.in_ok-passes.ensures ∙ c.if-not-branch.false) in
     let before : Parts query.limit query.offset c.loop-row.total c.loop-row.found.items (row ∷ left) whole =
     subst (λ (left : List Record). Parts query.limit query.offset c.loop-row.total c.loop-row.found.items left whole) here c.loop-row.invariant.part in
     let lengths = ap length here in
@@ -56,17 +56,17 @@ loop-row-preserved g c =
 
 pub loop-row-smaller : goal.loop-row-smaller
 loop-row-smaller g c =
-    let e = ap length (rest_at c.kind-kind.result (option_copied c.loop-row.after) (g.R.Rows.rows c.args.rows.now) c.in-Some.row.now c.count-all.ensures.order (sym c.in-Some.ensures)) in
+    let e = ap length (rest_at c.kind-kind.result (option_copied c.loop-row.after) (g.R.Rows.rows c.args.rows.now) c.in-Some.row.now c.ascend.ensures.order (sym c.in-Some.ensures)) in
     rw c.id.ensures (omega arith)
 
 pub overflow_add-total : goal.overflow_add-total
 overflow_add-total g c =
     let rows = g.R.Rows.rows c.args.rows.now in
     let listed = g.T.ListTest.passes c.args.test.now in
-    let here = left_here listed c.kind-kind.result (option_copied c.loop-row.after) rows c.in-Some.row.now c.count-all.ensures.order (sym c.in-Some.ensures) (sym c.in_ok-passes.ensures ∙ c.if-not-branch.false) in
+    let here = left_here listed c.kind-kind.result (option_copied c.loop-row.after) rows c.in-Some.row.now c.ascend.ensures.order (sym c.in-Some.ensures) (sym c.in_ok-passes.ensures ∙ c.if-not-branch.false) in
     let few : length (filter listed rows) ≤ count_of c.kind-kind.result rows = subst (λ kind. length (filter listed rows) ≤ count_of kind rows) (sym c.kind-kind.ensures) (listed_few (g.T.ListTest.kind_of c.args.test.now) listed (g.met.T.ListTest.of_kind c.args.test.now) rows) in
     let lengths = ap length here in
-    omega (arith, lengths, few, c.loop-row.invariant.total, c.count-all.ensures.count)
+    omega (arith, lengths, few, c.loop-row.invariant.total, c.ascend.ensures.few c.kind-kind.result)
 
 pub returns-clause-rows : goal.returns-clause-rows
 returns-clause-rows g c =

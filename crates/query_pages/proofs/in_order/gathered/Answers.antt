@@ -19,7 +19,7 @@ pub loop-row-preserved-then-not-branch : goal.loop-row-preserved-then-not-branch
 loop-row-preserved-then-not-branch g c =
     let rows = g.R.Rows.rows c.args.rows.now in
     let listed = g.T.ListTest.passes c.args.test.now in
-    let past = left_past listed c.kind-kind.result (option_copied c.loop-row.after) rows c.in-Some.row.now c.count-all.ensures.order (sym c.in-Some.ensures) (sym c.in_ok-passes.ensures ∙ c.if-not-branch.true) in
+    let past = left_past listed c.kind-kind.result (option_copied c.loop-row.after) rows c.in-Some.row.now c.ascend.ensures.order (sym c.in-Some.ensures) (sym c.in_ok-passes.ensures ∙ c.if-not-branch.true) in
     rw c.id.ensures (record {
       rows = subst (λ (left : List Record). rows_placed c.loop-row.found.items ++ left ≡ filter listed rows) past c.loop-row.invariant.rows;
       keys = c.loop-row.invariant.keys;
@@ -27,12 +27,12 @@ loop-row-preserved-then-not-branch g c =
 
 pub loop-row-smaller-then-not-branch : goal.loop-row-smaller-then-not-branch
 loop-row-smaller-then-not-branch g c =
-    let e = ap length (rest_at c.kind-kind.result (option_copied c.loop-row.after) (g.R.Rows.rows c.args.rows.now) c.in-Some.row.now c.count-all.ensures.order (sym c.in-Some.ensures)) in
+    let e = ap length (rest_at c.kind-kind.result (option_copied c.loop-row.after) (g.R.Rows.rows c.args.rows.now) c.in-Some.row.now c.ascend.ensures.order (sym c.in-Some.ensures)) in
     rw c.id.ensures (omega arith)
 
 pub loop-row-smaller : goal.loop-row-smaller
 loop-row-smaller g c =
-    let e = ap length (rest_at c.kind-kind.result (option_copied c.loop-row.after) (g.R.Rows.rows c.args.rows.now) c.in-Some.row.now c.count-all.ensures.order (sym c.in-Some.ensures)) in
+    let e = ap length (rest_at c.kind-kind.result (option_copied c.loop-row.after) (g.R.Rows.rows c.args.rows.now) c.in-Some.row.now c.ascend.ensures.order (sym c.in-Some.ensures)) in
     rw c.id.ensures (omega arith)
 
 pub loop-row-preserved : goal.loop-row-preserved
@@ -41,7 +41,7 @@ loop-row-preserved g c =
     let row = c.in-Some.row.now in
     let listed = g.T.ListTest.passes c.args.test.now in
     let left = filter listed (rest_of c.kind-kind.result (Some row.id) rows) in
-    let here = left_here listed c.kind-kind.result (option_copied c.loop-row.after) rows row c.count-all.ensures.order (sym c.in-Some.ensures) (sym c.in_ok-passes.ensures ∙ c.if-not-branch.false) in
+    let here = left_here listed c.kind-kind.result (option_copied c.loop-row.after) rows row c.ascend.ensures.order (sym c.in-Some.ensures) (sym c.in_ok-passes.ensures ∙ c.if-not-branch.false) in
     let before : rows_placed c.loop-row.found.items ++ (row ∷ left) ≡ filter listed rows =
     subst (λ (left : List Record). rows_placed c.loop-row.found.items ++ left ≡ filter listed rows) here c.loop-row.invariant.rows in
     rw (c.id.ensures, c.in_ok-push.ensures.items) (record {
