@@ -46,7 +46,7 @@ module _ {A : Type 0} where
   drop_none zero = refl
   drop_none (suc n) = refl
 
-  pub take_none : (n : ℕ) → let none : List A = [] in take n none ≡ none
+  take_none : (n : ℕ) → let none : List A = [] in take n none ≡ none
   take_none zero = refl
   take_none (suc n) = refl
 

@@ -1,10 +1,9 @@
 -- The rows of a kind from a place on.
-use Rattle.std.proofs.Common.{◌≡◌, ℕ, zero, suc, ◌-◌, ◌<◌, ◌≤◌, List, [], ◌∷◌, ◌++◌, append_assoc, append-nil, drop, filter, length, slice_get, take, None, Some, Option, refl, sym, ap, ◌∙◌, arith}
+use Rattle.std.proofs.Common.{◌≡◌, ℕ, zero, suc, ◌-◌, ◌<◌, List, [], ◌∷◌, ◌++◌, append_assoc, drop, filter, length, slice_get, take, None, Some, Option, refl, sym, ap, ◌∙◌, arith}
 use Rattle.std.proofs.lemmas.List.{length-append}
 use Rattle.grant_scopes.specs.declared.schools.Schools.TheVariants as school
 use Rattle.hub_views.specs.Seen.{sees_row}
 use Rattle.query_pages.specs.Whole.{rows_from}
-use Rattle.query_pages.proofs.Parting.{take_none}
 use Rattle.reference_rules.proofs.Rest.{rest_at, rest_none, rest_of, rest_start}
 use Rattle.roster_types.specs.Keys.{Ascends, is_of_kind, next_of, row_key}
 use Rattle.roster_types.specs.Records.{Record}
@@ -47,15 +46,6 @@ module _ (kind : Kind) (rows : List Record) (up : Ascends row_key rows) where
       ∙ append_assoc found (row ∷ []) (take (limit - length (found ++ row ∷ [])) (rest_of kind (Some row.id) rows))
       ∙ ap (λ n. found ++ take n (row ∷ rest_of kind (Some row.id) rows)) e
       ∙ so
-
--- enough rows are found, or none is left
-pub copied_full : (limit : ℕ) (found left whole : List Record) → limit ≤ length found → found ++ take (limit - length found) left ≡ whole → found ≡ whole
-copied_full limit found left whole full so =
-    let e : limit - length found ≡ 0 = omega arith in
-    sym (append-nil found) ∙ ap (λ n. found ++ take n left) (sym e) ∙ so
-
-pub copied_end : (limit : ℕ) (found whole : List Record) → found ++ take (limit - length found) [] ≡ whole → found ≡ whole
-copied_end limit found whole so = sym (append-nil found) ∙ ap (λ ys. found ++ ys) (sym (take_none (limit - length found))) ∙ so
 
 -- a grant at all schools sees every row
 pub seen_all : (among rows : List Record) → filter (sees_row school.All among) rows ≡ rows

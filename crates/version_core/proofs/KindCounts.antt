@@ -3,7 +3,6 @@ use Rattle.std.proofs.Common.{◌≡◌, ℕ, zero, suc, ◌+◌, ◌-◌, ◌<�
 use Rattle.std.specs.Prelude.{◌==◌, count_by}
 use Rattle.std.proofs.lemmas.Bool.{cases_eq, cases_lt}
 use Rattle.std.proofs.lemmas.Bool.Decides.{nat_tests}
-use Rattle.std.proofs.lemmas.List.{drop_more}
 use Rattle.std.proofs.lemmas.List.Sums.{prefix_len_is, sum_by-cons}
 use Rattle.std.specs.List.{AllByRecursion, AllWithin, prefix_len}
 use Rattle.std.specs.List.Sorted.{IsPartitionedBy}
@@ -230,15 +229,4 @@ place_of_each v (history ∷ histories) all up n =
     ∙ elim n as (λ n. slice_get (stands.0.row ∷ rows_of rest) n ≡ option_and_then (row_in v) (slice_get (history ∷ histories) n)) [
       | zero ↦ sym (ap (option_map (λ (change : RowChange). change.row)) stands.1)
       | suc n ↦ place_of_each v histories all.1 up.1 n
-    ]
-
--- the rows from a history on, where it has one and where it has none
-pub from_history : (v : ℕ) (histories : List History) (place : ℕ) (history : History) → place < length histories → history ≡ get_or histories place history
-    → rows_of (rows_at v (pasts_of (drop place histories))) ≡ option_to_list (row_in v history) ++ rows_of (rows_at v (pasts_of (drop (place + 1) histories)))
-from_history v histories place history lt is =
-    let later = drop (place + 1) histories in
-    ap (λ hs. rows_of (rows_at v (pasts_of hs))) (drop_more histories place history lt ∙ ap (λ h. h ∷ later) (sym is))
-    ∙ elim (standing v (past_of history)) as (λ o. rows_of (option_to_list o ++ rows_at v (pasts_of later)) ≡ option_to_list (option_map (λ (change : RowChange). change.row) o) ++ rows_of (rows_at v (pasts_of later))) [
-      | None ↦ refl
-      | Some change ↦ refl
     ]

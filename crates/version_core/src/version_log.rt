@@ -47,8 +47,8 @@ pub struct VersionLog {
     limit: usize,
     // Whether `refs` has all that the rows of the versions name.
     is_indexed: bool,
-    // From which history on a retirement goes through them, and through how many: twice as many as rows changed since, and some more, so
-    // that none is left behind for long.
+    // From which history on a retirement goes through them, and through how many: twice as many as rows changed since, four times as
+    // many as went the last time, and some more, so that none is left behind for long.
     swept: usize,
     share: usize,
 }
@@ -250,8 +250,10 @@ impl VersionLog {
         self.moment = self.moments.remove(0);
         self.number += 1;
         trim(&mut self.grants, self.number);
-        self.swept = trim_share(&mut self.histories, self.swept, self.share, self.number);
-        self.share = 0;
+        let (swept, gone) = trim_share(&mut self.histories, self.swept, self.share, self.number);
+        self.swept = swept;
+        // Where many went, more wait.
+        self.share = gone.saturating_mul(4);
     }
 }
 

@@ -36,16 +36,16 @@ invariant_of-self c =
     let first = c.remove-self-inside.result in
     let rest = c.remove-self-inside.new.self.items in
     let pasts = pasts_of log.histories.items in
-    let pasts' = pasts_of c.trim_share-self-inside.new.histories.items in
+    let pasts' = pasts_of c.trim_share-swept.new.histories.items in
     let n : ℕ = log.number + 1 in
     let some = later_some log (rw (← c.self.view_is) at c.requires) in
     let parts = later_are log first rest some removed.value removed.items in
     let number : last_number log ≡ n + vec_len c.remove-self-inside.new.self = omega (arith, some, removed.len) in
     record {
       versions = subst (λ (gs : List (Since (List GrantRow))). AllByRecursion IsVersion (versions_at n (first ∷ rest) pasts' gs)) (sym c.trim.ensures.entries)
-          (subst (AllByRecursion IsVersion) (sym (versions_trimmed n (first ∷ rest) pasts pasts' log.grants.items c.trim_share-self-inside.ensures)) (subst (λ (ms : List ℤ). AllByRecursion IsVersion (versions_at n ms pasts log.grants.items)) parts c.self.invariant.versions.1));
-      pasts = c.trim_share-self-inside.ensures.pasts c.self.invariant.pasts;
-      up_to = subst (λ k. AreUpTo k pasts') number (c.trim_share-self-inside.ensures.up_to (last_number log) c.self.invariant.up_to);
+          (subst (AllByRecursion IsVersion) (sym (versions_trimmed n (first ∷ rest) pasts pasts' log.grants.items c.trim_share-swept.ensures)) (subst (λ (ms : List ℤ). AllByRecursion IsVersion (versions_at n ms pasts log.grants.items)) parts c.self.invariant.versions.1));
+      pasts = c.trim_share-swept.ensures.pasts c.self.invariant.pasts;
+      up_to = subst (λ k. AreUpTo k pasts') number (c.trim_share-swept.ensures.up_to (last_number log) c.self.invariant.up_to);
       grants = subst (AllByRecursion (λ (e : Since (List GrantRow)). e.version ≤ n + vec_len c.remove-self-inside.new.self)) (sym c.trim.ensures.entries) (trimmed_all (λ (e : Since (List GrantRow)). e.version ≤ n + vec_len c.remove-self-inside.new.self) n log.grants.items
           (subst (λ k. AllByRecursion (λ (e : Since (List GrantRow)). e.version ≤ k) log.grants.items) number c.self.invariant.grants));
       spare = c.self.invariant.spare;
@@ -54,7 +54,7 @@ invariant_of-self c =
       index = λ on.
           let P = IsVersionIndexed log.refs.items in
           subst (λ (gs : List (Since (List GrantRow))). AllByRecursion P (versions_at n (first ∷ rest) pasts' gs)) (sym c.trim.ensures.entries)
-          (subst (AllByRecursion P) (sym (versions_trimmed n (first ∷ rest) pasts pasts' log.grants.items c.trim_share-self-inside.ensures)) (subst (λ (ms : List ℤ). AllByRecursion P (versions_at n ms pasts log.grants.items)) parts (c.self.invariant.index on).1));
+          (subst (AllByRecursion P) (sym (versions_trimmed n (first ∷ rest) pasts pasts' log.grants.items c.trim_share-swept.ensures)) (subst (λ (ms : List ℤ). AllByRecursion P (versions_at n ms pasts log.grants.items)) parts (c.self.invariant.index on).1));
     }
 
 pub returns : goal.returns
@@ -64,10 +64,10 @@ returns c =
     let first = c.remove-self-inside.result in
     let rest = c.remove-self-inside.new.self.items in
     let pasts = pasts_of log.histories.items in
-    let pasts' = pasts_of c.trim_share-self-inside.new.histories.items in
+    let pasts' = pasts_of c.trim_share-swept.new.histories.items in
     let n : ℕ = log.number + 1 in
     let some = later_some log (rw (← c.self.view_is) at c.requires) in
     let parts = later_are log first rest some removed.value removed.items in
     rw (← c.self.view_is)
     (ap (λ (gs : List (Since (List GrantRow))). record { versions = versions_at n (first ∷ rest) pasts' gs; room = None }) c.trim.ensures.entries
-    ∙ ap (λ (vs : List BaseVersion). record { versions = vs; room = None }) (versions_trimmed n (first ∷ rest) pasts pasts' log.grants.items c.trim_share-self-inside.ensures ∙ ap (λ (ms : List ℤ). versions_at n ms pasts log.grants.items) (sym parts)))
+    ∙ ap (λ (vs : List BaseVersion). record { versions = vs; room = None }) (versions_trimmed n (first ∷ rest) pasts pasts' log.grants.items c.trim_share-swept.ensures ∙ ap (λ (ms : List ℤ). versions_at n ms pasts log.grants.items) (sym parts)))
