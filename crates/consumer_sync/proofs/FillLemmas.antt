@@ -27,7 +27,7 @@ use Rattle.version_core.specs.HubStates.{HubState}
 use Rattle.version_core.specs.Version.{row_limit}
 use Rattle.consumer_sync.specs.Filling.{Ends, Fills, StageEnds, HasToken, IsSmall, PinLaw, weight}
 use Rattle.consumer_sync.specs.Judging.{opened, paged}
-use Rattle.consumer_sync.specs.Staging.{IsBroken, IsNotGone, MayEnd, Performs, Taking, open_copy, taken}
+use Rattle.consumer_sync.specs.Staging.{IsGone, IsBroken, IsNotGone, MayEnd, Performs, Taking, open_copy, taken}
 use Rattle.consumer_sync.specs.Staging.Adds.{Stays, Opened, Takes}
 use Rattle.consumer_sync.specs.Staging.Performs.{Kept, Grown, Cleared}
 use Rattle.consumer_sync.specs.declared.judging.Act.{Act}
@@ -215,3 +215,13 @@ token-paged s rows total false = refl
 pub token_on : (stage : Option StageState) (token : List ℕ) (k : Taking) → HasToken token stage → HasToken token (Some (paged (opened stage k.pin token) k.rows k.total k.done))
 token_on None token k e = token-paged (opened None k.pin token) k.rows k.total k.done
 token_on (Some s) token k e = token-paged s k.rows k.total k.done ∙ e
+
+-- the stage goes on, or the reply says that its pin isn't kept
+pub fault_stage : (token : List ℕ) (a : Act) (result : Option SyncAnswer) (before mid after : Copy) → Fills token before mid → Performs a token result mid after → StageOn token before.stage after.stage ⊎ IsGone a
+fault_stage token a result before mid after f (Kept n known h) = inl (subst (λ (d : Copy). StageOn token before.stage d.stage) (sym h) f.stage)
+fault_stage token a result before mid after f (Cleared g n h) = inr g
+fault_stage token a result before mid after f (Grown k t g) = elim g as (λ _. StageOn token before.stage after.stage ⊎ IsGone a) [
+  | Stays b h ↦ inl (subst (λ (d : Copy). StageOn token before.stage d.stage) (sym h) f.stage)
+  | Opened b h ↦ inl (subst (λ (d : Copy). StageOn token before.stage d.stage) (sym h) (fills_open token k.pin before mid f).stage)
+  | Takes b h ↦ inl (subst (λ (d : Copy). StageOn token before.stage d.stage) (sym h) (fills_taken token k before mid f).stage)
+]

@@ -59,7 +59,7 @@ fail_held token e b a t m f = absurd m
 fail_sync : (token : List ℕ) (e : SyncAnswer) (b a : Copy) (t : Told) → MayStay e → Aborts token b a → StageAgrees b t → Synchronised token e b t a t
 fail_sync token e b a t m f h = record { leaves = fail_leaves token e b a m f; agree = fail_agree token b a t f h; held = fail_held token e b a t m f }
 
-enter_fails : (token : List ℕ) (b a : Copy) → EntersRun b a → Aborts token b a
+pub enter_fails : (token : List ℕ) (b a : Copy) → EntersRun b a → Aborts token b a
 enter_fails token b a x = ⊎_elim
     (λ (e : a ≡ b). subst (λ (d : Copy). Aborts token b d) (sym e) (record { run = inl refl; held = refl; entries = refl; last_number = refl; stage = inl refl }))
     (λ (e : a ≡ copy_after (Run (b.run + 1)) b). subst (λ (d : Copy). Aborts token b d) (sym e) (record { run = inr refl; held = refl; entries = refl; last_number = refl; stage = inl refl })) x
@@ -91,7 +91,7 @@ stay_from K answer.KeeperFault n k = tt
 stay_from K answer.NoMemory n k = tt
 stay_from K e n k = absurd k
 
-drop_fails : (token : List ℕ) (b m a : Copy) (e : SyncAnswer) → m ≡ copy_after (Run (b.run + 1)) b → Drops token (Err e) m a → Aborts token b a
+pub drop_fails : (token : List ℕ) (b m a : Copy) (e : SyncAnswer) → m ≡ copy_after (Run (b.run + 1)) b → Drops token (Err e) m a → Aborts token b a
 drop_fails token b m a e em x = ⊎_elim
     (λ (h : a ≡ m). subst (λ (d : Copy). Aborts token b d) (sym (h ∙ em)) (record { run = inr refl; held = refl; entries = refl; last_number = refl; stage = inl refl }))
     (λ h. subst (λ (d : Copy). Aborts token b d) (sym (h.1 ∙ ap (copy_after Drop) em))

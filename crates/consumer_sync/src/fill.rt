@@ -14,6 +14,8 @@ ghost use Rattle.exchange_link.specs.Exchanges.{Told};
 ghost use Rattle.exchange_link.specs.Places.{kinds_of, pin_of};
 ghost use Rattle.http_wire.specs.declared.answer.WireReply.{WireReply as Reply};
 ghost use Rattle.roster_base.specs.Faults.{Rose};
+ghost use Rattle.consumer_sync.specs.Faulted.{SaysGone};
+ghost use Rattle.exchange_link.specs.Synchronised.{StageOn};
 ghost use Rattle.consumer_sync.specs.Filling.{AsksOnIf, CauseIf, Ends, ExactIf, HasToken, IsCallPinIf, IsDoneIf, IsEndIf, IsSmall, PinLaw, ToldIf, request_of};
 ghost use Rattle.consumer_sync.specs.Requests.{IsUnmarked};
 ghost use Rattle.tried_requests.specs.Requests.{Asks, IsReady};
@@ -51,6 +53,8 @@ pub fn fill<C: CopyKeeper, L: Link>(
     ensures holds { result ≡ None → (c : Copy) → C.stands_for copy.new c → stage_of c ≡ stage.new }
     ensures done { result ≡ None → kinds_of stage.new ≡ kind_count }
     ensures copy { (after : Copy) → C.stands_for copy.new after → (before : Copy) × C.stands_for copy.old before × Ends token.now result before after }
+    ensures faulted { result ≡ Some SyncAnswer.KeeperFault → (after : Copy) → C.stands_for copy.new after → (before : Copy) × C.stands_for copy.old before
+        × (Ends token.now result before after × (StageOn token.now before.stage after.stage ⊎ SaysGone (L.kept link.new))) }
     ensures link { (after : Told) → L.tells link.new after → (before : Told) × L.tells link.old before × (count : ℕ) × Asks run 0 count IsUnmarked before after
         × (result ≡ None → IsSmall stage.old → IsReady run 0 before.sent → PinLaw stage.old before.hub stage.new) }
     ensures agree { ((c : Copy) (t : Told) → C.stands_for copy.old c → L.tells link.old t → StageFitsIf c.stage t.hub × IsReady run 0 t.sent)

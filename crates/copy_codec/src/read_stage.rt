@@ -68,14 +68,14 @@ fn stage_of_body(alloc: Global, body: &[u8]) -> Result<Option<StageState>, NoMem
     }
 }
 
-// Whether no row is there without an id, and none once all kinds are whole.
+// Whether an id is there where rows are, and no row once all kinds are whole.
 fn is_stage(stage: &StageState) -> bool
     ensures { result ≡ true → CanBeStage stage.now }
 {
     if stage.pin > LAST || stage.kinds_done > 10 {
         return false;
     }
-    if stage.staged == 0 && stage.last.is_some() {
+    if stage.last.is_some() != (stage.staged != 0) {
         return false;
     }
     stage.kinds_done < 10 || (stage.staged == 0 && stage.total.is_none())

@@ -1,3 +1,4 @@
 pub mod Finding
 pub mod Following
 pub mod Granted
+pub mod Being

@@ -288,7 +288,7 @@ asks_none bytes moment stands keeper hub is shut fits a printed =
         moments = tt;
         failed = 0;
         count = inl (refl, refl);
-        run = λ state hub part. (state, hub, part, record { steps = []; are = refl; run = tt; end = refl });
+        run = λ state is part. (state, is, (λ hub. hub), part, record { steps = []; are = refl; run = tt; end = refl });
         ends = rw empty ends;
       },
     ))

@@ -1,5 +1,7 @@
+pub mod Being
 pub mod Below
 pub mod Cutting
+pub mod Deciding
 pub mod Following
 pub mod Growing
 pub mod Holding
@@ -10,3 +12,4 @@ pub mod Once
 pub mod Publishing
 pub mod Saying
 pub mod Versions
+pub mod Withholding

@@ -68,9 +68,9 @@ run_more xs e f g state mid next run step =
 takes_more : (xs : List Exchange) (e : Exchange) (f g : ℕ) (kept mid after : KeptState) → TakesAll xs f kept mid → TakesRequest e.request e.at e.reply mid after g
     → TakesAll (xs ++ e ∷ []) (f + g) kept after
 takes_more xs e f g kept mid after first last = λ state is part.
-    let (m, is_m, part_m, run) = first state is part in
-    let (n, is_n, part_n, step) = last m is_m part_m in
-    (n, is_n, part_n, run_more xs e f g state m n run step)
+    let (m, is_m, holds_m, part_m, run) = first state is part in
+    let (n, is_n, holds_n, part_n, step) = last m is_m part_m in
+    (n, is_n, (λ hub. holds_n (holds_m hub)), part_n, run_more xs e f g state m n run step)
 
 comes_more : (before mid now : Stage) (xs : List Exchange) (e : Exchange) (f g : ℕ) → ComesFrom before mid (TakesAll xs f)
     → ComesFrom mid now (λ kept after. TakesRequest e.request e.at e.reply kept after g) → ComesFrom before now (TakesAll (xs ++ e ∷ []) (f + g))
@@ -151,7 +151,7 @@ begins before kept moment none = record {
   moments = tt;
   failed = 0;
   count = inl (refl, refl);
-  told = λ after stands. (after, stands, (λ x. x), (λ state is part. (state, is, part, record { steps = []; are = refl; run = tt; end = refl })));
+  told = λ after stands. (after, stands, (λ x. x), (λ state is part. (state, is, (λ hub. hub), part, record { steps = []; are = refl; run = tt; end = refl })));
   read = subst (λ (rest : Option (List ℕ)). Continues before.left rest []) (sym (none_kept before.left kept none)) (continues_none before.left);
   stay = tt;
   source = refl;

@@ -8,6 +8,7 @@ use Rattle.hub_rules.specs.States.{IsHub}
 use Rattle.hub_streams.specs.Moments.{IsMomentOf}
 use Rattle.keeper_memory.specs.Kept.{KeptState}
 use Rattle.keeper_memory.specs.Parts.{IsPartOf}
+use Rattle.rest_provider.specs.Steps.{IsGranted}
 use Rattle.status_info.specs.declared.reply.Reply.{Reply}
 use Rattle.status_info.specs.declared.request.Request.{Request}
 use Rattle.version_core.specs.HubStates.{HubState}
@@ -48,10 +49,11 @@ pub record TakesInTurn (exchanges : List Exchange) (failed : ℕ) (before after 
   pub run : Runs before steps failed
   pub end : end_of before steps ≡ after
 
--- each state of a hub of which `before` is kept leads by such a run to one of which `after` is kept
+-- each state of a hub of which `before` is kept leads by such a run to one of which `after` is kept, and which holds rows where the first does
 abbrev pub TakesAll : List Exchange → ℕ → KeptState → KeptState → Type 0
 TakesAll exchanges failed before after =
-    (state : HubState) → IsHub state → IsPartOf before state → (next : HubState) × IsHub next × IsPartOf after next × TakesInTurn exchanges failed state next
+    (state : HubState) → IsGranted state → IsPartOf before state
+    → (next : HubState) × IsGranted next × (IsHub state → IsHub next) × IsPartOf after next × TakesInTurn exchanges failed state next
 
 -- the count rises once for each step that failed, up to the end of u64
 abbrev pub CountsFailures : ℕ → ℕ → ℕ → Type 0

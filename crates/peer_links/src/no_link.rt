@@ -1,6 +1,9 @@
 //! A link to no hub.
 
-ghost use Rattle.std.specs.Prelude.{◌≡◌};
+ghost use Rattle.std.specs.Prelude.{◌≡◌, ◌⊎◌, ◌≤◌, ℕ, ◌+◌, ◌-◌, ◌^◌, min, Err};
+ghost use Rattle.exchange_link.specs.Exchanges.{IsSentText, Misses};
+ghost use Rattle.outside_ports.specs.declared.failed.IoError.TheVariants as io_error;
+ghost use Rattle.roster_base.specs.Faults.{Rose};
 
 use exchange_link::Link;
 use outside_ports::IoError;
@@ -34,7 +37,15 @@ impl Link for NoLink {
 
     ghost is_hub = { λ _ _ none. absurd none };
 
-    fn exchange(&mut self, _alloc: Global, _request: &[u8]) -> Result<(), IoError> {
+    fn exchange(&mut self, _alloc: Global, request: &[u8]) -> Result<(), IoError>
+        requires { IsSentText request.now }
+        ensures asked { self.new.faults ≡ min (self.old.faults + 1) (2 ^ 64 - 1) }
+        ensures missed { Misses (Rose self.old.faults self.new.faults) self.old.faults self.new.faults }
+        ensures later { self.old.faults ≤ self.new.faults }
+        ensures rose { Rose self.old.faults self.new.faults }
+        ensures failed { result ≡ Err io_error.Failed }
+    {
+        let _ = request;
         self.faults = self.faults.saturating_add(1);
         Err(IoError::Failed)
     }

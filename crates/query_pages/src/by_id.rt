@@ -4,33 +4,36 @@ ghost use Rattle.std.specs.Prelude.{◌≡◌, IfOk, OnOk, filter, length};
 ghost use Rattle.hub_views.specs.Pages.{slice};
 ghost use Rattle.roster_types.specs.Keys.{Ascends, row_key};
 ghost use Rattle.query_pages.specs.Parts.{with_row};
+ghost use Rattle.row_walks.specs.Walks.{Covers};
 
 use crate::list_part::Part;
 use crate::list_test::ListTest;
 use filter_grammar::Query;
 use roster_base::{Items, NoMemory, TryCopy};
 use roster_types::row::Row;
+use row_walks::Walk;
 use std::alloc::Global;
 use version_core::references::Refs;
 
-/// The part that a query asks for of a list by id. Rows outside of it are counted, and not copied.
+/// The part that a query asks for of a list by id, all on a way through the rows. Rows outside of it are counted, and not copied.
 pub fn part_by_id<R: Refs, T: ListTest>(
     alloc: Global,
     rows: &R,
     test: &T,
+    walk: &Walk<'_>,
     query: &Query,
 ) -> Result<Part, NoMemory>
+    requires { Covers walk.now (T.passes test.now) (R.rows rows.now) }
     ensures rows { IfOk result (λ p. p.rows ≡ slice query.now.limit query.now.offset (filter (T.passes test.now) (R.rows rows.now))) }
     ensures total { IfOk result (λ p. p.total ≡ length (filter (T.passes test.now) (R.rows rows.now))) }
     ensures order { Ascends row_key (R.rows rows.now) }
 {
-    let kind = test.kind();
     // For the order of the rows, and so that their count doesn't wrap.
     rows.ascend();
     let mut found = Vec::new(alloc);
     let mut total: u64 = 0;
     let mut after = None;
-    while let Some(row) = rows.next(kind, after) {
+    while let Some(row) = walk.next(rows, after) {
         after = Some(row.id());
         if !test.passes(alloc, row)? {
             continue;

@@ -5,12 +5,14 @@ ghost use Rattle.hub_views.specs.Pages.{slice};
 ghost use Rattle.query_pages.specs.Placed.{AreKeyed, rows_placed};
 ghost use Rattle.query_pages.specs.Sortings.{sorting_shown};
 ghost use Rattle.row_queries.specs.Orders.{arranged};
+ghost use Rattle.row_walks.specs.Walks.{Covers};
 
 use crate::list_test::ListTest;
 use crate::sorting::{Sorting, directed};
 use roster_base::{Items, NoMemory, TryCopy};
 use roster_types::row::Row;
 use row_queries::SortKey;
+use row_walks::Walk;
 use std::alloc::Global;
 use version_core::references::Refs;
 
@@ -21,22 +23,23 @@ pub struct Placed<'r> {
     pub row: &'r Row,
 }
 
-/// The rows of a list as they stand, each with its key.
+/// The rows of a list, all on a way through the rows, as they stand, each with its key.
 pub fn gathered<'r, R: Refs, T: ListTest>(
     alloc: Global,
     rows: &'r R,
     test: &T,
+    walk: &Walk<'_>,
     sorting: Sorting<'_>,
 ) -> Result<Vec<Placed<'r>>, NoMemory>
+    requires { Covers walk.now (T.passes test.now) (R.rows rows.now) }
     ensures rows { IfOk result (λ v. rows_placed v.items ≡ filter (T.passes test.now) (R.rows rows.now)) }
     ensures keys { IfOk result (λ v. AreKeyed (sorting_shown sorting.entry) v.items) }
 {
-    let kind = test.kind();
     // For the order of the rows.
     rows.ascend();
     let mut found = Vec::new(alloc);
     let mut after = None;
-    while let Some(row) = rows.next(kind, after) {
+    while let Some(row) = walk.next(rows, after) {
         after = Some(row.id());
         if !test.passes(alloc, row)? {
             continue;

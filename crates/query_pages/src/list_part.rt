@@ -5,6 +5,7 @@ ghost use Rattle.hub_views.specs.Pages.{slice};
 ghost use Rattle.query_pages.specs.Listed.{listed};
 ghost use Rattle.query_pages.specs.Sortings.{sorting_shown};
 ghost use Rattle.row_queries.specs.Orders.{arranged};
+ghost use Rattle.row_walks.specs.Walks.{Covers};
 
 use crate::by_id::part_by_id;
 use crate::in_order::{copied, gathered, sort};
@@ -13,6 +14,7 @@ use crate::sorting::Sorting;
 use filter_grammar::{Order, Query};
 use roster_base::{Items, NoMemory};
 use roster_types::row::Row;
+use row_walks::Walk;
 use std::alloc::Global;
 use version_core::references::Refs;
 
@@ -28,13 +30,15 @@ fn part_sorted<R: Refs, T: ListTest>(
     alloc: Global,
     rows: &R,
     test: &T,
+    walk: &Walk<'_>,
     query: &Query,
     sorting: Sorting<'_>,
 ) -> Result<Part, NoMemory>
+    requires { Covers walk.now (T.passes test.now) (R.rows rows.now) }
     ensures rows { IfOk result (λ p. p.rows ≡ slice query.now.limit query.now.offset (arranged (sorting_shown sorting.entry) (filter (T.passes test.now) (R.rows rows.now)))) }
     ensures total { IfOk result (λ p. p.total ≡ length (arranged (sorting_shown sorting.entry) (filter (T.passes test.now) (R.rows rows.now)))) }
 {
-    let mut placed = gathered(alloc, rows, test, sorting)?;
+    let mut placed = gathered(alloc, rows, test, walk, sorting)?;
     sort(sorting, &mut placed)?;
     Ok(Part {
         rows: copied(alloc, &placed, query.offset, query.limit)?,
@@ -42,18 +46,20 @@ fn part_sorted<R: Refs, T: ListTest>(
     })
 }
 
-/// The part that a query asks for of the rows that pass a test, in the order that it asks for.
+/// The part that a query asks for of the rows that pass a test, all on a way through the rows, in the order that it asks for.
 pub fn part_of<R: Refs, T: ListTest>(
     alloc: Global,
     rows: &R,
     test: &T,
+    walk: &Walk<'_>,
     query: &Query,
 ) -> Result<Part, NoMemory>
+    requires { Covers walk.now (T.passes test.now) (R.rows rows.now) }
     ensures rows { IfOk result (λ p. p.rows ≡ slice query.now.limit query.now.offset (listed (T.kind_of test.now) query.now (T.passes test.now) (R.rows rows.now))) }
     ensures total { IfOk result (λ p. p.total ≡ length (listed (T.kind_of test.now) query.now (T.passes test.now) (R.rows rows.now))) }
 {
     match Sorting::of(test.kind(), query) {
-        Sorting::ById(Order::Asc) => part_by_id(alloc, rows, test, query),
-        sorting => part_sorted(alloc, rows, test, query, sorting),
+        Sorting::ById(Order::Asc) => part_by_id(alloc, rows, test, walk, query),
+        sorting => part_sorted(alloc, rows, test, walk, query, sorting),
     }
 }

@@ -5,6 +5,7 @@ ghost use Rattle.hub_views.specs.Lists as spec;
 ghost use Rattle.hub_views.specs.Pages.{page_of, page_of_list};
 ghost use Rattle.hub_views.specs.Seen.{seen};
 ghost use Rattle.query_pages.specs.Listed.{linked, part_of_list};
+ghost use Rattle.query_pages.specs.Leading.{Leads};
 ghost use Rattle.roster_types.specs.Keys.{Ascends, is_of_kind, row_key};
 ghost use Rattle.version_core.specs.Changes.{rows_of};
 
@@ -14,13 +15,14 @@ use crate::list_test::ListTest;
 use crate::whole::{kind_part, whole_kind};
 use filter_grammar::Query;
 use grant_scopes::Schools;
-use hub_paths::Path;
+use hub_paths::{Path, Route};
 use hub_views::Page;
 use page_links::links_of;
 use roster_base::NoMemory;
 use roster_types::row::Row;
 use roster_values::Kind;
 use row_queries::passes;
+use row_walks::{Walk, walk_at_schools, walk_of};
 use seen_rows::SeenRows;
 use std::alloc::Global;
 use version_core::references::Refs;
@@ -55,20 +57,23 @@ impl<'a, R: Refs> ListTest for Listed<'a, R> {
     }
 }
 
-// The part that a query asks for of the list of a path; nothing where an object that the path names isn't among the rows.
+// The part that a query asks for of the list of a path, all on a way through the rows; nothing where an object that the path
+// names isn't among the rows.
 #[tactic(auto, unfolding(hub_views::specs::Lists::list_of))]
 fn part<R: Refs>(
     alloc: Global,
     rows: &R,
+    walk: &Walk<'_>,
     path: &Path,
     query: &Query,
 ) -> Result<Option<Part>, NoMemory>
+    requires { Leads walk.now (R.rows rows.now) path.now }
     ensures { IfOk result (λ o. o ≡ option_map (part_of_list query.now) (spec.list_of (R.rows rows.now) path.now query.now)) }
 {
     if !has_objects(rows, path) {
         return Ok(None);
     }
-    let part = part_of(alloc, rows, &Listed { rows, path, query }, query)?;
+    let part = part_of(alloc, rows, &Listed { rows, path, query }, walk, query)?;
     Ok(Some(part))
 }
 
@@ -100,6 +105,25 @@ fn linked(
     Ok(Page { rows, total, links })
 }
 
+// The page that a query asks for of the list of a path, all on a way through the rows.
+fn page_on<R: Refs>(
+    alloc: Global,
+    rows: &R,
+    walk: &Walk<'_>,
+    version: u64,
+    path: &Path,
+    query: &Query,
+) -> Result<Option<Page>, NoMemory>
+    requires limit { 1 ≤ query.now.limit }
+    requires walk { Leads walk.now (R.rows rows.now) path.now }
+    ensures { IfOk result (λ o. o ≡ page_of (R.rows rows.now) version path.now query.now) }
+{
+    match part(alloc, rows, walk, path, query)? {
+        Some(part) => Ok(Some(linked(alloc, part, version, path, query)?)),
+        None => Ok(None),
+    }
+}
+
 /// The page that a query asks for of the list of a path among the rows of a version, which the links name; nothing where an
 /// object that the path names isn't among the rows.
 pub fn page<R: Refs>(
@@ -112,10 +136,33 @@ pub fn page<R: Refs>(
     requires { 1 ≤ query.now.limit }
     ensures { IfOk result (λ o. o ≡ page_of (R.rows rows.now) version path.now query.now) }
 {
-    match part(alloc, rows, path, query)? {
-        Some(part) => Ok(Some(linked(alloc, part, version, path, query)?)),
-        None => Ok(None),
+    let walk = walk_of(alloc, rows, path)?;
+    page_on(alloc, rows, &walk, version, path, query)
+}
+
+// Whether the rows of a route are all of a kind, or of one type.
+fn is_whole(route: Route) -> bool {
+    match route {
+        Route::All(_) => true,
+        _ => false,
     }
+}
+
+// A way through the rows that a grant at these schools sees among all, on which all stand that belong to the path.
+fn seen_walk<'a, R: Refs>(
+    alloc: Global,
+    rows: &R,
+    schools: &Schools,
+    path: &'a Path,
+) -> Result<Walk<'a>, NoMemory>
+    ensures { IfOk result (λ w. Leads w (seen schools.now (R.rows rows.now)) path.now) }
+{
+    if let Schools::Listed(list) = schools {
+        if is_whole(path.route()) {
+            return walk_at_schools(alloc, rows, path.route().lists().kind(), list.ids());
+        }
+    }
+    walk_of(alloc, &SeenRows::new(schools, rows), path)
 }
 
 /// The same page of the rows that a grant at these schools sees among all.
@@ -130,7 +177,9 @@ pub fn seen_page<R: Refs>(
     requires { 1 ≤ query.now.limit }
     ensures { IfOk result (λ o. o ≡ page_of (seen schools.now (R.rows rows.now)) version path.now query.now) }
 {
-    page(alloc, &SeenRows::new(schools, rows), version, path, query)
+    let walk = seen_walk(alloc, rows, schools, path)?;
+    let seen = SeenRows::new(schools, rows);
+    page_on(alloc, &seen, &walk, version, path, query)
 }
 
 // The page of all rows of a kind, with its links.

@@ -1,3 +1,4 @@
+pub mod GrantLemmas
 pub mod ReadLemmas
 pub mod StepLemmas
 pub mod WriteLemmas

@@ -41,17 +41,17 @@ pub read_step : (request : Request) (reply : Reply) (kept : KeptState) (table : 
     → (at : ℤ) → TakesRequest request at reply kept kept 0
 read_step request reply kept table same answers at = λ state is part.
     elim (answers state (read_of state is.state kept part table same)) [
-      | inl none ↦ (state, is, part, WantsMemory (inl refl) (ap Replied none) refl)
-      | inr own ↦ (state, is, part, Acts (reply, own at, refl) refl)
+      | inl none ↦ (state, is, (λ hub. hub), part, WantsMemory (inl refl) (ap Replied none) refl)
+      | inr own ↦ (state, is, (λ hub. hub), part, Acts (reply, own at, refl) refl)
     ]
 
 pub failed_step : (request : Request) (reply : Reply) (kept : KeptState) → reply ≡ sent (wanted_by request) (refused (wanted_by request) cause.StoreFailed)
     → (at : ℤ) → TakesRequest request at reply kept kept 1
-failed_step request reply kept is at = λ state hub part. (state, hub, part, Fails (inl refl) (ap Replied is) refl)
+failed_step request reply kept is at = λ state hub part. (state, hub, (λ h. h), part, Fails (inl refl) (ap Replied is) refl)
 
 pub memory_step : (request : Request) (reply : Reply) (kept : KeptState) → reply ≡ out_of_memory (wanted_by request)
     → (at : ℤ) → TakesRequest request at reply kept kept 0
-memory_step request reply kept is at = λ state hub part. (state, hub, part, WantsMemory (inl refl) (ap Replied is) refl)
+memory_step request reply kept is at = λ state hub part. (state, hub, (λ h. h), part, WantsMemory (inl refl) (ap Replied is) refl)
 
 -- where no commit is left open, the hub's own state alone may stand
 pub own_stands : (hub : HeldHub) (after : KeptState) → hub.is_open ≡ false → IsStanding hub after → after ≡ hub.kept

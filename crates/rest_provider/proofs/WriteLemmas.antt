@@ -21,7 +21,8 @@ use Rattle.keeper_memory.specs.Kept.{KeptState}
 use Rattle.keeper_memory.specs.Parts.{IsPartOf}
 use Rattle.rest_provider.proofs.ReadLemmas.{in_turn}
 use Rattle.rest_provider.specs.Replies.{entry, path_allowed, path_checked}
-use Rattle.rest_provider.specs.Steps.{CountsFailed, TakesRequest, error_reply}
+use Rattle.rest_provider.proofs.GrantLemmas.{step_granted}
+use Rattle.rest_provider.specs.Steps.{CountsFailed, IsGranted, TakesRequest, error_reply}
 use Rattle.rest_provider.specs.Writes.{TakesWrite, asked_at, asked_in_turn, reply_of, stop_reply}
 use Rattle.rest_provider.specs.declared.writes.Asked.{Asked}
 use Rattle.roster_base.specs.Moments.{IsMoment}
@@ -155,29 +156,29 @@ module _ (request : Request) (at : ℤ) (moment : IsMoment at) (path : ForSome (
         is_reply ∙ ap (λ (w : Written). sent wanted (reply_of wanted w)) wrote.2 ∙ ap (sent wanted) (reply_is state wanted asked.write verdict) in
         let answers : Answers state wanted at reply next = subst (λ r. Answers state wanted at r next) (sym says) (write_told state wanted writes at asked passes verdict wrote.1.judged) in
         let step : Steps (Take wanted at) state (Replied reply) next 0 = Acts (reply, answers, refl) refl in
-        (next, step_keeps state is (Take wanted at) (moment, path) (Replied reply) next 0 step, wrote.1.led, step)
+        (next, step_granted state is wanted at path reply next 0 step, (λ hub. step_keeps state hub (Take wanted at) (moment, path) (Replied reply) next 0 step), wrote.1.led, step)
 
     -- one whose commit failed has acted or not
     pub failed_write : (reply : Reply) → reply ≡ error_reply wanted error.Keeper → Writes asked.by (mark_number wanted.mark) asked.write at (Err error.Keeper) before after
         → TakesWrite request at asked reply before after 1
     failed_write reply is_reply made = λ state is part passes. from state is passes (made state is.state part)
       where
-        from : (state : HubState) → IsHub state → asked_in_turn state wanted ≡ Ok asked
+        from : (state : HubState) → IsGranted state → asked_in_turn state wanted ≡ Ok asked
             → IsPartOf after state ⊎ ((verdict : Verdict) × LedBy asked.by (mark_number wanted.mark) asked.write at state after verdict)
-            → (next : HubState) × IsHub next × IsPartOf after next × Steps (Take wanted at) state (Replied reply) next 1
-        from state is passes (inl part) = (state, is, part, Fails (inl refl) (ap Replied is_reply) refl)
+            → (next : HubState) × IsGranted next × (IsHub state → IsHub next) × IsPartOf after next × Steps (Take wanted at) state (Replied reply) next 1
+        from state is passes (inl part) = (state, is, (λ hub. hub), part, Fails (inl refl) (ap Replied is_reply) refl)
         from state is passes (inr done) =
             let verdict = done.0 in
             let own = sent wanted (reply_to_write state wanted asked.write verdict) in
             let next = state_after state asked.by.caller (mark_number wanted.mark) asked.write verdict in
             let acted : ActedOrNot (Take wanted at) state next = inr (Replied own, (own, write_told state wanted writes at asked passes verdict done.1.judged, refl)) in
             let step : Steps (Take wanted at) state (Replied reply) next 1 = Fails acted (ap Replied is_reply) refl in
-            (next, step_keeps state is (Take wanted at) (moment, path) (Replied reply) next 1 step, done.1.led, step)
+            (next, step_granted state is wanted at path reply next 1 step, (λ hub. step_keeps state hub (Take wanted at) (moment, path) (Replied reply) next 1 step), done.1.led, step)
 
     -- one for which memory is wanting leaves the state
     pub wanting_write : (reply : Reply) → reply ≡ error_reply wanted error.NoMemory → Writes asked.by (mark_number wanted.mark) asked.write at (Err error.NoMemory) before after
         → TakesWrite request at asked reply before after 0
-    wanting_write reply is_reply made = λ state is part passes. (state, is, made state is.state part, WantsMemory (inl refl) (ap Replied is_reply) refl)
+    wanting_write reply is_reply made = λ state is part passes. (state, is, (λ hub. hub), made state is.state part, WantsMemory (inl refl) (ap Replied is_reply) refl)
 
   -- so one that gave no answer is a step, which fails where the keeper did
   pub error_step : (now then : ℕ) (asked : Asked) (before : KeptState) (e : HubError) (reply : Reply) → reply ≡ error_reply wanted e
@@ -190,14 +191,14 @@ module _ (request : Request) (at : ℤ) (moment : IsMoment at) (path : ForSome (
 
 -- a write that fails a check leaves the state
 refused_step : (request : Request) (at : ℤ) (kept : KeptState) (refusal reply : Reply) → is_write (wanted_by request).verb ≡ true → reply ≡ sent (wanted_by request) refusal
-    → ((state : HubState) → IsHub state → IsPartOf kept state → asked_in_turn state (wanted_by request) ≡ Err refusal) → TakesRequest request at reply kept kept 0
+    → ((state : HubState) → IsGranted state → IsPartOf kept state → asked_in_turn state (wanted_by request) ≡ Err refusal) → TakesRequest request at reply kept kept 0
 refused_step request at kept refusal reply writes is_reply fails = λ state is part.
     let answers : Answers state (wanted_by request) at reply state =
     subst (λ r. Answers state (wanted_by request) at r state) (sym is_reply) (write_refused state (wanted_by request) writes at refusal (fails state is part)) in
-    (state, is, part, Acts (reply, answers, refl) refl)
+    (state, is, (λ hub. hub), part, Acts (reply, answers, refl) refl)
 
 -- and so does one that is stopped for want of memory
 pub stopped_step : (request : Request) (at : ℤ) (kept : KeptState) (stop : Refusal Reply) (reply : Reply) → is_write (wanted_by request).verb ≡ true → reply ≡ stop_reply (wanted_by request) stop
-    → ((state : HubState) → IsHub state → IsPartOf kept state → FailsWith stop (asked_in_turn state (wanted_by request))) → TakesRequest request at reply kept kept 0
+    → ((state : HubState) → IsGranted state → IsPartOf kept state → FailsWith stop (asked_in_turn state (wanted_by request))) → TakesRequest request at reply kept kept 0
 stopped_step request at kept (refusal.Fault refused_by) reply writes is_reply fails = refused_step request at kept refused_by reply writes is_reply fails
-stopped_step request at kept refusal.NoMemory reply writes is_reply fails = λ state is part. (state, is, part, WantsMemory (inl refl) (ap Replied is_reply) refl)
+stopped_step request at kept refusal.NoMemory reply writes is_reply fails = λ state is part. (state, is, (λ hub. hub), part, WantsMemory (inl refl) (ap Replied is_reply) refl)

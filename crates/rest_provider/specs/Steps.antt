@@ -13,18 +13,23 @@ use Rattle.keeper_memory.specs.Parts.{IsPartOf}
 use Rattle.status_info.specs.declared.cause.Cause.TheVariants as cause
 use Rattle.status_info.specs.declared.reply.Reply.{Reply}
 use Rattle.status_info.specs.declared.request.Request.{Request}
-use Rattle.version_core.specs.HubStates.{HubState}
+use Rattle.version_core.specs.HubStates.{HubState, IsHubState, KeepGrants}
 
 -- the count rises once where a step failed, and else stands
 abbrev pub CountsFailed : ℕ → ℕ → ℕ → Type 0
 CountsFailed before now failed = ((failed ≡ 0) × (now ≡ before)) ⊎ ((failed ≡ 1) × (now ≡ min (before + 1) (2 ^ 64 - 1)))
 
+-- a state of a hub, so far as its numbers and its grants go: nothing is said of what its versions hold
+pub record IsGranted (hub : HubState) : Type 0 where
+  pub state : IsHubState hub
+  pub grants : KeepGrants hub.published
+
 -- at each state of a hub of which `before` is kept, the reply is that of a step which takes the request at this moment and leads to a
--- state of a hub of which `after` is kept
+-- state of a hub of which `after` is kept, and which holds rows where the first does
 abbrev pub TakesRequest : Request → ℤ → Reply → KeptState → KeptState → ℕ → Type 0
 TakesRequest request at reply before after failed =
-    (state : HubState) → IsHub state → IsPartOf before state
-    → (next : HubState) × IsHub next × IsPartOf after next × Steps (Take (wanted_by request) at) state (Replied reply) next failed
+    (state : HubState) → IsGranted state → IsPartOf before state
+    → (next : HubState) × IsGranted next × (IsHub state → IsHub next) × IsPartOf after next × Steps (Take (wanted_by request) at) state (Replied reply) next failed
 
 -- the reply where a hub's call failed
 abbrev pub error_reply : Wanted → HubError → Reply

@@ -10,6 +10,7 @@ use Rattle.hub_rules.specs.States.{IsHub}
 use Rattle.hub_rules.specs.Wanted.{Wanted, mark_number}
 use Rattle.keeper_memory.specs.Kept.{KeptState}
 use Rattle.keeper_memory.specs.Parts.{IsPartOf}
+use Rattle.rest_provider.specs.Steps.{IsGranted}
 use Rattle.rest_provider.specs.Replies.{entry, out_of_memory, path_checked}
 use Rattle.rest_provider.specs.declared.writes.Asked.{Asked}
 use Rattle.roster_base.specs.Reading.{◌>>=◌}
@@ -45,5 +46,5 @@ reply_of wanted written = told wanted (if written.kept then mark_number wanted.m
 -- moment and leads to a state of a hub of which `after` is kept
 abbrev pub TakesWrite : Request → ℤ → Asked → Reply → KeptState → KeptState → ℕ → Type 0
 TakesWrite request at asked reply before after failed =
-    (state : HubState) → IsHub state → IsPartOf before state → asked_in_turn state (wanted_by request) ≡ Ok asked
-    → (next : HubState) × IsHub next × IsPartOf after next × Steps (Take (wanted_by request) at) state (Replied reply) next failed
+    (state : HubState) → IsGranted state → IsPartOf before state → asked_in_turn state (wanted_by request) ≡ Ok asked
+    → (next : HubState) × IsGranted next × (IsHub state → IsHub next) × IsPartOf after next × Steps (Take (wanted_by request) at) state (Replied reply) next failed

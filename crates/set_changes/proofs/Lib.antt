@@ -9,3 +9,5 @@ mod MarkLemmas
 mod Outcomes
 mod RefusalLemmas
 mod SoundLemmas
+pub mod Deciding
+pub mod Being

@@ -5,6 +5,8 @@ use Rattle.exchange_link.specs.Exchanges.{Carries, Exchanged, IsOwn, Sends, Told
 use Rattle.http_wire.proofs.WrittenLemmas.{written_is_read}
 use Rattle.http_wire.specs.Answers.{IsReplyText}
 use Rattle.http_wire.specs.Seen.{seen_of}
+use Rattle.http_wire.specs.Sending.{CanSend}
+use Rattle.hub_replies.proofs.ReplyLemmas.{step_readable}
 use Rattle.hub_requests.specs.Requests.{wanted_by}
 use Rattle.hub_rules.proofs.Growing.{Grew-refl}
 use Rattle.hub_rules.specs.Growth.{Grew}
@@ -30,14 +32,14 @@ counts_on before now failed fits (inl (none, same)) = omega (arith, same)
 counts_on before now failed fits (inr (one, more)) = omega (arith, more, fits)
 
 -- the text of the reply of a step is the hub's own
-pub is_own : (request : Request) (at : ℤ) (reply : Reply) (text : List ℕ) (before after : HeldWorld) (failed : ℕ) (xs ys : List Request) → IsHub before.state → IsOwnText request reply text
+pub is_own : (request : Request) (at : ℤ) (reply : Reply) (text : List ℕ) (before after : HeldWorld) (failed : ℕ) (xs ys : List Request) → CanSend request → IsHub before.state → IsOwnText reply text
     → Steps (Take (wanted_by request) at) before.state (Replied reply) after.state failed → CountsFailed before.faults after.faults failed → IsOwn (told_world xs before) (told_world ys after) request text
-is_own request at reply text before after failed xs ys hub own step counts = record {
+is_own request at reply text before after failed xs ys can hub own step counts = let good = step_readable request can before.state hub at reply after.state failed step in record {
   reply = reply;
   text_is = own.text_is;
-  read = own.readable.read;
-  says = own.readable.says;
-  echo = own.readable.echo;
+  read = good.read;
+  says = own.says;
+  echo = good.echo;
   taken_at = before.state;
   left = after.state;
   is_hub = hub;

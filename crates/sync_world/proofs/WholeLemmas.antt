@@ -183,7 +183,8 @@ module _ (request : Request) (at : ℤ) (reply : Reply) (gone : List BaseVersion
   pub read_led : is_write request.verb ≡ false → Led request at reply (whole_state gone kept) gone kept' failed
   read_led read =
       let state = whole_state gone kept in
-      let (next, is, part, step) = takes state whole.hub whole.part in
+      let (next, _, holds, part, step) = takes state (record { state = whole.hub.state; grants = whole.hub.grants }) whole.part in
+      let is = holds whole.hub in
       let same = ap oldest_number (read_stays (wanted_by request) at state next reply failed read step) in
       let number = oldest_is state whole.hub.state kept whole.part in
       let reach = whole.reach in
@@ -192,7 +193,8 @@ module _ (request : Request) (at : ℤ) (reply : Reply) (gone : List BaseVersion
   write_led : (oldest_kept kept.versions).number < length gone → Led request at reply (whole_state gone kept) gone kept' failed
   write_led reach =
       let state = whole_state gone kept in
-      let (next, is, part, step) = takes state whole.hub whole.part in
+      let (next, _, holds, part, step) = takes state (record { state = whole.hub.state; grants = whole.hub.grants }) whole.part in
+      let is = holds whole.hub in
       let few = step_adds (wanted_by request) at state next reply failed step in
       let keep = (step_goes (Take (wanted_by request) at) state (Replied reply) next failed step).grew.keep in
       let number = oldest_is state whole.hub.state kept whole.part in

@@ -2,6 +2,7 @@
 
 ghost use Rattle.std.specs.Prelude.{◌≡◌, ◌⊎◌, ◌≤◌, ◌<◌, ◌++◌, ◌∷◌, [], List, IfOk, IsErr, IsTrue, Err, vec_capacity, vec_len};
 ghost use Rattle.exchange_link.specs.Exchanges.{IsOwn, IsSentText, IsTextOf};
+ghost use Rattle.http_wire.specs.Sending.{CanSend};
 ghost use Rattle.hub_rules.specs.Growth.{Grew};
 ghost use Rattle.outside_ports.specs.declared.failed.IoError.TheVariants as io_error;
 ghost use Rattle.status_info.specs.declared.request.Request.{Request as Asked};
@@ -30,6 +31,7 @@ fn answered(
     request: &Request,
     at: Moment,
 ) -> Result<Vec<u8>, IoError>
+    requires { CanSend request.now }
     ensures grew { Grew world.old.state world.new.state }
     ensures counts { world.old.faults ≤ world.new.faults }
     ensures own { (xs ys : List Asked) → IfOk result (λ text. IsOwn (told_world xs world.old) (told_world ys world.new) request.now text.items) }
@@ -38,7 +40,7 @@ fn answered(
     // Read for what it keeps.
     let _ = world.faults();
     let reply = world.take(alloc, request, at);
-    let text = own_text(alloc, request, &reply);
+    let text = own_text(alloc, &reply);
     drop(reply);
     text
 }
@@ -51,6 +53,7 @@ fn delivered(
     at: Moment,
     losses: Losses,
 ) -> Result<Vec<u8>, IoError>
+    requires { CanSend request.now }
     ensures grew { Grew world.old.state world.new.state }
     ensures counts { world.old.faults ≤ world.new.faults }
     ensures own { (xs ys : List Asked) → IfOk result (λ text. IsOwn (told_world xs world.old) (told_world ys world.new) request.now text.items) }

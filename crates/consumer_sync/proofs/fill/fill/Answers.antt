@@ -1,4 +1,4 @@
-use Rattle.std.proofs.Common.{arith, ◌≡◌, ◌<◌, ◌≤◌, refl, sym, subst, Some, ◌∙◌, ap, ⊎_elim, inl}
+use Rattle.std.proofs.Common.{arith, ◌≡◌, ◌<◌, ◌≤◌, refl, sym, subst, Some, ◌∙◌, ap, ⊎_elim, inl, inr}
 use Rattle.std.specs.Prelude.{Option}
 use Rattle.copy_keeper.specs.Lists.{kind_count}
 use Rattle.copy_keeper.specs.States.{stage_of}
@@ -18,7 +18,8 @@ use Rattle.tried_requests.proofs.AskLemmas.{asks_trans, missed_other, own_other}
 use Rattle.consumer_sync.proofs.BoundLemmas.{StandingIf, bound_done, bound_end, bound_on, call_pin, pin_performs, pin_same, standing_if}
 use Rattle.consumer_sync.proofs.CauseLemmas.{answer_cause, broken_cause, exact_own, page_status, performs_on}
 use Rattle.consumer_sync.proofs.DoneLemmas.{broken_told, own_done, own_told}
-use Rattle.consumer_sync.proofs.FillLemmas.{can_next, ends_on, fills_end, fills_on, kinds_on, pin_on, small_fits, small_on, token_on, weight_falls}
+use Rattle.consumer_sync.proofs.FaultLemmas.{says_gone}
+use Rattle.consumer_sync.proofs.FillLemmas.{can_next, ends_on, fault_stage, fills_end, fills_on, kinds_on, pin_on, small_fits, small_on, token_on, weight_falls}
 use Rattle.consumer_sync.proofs.JudgeLemmas.{taken_page}
 use Rattle.consumer_sync.proofs.SyncLemmas.{cause_end}
 use Rattle.tried_requests.proofs.TextLemmas.{version_low}
@@ -294,6 +295,19 @@ returns-in_default-clause-copy g c after stands =
     let x = c.take_reply.ensures.told after stands in
     let w = c.rounds.invariant.copy x.0 x.1 in
     (w.0, w.1, ends_on c.args.token.now (judged c.rounds.stage c.args.limit c.in-Own.reply) c.take_reply.result w.0 x.0 after w.2 x.2)
+
+pub returns-in_default-clause-faulted : goal.returns-in_default-clause-faulted
+returns-in_default-clause-faulted g c is after stands =
+    let x = c.take_reply.ensures.told after stands in
+    let w = c.rounds.invariant.copy x.0 x.1 in (
+      w.0,
+      w.1,
+      (
+        ends_on c.args.token.now (judged c.rounds.stage c.args.limit c.in-Own.reply) c.take_reply.result w.0 x.0 after w.2 x.2,
+        ⊎_elim (λ on. inl on) (λ gone. inr (says_gone c.rounds.stage c.args.limit c.in-Own.reply _ c.args.run c.fetch.new.count c.in-Own.ensures.own gone))
+            (fault_stage c.args.token.now (judged c.rounds.stage c.args.limit c.in-Own.reply) c.take_reply.result w.0 x.0 after w.2 x.2),
+      ),
+    )
 
 pub returns-in_default-clause-link : goal.returns-in_default-clause-link
 returns-in_default-clause-link g c after tells =

@@ -14,12 +14,13 @@ use Rattle.exchange_link.specs.declared.answer.SyncAnswer.{SyncAnswer}
 use Rattle.exchange_link.specs.declared.answer.SyncAnswer.TheVariants as answer
 use Rattle.roster_base.specs.Faults.{Rose}
 use Rattle.consumer_sync.specs.Filling.{Ends, HasToken, IsSmall, PinLaw}
+use Rattle.consumer_sync.proofs.FaultLemmas.{abort_faults, enter_faults, fill_faults, swap_faults}
 use Rattle.consumer_sync.proofs.FillLemmas.{small_fits, small_own}
 use Rattle.consumer_sync.proofs.BoundLemmas.{bounded_map, bounded_zero, swap_pin}
 use Rattle.consumer_sync.proofs.CauseLemmas.{exact_page}
 use Rattle.consumer_sync.proofs.DoneLemmas.{start_told}
 use Rattle.consumer_sync.proofs.MarkLemmas.{marks_asked, marks_dropped, marks_kept}
-use Rattle.consumer_sync.proofs.SyncLemmas.{begun_is, cause_whole, drop_done, drop_sync, enter_cause, enter_done, enter_leaves, enter_sync, entry, fill_leaves, fill_sync, finish_by, finish_other, last_dropped, last_ended, last_entered, last_low, own_few, own_token, start_cause, start_on, swap_leaves, swap_run, swap_sync}
+use Rattle.consumer_sync.proofs.SyncLemmas.{begun_is, cause_whole, drop_done, drop_fails, drop_sync, enter_cause, enter_done, enter_leaves, enter_sync, entry, fill_leaves, fill_sync, finish_by, finish_other, last_dropped, last_ended, last_entered, last_low, own_few, own_token, start_cause, start_on, swap_leaves, swap_run, swap_sync}
 use Rattle.consumer_sync.specs.Starting.{StartCause, unentered}
 use Rattle.tried_requests.proofs.RunLemmas.{ready_from}
 use Rattle.tried_requests.specs.declared.begin.NoRun.{NoRun}
@@ -332,6 +333,36 @@ returns-in-Some-stage-clause-cause g c =
       last = λ some ne t tells. x.5 some none_memory t tells;
       on = λ on. absurd (finish_by (λ a. AsksOn a → ⊥) c.finish.result c.in-Some-stage.s.pin c.finish.ensures.answers (λ n. n) (λ e n. n) (λ n. n) on);
     }
+
+pub returns-in-Err-clause-faulted : goal.returns-in-Err-clause-faulted
+returns-in-Err-clause-faulted g c is after stands =
+    let x = c.in-Err.ensures.told after stands in
+    (x.0, x.1, enter_faults c.args.token.now _ c.in-Err.error x.0 after (sym c.unentered.ensures ∙ is) x.2)
+
+pub returns-in-Err-drop_other-clause-faulted : goal.returns-in-Err-drop_other-clause-faulted
+returns-in-Err-drop_other-clause-faulted g c is after stands =
+    let y = c.in-Err-drop_other.ensures.told after stands in
+    let x = c.in-Ok.ensures.told y.0 y.1 in
+    (x.0, x.1, abort_faults c.args.token.now _ x.0 after (drop_fails c.args.token.now x.0 y.0 after c.in-Err-drop_other.answer x.2.1 y.2))
+
+pub returns-in-Some-clause-faulted : goal.returns-in-Some-clause-faulted
+returns-in-Some-clause-faulted g c is after stands =
+    let z = c.fill.ensures.faulted (c.in-Some.is ∙ ap Some is) after stands in
+    let y = c.in-Ok-drop_other.ensures.told z.0 z.1 in
+    let x = c.in-Ok.ensures.told y.0 y.1 in
+    (x.0, x.1, fill_faults c.args.token.now _ x.0 z.0 after (begun_is c.args.token.now x.0 y.0 z.0 c.in-Ok.state c.in-Ok-drop_other.begun x.2 y.2) z.2.1)
+
+pub returns-in-Some-stage-clause-faulted : goal.returns-in-Some-stage-clause-faulted
+returns-in-Some-stage-clause-faulted g c is after stands =
+    let w = c.finish.ensures.told after stands in
+    let z = c.in-None.ensures.copy w.0 w.1 in
+    let y = c.in-Ok-drop_other.ensures.told z.0 z.1 in
+    let x = c.in-Ok.ensures.told y.0 y.1 in (
+      x.0,
+      x.1,
+      swap_faults c.args.token.now _ x.0 z.0 w.0 after c.in-Some-stage.s c.finish.result (begun_is c.args.token.now x.0 y.0 z.0 c.in-Ok.state c.in-Ok-drop_other.begun x.2 y.2) z.2
+          (c.fill.ensures.holds c.in-None.is w.0 w.1 ∙ c.in-Some-stage.is) (subst (λ (o : Option StageState). kinds_of o ≡ kind_count) c.in-Some-stage.is (c.fill.ensures.done c.in-None.is)) is w.2,
+    )
 
 pub returns-in-Err-clause-last_run : goal.returns-in-Err-clause-last_run
 returns-in-Err-clause-last_run g c after stands =
