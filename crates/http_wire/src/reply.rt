@@ -247,7 +247,7 @@ fn body_length(reply: &Reply) -> usize
         return 0;
     }
     match reply.cause.status() {
-        200 => reply.body.as_slice().len(),
+        200 => reply.body.as_str().len(),
         204 => 0,
         _ => reply.cause.status_body().len(),
     }
@@ -269,7 +269,7 @@ fn write_body<W: Sink>(sink: &mut W, reply: &Reply) -> Result<(), Failed>
         return Ok(());
     }
     match reply.cause.status() {
-        200 => sink.write_all(reply.body.as_slice()),
+        200 => sink.write_all(reply.body.as_str().as_bytes()),
         204 => Ok(()),
         _ => write_status_body(sink, reply.cause),
     }

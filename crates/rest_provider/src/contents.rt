@@ -10,7 +10,7 @@ use filter_grammar::Query;
 use hub_paths::Path;
 use hub_views::Page;
 use query_pages::one;
-use roster_base::{Bytes, Items, NoMemory, Text};
+use roster_base::{Items, NoMemory, Text};
 use roster_types::row::Row;
 use roster_values::Kind;
 use row_json::{collection_text, single_text};
@@ -21,7 +21,7 @@ use version_core::references::Refs;
 /// The body of a 200, the number of rows of the whole collection, and the links of the page.
 #[derive(Drop)]
 pub struct Contents {
-    pub body: Bytes,
+    pub body: Text,
     pub total: Option<u64>,
     pub links: Items<LinkItem>,
 }
@@ -42,7 +42,7 @@ pub fn object_contents(alloc: Global, query: &Query, row: &Row) -> Result<Conten
 {
     let text = single_text(alloc, row, chosen(query))?;
     Ok(Contents {
-        body: Bytes::from_vec(text.into_bytes()),
+        body: Text::from_string(text),
         total: None,
         links: Items::new(alloc),
     })
@@ -75,7 +75,7 @@ pub fn page_contents(
 {
     let text = collection_text(alloc, kind, page.rows.as_slice(), chosen(query))?;
     Ok(Contents {
-        body: Bytes::from_vec(text.into_bytes()),
+        body: Text::from_string(text),
         total: Some(page.total),
         links: page.links,
     })

@@ -4,7 +4,7 @@ ghost use Rattle.std.specs.Prelude.{◌≡◌};
 ghost use Rattle.status_info.specs.Failing.{failing};
 
 use crate::{Cause, Echo};
-use roster_base::{Bytes, Items, Text};
+use roster_base::{Items, Text};
 use std::alloc::Global;
 
 /// Where a link of a page leads.
@@ -38,7 +38,7 @@ pub struct Warnings {
 pub struct Reply {
     pub cause: Cause,
     /// The body of a 200; any other cause has its own.
-    pub body: Bytes,
+    pub body: Text,
     /// The number of rows of the whole collection.
     pub total: Option<u64>,
     pub links: Items<LinkItem>,
@@ -63,7 +63,7 @@ impl Reply {
     {
         Reply {
             cause,
-            body: Bytes::from_vec(Vec::new(alloc)),
+            body: Text::from_string(String::new(alloc)),
             total: None,
             links: Items::new(alloc),
             warnings: Warnings {

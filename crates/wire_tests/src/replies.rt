@@ -2,7 +2,7 @@
 
 use http_wire::{WireFault, WireReply, parse_reply, write_reply};
 use outside_ports::MemSink;
-use roster_base::{Bytes, Items, Text};
+use roster_base::{Items, Text};
 use status_info::{Cause, Echo, LinkItem, Rel, Reply};
 use std::alloc::Global;
 use std::process::Abort;
@@ -31,7 +31,7 @@ fn links_of(alloc: Global) -> Result<Items<LinkItem>, Fail> {
     Ok(links)
 }
 
-fn page(alloc: Global, links: Items<LinkItem>, body: Bytes) -> Reply {
+fn page(alloc: Global, links: Items<LinkItem>, body: Text) -> Reply {
     let mut page = Reply::failing(alloc, Cause::Done, Some(Echo { run: 1, count: 20 }), true);
     page.version = Some(2);
     page.total = Some(2);
@@ -44,7 +44,7 @@ fn page(alloc: Global, links: Items<LinkItem>, body: Bytes) -> Reply {
 #[test]
 fn a_page_has_its_bytes(rt: HostRuntime) -> Result<(), Fail> {
     let alloc = rt.alloc();
-    let body = Bytes::from_vec(b"{}".to_vec(alloc)?);
+    let body = Text::new(alloc, "{}")?;
     let page = page(alloc, links_of(alloc)?, body);
     let want =
         "HTTP/1.1 200 OK\r\nContent-Type: application/json\r\nX-Total-Count: 2\r\nLink: </x?offset=1>; rel=\"next\", </x?offset=0>; rel=\"first\"\r\nX-Hub-Warning: invalid_sort_field\r\nX-Hub-Version: 2\r\nX-Hub-Exchange: 1.20\r\nConnection: close\r\nContent-Length: 2\r\n\r\n{}";
@@ -54,7 +54,7 @@ fn a_page_has_its_bytes(rt: HostRuntime) -> Result<(), Fail> {
 #[test]
 fn a_page_for_head_has_no_body(rt: HostRuntime) -> Result<(), Fail> {
     let alloc = rt.alloc();
-    let body = Bytes::from_vec(b"{}".to_vec(alloc)?);
+    let body = Text::new(alloc, "{}")?;
     let mut page = page(alloc, Items::new(alloc), body);
     page.headless = true;
     let want =
