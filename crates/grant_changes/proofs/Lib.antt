@@ -1,4 +1,4 @@
 pub mod Finding
 pub mod Following
 pub mod Granted
-pub mod Being
+pub mod GrantsOutcome

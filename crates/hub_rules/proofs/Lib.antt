@@ -1,7 +1,6 @@
 pub mod Being
 pub mod Below
 pub mod Cutting
-pub mod Deciding
 pub mod Following
 pub mod Growing
 pub mod Holding

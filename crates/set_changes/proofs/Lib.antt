@@ -10,4 +10,4 @@ mod Outcomes
 mod RefusalLemmas
 mod SoundLemmas
 pub mod Deciding
-pub mod Being
+pub mod SetOutcome
