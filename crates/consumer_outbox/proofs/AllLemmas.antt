@@ -2,10 +2,10 @@
 use Rattle.std.proofs.Common.{◌≡◌, ◌≢◌, ◌+◌, ◌-◌, ◌*◌, ◌≤◌, ℕ, true, List, [], ◌∷◌, Some, None, refl, sym, subst, arith}
 use Rattle.std.specs.Prelude.{IfSome, is_none}
 use Rattle.std.specs.List.{AllByRecursion}
-use Rattle.copy_keeper.specs.Changes.{copy_after}
-use Rattle.copy_keeper.specs.Copies.{Copy, IsCopy, first_unsettled}
-use Rattle.copy_keeper.specs.declared.change.CopyChange.TheVariants.{Settle}
-use Rattle.copy_keeper.specs.declared.entry.OutEntry.{OutEntry}
+use Rattle.keeper_memory.specs.copy.Changes.{copy_after}
+use Rattle.keeper_memory.specs.copy.Copies.{Copy, IsCopy, first_unsettled}
+use Rattle.keeper_memory.specs.declared.copy.change.CopyChange.TheVariants.{Settle}
+use Rattle.keeper_memory.specs.declared.copy.entry.OutEntry.{OutEntry}
 use Rattle.exchange_link.specs.Causes.{IsMore, RoseBy}
 use Rattle.exchange_link.specs.Exchanges.{Told}
 use Rattle.exchange_link.specs.SendCauses.{EndsAtEntry, IsBetween, IsSendAside, SendCauseOf, SendToldCause}
@@ -13,10 +13,10 @@ use Rattle.exchange_link.specs.SendCompleteness.{CanSendAll, IsFine}
 use Rattle.exchange_link.specs.Sent.{AllSettled, NamesFirst, number_in, unsettled}
 use Rattle.exchange_link.specs.declared.send_answer.SendAnswer.{SendAnswer}
 use Rattle.exchange_link.specs.declared.send_answer.SendAnswer.TheVariants as answer
-use Rattle.hub_rules.proofs.Growing.{Grew-trans}
-use Rattle.marked_writes.specs.Answering.{CanSendWrite}
-use Rattle.marked_writes.specs.Marked.{mark_of}
-use Rattle.tried_requests.specs.Requests.{Moved}
+use Rattle.hub_spec.proofs.Growing.{Grew-trans}
+use Rattle.hub_spec.specs.marks.Answering.{CanSendWrite}
+use Rattle.hub_spec.specs.marks.Marked.{mark_of}
+use Rattle.exchange_link.specs.Requests.{Moved}
 use Rattle.version_core.specs.HubStates.{HubState, newest_number}
 use Rattle.consumer_outbox.proofs.StepLemmas.{names_first}
 use Rattle.consumer_outbox.proofs.WalkLemmas.{open_by, open_is, settles_left, settles_next, settles_none, walk_settles}

@@ -1,29 +1,29 @@
 -- A call's beginning and its end.
 use Rattle.std.proofs.Common.{◌≡◌, ◌≢◌, ◌+◌, ◌*◌, ◌≤◌, inl, inr, ⊎_elim, ℕ, List, Option, Some, None, refl, sym, ◌∙◌, ap, subst, arith}
 use Rattle.std.specs.Prelude.{Result, Ok, Err}
-use Rattle.copy_keeper.specs.Changes.{Commits, copy_after}
-use Rattle.copy_keeper.specs.Copies.{Copy, Stage}
-use Rattle.copy_keeper.specs.declared.change.CopyChange.TheVariants.{Enter, Run}
+use Rattle.keeper_memory.specs.copy.Changes.{Commits, copy_after}
+use Rattle.keeper_memory.specs.copy.Copies.{Copy, Stage}
+use Rattle.keeper_memory.specs.declared.copy.change.CopyChange.TheVariants.{Enter, Run}
 use Rattle.exchange_link.specs.Agreement.{FitsVersion, NoneAbove, StageFitsIf}
 use Rattle.exchange_link.specs.Exchanges.{Told}
 use Rattle.exchange_link.specs.Marks.{Agree}
-use Rattle.hub_rules.specs.Growth.{Grew}
-use Rattle.marked_writes.proofs.AgreeLemmas.{entering_keeps}
+use Rattle.hub_spec.specs.rules.Growth.{Grew}
+use Rattle.hub_spec.proofs.AgreeLemmas.{entering_keeps}
 use Rattle.roster_base.specs.declared.keeper.KeeperError.{KeeperError}
 use Rattle.roster_base.specs.declared.keeper.KeeperError.TheVariants as fault
-use Rattle.copy_keeper.specs.declared.state.CopyState.{CopyState}
-use Rattle.copy_keeper.specs.declared.state.TheConstants.{LAST}
+use Rattle.keeper_memory.specs.declared.copy.state.CopyState.{CopyState}
+use Rattle.keeper_memory.specs.declared.copy.state.TheConstants.{LAST}
 use Rattle.exchange_link.specs.SendCauses.{SendCaused, SendLastLaw}
 use Rattle.exchange_link.specs.SendCompleteness.{CanSendAll, IsFine}
 use Rattle.exchange_link.specs.Sent.{AllSettled, SendLeaves, SettlesMore, unsettled}
 use Rattle.exchange_link.specs.SentTold.{WasSent}
 use Rattle.exchange_link.specs.declared.send_answer.SendAnswer.{SendAnswer}
 use Rattle.exchange_link.specs.declared.send_answer.SendAnswer.TheVariants as answer
-use Rattle.tried_requests.proofs.RunLemmas.{above_more, below_from, ready_from}
-use Rattle.tried_requests.specs.Beginning.{Enters, EntersRun}
-use Rattle.tried_requests.specs.Requests.{Moved}
-use Rattle.tried_requests.specs.declared.begin.NoRun.{NoRun}
-use Rattle.tried_requests.specs.declared.begin.NoRun.TheVariants as why
+use Rattle.exchange_link.proofs.RunLemmas.{above_more, below_from, ready_from}
+use Rattle.exchange_link.specs.Beginning.{Enters, EntersRun}
+use Rattle.exchange_link.specs.Requests.{Moved}
+use Rattle.exchange_link.specs.declared.begin.NoRun.{NoRun}
+use Rattle.exchange_link.specs.declared.begin.NoRun.TheVariants as why
 use Rattle.consumer_outbox.proofs.AllLemmas.{more_none}
 use Rattle.consumer_outbox.proofs.WalkLemmas.{settles_none}
 use Rattle.consumer_outbox.specs.Sends.{Ready, SoFar, not_begun}

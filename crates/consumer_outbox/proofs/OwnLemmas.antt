@@ -4,8 +4,8 @@ use Rattle.std.proofs.lemmas.Bool.Decides.{nat_tests}
 use Rattle.std.proofs.lemmas.List.Elements.{All-head, All-tail}
 use Rattle.std.specs.List.{AllByRecursion}
 use Rattle.std.specs.Prelude.{IfSome, is_none, is_some}
-use Rattle.copy_keeper.specs.Copies.{Copy, IsCopy, first_unsettled}
-use Rattle.copy_keeper.specs.declared.entry.OutEntry.{OutEntry}
+use Rattle.keeper_memory.specs.copy.Copies.{Copy, IsCopy, first_unsettled}
+use Rattle.keeper_memory.specs.declared.copy.entry.OutEntry.{OutEntry}
 use Rattle.exchange_link.specs.Causes.{IsLast}
 use Rattle.exchange_link.specs.Exchanges.{Told, wanted_by}
 use Rattle.exchange_link.specs.SendCauses.{IsBetween}
@@ -14,23 +14,23 @@ use Rattle.exchange_link.specs.declared.send_answer.SendAnswer.{SendAnswer}
 use Rattle.exchange_link.specs.declared.send_answer.SendAnswer.TheVariants as answer
 use Rattle.http_wire.specs.Seen.{seen_of}
 use Rattle.http_wire.specs.declared.answer.WireReply.{WireReply}
-use Rattle.hub_rules.proofs.Growing.{Grew-trans}
-use Rattle.hub_rules.specs.Growth.{Grew}
-use Rattle.hub_rules.specs.States.{IsHub}
-use Rattle.marked_writes.proofs.AgreeLemmas.{first_of_entry, settling_keeps, traffic_keeps}
-use Rattle.marked_writes.proofs.AnswerLemmas.{marked_is, says_write}
-use Rattle.marked_writes.proofs.ShowLemmas.{Bad as BadStatus, Deleted, IsKeptStatus, Missing, Refused, Stored, own_shown, shown_where_it_can, status_kept}
-use Rattle.marked_writes.specs.Agreement.{GivesOnly, IsCaller, IsOfEntry, IsShown, MarksAgree}
-use Rattle.marked_writes.specs.Answering.{SaysWrite, Shown as ShownMark, ShowsMark, Shut as ShutOut, Stranger, Taken as TakenMark}
-use Rattle.marked_writes.specs.Marked.{Marked, mark_of, marked_by}
+use Rattle.hub_spec.proofs.Growing.{Grew-trans}
+use Rattle.hub_spec.specs.rules.Growth.{Grew}
+use Rattle.hub_spec.specs.rules.States.{IsHub}
+use Rattle.hub_spec.proofs.AgreeLemmas.{first_of_entry, settling_keeps, traffic_keeps}
+use Rattle.hub_spec.proofs.AnswerLemmas.{marked_is, says_write}
+use Rattle.hub_spec.proofs.ShowLemmas.{Bad as BadStatus, Deleted, IsKeptStatus, Missing, Refused, Stored, own_shown, shown_where_it_can, status_kept}
+use Rattle.hub_spec.specs.marks.Agreement.{GivesOnly, IsCaller, IsOfEntry, IsShown, MarksAgree}
+use Rattle.hub_spec.specs.marks.Answering.{SaysWrite, Shown as ShownMark, ShowsMark, Shut as ShutOut, Stranger, Taken as TakenMark}
+use Rattle.hub_spec.specs.marks.Marked.{Marked, mark_of, marked_by}
 use Rattle.roster_base.specs.Faults.{Rose}
 use Rattle.status_info.specs.Causes.{status_of}
 use Rattle.status_info.specs.declared.cause.Cause.{Cause}
 use Rattle.status_info.specs.declared.reply.Reply.{Reply}
 use Rattle.status_info.specs.declared.request.Request.{Request}
-use Rattle.tried_requests.specs.Owning.{IsOwnRead}
-use Rattle.tried_requests.specs.Owning.Gives.{Wants as GivesWant, Broke as GivesFault, Answers as GivesAnswer}
-use Rattle.tried_requests.specs.Requests.{Asks}
+use Rattle.exchange_link.specs.Owning.{IsOwnRead}
+use Rattle.exchange_link.specs.Owning.Gives.{Wants as GivesWant, Broke as GivesFault, Answers as GivesAnswer}
+use Rattle.exchange_link.specs.Requests.{Asks}
 use Rattle.version_core.specs.HubStates.{HubState, newest_number}
 use Rattle.version_core.specs.declared.mark.MarkRow.{MarkRow}
 use Rattle.consumer_outbox.proofs.VerdictLemmas.{Bad, Fault, Shown, Shut, Taken, Unknown, Wants, judged}

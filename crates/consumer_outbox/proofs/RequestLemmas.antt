@@ -4,14 +4,14 @@ use Rattle.std.specs.List.{flat_map, list_all}
 use Rattle.std.specs.Prelude.{Err, IfOk, Ok, Result}
 use Rattle.std.proofs.lemmas.Bool.{and_from}
 use Rattle.std.proofs.lemmas.Bool.Decides.{nat_tests}
-use Rattle.copy_keeper.specs.Copies.{IsGradebook, IsOutWrite}
-use Rattle.copy_keeper.specs.declared.entry.OutEntry.{OutEntry}
+use Rattle.keeper_memory.specs.copy.Copies.{IsGradebook, IsOutWrite}
+use Rattle.keeper_memory.specs.declared.copy.entry.OutEntry.{OutEntry}
 use Rattle.http_wire.specs.Sending.{CanSend, IsSentEcho, IsSentVerb, is_sent_byte}
-use Rattle.marked_writes.proofs.PathLemmas.{encoded_length, text_bytes}
-use Rattle.marked_writes.proofs.SendLemmas.{id_long, request_read}
-use Rattle.marked_writes.specs.Marked.{mark_of, marked_by}
-use Rattle.marked_writes.specs.Sending.{verb_of}
-use Rattle.hub_rules.proofs.Below.{and_first, and_second}
+use Rattle.hub_spec.proofs.PathLemmas.{encoded_length, text_bytes}
+use Rattle.hub_spec.proofs.SendLemmas.{id_long, request_read}
+use Rattle.hub_spec.specs.marks.Marked.{mark_of, marked_by}
+use Rattle.hub_spec.specs.marks.Sending.{verb_of}
+use Rattle.hub_spec.proofs.Below.{and_first, and_second}
 use Rattle.roster_texts.specs.Texts.{is_id, is_token}
 use Rattle.roster_types.specs.Hrefs.{encoded_byte, href, is_unreserved}
 use Rattle.roster_values.specs.Kinds.{plural_of}
@@ -21,7 +21,7 @@ use Rattle.percent_encoding.specs.Percent.{percent_encode_byte}
 use Rattle.std.specs.Fmt.{digit_glyph}
 use Rattle.status_info.specs.declared.request.Echo.{Echo}
 use Rattle.status_info.specs.declared.request.Verb.TheVariants.{Delete, Put}
-use Rattle.tried_requests.specs.Requests.{numbered}
+use Rattle.exchange_link.specs.Requests.{numbered}
 use Rattle.version_core.specs.declared.mark.Write.{Write}
 use Rattle.consumer_outbox.specs.Sends.{request_of}
 

@@ -1,10 +1,10 @@
 -- The steps of a copy.
 use Rattle.std.proofs.Common.{◌≡◌, inl, inr, ⊎_elim, ℕ, List, Option, Some, None, refl, sym, subst}
 use Rattle.std.specs.Prelude.{Err, IfSome, IsSomeAnd}
-use Rattle.copy_keeper.specs.Changes.{Commits, copy_after}
-use Rattle.copy_keeper.specs.Copies.{Copy, first_unsettled}
-use Rattle.copy_keeper.specs.declared.change.CopyChange.TheVariants.{Settle}
-use Rattle.copy_keeper.specs.declared.entry.OutEntry.{OutEntry}
+use Rattle.keeper_memory.specs.copy.Changes.{Commits, copy_after}
+use Rattle.keeper_memory.specs.copy.Copies.{Copy, first_unsettled}
+use Rattle.keeper_memory.specs.declared.copy.change.CopyChange.TheVariants.{Settle}
+use Rattle.keeper_memory.specs.declared.copy.entry.OutEntry.{OutEntry}
 use Rattle.exchange_link.specs.Sent.{NamesFirst, number_in}
 use Rattle.exchange_link.specs.declared.send_answer.SendAnswer.{SendAnswer}
 use Rattle.exchange_link.specs.declared.send_answer.SendAnswer.TheVariants as answer
@@ -12,10 +12,10 @@ use Rattle.roster_base.specs.declared.keeper.KeeperError.{KeeperError}
 use Rattle.roster_base.specs.declared.keeper.KeeperError.TheVariants as fault
 use Rattle.exchange_link.specs.Causes.{IsLast}
 use Rattle.exchange_link.specs.SendCauses.{CarriesFirst}
-use Rattle.marked_writes.specs.Marked.{mark_of, marked_by}
+use Rattle.hub_spec.specs.marks.Marked.{mark_of, marked_by}
 use Rattle.status_info.specs.declared.request.Echo.{Echo}
 use Rattle.status_info.specs.declared.request.Request.{Request}
-use Rattle.tried_requests.specs.Requests.{numbered}
+use Rattle.exchange_link.specs.Requests.{numbered}
 use Rattle.consumer_outbox.specs.Sends.{EndsIf, Goes, IsBroken, Moves, Rests, Settles, Stays, Takes, broken_answer, request_of}
 use Rattle.consumer_outbox.specs.declared.verdict.Verdict.{Verdict}
 use Rattle.consumer_outbox.specs.declared.verdict.Verdict.TheVariants as verdict

@@ -4,10 +4,10 @@ use Rattle.std.specs.Prelude.{MatchOption, filter, is_none}
 use Rattle.std.specs.List.{AllByRecursion}
 use Rattle.std.proofs.lemmas.Bool.Decides.{nat_tests}
 use Rattle.std.proofs.lemmas.List.Elements.{All-head, All-tail}
-use Rattle.copy_keeper.specs.Changes.{settled_first}
-use Rattle.copy_keeper.specs.Copies.{NumbersRise, SettledFirst, entry_after, first_unsettled}
-use Rattle.copy_keeper.specs.declared.entry.OutEntry.{OutEntry}
-use Rattle.copy_keeper.specs.declared.entry.Settled.{Settled}
+use Rattle.keeper_memory.specs.copy.Changes.{settled_first}
+use Rattle.keeper_memory.specs.copy.Copies.{NumbersRise, SettledFirst, entry_after, first_unsettled}
+use Rattle.keeper_memory.specs.declared.copy.entry.OutEntry.{OutEntry}
+use Rattle.keeper_memory.specs.declared.copy.entry.Settled.{Settled}
 use Rattle.exchange_link.specs.Sent.{SettlesMore, settled_by, unsettled}
 use Rattle.consumer_outbox.specs.Sends.{SettledTo}
 

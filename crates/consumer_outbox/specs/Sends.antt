@@ -1,10 +1,10 @@
 -- The steps of sending.
 use Rattle.std.specs.Prelude.{◌≡◌, ◌≢◌, ◌⊎◌, ℕ, ◌<◌, true, List, Option, Some, None, IfSome, is_none, ⊤}
 use Rattle.std.specs.List.{AllByRecursion}
-use Rattle.copy_keeper.specs.Changes.{copy_after}
-use Rattle.copy_keeper.specs.Copies.{Copy}
-use Rattle.copy_keeper.specs.declared.change.CopyChange.TheVariants.{Settle}
-use Rattle.copy_keeper.specs.declared.entry.OutEntry.{OutEntry}
+use Rattle.keeper_memory.specs.copy.Changes.{copy_after}
+use Rattle.keeper_memory.specs.copy.Copies.{Copy}
+use Rattle.keeper_memory.specs.declared.copy.change.CopyChange.TheVariants.{Settle}
+use Rattle.keeper_memory.specs.declared.copy.entry.OutEntry.{OutEntry}
 use Rattle.exchange_link.specs.Exchanges.{Told}
 use Rattle.exchange_link.specs.Marks.{MarksTold}
 use Rattle.exchange_link.specs.SendCauses.{AnswersSend, EndsAtEntry, IsSendAside, SendCauseOf, SendToldCause}
@@ -13,14 +13,14 @@ use Rattle.exchange_link.specs.Sent.{SettlesMore}
 use Rattle.exchange_link.specs.declared.send_answer.SendAnswer.{SendAnswer}
 use Rattle.exchange_link.specs.declared.send_answer.SendAnswer.TheVariants as answer
 use Rattle.http_wire.specs.declared.answer.WireReply.{WireReply}
-use Rattle.marked_writes.specs.Marked.{mark_of, marked_by}
-use Rattle.marked_writes.specs.Sending.{write_request}
+use Rattle.hub_spec.specs.marks.Marked.{mark_of, marked_by}
+use Rattle.hub_spec.specs.marks.Sending.{write_request}
 use Rattle.roster_base.specs.declared.keeper.KeeperError.{KeeperError}
 use Rattle.roster_base.specs.declared.keeper.KeeperError.TheVariants as fault
 use Rattle.status_info.specs.declared.request.Request.{Request}
-use Rattle.tried_requests.specs.Requests.{IsNumbered, IsReady}
-use Rattle.tried_requests.specs.declared.begin.NoRun.{NoRun}
-use Rattle.tried_requests.specs.declared.begin.NoRun.TheVariants as no_run
+use Rattle.exchange_link.specs.Requests.{IsNumbered, IsReady}
+use Rattle.exchange_link.specs.declared.begin.NoRun.{NoRun}
+use Rattle.exchange_link.specs.declared.begin.NoRun.TheVariants as no_run
 use Rattle.consumer_outbox.specs.Verdicts.{Settled}
 use Rattle.consumer_outbox.specs.declared.verdict.Verdict.{Verdict}
 use Rattle.consumer_outbox.specs.declared.verdict.Verdict.TheVariants as verdict

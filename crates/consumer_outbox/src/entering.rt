@@ -1,15 +1,15 @@
 //! Writes are entered.
 
 ghost use Rattle.std.specs.Prelude.{◌≡◌, ◌≤◌, Err};
-ghost use Rattle.copy_keeper.specs.Copies.{Copy, IsOutWrite};
+ghost use Rattle.keeper_memory.specs.copy.Copies.{Copy, IsOutWrite};
 ghost use Rattle.exchange_link.specs.Entering.{EntersWrite};
 ghost use Rattle.exchange_link.specs.Exchanges.{Told};
 ghost use Rattle.exchange_link.specs.Marks.{Agree};
 ghost use Rattle.roster_base.specs.Faults.{Rose};
 ghost use Rattle.consumer_outbox.specs.Entered.{entry_error};
 
-use copy_keeper::{CopyChange, CopyKeeper, LAST};
 use exchange_link::EnterError;
+use keeper_memory::{CopyChange, CopyKeeper, LAST};
 use roster_base::KeeperError;
 use std::alloc::Global;
 use version_core::mark::Write;

@@ -1,11 +1,11 @@
 //! How far the entries are settled, found by halves, so that not each of them is read.
 
 ghost use Rattle.std.specs.Prelude.{◌≡◌, ◌≤◌, ◌<◌, IfOk, IfSome, Err};
-ghost use Rattle.copy_keeper.specs.Copies.{Copy};
+ghost use Rattle.keeper_memory.specs.copy.Copies.{Copy};
 ghost use Rattle.roster_base.specs.Faults.{Rose};
 ghost use Rattle.consumer_outbox.specs.Sends.{SettledTo};
 
-use copy_keeper::CopyKeeper;
+use keeper_memory::CopyKeeper;
 use roster_base::KeeperError;
 use std::alloc::Global;
 

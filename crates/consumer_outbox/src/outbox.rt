@@ -1,8 +1,8 @@
 //! The entries of the outbox are sent.
 
 ghost use Rattle.std.specs.Prelude.{◌≡◌, ◌≢◌, ◌+◌, ◌*◌, ◌<◌, ◌≤◌};
-ghost use Rattle.copy_keeper.specs.Copies.{Copy};
-ghost use Rattle.copy_keeper.specs.declared.state.TheConstants.{LAST};
+ghost use Rattle.keeper_memory.specs.copy.Copies.{Copy};
+ghost use Rattle.keeper_memory.specs.declared.copy.state.TheConstants.{LAST};
 ghost use Rattle.exchange_link.specs.Causes.{RoseBy};
 ghost use Rattle.exchange_link.specs.Exchanges.{Told};
 ghost use Rattle.exchange_link.specs.Marks.{Agree};
@@ -15,11 +15,10 @@ ghost use Rattle.version_core.specs.HubStates.{newest_number};
 ghost use Rattle.consumer_outbox.specs.Sends.{not_begun};
 
 use crate::sending::send_all;
-use copy_keeper::CopyKeeper;
-use exchange_link::{Link, SendAnswer};
+use exchange_link::{Link, NoRun, SendAnswer, begin_run};
+use keeper_memory::CopyKeeper;
 use roster_texts::Token;
 use std::alloc::Global;
-use tried_requests::{NoRun, begin_run};
 
 fn not_begun(why: NoRun) -> SendAnswer
     ensures { result ≡ not_begun why }

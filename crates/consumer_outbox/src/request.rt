@@ -1,15 +1,15 @@
 //! The request of an entry.
 
 ghost use Rattle.std.specs.Prelude.{◌≡◌, ◌≤◌, if◌then◌else◌, IfOk, Some};
-ghost use Rattle.copy_keeper.specs.Copies.{IsOutWrite};
-ghost use Rattle.copy_keeper.specs.declared.state.TheConstants.{LAST};
+ghost use Rattle.keeper_memory.specs.copy.Copies.{IsOutWrite};
+ghost use Rattle.keeper_memory.specs.declared.copy.state.TheConstants.{LAST};
 ghost use Rattle.http_wire.specs.Sending.{CanSend, IsSentEcho};
-ghost use Rattle.marked_writes.specs.Marked.{mark_of, marked_by};
+ghost use Rattle.hub_spec.specs.marks.Marked.{mark_of, marked_by};
 ghost use Rattle.status_info.specs.declared.request.Echo.{Echo as Number};
-ghost use Rattle.tried_requests.specs.Requests.{numbered};
+ghost use Rattle.exchange_link.specs.Requests.{numbered};
 ghost use Rattle.consumer_outbox.specs.Sends.{request_of};
 
-use copy_keeper::OutEntry;
+use keeper_memory::OutEntry;
 use roster_base::{NoMemory, Text, TryCopy};
 use roster_texts::Token;
 use roster_types::cells::href;

@@ -1,9 +1,9 @@
 //! Entry after entry, until one isn't settled by its reply.
 
 ghost use Rattle.std.specs.Prelude.{◌≡◌, ◌≢◌, ◌⊎◌, ℕ, [], ◌∷◌, ◌+◌, ◌*◌, ◌-◌, ◌<◌, ◌≤◌, true, IfErr, IfOk, IfSome, IsSomeAnd, None, Some};
-ghost use Rattle.copy_keeper.specs.Copies.{Copy, IsOutWrite, first_unsettled};
-ghost use Rattle.copy_keeper.specs.States.{CanBeEntry};
-ghost use Rattle.copy_keeper.specs.declared.state.TheConstants.{LAST};
+ghost use Rattle.keeper_memory.specs.copy.Copies.{Copy, IsOutWrite, first_unsettled};
+ghost use Rattle.keeper_memory.specs.copy.States.{CanBeEntry};
+ghost use Rattle.keeper_memory.specs.declared.copy.state.TheConstants.{LAST};
 ghost use Rattle.exchange_link.specs.Causes.{IsLast, IsMore, IsOwnReply, RoseBy};
 ghost use Rattle.exchange_link.specs.Exchanges.{Told};
 ghost use Rattle.exchange_link.specs.SendCauses.{CarriesFirst, EndsAtEntry, IsSendAside, AnswersSend, SendCauseOf, SendToldCause};
@@ -11,12 +11,12 @@ ghost use Rattle.exchange_link.specs.SendCompleteness.{CanSendAll, IsFine};
 ghost use Rattle.exchange_link.specs.Sent.{AllSettled, NamesFirst, number_in, unsettled};
 ghost use Rattle.http_wire.specs.Answers.{IsNoReply, IsReplyText};
 ghost use Rattle.http_wire.specs.declared.answer.WireReply.{WireReply as Reply};
-ghost use Rattle.marked_writes.specs.Answering.{CanSendWrite};
-ghost use Rattle.marked_writes.specs.Marked.{mark_of, marked_by};
+ghost use Rattle.hub_spec.specs.marks.Answering.{CanSendWrite};
+ghost use Rattle.hub_spec.specs.marks.Marked.{mark_of, marked_by};
 ghost use Rattle.roster_base.specs.Faults.{Rose};
 ghost use Rattle.status_info.specs.declared.request.Echo.{Echo as Number};
-ghost use Rattle.tried_requests.specs.Owning.{IsOwnRead};
-ghost use Rattle.tried_requests.specs.Requests.{Asks, IfOwn, IsReady, Moved, number, numbered};
+ghost use Rattle.exchange_link.specs.Owning.{IsOwnRead};
+ghost use Rattle.exchange_link.specs.Requests.{Asks, IfOwn, IsReady, Moved, number, numbered};
 ghost use Rattle.version_core.specs.HubStates.{newest_number};
 ghost use Rattle.consumer_outbox.specs.Sends.{Carries, CauseIf, EndsIf, ExactIf, Goes, IsBroken, IsFineIf, Ready, SettledTo, SoFar, Takes, ToldIf, answer_of, broken_answer, request_of};
 ghost use Rattle.consumer_outbox.specs.Verdicts.{does_settle, verdict_of};
@@ -24,13 +24,12 @@ ghost use Rattle.consumer_outbox.specs.Verdicts.{does_settle, verdict_of};
 use crate::halves::settled_from;
 use crate::request::request_for;
 use crate::verdict::{Verdict, judge};
-use copy_keeper::{CopyChange, CopyKeeper, LAST, OutEntry};
-use exchange_link::{Link, SendAnswer};
+use exchange_link::{Link, Outcome, SendAnswer, ask};
 use http_wire::WireReply;
+use keeper_memory::{CopyChange, CopyKeeper, LAST, OutEntry};
 use roster_base::KeeperError;
 use roster_texts::Token;
 use std::alloc::Global;
-use tried_requests::{Outcome, ask};
 
 fn broken(error: KeeperError) -> SendAnswer
     ensures { result ≡ broken_answer error }

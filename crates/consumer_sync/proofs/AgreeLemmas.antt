@@ -4,25 +4,25 @@ use Rattle.std.specs.Prelude.{◌==◌, unwrap_or, option_map, Result}
 use Rattle.std.proofs.Math.Seq.{drop-append_seam}
 use Rattle.std.proofs.lemmas.List.{take-append-drop, take_all, take_more}
 use Rattle.std.proofs.lemmas.Bool.Decides.{nat_tests}
-use Rattle.copy_keeper.specs.Changes.{begun, stage_after}
-use Rattle.copy_keeper.specs.Copies.{Copy, Stage}
-use Rattle.copy_keeper.specs.Lists.{kind_count}
-use Rattle.copy_keeper.specs.States.{stage_of, state_of}
-use Rattle.copy_keeper.specs.declared.state.StageState.{StageState}
+use Rattle.keeper_memory.specs.copy.Changes.{begun, stage_after}
+use Rattle.keeper_memory.specs.copy.Copies.{Copy, Stage}
+use Rattle.keeper_memory.specs.copy.Lists.{kind_count}
+use Rattle.keeper_memory.specs.copy.States.{stage_of, state_of}
+use Rattle.keeper_memory.specs.declared.copy.state.StageState.{StageState}
 use Rattle.exchange_link.specs.Agreement.{FitsVersion, IsFrontOf, StageFits, StageFitsIf}
 use Rattle.exchange_link.specs.Exchanges.{Told}
-use Rattle.tried_requests.specs.Owning.Gives.{Wants as GivesWant, Broke as GivesFault, Answers as GivesAnswer}
+use Rattle.exchange_link.specs.Owning.Gives.{Wants as GivesWant, Broke as GivesFault, Answers as GivesAnswer}
 use Rattle.exchange_link.specs.Sayings.{Gone, IsRead, Listed, Shut, Tells, Unknown, knows, list_of}
-use Rattle.hub_rules.specs.Below.{cut}
-use Rattle.hub_rules.specs.Checks.{version_at}
-use Rattle.hub_rules.specs.Growth.{Grew}
-use Rattle.hub_rules.specs.States.{IsHub}
+use Rattle.hub_spec.specs.views.Cuts.{cut}
+use Rattle.hub_spec.specs.rules.Checks.{version_at}
+use Rattle.hub_spec.specs.rules.Growth.{Grew}
+use Rattle.hub_spec.specs.rules.States.{IsHub}
 use Rattle.exchange_link.specs.Pages.{Page, asked_by}
 use Rattle.exchange_link.specs.Places.{kind_at, kinds_of, next_page, pin_of, staged_of}
 use Rattle.exchange_link.specs.declared.answer.SyncAnswer.{SyncAnswer}
 use Rattle.exchange_link.proofs.CutLemmas.{cut_whole}
 use Rattle.exchange_link.proofs.TellLemmas.{told_of}
-use Rattle.hub_requests.specs.PageRequests.{CanAsk}
+use Rattle.hub_spec.specs.requests.PageRequests.{CanAsk}
 use Rattle.http_wire.specs.declared.answer.WireReply.{WireReply}
 use Rattle.roster_base.specs.Faults.{Rose}
 use Rattle.roster_types.specs.Records.{Record}
@@ -32,12 +32,12 @@ use Rattle.version_core.specs.HubStates.{HubState, newest_number}
 use Rattle.version_core.specs.declared.change.BaseVersion.{BaseVersion}
 use Rattle.consumer_sync.specs.Filling.{HasToken, request_of}
 use Rattle.consumer_sync.specs.Judging.{judged}
-use Rattle.tried_requests.specs.Owning.{IsOwnRead}
-use Rattle.tried_requests.specs.Requests.{number}
+use Rattle.exchange_link.specs.Owning.{IsOwnRead}
+use Rattle.exchange_link.specs.Requests.{number}
 use Rattle.consumer_sync.specs.Staging.{Performs, Taking, taking}
 use Rattle.consumer_sync.specs.Staging.Adds.{Stays, Opened, Takes}
 use Rattle.consumer_sync.specs.Staging.Performs.{Kept, Grown, Cleared}
-use Rattle.tried_requests.proofs.AskLemmas.{grew_on}
+use Rattle.exchange_link.proofs.AskLemmas.{grew_on}
 use Rattle.consumer_sync.proofs.JudgeLemmas.{IsListed, IsPage, IsShut, taken_page}
 use Rattle.consumer_sync.proofs.KindLemmas.{place_at}
 

@@ -4,18 +4,18 @@ use Rattle.std.specs.Prelude.{◌==◌, unwrap_or, option_map}
 use Rattle.std.proofs.Math.Nat.{add-div_right, mul-le-mul_left}
 use Rattle.std.proofs.lemmas.List.{drop_more}
 use Rattle.std.proofs.lemmas.Bool.Decides.{nat_tests}
-use Rattle.copy_keeper.specs.Changes.{begun, copy_after, stage_after, swapped}
-use Rattle.copy_keeper.specs.Copies.{Copy, Stage}
-use Rattle.copy_keeper.specs.Lists.{kind_count}
-use Rattle.copy_keeper.specs.States.{stage_of, state_of}
-use Rattle.copy_keeper.specs.declared.change.CopyChange.TheVariants.{Swap}
-use Rattle.copy_keeper.specs.declared.state.StageState.{StageState}
+use Rattle.keeper_memory.specs.copy.Changes.{begun, copy_after, stage_after, swapped}
+use Rattle.keeper_memory.specs.copy.Copies.{Copy, Stage}
+use Rattle.keeper_memory.specs.copy.Lists.{kind_count}
+use Rattle.keeper_memory.specs.copy.States.{stage_of, state_of}
+use Rattle.keeper_memory.specs.declared.copy.change.CopyChange.TheVariants.{Swap}
+use Rattle.keeper_memory.specs.declared.copy.state.StageState.{StageState}
 use Rattle.exchange_link.specs.Agreement.{StageFitsIf}
 use Rattle.exchange_link.specs.Bounds.{Bounded, HasPin, IsCallPin, pages, rounds, work}
-use Rattle.hub_rules.specs.Below.{cut}
+use Rattle.hub_spec.specs.views.Cuts.{cut}
 use Rattle.exchange_link.specs.Sayings.{list_of}
-use Rattle.hub_rules.specs.Checks.{version_at}
-use Rattle.hub_rules.specs.Growth.{Grew}
+use Rattle.hub_spec.specs.rules.Checks.{version_at}
+use Rattle.hub_spec.specs.rules.Growth.{Grew}
 use Rattle.exchange_link.specs.Places.{kinds_of, pin_of, staged_of}
 use Rattle.exchange_link.specs.declared.answer.SyncAnswer.{SyncAnswer}
 use Rattle.exchange_link.specs.declared.answer.SyncAnswer.TheVariants as answer

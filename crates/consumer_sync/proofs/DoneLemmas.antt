@@ -4,25 +4,25 @@ use Rattle.std.specs.Prelude.{◌==◌, nat_lt, ◌&&◌, if◌then◌else◌, o
 use Rattle.std.proofs.Math.Seq.{drop-append_seam}
 use Rattle.std.proofs.lemmas.List.{length-drop, length-take, take-append-drop}
 use Rattle.std.proofs.lemmas.Bool.Decides.{nat_tests}
-use Rattle.copy_keeper.specs.Copies.{Copy, Stage}
-use Rattle.copy_keeper.specs.Lists.{ascends, kind_count, last_from}
-use Rattle.copy_keeper.specs.States.{stage_of, state_of}
-use Rattle.copy_keeper.specs.declared.state.StageState.{StageState}
+use Rattle.keeper_memory.specs.copy.Copies.{Copy, Stage}
+use Rattle.keeper_memory.specs.copy.Lists.{ascends, kind_count, last_from}
+use Rattle.keeper_memory.specs.copy.States.{stage_of, state_of}
+use Rattle.keeper_memory.specs.declared.copy.state.StageState.{StageState}
 use Rattle.exchange_link.specs.Agreement.{FitsTotal, FitsVersion, IsFrontOf, StageFitsIf}
 use Rattle.exchange_link.specs.Causes.{ToldCause}
 use Rattle.exchange_link.specs.Completeness.{StandsAt, first_pin}
 use Rattle.exchange_link.specs.Exchanges.{Told}
 use Rattle.exchange_link.specs.Sayings.{Gone, IsRead, Listed, Shut, Unknown, list_of}
 use Rattle.version_core.specs.Grants.{grant_of}
-use Rattle.hub_rules.specs.Verdicts.{newest_in}
-use Rattle.hub_rules.specs.Checks.{version_at}
-use Rattle.hub_rules.specs.Growth.{Grew}
-use Rattle.hub_rules.specs.States.{IsHub}
+use Rattle.hub_spec.specs.rules.Verdicts.{newest_in}
+use Rattle.hub_spec.specs.rules.Checks.{version_at}
+use Rattle.hub_spec.specs.rules.Growth.{Grew}
+use Rattle.hub_spec.specs.rules.States.{IsHub}
 use Rattle.exchange_link.specs.Places.{kind_at, kinds_of, last_of, next_page, pin_of, staged_of, total_of}
 use Rattle.exchange_link.specs.declared.answer.SyncAnswer.{SyncAnswer}
 use Rattle.exchange_link.specs.declared.answer.SyncAnswer.TheVariants as answer
 use Rattle.exchange_link.proofs.CutLemmas.{IsGood, begun as hub_begun, list_good}
-use Rattle.hub_rules.proofs.Cutting.{known_at}
+use Rattle.hub_spec.proofs.Cutting.{known_at}
 use Rattle.http_wire.specs.declared.answer.WireReply.{WireReply}
 use Rattle.roster_base.specs.Faults.{Rose}
 use Rattle.roster_types.specs.Records.{Record}
@@ -36,15 +36,15 @@ use Rattle.version_core.specs.declared.change.BaseVersion.{BaseVersion}
 use Rattle.version_core.specs.declared.grant_row.GrantRow.{GrantRow}
 use Rattle.consumer_sync.specs.Filling.{HasToken, IsDoneIf, PinLaw, ToldIf}
 use Rattle.consumer_sync.specs.Judging.{agrees, by_status, gone_act, judged, listed_act, page_act, read_act, shut_act}
-use Rattle.tried_requests.specs.Requests.{Moved}
+use Rattle.exchange_link.specs.Requests.{Moved}
 use Rattle.consumer_sync.specs.Staging.{IsBroken, answer_of}
 use Rattle.consumer_sync.specs.declared.judging.Act.{Act}
 use Rattle.consumer_sync.specs.declared.judging.Act.TheVariants as act
-use Rattle.tried_requests.proofs.AskLemmas.{grew_on}
+use Rattle.exchange_link.proofs.AskLemmas.{grew_on}
 use Rattle.consumer_sync.proofs.KindLemmas.{place_at}
 use Rattle.consumer_sync.proofs.AgreeLemmas.{IsSaid, agrees_if_on}
 use Rattle.consumer_sync.proofs.AgreeLemmas.Given.{Wants, Broke, Answers}
-use Rattle.hub_rules.proofs.Versions.{newest_at}
+use Rattle.hub_spec.proofs.Versions.{newest_at}
 use Rattle.roster_types.specs.Keys.{is_after}
 use Rattle.consumer_sync.specs.Starting.{StartCause}
 

@@ -9,17 +9,17 @@ use Rattle.consumer_sync.specs.Filling.{Ends}
 use Rattle.consumer_sync.specs.Judging.{judged}
 use Rattle.consumer_sync.specs.Staging.{IsGone, answer_of}
 use Rattle.consumer_sync.specs.Starting.{Aborts, SwapsIn, unentered, without_other}
-use Rattle.tried_requests.specs.Beginning.{Enters}
-use Rattle.tried_requests.specs.declared.begin.NoRun.{NoRun}
-use Rattle.tried_requests.specs.declared.begin.NoRun.TheVariants as no_run
+use Rattle.exchange_link.specs.Beginning.{Enters}
+use Rattle.exchange_link.specs.declared.begin.NoRun.{NoRun}
+use Rattle.exchange_link.specs.declared.begin.NoRun.TheVariants as no_run
 use Rattle.consumer_sync.specs.declared.judging.Act.{Act}
 use Rattle.consumer_sync.specs.declared.judging.Act.TheVariants as act
-use Rattle.copy_keeper.specs.Changes.{copy_after}
-use Rattle.copy_keeper.specs.Copies.{Copy, Stage}
-use Rattle.copy_keeper.specs.Lists.{kind_count}
-use Rattle.copy_keeper.specs.States.{stage_of}
-use Rattle.copy_keeper.specs.declared.change.CopyChange.TheVariants.{Run, Swap}
-use Rattle.copy_keeper.specs.declared.state.StageState.{StageState}
+use Rattle.keeper_memory.specs.copy.Changes.{copy_after}
+use Rattle.keeper_memory.specs.copy.Copies.{Copy, Stage}
+use Rattle.keeper_memory.specs.copy.Lists.{kind_count}
+use Rattle.keeper_memory.specs.copy.States.{stage_of}
+use Rattle.keeper_memory.specs.declared.copy.change.CopyChange.TheVariants.{Run, Swap}
+use Rattle.keeper_memory.specs.declared.copy.state.StageState.{StageState}
 use Rattle.exchange_link.specs.Causes.{IsOwnReply}
 use Rattle.exchange_link.specs.Places.{kind_at, kinds_of, staged_of}
 use Rattle.exchange_link.specs.Synchronised.{IsSwapped, StageOn, own_stage}

@@ -2,23 +2,23 @@
 use Rattle.std.proofs.Common.{◌≡◌, ◌≢◌, ◌⊎◌, ◌-◌, ◌<◌, ◌≤◌, inl, inr, ⊎_elim, ℕ, zero, suc, Bool, true, false, List, [], ◌∷◌, ◌++◌, length, get_or, Option, Some, None, refl, sym, ◌∙◌, ap, subst, arith, min, append_assoc, length-append, ◌+◌}
 use Rattle.std.specs.Prelude.{◌==◌, IfSome, bytes_eq, if◌then◌else◌, option_map, unwrap_or}
 use Rattle.std.proofs.lemmas.Bool.Decides.{nat_tests}
-use Rattle.copy_keeper.specs.Changes.{begun, stage_after}
-use Rattle.copy_keeper.specs.Copies.{Copy, Stage}
-use Rattle.copy_keeper.specs.Lists.{kind_count}
-use Rattle.copy_keeper.specs.declared.state.StageState.{StageState}
+use Rattle.keeper_memory.specs.copy.Changes.{begun, stage_after}
+use Rattle.keeper_memory.specs.copy.Copies.{Copy, Stage}
+use Rattle.keeper_memory.specs.copy.Lists.{kind_count}
+use Rattle.keeper_memory.specs.declared.copy.state.StageState.{StageState}
 use Rattle.exchange_link.proofs.CutLemmas.{list_good}
 use Rattle.exchange_link.specs.Agreement.{IsFrontOf, StageFitsIf}
-use Rattle.hub_rules.specs.Growth.{Grew}
+use Rattle.hub_spec.specs.rules.Growth.{Grew}
 use Rattle.exchange_link.specs.Pages.{asked_by}
 use Rattle.exchange_link.specs.Places.{kinds_of, next_page}
 use Rattle.exchange_link.specs.Sayings.{list_of}
-use Rattle.hub_requests.specs.PageRequests.{CanAsk}
-use Rattle.hub_rules.proofs.Versions.{number_at, version_is}
-use Rattle.hub_rules.specs.Checks.{version_at}
-use Rattle.hub_rules.specs.States.{IsHub}
+use Rattle.hub_spec.specs.requests.PageRequests.{CanAsk}
+use Rattle.hub_spec.proofs.Versions.{number_at, version_is}
+use Rattle.hub_spec.specs.rules.Checks.{version_at}
+use Rattle.hub_spec.specs.rules.States.{IsHub}
 use Rattle.http_wire.specs.declared.answer.WireReply.{WireReply}
-use Rattle.copy_keeper.specs.States.{state_of}
-use Rattle.copy_keeper.specs.declared.state.TheConstants.{LAST}
+use Rattle.keeper_memory.specs.copy.States.{state_of}
+use Rattle.keeper_memory.specs.declared.copy.state.TheConstants.{LAST}
 use Rattle.exchange_link.specs.Synchronised.{Grows, StageOn, own_state, staged_list}
 use Rattle.exchange_link.specs.declared.answer.SyncAnswer.{SyncAnswer}
 use Rattle.exchange_link.specs.declared.answer.SyncAnswer.TheVariants as answer

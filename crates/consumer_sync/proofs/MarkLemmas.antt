@@ -3,18 +3,18 @@ use Rattle.std.proofs.Common.{◌≡◌, ⊎_elim, ℕ, None, List, [], ◌∷�
 use Rattle.std.specs.List.{AllByRecursion}
 use Rattle.std.specs.Prelude.{Err, Ok}
 use Rattle.std.proofs.lemmas.List.Elements.{All-head, All-tail}
-use Rattle.copy_keeper.specs.Changes.{copy_after}
-use Rattle.copy_keeper.specs.Copies.{Copy}
-use Rattle.copy_keeper.specs.declared.change.CopyChange.TheVariants.{Drop}
-use Rattle.copy_keeper.specs.declared.state.CopyState.{CopyState}
+use Rattle.keeper_memory.specs.copy.Changes.{copy_after}
+use Rattle.keeper_memory.specs.copy.Copies.{Copy}
+use Rattle.keeper_memory.specs.declared.copy.change.CopyChange.TheVariants.{Drop}
+use Rattle.keeper_memory.specs.declared.copy.state.CopyState.{CopyState}
 use Rattle.exchange_link.specs.Exchanges.{Told}
 use Rattle.exchange_link.specs.Marks.{MarksAgree, MarksTold}
 use Rattle.exchange_link.specs.Synchronised.{Leaves, own_stage}
 use Rattle.exchange_link.specs.declared.answer.SyncAnswer.{SyncAnswer}
 use Rattle.exchange_link.proofs.TellLemmas.{reads_keep}
 use Rattle.status_info.specs.declared.request.Request.{Request}
-use Rattle.tried_requests.specs.Beginning.{Enters}
-use Rattle.tried_requests.specs.Requests.{Asks}
+use Rattle.exchange_link.specs.Beginning.{Enters}
+use Rattle.exchange_link.specs.Requests.{Asks}
 use Rattle.consumer_sync.specs.Requests.{IsUnmarked}
 use Rattle.consumer_sync.specs.Starting.{Drops}
 

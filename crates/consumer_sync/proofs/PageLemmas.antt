@@ -9,14 +9,14 @@ use Rattle.std.proofs.lemmas.Fmt.{decimal_is_IsNumeral, length-decimal-le}
 use Rattle.std.proofs.lemmas.List.Folds.{list_all-append}
 use Rattle.std.proofs.lemmas.Str.Parse.{digit_from_value}
 use Rattle.exchange_link.specs.Pages.{Page}
-use Rattle.hub_requests.specs.PageRequests.{page_path, page_query, pin_text}
+use Rattle.hub_spec.specs.requests.PageRequests.{page_path, page_query, pin_text}
 use Rattle.http_wire.specs.Sending.{CanSend, IsSentEcho, is_sent_byte}
 use Rattle.roster_texts.specs.Texts.{is_token}
 use Rattle.roster_values.specs.Kinds.{plural_of}
 use Rattle.roster_values.specs.declared.kind.Kind.{Kind}
 use Rattle.roster_values.specs.declared.kind.Kind.TheVariants.{Orgs, AcademicSessions, Courses, Classes, Users, Enrollments, Demographics, Categories, LineItems, Results}
 use Rattle.status_info.specs.declared.request.Echo.{Echo}
-use Rattle.tried_requests.specs.Requests.{numbered}
+use Rattle.exchange_link.specs.Requests.{numbered}
 use Rattle.consumer_sync.specs.Requests.{unnumbered}
 
 or_left : (a b : Bool) → a ≡ true → (a || b) ≡ true

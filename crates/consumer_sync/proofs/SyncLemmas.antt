@@ -3,21 +3,21 @@ use Rattle.std.proofs.Common.{◌≡◌, ◌≢◌, ◌+◌, ◌≤◌, ◌⊎�
 use Rattle.std.specs.Prelude.{if◌then◌else◌, option_map, bytes_eq}
 use Rattle.std.proofs.lemmas.List.{take_all}
 use Rattle.std.proofs.lemmas.Slice.Eq.{bytes_eq-Decides}
-use Rattle.copy_keeper.specs.Changes.{copy_after, held_of, swapped}
-use Rattle.copy_keeper.specs.Copies.{Copy, Held, Stage}
-use Rattle.copy_keeper.specs.Lists.{kind_count}
-use Rattle.copy_keeper.specs.States.{stage_of, state_of}
-use Rattle.copy_keeper.specs.declared.change.CopyChange.TheVariants.{Run, Drop, Swap}
-use Rattle.copy_keeper.specs.declared.state.CopyState.{CopyState}
-use Rattle.copy_keeper.specs.declared.state.StageState.{StageState}
-use Rattle.copy_keeper.specs.declared.state.TheConstants.{LAST}
+use Rattle.keeper_memory.specs.copy.Changes.{copy_after, held_of, swapped}
+use Rattle.keeper_memory.specs.copy.Copies.{Copy, Held, Stage}
+use Rattle.keeper_memory.specs.copy.Lists.{kind_count}
+use Rattle.keeper_memory.specs.copy.States.{stage_of, state_of}
+use Rattle.keeper_memory.specs.declared.copy.change.CopyChange.TheVariants.{Run, Drop, Swap}
+use Rattle.keeper_memory.specs.declared.copy.state.CopyState.{CopyState}
+use Rattle.keeper_memory.specs.declared.copy.state.StageState.{StageState}
+use Rattle.keeper_memory.specs.declared.copy.state.TheConstants.{LAST}
 use Rattle.exchange_link.specs.Agreement.{NoneAbove, StageAgrees, StageFits, StageFitsIf}
 use Rattle.exchange_link.specs.Causes.{AsksOn, CauseOf, LastLaw, IsAside}
 use Rattle.exchange_link.specs.Completeness.{IsDone}
 use Rattle.exchange_link.specs.Exchanges.{Told}
-use Rattle.hub_rules.specs.Below.{cut}
+use Rattle.hub_spec.specs.views.Cuts.{cut}
 use Rattle.exchange_link.specs.Sayings.{knows}
-use Rattle.hub_rules.specs.Checks.{version_at}
+use Rattle.hub_spec.specs.rules.Checks.{version_at}
 use Rattle.exchange_link.specs.Places.{kinds_of}
 use Rattle.exchange_link.specs.Synchronised.{CompleteAt, HeldLaw, HeldTold, IsPinOf, Leaves, MayStay, StageLaw, StageOn, Synchronised, own_stage, own_state}
 use Rattle.exchange_link.specs.declared.answer.SyncAnswer.{SyncAnswer}
@@ -25,12 +25,12 @@ use Rattle.exchange_link.specs.declared.answer.SyncAnswer.TheVariants as answer
 use Rattle.exchange_link.proofs.CutLemmas.{cut_whole}
 use Rattle.roster_types.specs.Records.{Record}
 use Rattle.version_core.specs.HubStates.{HubState}
-use Rattle.tried_requests.proofs.RunLemmas.{above_more, below_from, ready_from}
-use Rattle.tried_requests.specs.Beginning.{Enters, EntersRun}
-use Rattle.tried_requests.specs.declared.begin.NoRun.{NoRun}
-use Rattle.tried_requests.specs.declared.begin.NoRun.TheVariants as no_run
+use Rattle.exchange_link.proofs.RunLemmas.{above_more, below_from, ready_from}
+use Rattle.exchange_link.specs.Beginning.{Enters, EntersRun}
+use Rattle.exchange_link.specs.declared.begin.NoRun.{NoRun}
+use Rattle.exchange_link.specs.declared.begin.NoRun.TheVariants as no_run
 use Rattle.consumer_sync.specs.Filling.{CauseIf, Ends, HasToken, IsEnd, IsEndIf, PinLaw, StageEnds}
-use Rattle.tried_requests.specs.Requests.{Asks, IsReady}
+use Rattle.exchange_link.specs.Requests.{Asks, IsReady}
 use Rattle.consumer_sync.specs.Requests.{IsUnmarked}
 use Rattle.consumer_sync.specs.Starting.{Aborts, Drops, StartCause, SwapsIn, unentered, without_other}
 

@@ -1,6 +1,6 @@
 -- What a synchronisation leaves of a stage where the keeper failed.
 use Rattle.std.specs.Prelude.{◌≡◌, ◌⊎◌, ℕ, true, List, None, is_some}
-use Rattle.copy_keeper.specs.Copies.{Copy, Stage}
+use Rattle.keeper_memory.specs.copy.Copies.{Copy, Stage}
 use Rattle.exchange_link.specs.Synchronised.{IsSwapped, StageOn, own_stage}
 use Rattle.http_wire.specs.Answers.{IsReplyText}
 use Rattle.http_wire.specs.declared.answer.WireReply.{WireReply}

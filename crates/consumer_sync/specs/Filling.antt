@@ -1,14 +1,14 @@
 -- Page after page.
 use Rattle.std.specs.Prelude.{◌≡◌, ◌⊎◌, ℕ, ◌+◌, ◌-◌, ◌*◌, ◌≤◌, List, Option, Some, None, ⊤}
-use Rattle.copy_keeper.specs.Copies.{Copy, Stage}
-use Rattle.copy_keeper.specs.Lists.{kind_count}
-use Rattle.copy_keeper.specs.declared.state.StageState.{StageState}
-use Rattle.copy_keeper.specs.declared.state.TheConstants.{LAST}
+use Rattle.keeper_memory.specs.copy.Copies.{Copy, Stage}
+use Rattle.keeper_memory.specs.copy.Lists.{kind_count}
+use Rattle.keeper_memory.specs.declared.copy.state.StageState.{StageState}
+use Rattle.keeper_memory.specs.declared.copy.state.TheConstants.{LAST}
 use Rattle.exchange_link.specs.Bounds.{HasPin, IsCallPin, work}
 use Rattle.exchange_link.specs.Causes.{AnswersTo, AsksOn, CauseOf, IsAside, IsPageStatus, ToldCause}
 use Rattle.exchange_link.specs.Completeness.{IsDone}
 use Rattle.exchange_link.specs.Exchanges.{Told}
-use Rattle.hub_rules.specs.Checks.{version_at}
+use Rattle.hub_spec.specs.rules.Checks.{version_at}
 use Rattle.exchange_link.specs.Pages.{page_request}
 use Rattle.exchange_link.specs.Places.{kinds_of, next_page, staged_of}
 use Rattle.exchange_link.specs.Synchronised.{StageOn}
@@ -18,7 +18,7 @@ use Rattle.http_wire.specs.declared.answer.WireReply.{WireReply}
 use Rattle.status_info.specs.declared.request.Request.{Request}
 use Rattle.version_core.specs.HubStates.{HubState, newest_number}
 use Rattle.version_core.specs.Version.{row_limit}
-use Rattle.tried_requests.specs.Requests.{number}
+use Rattle.exchange_link.specs.Requests.{number}
 
 -- the request for the next page of a stage
 abbrev pub request_of : Option StageState → ℕ → ℕ → List ℕ → ℕ → Request

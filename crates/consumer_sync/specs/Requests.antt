@@ -1,7 +1,7 @@
 -- The requests of a synchronisation.
 use Rattle.std.specs.Prelude.{◌≡◌, false, [], Some, None}
 use Rattle.exchange_link.specs.Pages.{Page}
-use Rattle.hub_requests.specs.PageRequests.{page_path, page_query}
+use Rattle.hub_spec.specs.requests.PageRequests.{page_path, page_query}
 use Rattle.status_info.specs.declared.request.Request.{Request}
 use Rattle.status_info.specs.declared.request.Verb.TheVariants as verb
 use Rattle.status_info.specs.declared.request.MarkField.TheVariants as mark

@@ -1,10 +1,10 @@
 -- What a reply makes of a copy.
 use Rattle.std.specs.Prelude.{◌≡◌, ◌≢◌, ◌⊎◌, ℕ, ◌≤◌, Bool, true, List, [], Option, Some, None, Result, Ok, Err, unwrap_or, ⊤}
 use Rattle.std.specs.List.{All}
-use Rattle.copy_keeper.specs.Changes.{begun, copy_after, stage_after}
-use Rattle.copy_keeper.specs.Copies.{Copy}
-use Rattle.copy_keeper.specs.declared.change.CopyChange.TheVariants.{Page, Drop}
-use Rattle.copy_keeper.specs.declared.state.StageState.{StageState}
+use Rattle.keeper_memory.specs.copy.Changes.{begun, copy_after, stage_after}
+use Rattle.keeper_memory.specs.copy.Copies.{Copy}
+use Rattle.keeper_memory.specs.declared.copy.change.CopyChange.TheVariants.{Page, Drop}
+use Rattle.keeper_memory.specs.declared.copy.state.StageState.{StageState}
 use Rattle.exchange_link.specs.declared.answer.SyncAnswer.{SyncAnswer}
 use Rattle.exchange_link.specs.declared.answer.SyncAnswer.TheVariants as answer
 use Rattle.roster_base.specs.Faults.{Rose}

@@ -1,11 +1,11 @@
 //! Page after page, until all kinds are staged.
 
 ghost use Rattle.std.specs.Prelude.{◌≡◌, ◌≢◌, ◌⊎◌, ℕ, ◌+◌, ◌*◌, ◌^◌, ◌<◌, ◌≤◌, Option, None, Some};
-ghost use Rattle.copy_keeper.specs.Copies.{Copy};
-ghost use Rattle.copy_keeper.specs.Lists.{kind_count};
-ghost use Rattle.copy_keeper.specs.States.{stage_of};
-ghost use Rattle.copy_keeper.specs.declared.state.StageState.{StageState as State};
-ghost use Rattle.copy_keeper.specs.declared.state.TheConstants.{LAST};
+ghost use Rattle.keeper_memory.specs.copy.Copies.{Copy};
+ghost use Rattle.keeper_memory.specs.copy.Lists.{kind_count};
+ghost use Rattle.keeper_memory.specs.copy.States.{stage_of};
+ghost use Rattle.keeper_memory.specs.declared.copy.state.StageState.{StageState as State};
+ghost use Rattle.keeper_memory.specs.declared.copy.state.TheConstants.{LAST};
 ghost use Rattle.exchange_link.specs.Agreement.{StageFitsIf};
 ghost use Rattle.exchange_link.specs.Bounds.{Bounded};
 ghost use Rattle.exchange_link.specs.Causes.{IsLast, IsMore, IsOwnReply, RoseBy};
@@ -18,17 +18,16 @@ ghost use Rattle.consumer_sync.specs.Faulted.{SaysGone};
 ghost use Rattle.exchange_link.specs.Synchronised.{StageOn};
 ghost use Rattle.consumer_sync.specs.Filling.{AsksOnIf, CauseIf, Ends, ExactIf, HasToken, IsCallPinIf, IsDoneIf, IsEndIf, IsSmall, PinLaw, ToldIf, request_of};
 ghost use Rattle.consumer_sync.specs.Requests.{IsUnmarked};
-ghost use Rattle.tried_requests.specs.Requests.{Asks, IsReady};
+ghost use Rattle.exchange_link.specs.Requests.{Asks, IsReady};
 
 use crate::judging::{kind, kinds_done, staged};
 use crate::page::fetch;
 use crate::staging::take_reply;
-use copy_keeper::{CopyKeeper, StageState};
-use exchange_link::{Link, SyncAnswer};
+use exchange_link::{Link, Outcome, SyncAnswer};
+use keeper_memory::{CopyKeeper, StageState};
 use roster_texts::Token;
 use roster_values::Kind;
 use std::alloc::Global;
-use tried_requests::Outcome;
 
 /// How many kinds there are.
 const KINDS: u8 = Kind::ALL.len() as u8;

@@ -1,32 +1,31 @@
 //! The requests for pages, and their replies.
 
 ghost use Rattle.std.specs.Prelude.{◌≡◌, ◌≢◌, ◌+◌, ◌-◌, ◌*◌, ◌<◌, ◌≤◌, ◌++◌, IfOk, Some, codes, string_bytes};
-ghost use Rattle.copy_keeper.specs.Lists.{kind_count};
-ghost use Rattle.copy_keeper.specs.declared.state.TheConstants.{LAST};
+ghost use Rattle.keeper_memory.specs.copy.Lists.{kind_count};
+ghost use Rattle.keeper_memory.specs.declared.copy.state.TheConstants.{LAST};
 ghost use Rattle.exchange_link.specs.Causes.{IsLast, IsMore, IsOwnReply, RoseBy};
 ghost use Rattle.exchange_link.specs.Exchanges.{Told};
 ghost use Rattle.exchange_link.specs.Places.{kinds_of, next_page};
-ghost use Rattle.hub_requests.specs.PageRequests.{page_path, page_query, pin_text};
+ghost use Rattle.hub_spec.specs.requests.PageRequests.{page_path, page_query, pin_text};
 ghost use Rattle.http_wire.specs.Answers.{IsNoReply, IsReplyText};
 ghost use Rattle.http_wire.specs.Sending.{CanSend, IsSentEcho};
 ghost use Rattle.http_wire.specs.declared.answer.WireReply.{WireReply as Reply};
 ghost use Rattle.status_info.specs.declared.request.Echo.{Echo as Number};
-ghost use Rattle.tried_requests.specs.Owning.{IsOwnRead};
-ghost use Rattle.tried_requests.specs.Requests.{Asks, IfOwn, IsReady, number, numbered};
+ghost use Rattle.exchange_link.specs.Owning.{IsOwnRead};
+ghost use Rattle.exchange_link.specs.Requests.{Asks, IfOwn, IsReady, number, numbered};
 ghost use Rattle.consumer_sync.specs.Filling.{request_of};
 ghost use Rattle.consumer_sync.specs.Requests.{IsUnmarked, unnumbered};
 
 use crate::judging::{kind, pin, staged};
-use copy_keeper::StageState;
-use exchange_link::Link;
+use exchange_link::{Link, Outcome, ask};
+use keeper_memory::StageState;
 use roster_base::{Bytes, NoMemory, Text, TryCopy};
 use roster_texts::Token;
 use roster_values::Kind;
 use status_info::{MarkField, Request, Verb};
 use std::alloc::Global;
-use tried_requests::{Outcome, ask};
 
-#[tactic(auto, unfolding(hub_requests::specs::PageRequests::page_path))]
+#[tactic(auto, unfolding(hub_spec::specs::requests::PageRequests::page_path))]
 fn path_text(alloc: Global, kind: Kind) -> Result<String, NoMemory>
     ensures { IfOk result (λ s. string_bytes s ≡ page_path kind) }
 {
@@ -46,7 +45,7 @@ fn pin_text(alloc: Global, pin: Option<u64>) -> Result<String, NoMemory>
     Ok(text)
 }
 
-#[tactic(auto, unfolding(hub_requests::specs::PageRequests::page_query))]
+#[tactic(auto, unfolding(hub_spec::specs::requests::PageRequests::page_query))]
 fn query_text(alloc: Global, limit: u64, offset: u64, pin: Option<u64>) -> Result<String, NoMemory>
     ensures { IfOk result (λ s. string_bytes s ≡ page_query limit offset pin) }
 {

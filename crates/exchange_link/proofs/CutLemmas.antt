@@ -7,15 +7,17 @@ use Rattle.std.specs.FinMap.Entries as entries
 use Rattle.std.specs.List.{AllByRecursion}
 use Rattle.std.specs.Option.{option_map_or}
 use Rattle.std.specs.Ordering.{is_lt}
-use Rattle.copy_keeper.specs.Lists.{ascends, kind_count}
+use Rattle.keeper_memory.specs.copy.Lists.{ascends, kind_count}
 use Rattle.grant_scopes.specs.Opens.{opens}
 use Rattle.grant_scopes.specs.declared.access.Access.TheVariants.{Read}
 use Rattle.grant_scopes.specs.declared.grant.Grant.{Grant}
-use Rattle.hub_rules.proofs.Versions.{some_version, version_is}
-use Rattle.hub_rules.specs.Checks.{version_at}
-use Rattle.hub_rules.specs.States.{IsHub}
-use Rattle.hub_rules.proofs.Below.{and_first, and_second, ascends_kept, ids_less, less_from_is_lt}
-use Rattle.hub_rules.specs.Below.{cut, cut_of, kind_cut, no_rows, sees_row}
+use Rattle.hub_spec.proofs.Versions.{some_version, version_is}
+use Rattle.hub_spec.specs.rules.Checks.{version_at}
+use Rattle.hub_spec.specs.rules.States.{IsHub}
+use Rattle.hub_spec.proofs.Below.{and_first, and_second, ids_less, less_from_is_lt}
+use Rattle.hub_spec.proofs.ListLemmas.{ascends_kept}
+use Rattle.hub_spec.specs.views.Cuts.{cut, cut_of, kind_cut, no_rows}
+use Rattle.hub_spec.specs.views.Seen.{sees_row}
 use Rattle.roster_types.specs.Keys.{Ascends, count_of, is_after, is_of_kind, key_cmp, keyed, row_key}
 use Rattle.roster_types.specs.Records.{Record}
 use Rattle.roster_values.specs.Kinds.{all_kinds, place_of_kind}

@@ -1,2 +1,6 @@
 pub mod CutLemmas
 pub mod TellLemmas
+pub mod OwnLemmas
+pub mod AskLemmas
+pub mod RunLemmas
+pub mod TextLemmas

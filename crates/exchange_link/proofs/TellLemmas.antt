@@ -6,26 +6,29 @@ use Rattle.std.specs.Prelude.{is_some}
 use Rattle.std.specs.Str.{is_utf8}
 use Rattle.std.proofs.lemmas.Bool.Decides.{nat_tests}
 use Rattle.std.proofs.lemmas.List.Elements.{All-from_recursion}
-use Rattle.copy_keeper.proofs.CopyLemmas.{same_kind}
+use Rattle.keeper_memory.proofs.CopyLemmas.{same_kind}
 use Rattle.grant_scopes.specs.Opens.{opens}
 use Rattle.grant_scopes.specs.declared.access.Access.TheVariants.{Read}
 use Rattle.grant_scopes.specs.declared.grant.Grant.{Grant}
 use Rattle.http_wire.specs.Replies.{body_text}
 use Rattle.http_wire.specs.Seen.{seen_of}
-use Rattle.marked_writes.proofs.Below.{page_says}
-use Rattle.marked_writes.specs.Below.{AnswersRequest, CanAsk}
-use Rattle.hub_rules.proofs.Cutting.{kind_in_cut}
-use Rattle.hub_rules.proofs.Versions.{all_at, some_version}
-use Rattle.hub_rules.specs.Asking as asking
-use Rattle.hub_rules.specs.Checks.{version_at}
-use Rattle.hub_rules.specs.States.{HoldsRows, IsHub}
-use Rattle.hub_rules.specs.Below.{cut_of, kind_cut, list_in, no_rows, seen, sees_row, slice}
+use Rattle.hub_spec.proofs.PageRequestLemmas.{page_says}
+use Rattle.hub_spec.specs.requests.Requests.{AnswersRequest}
+use Rattle.hub_spec.specs.requests.PageRequests.{CanAsk}
+use Rattle.hub_spec.specs.views.Cuts.{cut_of, kind_cut, list_in, no_rows}
+use Rattle.hub_spec.specs.views.Seen.{seen, sees_row}
+use Rattle.hub_spec.specs.views.Pages.{slice}
+use Rattle.hub_spec.proofs.Cutting.{kind_in_cut}
+use Rattle.hub_spec.proofs.Versions.{all_at, some_version}
+use Rattle.hub_spec.specs.rules.Asking as asking
+use Rattle.hub_spec.specs.rules.Checks.{version_at}
+use Rattle.hub_spec.specs.rules.States.{HoldsRows, IsHub}
 use Rattle.roster_types.specs.Keys.{is_of_kind}
 use Rattle.roster_types.specs.Records.{Record}
 use Rattle.roster_types.specs.Rows.{IsRow}
 use Rattle.roster_values.specs.Kinds.{all_kinds, place_of_kind}
 use Rattle.roster_values.specs.declared.kind.Kind.{Kind}
-pub use Rattle.marked_writes.proofs.AgreeLemmas.{reads_keep}
+pub use Rattle.hub_spec.proofs.AgreeLemmas.{reads_keep}
 use Rattle.row_json.proofs.RowBack.{collection-back}
 use Rattle.row_json.specs.Json.{collection_text}
 use Rattle.row_json.specs.Reading.{IsHeld, rows_of as rows_in_text}

@@ -1,8 +1,8 @@
 -- What a copy and what a link tells agree on.
 use Rattle.std.specs.Prelude.{◌≡◌, ◌<◌, ◌≤◌, ℕ, ◌++◌, true, List, [], ◌∷◌, length, take, Option, Some, None}
-use Rattle.copy_keeper.specs.Copies.{Copy, Stage}
-use Rattle.hub_rules.specs.Checks.{version_at}
-use Rattle.hub_rules.specs.Below.{cut}
+use Rattle.keeper_memory.specs.copy.Copies.{Copy, Stage}
+use Rattle.hub_spec.specs.rules.Checks.{version_at}
+use Rattle.hub_spec.specs.views.Cuts.{cut}
 use Rattle.roster_types.specs.Records.{Record}
 use Rattle.status_info.specs.declared.request.Echo.{Echo}
 use Rattle.status_info.specs.declared.request.Request.{Request}

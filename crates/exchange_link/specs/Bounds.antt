@@ -1,9 +1,9 @@
 -- How many exchanges a synchronisation makes.
 use Rattle.std.specs.Prelude.{◌≡◌, ◌⊎◌, ℕ, ◌+◌, ◌-◌, ◌*◌, ◌/◌, ◌≤◌, List, [], ◌∷◌, length, drop, Option, Some, None}
-use Rattle.copy_keeper.specs.Copies.{Stage}
-use Rattle.copy_keeper.specs.declared.state.StageState.{StageState}
-use Rattle.hub_rules.specs.Checks.{version_at}
-use Rattle.hub_rules.specs.Below.{cut}
+use Rattle.keeper_memory.specs.copy.Copies.{Stage}
+use Rattle.keeper_memory.specs.declared.copy.state.StageState.{StageState}
+use Rattle.hub_spec.specs.rules.Checks.{version_at}
+use Rattle.hub_spec.specs.views.Cuts.{cut}
 use Rattle.roster_types.specs.Records.{Record}
 use Rattle.version_core.specs.HubStates.{HubState}
 use Rattle.version_core.specs.declared.change.BaseVersion.{BaseVersion}

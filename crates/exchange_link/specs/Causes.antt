@@ -1,12 +1,12 @@
 -- Why a synchronisation answers as it does.
 use Rattle.std.specs.Prelude.{◌≡◌, ◌≢◌, ◌⊎◌, ℕ, ◌+◌, ◌-◌, ◌<◌, ◌≤◌, ◌^◌, false, List, [], ◌∷◌, length, min, Option, Some, None, Ok, IsErr}
-use Rattle.copy_keeper.specs.Lists.{ascends}
-use Rattle.copy_keeper.specs.declared.state.StageState.{StageState}
-use Rattle.copy_keeper.specs.declared.state.TheConstants.{LAST}
+use Rattle.keeper_memory.specs.copy.Lists.{ascends}
+use Rattle.keeper_memory.specs.declared.copy.state.StageState.{StageState}
+use Rattle.keeper_memory.specs.declared.copy.state.TheConstants.{LAST}
 use Rattle.http_wire.specs.Answers.{IsNoReply, IsReplyText}
 use Rattle.http_wire.specs.declared.answer.WireReply.{WireReply}
-use Rattle.hub_rules.specs.Growth.{Grew}
-use Rattle.hub_rules.specs.Verdicts.{newest_in}
+use Rattle.hub_spec.specs.rules.Growth.{Grew}
+use Rattle.hub_spec.specs.rules.Verdicts.{newest_in}
 use Rattle.version_core.specs.Grants.{grant_of}
 use Rattle.roster_base.specs.Faults.{Rose}
 use Rattle.roster_types.specs.Records.{Record}
@@ -20,8 +20,8 @@ use Rattle.exchange_link.specs.Exchanges.{Told}
 use Rattle.exchange_link.specs.Sayings.{knows}
 use Rattle.exchange_link.specs.Places.{kind_at, kinds_of, last_of, next_page, pin_of, staged_of, total_of}
 use Rattle.exchange_link.specs.Pages.{page_request}
-use Rattle.copy_keeper.specs.Copies.{Copy}
-use Rattle.copy_keeper.specs.States.{stage_of}
+use Rattle.keeper_memory.specs.copy.Copies.{Copy}
+use Rattle.keeper_memory.specs.copy.States.{stage_of}
 use Rattle.status_info.specs.declared.request.Request.{Request}
 
 -- a count rose at each of so many exchanges, or stands at the end of its type

@@ -1,7 +1,7 @@
 -- When a synchronisation has to be complete.
 use Rattle.std.specs.Prelude.{◌≡◌, ℕ, ◌≤◌, List, Option, Some, None}
-use Rattle.copy_keeper.specs.declared.state.StageState.{StageState}
-use Rattle.hub_rules.specs.Verdicts.{newest_in}
+use Rattle.keeper_memory.specs.declared.copy.state.StageState.{StageState}
+use Rattle.hub_spec.specs.rules.Verdicts.{newest_in}
 use Rattle.version_core.specs.Grants.{grant_of}
 use Rattle.version_core.specs.declared.grant_row.GrantRow.{GrantRow}
 use Rattle.version_core.specs.HubStates.{HubState, newest_number, oldest_number}

@@ -1,9 +1,9 @@
 -- What entering a write leaves.
 use Rattle.std.specs.Prelude.{◌≡◌, ◌⊎◌, ℕ, ◌+◌, ◌≤◌, Result, Ok, Err}
-use Rattle.copy_keeper.specs.Changes.{copy_after}
-use Rattle.copy_keeper.specs.Copies.{Copy}
-use Rattle.copy_keeper.specs.declared.change.CopyChange.TheVariants.{Enter}
-use Rattle.copy_keeper.specs.declared.state.TheConstants.{LAST}
+use Rattle.keeper_memory.specs.copy.Changes.{copy_after}
+use Rattle.keeper_memory.specs.copy.Copies.{Copy}
+use Rattle.keeper_memory.specs.declared.copy.change.CopyChange.TheVariants.{Enter}
+use Rattle.keeper_memory.specs.declared.copy.state.TheConstants.{LAST}
 use Rattle.version_core.specs.declared.mark.Write.{Write}
 use Rattle.exchange_link.specs.declared.send_answer.EnterError.{EnterError}
 use Rattle.exchange_link.specs.declared.send_answer.EnterError.TheVariants as error

@@ -6,10 +6,10 @@ use Rattle.http_wire.specs.Replies.{body_text, reply_text}
 use Rattle.http_wire.specs.Seen.{CanRead}
 use Rattle.http_wire.specs.Sending.{CanSend, request_text}
 use Rattle.http_wire.specs.declared.answer.WireReply.{WireReply}
-pub use Rattle.marked_writes.specs.Below.{AnswersRequest, wanted_by}
-use Rattle.hub_rules.specs.Growth.{Grew}
-use Rattle.hub_rules.specs.Runs.{Replied, Steps, Take}
-use Rattle.hub_rules.specs.States.{IsHub}
+pub use Rattle.hub_spec.specs.requests.Requests.{AnswersRequest, wanted_by}
+use Rattle.hub_spec.specs.rules.Growth.{Grew}
+use Rattle.hub_spec.specs.rules.Runs.{Replied, Steps, Take}
+use Rattle.hub_spec.specs.rules.States.{IsHub}
 use Rattle.outside_ports.specs.declared.failed.IoError.{IoError}
 use Rattle.outside_ports.specs.declared.failed.IoError.TheVariants as io_error
 use Rattle.roster_base.specs.Faults.{Rose}

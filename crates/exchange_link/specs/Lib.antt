@@ -13,3 +13,6 @@ pub mod SendCompleteness
 pub mod Sent
 pub mod SentTold
 pub mod Synchronised
+pub mod Beginning
+pub mod Owning
+pub mod Requests

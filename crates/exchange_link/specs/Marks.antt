@@ -1,6 +1,6 @@
 -- What a copy and what a link tells agree on, the marks of writes with it.
-use Rattle.copy_keeper.specs.Copies.{Copy}
-pub use Rattle.marked_writes.specs.Agreement.{MarksAgree}
+use Rattle.keeper_memory.specs.copy.Copies.{Copy}
+pub use Rattle.hub_spec.specs.marks.Agreement.{MarksAgree}
 use Rattle.exchange_link.specs.Agreement.{StageAgrees}
 use Rattle.exchange_link.specs.Exchanges.{Told}
 

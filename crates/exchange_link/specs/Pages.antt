@@ -1,7 +1,7 @@
 -- Requests for pages of the collections, under their numbers.
 use Rattle.std.specs.Prelude.{ℕ, List, Option, Some}
-use Rattle.hub_rules.specs.Asking.{Asking}
-use Rattle.marked_writes.specs.Below.{page_request as request_of}
+use Rattle.hub_spec.specs.rules.Asking.{Asking}
+use Rattle.hub_spec.specs.requests.PageRequests.{page_request as request_of}
 use Rattle.roster_values.specs.declared.kind.Kind.{Kind}
 use Rattle.status_info.specs.declared.request.Echo.{Echo}
 use Rattle.status_info.specs.declared.request.Request.{Request}

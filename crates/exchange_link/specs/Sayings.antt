@@ -1,9 +1,9 @@
 -- What the hub's answer to a request for a page tells a consumer.
 use Rattle.std.specs.Prelude.{◌≡◌, ◌<◌, ◌⊎◌, ℕ, Bool, true, false, List, [], length, take, drop, get_or, is_some, max, Some, Ok, unwrap_or}
 use Rattle.http_wire.specs.declared.answer.WireReply.{WireReply}
-use Rattle.hub_rules.specs.Checks.{version_at}
-use Rattle.hub_rules.specs.Verdicts.{newest_in}
-use Rattle.hub_rules.specs.Below.{cut}
+use Rattle.hub_spec.specs.rules.Checks.{version_at}
+use Rattle.hub_spec.specs.rules.Verdicts.{newest_in}
+use Rattle.hub_spec.specs.views.Cuts.{cut}
 use Rattle.roster_types.specs.Records.{Record}
 use Rattle.roster_values.specs.Kinds.{place_of_kind}
 use Rattle.row_json.specs.Reading.{rows_of as rows_in_text}

@@ -1,16 +1,16 @@
 -- Why sending the entries ends as it does.
 use Rattle.std.specs.Prelude.{◌≡◌, ◌≢◌, ◌⊎◌, ℕ, ◌≤◌, false, List, Some, None, ⊤}
-use Rattle.copy_keeper.specs.Copies.{Copy, first_unsettled}
-use Rattle.copy_keeper.specs.declared.entry.OutEntry.{OutEntry}
-use Rattle.copy_keeper.specs.declared.state.TheConstants.{LAST}
+use Rattle.keeper_memory.specs.copy.Copies.{Copy, first_unsettled}
+use Rattle.keeper_memory.specs.declared.copy.entry.OutEntry.{OutEntry}
+use Rattle.keeper_memory.specs.declared.copy.state.TheConstants.{LAST}
 use Rattle.grant_scopes.specs.Opens.{opens}
 use Rattle.http_wire.specs.Answers.{IsNoReply}
 use Rattle.http_wire.specs.declared.answer.WireReply.{WireReply}
-use Rattle.hub_rules.specs.Growth.{Grew}
-use Rattle.hub_rules.specs.Verdicts.{newest_in}
-use Rattle.marked_writes.specs.Answering.{access_to}
-use Rattle.marked_writes.specs.Marked.{mark_of, marked_by}
-use Rattle.marked_writes.specs.Sending.{write_request}
+use Rattle.hub_spec.specs.rules.Growth.{Grew}
+use Rattle.hub_spec.specs.rules.Verdicts.{newest_in}
+use Rattle.hub_spec.specs.marks.Answering.{access_to}
+use Rattle.hub_spec.specs.marks.Marked.{mark_of, marked_by}
+use Rattle.hub_spec.specs.marks.Sending.{write_request}
 use Rattle.roster_base.specs.Faults.{Rose}
 use Rattle.status_info.specs.declared.request.Echo.{Echo}
 use Rattle.status_info.specs.declared.request.Request.{Request}

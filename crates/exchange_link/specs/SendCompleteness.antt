@@ -1,10 +1,10 @@
 -- When sending the entries has to settle them all.
 use Rattle.std.specs.Prelude.{◌≡◌, ℕ, ◌≤◌, List, Some, is_none, true, ⊤}
 use Rattle.std.specs.List.{AllByRecursion}
-use Rattle.copy_keeper.specs.declared.entry.OutEntry.{OutEntry}
-use Rattle.hub_rules.specs.Verdicts.{newest_in}
-use Rattle.marked_writes.specs.Answering.{CanSendWrite}
-use Rattle.marked_writes.specs.Marked.{mark_of}
+use Rattle.keeper_memory.specs.declared.copy.entry.OutEntry.{OutEntry}
+use Rattle.hub_spec.specs.rules.Verdicts.{newest_in}
+use Rattle.hub_spec.specs.marks.Answering.{CanSendWrite}
+use Rattle.hub_spec.specs.marks.Marked.{mark_of}
 use Rattle.version_core.specs.Grants.{grant_of}
 use Rattle.version_core.specs.HubStates.{HubState}
 use Rattle.version_core.specs.declared.grant_row.GrantRow.{GrantRow}

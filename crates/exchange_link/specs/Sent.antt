@@ -1,9 +1,9 @@
 -- What sending the entries leaves.
 use Rattle.std.specs.Prelude.{◌≡◌, ◌⊎◌, ℕ, ◌+◌, ◌≤◌, List, [], ◌∷◌, length, Option, Some, None, IfSome, IsSomeAnd, filter, is_none, ⊤}
-use Rattle.copy_keeper.specs.Changes.{settled_first}
-use Rattle.copy_keeper.specs.Copies.{Copy, first_unsettled}
-use Rattle.copy_keeper.specs.declared.entry.OutEntry.{OutEntry}
-use Rattle.copy_keeper.specs.declared.entry.Settled.{Settled}
+use Rattle.keeper_memory.specs.copy.Changes.{settled_first}
+use Rattle.keeper_memory.specs.copy.Copies.{Copy, first_unsettled}
+use Rattle.keeper_memory.specs.declared.copy.entry.OutEntry.{OutEntry}
+use Rattle.keeper_memory.specs.declared.copy.entry.Settled.{Settled}
 use Rattle.exchange_link.specs.declared.send_answer.SendAnswer.{SendAnswer}
 use Rattle.exchange_link.specs.declared.send_answer.SendAnswer.TheVariants as answer
 

@@ -1,6 +1,6 @@
 -- What sending the entries leaves, over a link that tells.
 use Rattle.std.specs.Prelude.{ℕ, List}
-use Rattle.copy_keeper.specs.Copies.{Copy}
+use Rattle.keeper_memory.specs.copy.Copies.{Copy}
 use Rattle.exchange_link.specs.Exchanges.{Told}
 use Rattle.exchange_link.specs.Marks.{Agree}
 use Rattle.exchange_link.specs.SendCauses.{SendToldCause}

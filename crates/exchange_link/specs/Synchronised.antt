@@ -1,11 +1,11 @@
 -- What a synchronisation leaves.
 use Rattle.std.specs.Prelude.{◌≡◌, ◌⊎◌, ℕ, ◌+◌, ◌<◌, ◌≤◌, ◌++◌, true, List, [], ◌∷◌, length, get_or, Option, Some, None, bytes_eq, if◌then◌else◌}
-use Rattle.copy_keeper.specs.Changes.{held_of}
-use Rattle.copy_keeper.specs.Copies.{Copy, Held, Stage}
-use Rattle.copy_keeper.specs.Lists.{kind_count}
-use Rattle.copy_keeper.specs.declared.state.StageState.{StageState}
-use Rattle.hub_rules.specs.Checks.{version_at}
-use Rattle.hub_rules.specs.Below.{cut}
+use Rattle.keeper_memory.specs.copy.Changes.{held_of}
+use Rattle.keeper_memory.specs.copy.Copies.{Copy, Held, Stage}
+use Rattle.keeper_memory.specs.copy.Lists.{kind_count}
+use Rattle.keeper_memory.specs.declared.copy.state.StageState.{StageState}
+use Rattle.hub_spec.specs.rules.Checks.{version_at}
+use Rattle.hub_spec.specs.views.Cuts.{cut}
 use Rattle.roster_types.specs.Records.{Record}
 use Rattle.version_core.specs.HubStates.{HubState, newest_number}
 use Rattle.exchange_link.specs.declared.answer.SyncAnswer.{SyncAnswer}

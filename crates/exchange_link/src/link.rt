@@ -12,7 +12,7 @@ use std::alloc::Global;
 /// a link tells of its hub after an exchange is told by what it told before it; one that tells nothing has no such value.
 pub trait Link {
     ghost use Rattle.exchange_link.specs.Exchanges.{Carries, Exchanged, IsTextOf, IsSentText, Misses, Told};
-    ghost use Rattle.hub_rules.specs.States.{IsHub};
+    ghost use Rattle.hub_spec.specs.rules.States.{IsHub};
 
     /// The number of exchanges, up to the end of `u64`.
     ghost asked: { Self → ℕ };

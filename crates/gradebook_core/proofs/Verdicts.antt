@@ -3,8 +3,8 @@ use Rattle.std.proofs.Common.{◌≡◌, ℕ, ℤ, List, Option, None, Result, O
 use Rattle.gradebook_core.specs.Judging.{HasOrder, MayLead, verdict_of}
 use Rattle.gradebook_core.specs.declared.judgement.Judgement.{Judgement}
 use Rattle.gradebook_core.specs.declared.judgement.Judgement.TheVariants as judgement
-use Rattle.hub_rules.proofs.Judging.{judged_led}
-use Rattle.hub_rules.specs.Verdicts.{Judged, Judges, NewJudged, Verdict, held_mark, newest_in}
+use Rattle.hub_spec.proofs.Judging.{judged_led}
+use Rattle.hub_spec.specs.rules.Verdicts.{Judged, Judges, NewJudged, Verdict, held_mark, newest_in}
 use Rattle.roster_base.specs.declared.memory.NoMemory.{NoMemory}
 use Rattle.version_core.specs.HubStates.{HubState}
 use Rattle.version_core.specs.Marks.{mark_at}

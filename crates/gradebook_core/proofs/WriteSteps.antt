@@ -10,11 +10,11 @@ use Rattle.hub_core.proofs.StepLemmas.{may_follow, newest_is}
 use Rattle.hub_core.specs.Steps.{Installs}
 use Rattle.hub_core.specs.declared.hub_error.HubError.{HubError}
 use Rattle.hub_core.specs.declared.hub_error.HubError.TheVariants as error
-use Rattle.hub_rules.proofs.Judging.{judged_led}
-use Rattle.hub_rules.proofs.Keeping.{may_hold}
-use Rattle.hub_rules.proofs.Versions.{newest_has, reads_kept, some_version}
-use Rattle.hub_rules.specs.Verdicts.{Judged, Judges, held_mark, newest_in}
-use Rattle.hub_rules.specs.Written.{done_of, kept_mark, newest_after, outcome_of, state_after, with_kept}
+use Rattle.hub_spec.proofs.Judging.{judged_led}
+use Rattle.hub_spec.proofs.Keeping.{may_hold}
+use Rattle.hub_spec.proofs.Versions.{newest_has, reads_kept, some_version}
+use Rattle.hub_spec.specs.rules.Verdicts.{Judged, Judges, held_mark, newest_in}
+use Rattle.hub_spec.specs.rules.Written.{done_of, kept_mark, newest_after, outcome_of, state_after, with_kept}
 use Rattle.keeper_memory.proofs.KeptLemmas as kept_lemmas
 use Rattle.keeper_memory.proofs.PartLemmas.{follows}
 use Rattle.keeper_memory.specs.Commits.{CanLead, marks_after, with_commit}

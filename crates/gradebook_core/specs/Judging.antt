@@ -2,8 +2,8 @@
 use Rattle.std.specs.Prelude.{⊤}
 use Rattle.gradebook_core.specs.declared.judgement.Judgement.{Judgement}
 use Rattle.gradebook_core.specs.declared.judgement.Judgement.TheVariants as judgement
-use Rattle.hub_rules.specs.Verdicts.{Leads, Refused, Repeat, Same, Verdict}
-use Rattle.set_changes.specs.Applying.{LeadsOn}
+use Rattle.hub_spec.specs.rules.Verdicts.{Leads, Refused, Repeat, Same, Verdict}
+use Rattle.version_changes.specs.sets.Applying.{LeadsOn}
 use Rattle.version_core.specs.Changes.{AreChanges}
 use Rattle.version_core.specs.Version.{after}
 use Rattle.version_core.specs.declared.change.BaseVersion.{BaseVersion}

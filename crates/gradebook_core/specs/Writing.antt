@@ -7,8 +7,8 @@ use Rattle.gradebook_core.specs.declared.judgement.Judgement.TheVariants as judg
 use Rattle.gradebook_core.specs.declared.written.Written.{Written}
 use Rattle.hub_core.specs.declared.hub_error.HubError.{HubError}
 use Rattle.hub_core.specs.declared.hub_error.HubError.TheVariants as error
-use Rattle.hub_rules.specs.Verdicts.{Judges, Leads, Refused, Repeat, Same, Verdict}
-use Rattle.hub_rules.specs.Written.{done_of, kept_mark, newest_after, outcome_of, state_after}
+use Rattle.hub_spec.specs.rules.Verdicts.{Judges, Leads, Refused, Repeat, Same, Verdict}
+use Rattle.hub_spec.specs.rules.Written.{done_of, kept_mark, newest_after, outcome_of, state_after}
 use Rattle.keeper_memory.specs.Commits.{CanLead, with_commit}
 use Rattle.keeper_memory.specs.Kept.{KeptState, newest_kept}
 use Rattle.keeper_memory.specs.Parts.{IsPartOf}

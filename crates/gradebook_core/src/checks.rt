@@ -1,7 +1,7 @@
 //! The checks of a write, one by one.
 
 ghost use Rattle.std.specs.Prelude.{◌≡◌, option_copied};
-ghost use Rattle.hub_rules.specs.Refusals as spec;
+ghost use Rattle.hub_spec.specs.rules.Refusals as spec;
 ghost use Rattle.version_core.specs.Changes.{rows_of};
 
 use crate::fields::grading_period;
@@ -10,7 +10,7 @@ use roster_types::owner::Owner;
 use roster_types::row::Row;
 use roster_types::rows::Rows;
 use roster_values::{Kind, ValueRef};
-use set_changes::limits::ROW_LIMIT;
+use version_changes::limits::ROW_LIMIT;
 use version_core::references::lent_field;
 use version_core::row_change::RowChange;
 use version_core::view::VersionView;

@@ -3,20 +3,20 @@
 ghost use Rattle.std.specs.Prelude.{◌≡◌, codes, option_copied, option_map, option_to_list, true};
 ghost use Rattle.std.specs.List.{list_all};
 ghost use Rattle.std.specs.Option.{option_map_or};
-ghost use Rattle.hub_rules.specs.Refusals as spec;
-ghost use Rattle.hub_views.specs.Seen as seeing;
+ghost use Rattle.hub_spec.specs.rules.Refusals as spec;
+ghost use Rattle.hub_spec.specs.views.Seen as seeing;
 ghost use Rattle.roster_values.specs.Table.{form_of};
 ghost use Rattle.roster_values.specs.Value.{shown};
 ghost use Rattle.version_core.specs.Changes.{rows_of};
 ghost use Rattle.version_core.specs.References.{named_in, refs_in};
 
 use grant_scopes::Grant;
+use query_pages::sees;
 use roster_texts::Id;
 use roster_types::row::Row;
 use roster_types::structs::Fields;
 use roster_values::fields::fields;
 use roster_values::{FieldForm, Kind, ValueRef};
-use seen_rows::sees;
 use version_core::view::VersionView;
 
 // Whether each row of the kind that a value names is seen.

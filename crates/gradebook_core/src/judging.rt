@@ -2,8 +2,8 @@
 
 ghost use Rattle.std.specs.Prelude.{◌≡◌, IfOk, Ok, option_and_then, option_copied};
 ghost use Rattle.gradebook_core.specs.Judging.{HasOrder, MayLead, verdict_of};
-ghost use Rattle.hub_rules.specs.Refusals.{delete_refusal};
-ghost use Rattle.hub_rules.specs.Verdicts as spec;
+ghost use Rattle.hub_spec.specs.rules.Refusals.{delete_refusal};
+ghost use Rattle.hub_spec.specs.rules.Verdicts as spec;
 ghost use Rattle.row_json.specs.Puts.{put_of};
 ghost use Rattle.version_core.specs.HubStates.{HubState};
 ghost use Rattle.version_core.specs.Marks.{mark_at};

@@ -1,12 +1,12 @@
 //! The first check that a write fails.
 
 ghost use Rattle.std.specs.Prelude.{◌≡◌, option_copied};
-ghost use Rattle.hub_rules.specs.Refusals as spec;
+ghost use Rattle.hub_spec.specs.rules.Refusals as spec;
 
 use crate::checks::{has_grading_period, is_of_other, is_one_too_many};
 use crate::fields::is_within;
+use query_pages::sees;
 use roster_types::row::Row;
-use seen_rows::sees;
 use version_core::grant_row::GrantRow;
 use version_core::mark::Write;
 use version_core::row_change::RowChange;

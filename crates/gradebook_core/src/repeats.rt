@@ -2,8 +2,8 @@
 
 ghost use Rattle.std.specs.Prelude.{◌≡◌};
 ghost use Rattle.gradebook_core.specs.Judging.{MayLead, verdict_of};
-ghost use Rattle.hub_rules.specs.Marked as spec;
-ghost use Rattle.hub_rules.specs.Verdicts.{repeated};
+ghost use Rattle.hub_spec.specs.rules.Marked as spec;
+ghost use Rattle.hub_spec.specs.rules.Verdicts.{repeated};
 ghost use Rattle.version_core.specs.declared.change.BaseVersion.{BaseVersion};
 
 use crate::judgement::Judgement;

@@ -2,15 +2,15 @@
 
 ghost use Rattle.std.specs.Prelude.{◌≡◌, IfOk, option_copied};
 ghost use Rattle.gradebook_core.specs.Judging.{HasOrder, verdict_of};
-ghost use Rattle.hub_rules.specs.Verdicts as spec;
+ghost use Rattle.hub_spec.specs.rules.Verdicts as spec;
 ghost use Rattle.version_core.specs.Version.{newest_of};
 
 use crate::judgement::Judgement;
 use roster_base::NoMemory;
 use roster_texts::Moment;
-use set_changes::limits::LAST_VERSION;
-use set_changes::{is_active, marked};
 use std::alloc::Global;
+use version_changes::limits::LAST_VERSION;
+use version_changes::{is_active, marked};
 use version_core::change::Change;
 use version_core::row_change::RowChange;
 use version_core::sorted_rows::SortedRows;

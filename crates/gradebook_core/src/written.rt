@@ -3,7 +3,7 @@
 ghost use Rattle.std.specs.Prelude.{◌≡◌, IfOk};
 ghost use Rattle.gradebook_core.specs.Judging.{verdict_of};
 ghost use Rattle.gradebook_core.specs.Writing.{change_in, commit_of, told_of};
-ghost use Rattle.hub_rules.specs.Written as spec;
+ghost use Rattle.hub_spec.specs.rules.Written as spec;
 ghost use Rattle.version_core.specs.Version.{newest_of};
 ghost use Rattle.version_core.specs.declared.change.BaseVersion.{BaseVersion};
 

@@ -12,11 +12,11 @@ use Rattle.hub_core.specs.Standing.{HeldHub, KeeperFits}
 use Rattle.hub_core.specs.Steps.{CountsFault, RefusesNothing}
 use Rattle.hub_core.specs.declared.hub_error.HubError.{HubError}
 use Rattle.hub_core.specs.declared.hub_error.HubError.TheVariants as error
-use Rattle.hub_streams.proofs.Progressing.{first_taken, requests_stand}
-use Rattle.hub_streams.specs.Exchanges.{Exchange, replies_text, requests_of}
-use Rattle.hub_streams.specs.Streams.{CloseLast, EndsBy, IsServed, Serves, Stage, counted, end_at, fault_text, stage_of, stop_text}
-use Rattle.hub_streams.specs.declared.stream_end.StreamEnd.{StreamEnd}
-use Rattle.hub_streams.specs.declared.request_fault.RequestFault.TheVariants.{AfterClose, Unreadable}
+use Rattle.rest_provider.proofs.Progressing.{first_taken, requests_stand}
+use Rattle.rest_provider.specs.Exchanges.{Exchange, replies_text, requests_of}
+use Rattle.rest_provider.specs.Streams.{CloseLast, EndsBy, IsServed, Serves, Stage, counted, end_at, fault_text, stage_of, stop_text}
+use Rattle.rest_provider.specs.declared.stream_end.StreamEnd.{StreamEnd}
+use Rattle.rest_provider.specs.declared.request_fault.RequestFault.TheVariants.{AfterClose, Unreadable}
 use Rattle.keeper_memory.specs.Kept.{IsKept, KeptState}
 use Rattle.outside_ports.proofs.Appending.{appends_both, part_behind, part_front}
 use Rattle.outside_ports.specs.declared.folder.FileRead.{FileRead}

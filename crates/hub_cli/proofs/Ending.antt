@@ -1,12 +1,12 @@
 -- What an answer's status says, and answers for want of memory.
 use Rattle.std.proofs.Common.{◌≡◌, ◌≢◌, ◌⊎◌, ℕ, ℤ, List, [], Option, Some, None, Result, Ok, Err, IsErr, refl, sym, ap, subst, ◌∙◌, inl, inr}
-use Rattle.consumer_cli.specs.Consumers.{CopyRun, LinkRun}
-use Rattle.consumer_cli.specs.SyncLines.{sync_status, sync_text}
-use Rattle.consumer_cli.specs.Syncs.{IsSyncOf}
-use Rattle.consumer_cli.specs.Tasks.{Object, Sending, Task}
-use Rattle.consumer_cli.specs.Held.{IsHeldText}
-use Rattle.consumer_cli.specs.Outbox.{IsOutboxText}
-use Rattle.consumer_cli.specs.Sends.{IsEnterOf, IsSendOf}
+use Rattle.consumer_commands.specs.Consumers.{CopyRun, LinkRun}
+use Rattle.consumer_commands.specs.SyncLines.{sync_status, sync_text}
+use Rattle.consumer_commands.specs.Syncs.{IsSyncOf}
+use Rattle.consumer_commands.specs.Tasks.{Object, Sending, Task}
+use Rattle.consumer_commands.specs.Held.{IsHeldText}
+use Rattle.consumer_commands.specs.Outbox.{IsOutboxText}
+use Rattle.consumer_commands.specs.Sends.{IsEnterOf, IsSendOf}
 use Rattle.csv_sets.specs.declared.fault.SetFault.{SetFault}
 use Rattle.csv_sets.specs.Files as files
 use Rattle.exchange_link.specs.declared.answer.SyncAnswer.{SyncAnswer}

@@ -2,7 +2,7 @@
 use Rattle.std.proofs.Common.{◌≡◌, ◌≢◌, ◌⊎◌, ℕ, ℤ, List, [], Option, Result, Ok, Err, false, refl, sym, subst, inl, inr}
 use Rattle.std.specs.Bool.{⊤}
 use Rattle.csv_sets.specs.Files.{largest}
-use Rattle.grant_changes.specs.Granting.{GrantsMake}
+use Rattle.version_changes.specs.grants.Granting.{GrantsMake}
 use Rattle.grant_files.specs.declared.fault.GrantFault.{GrantFault}
 use Rattle.grant_files.specs.Grants.{grants_of}
 use Rattle.grant_scopes.specs.declared.entry.GrantEntry.{GrantEntry}
@@ -19,7 +19,7 @@ use Rattle.outside_ports.specs.declared.folder.FileRead.TheVariants.{Absent, Byt
 use Rattle.outside_ports.specs.Files.{ReadsFile, Stored}
 use Rattle.hub_cli.proofs.Leading.{leads-nowhere, leads-on, leads-standing}
 use Rattle.hub_cli.proofs.Publishing.{Says, rose}
-use Rattle.hub_streams.specs.Moments.{IsMomentOf}
+use Rattle.rest_provider.specs.Moments.{IsMomentOf}
 use Rattle.hub_cli.specs.declared.answer.Answer.{Answer}
 use Rattle.hub_cli.specs.declared.answer.End.{End}
 use Rattle.hub_cli.specs.declared.answer.End.TheVariants.{BadRow, BadWord, CopyFailed, Done, FileNotUtf8, FileTooLarge, FolderFailed, GrantsRefused, HubFailed, MissingFile, NoMemory, NotEntered, NotPublished, Refused, RequestRefused, Sent, Synced}

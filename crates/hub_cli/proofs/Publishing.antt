@@ -16,8 +16,8 @@ use Rattle.hub_core.specs.Steps.{CountsFault, MakesNext, RefusesNothing}
 use Rattle.keeper_memory.specs.Kept.{IsKept, KeptState}
 use Rattle.outside_ports.specs.Files.{Stored}
 use Rattle.roster_types.specs.Sets.{SetRecord}
-use Rattle.set_changes.specs.Applying.{Applies}
-use Rattle.hub_streams.specs.Moments.{IsMomentOf}
+use Rattle.version_changes.specs.sets.Applying.{Applies}
+use Rattle.rest_provider.specs.Moments.{IsMomentOf}
 use Rattle.hub_cli.specs.Answers.{status_of}
 use Rattle.hub_cli.specs.Outside.{Faults, HaveRisen, HaveStood, NothingFailed, Outside, faults_of, outside_of}
 use Rattle.hub_cli.specs.Publishes.{IsRunOf, IsSetOf, PublishesSet, StopsAt, told_text}

@@ -10,7 +10,7 @@ use Rattle.outside_ports.specs.declared.failed.IoError.{IoError}
 use Rattle.outside_ports.specs.Files.{ReadsFile, Stored, file_at}
 use Rattle.roster_values.specs.declared.kind.Kind.{Kind}
 use Rattle.roster_values.specs.Kinds.{file_of}
-use Rattle.hub_streams.specs.Moments.{IsMomentOf}
+use Rattle.rest_provider.specs.Moments.{IsMomentOf}
 use Rattle.hub_cli.specs.declared.answer.Answer.{Answer}
 use Rattle.hub_cli.specs.declared.answer.End.TheVariants.{Refused}
 use Rattle.hub_cli.specs.Outside.{Faults, outside_of}

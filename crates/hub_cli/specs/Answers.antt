@@ -1,7 +1,7 @@
 -- What a command answers: its status and its text are functions of the answer alone.
 use Rattle.std.specs.Prelude.{◌≡◌, ◌≢◌, ◌⊎◌, ℕ, ◌++◌, List, [], codes}
-use Rattle.consumer_cli.specs.SendLines.{enter_status, enter_text, send_status, send_text}
-use Rattle.consumer_cli.specs.SyncLines.{sync_status, sync_text}
+use Rattle.consumer_commands.specs.SendLines.{enter_status, enter_text, send_status, send_text}
+use Rattle.consumer_commands.specs.SyncLines.{sync_status, sync_text}
 use Rattle.hub_cli.specs.declared.answer.Answer.{Answer}
 use Rattle.hub_cli.specs.declared.answer.End.{End}
 use Rattle.hub_cli.specs.declared.answer.End.TheVariants.{BadRow, BadWord, CopyFailed, Done, FileNotUtf8, FileTooLarge, FolderFailed, GrantsRefused, HubFailed, MissingFile, NoMemory, NotEntered, NotPublished, Refused, RequestRefused, Sent, Synced}

@@ -4,10 +4,10 @@ use Rattle.csv_sets.specs.Files.{largest}
 use Rattle.http_wire.specs.Reading.{AreRequests, Causes}
 use Rattle.http_wire.specs.declared.fault.WireFault.{WireFault}
 use Rattle.http_wire.specs.declared.fault.WireFault.TheVariants as fault
-use Rattle.hub_streams.specs.Exchanges.{AreAt, CountsFailures, Exchange, TakesAll, replies_text, requests_of}
-use Rattle.hub_streams.specs.Streams.{CloseLast, MayFollow, StandFirst, StayOpen, counted, fault_text}
-use Rattle.hub_streams.specs.declared.stream_end.StreamEnd.{StreamEnd}
-use Rattle.hub_streams.specs.declared.stream_end.StreamEnd.TheVariants as stream
+use Rattle.rest_provider.specs.Exchanges.{AreAt, CountsFailures, Exchange, TakesAll, replies_text, requests_of}
+use Rattle.rest_provider.specs.Streams.{CloseLast, MayFollow, StandFirst, StayOpen, counted, fault_text}
+use Rattle.rest_provider.specs.declared.stream_end.StreamEnd.{StreamEnd}
+use Rattle.rest_provider.specs.declared.stream_end.StreamEnd.TheVariants as stream
 use Rattle.keeper_memory.specs.Kept.{KeptState}
 use Rattle.outside_ports.specs.declared.failed.IoError.{IoError}
 use Rattle.outside_ports.specs.declared.folder.FileRead.{FileRead}
@@ -15,8 +15,8 @@ use Rattle.outside_ports.specs.declared.folder.FileRead.TheVariants.{Absent, Byt
 use Rattle.outside_ports.specs.Files.{ReadsFile, Stored}
 use Rattle.hub_cli.specs.declared.answer.End.{End}
 use Rattle.hub_cli.specs.declared.answer.End.TheVariants.{Done, FileTooLarge, FolderFailed, HubFailed, MissingFile, NoMemory, RequestRefused}
-use Rattle.hub_streams.specs.declared.request_fault.RequestFault.{RequestFault}
-use Rattle.hub_streams.specs.declared.request_fault.RequestFault.TheVariants.{AfterClose, Unreadable}
+use Rattle.rest_provider.specs.declared.request_fault.RequestFault.{RequestFault}
+use Rattle.rest_provider.specs.declared.request_fault.RequestFault.TheVariants.{AfterClose, Unreadable}
 use Rattle.hub_cli.specs.Outside.{Faults, HaveRisen, HaveStood, NothingFailed, Outside}
 
 -- ---- the file

@@ -1,10 +1,10 @@
 -- What `sync` and `list` answer.
 use Rattle.std.specs.Prelude.{◌≡◌, ◌⊎◌, ℕ, List, []}
-pub use Rattle.consumer_cli.specs.Consumers.{CopyRun, LinkRun, copy_run, link_run}
-use Rattle.consumer_cli.specs.Held.{IsHeldText}
-pub use Rattle.consumer_cli.specs.Syncs.{IsSyncOf}
-pub use Rattle.consumer_cli.specs.Tasks.{Task}
-use Rattle.copy_keeper.specs.Copies.{Copy}
+pub use Rattle.consumer_commands.specs.Consumers.{CopyRun, LinkRun, copy_run, link_run}
+use Rattle.consumer_commands.specs.Held.{IsHeldText}
+pub use Rattle.consumer_commands.specs.Syncs.{IsSyncOf}
+pub use Rattle.consumer_commands.specs.Tasks.{Task}
+use Rattle.keeper_memory.specs.copy.Copies.{Copy}
 use Rattle.exchange_link.specs.declared.answer.SyncAnswer.{SyncAnswer}
 use Rattle.roster_base.specs.Faults.{Rose}
 use Rattle.roster_values.specs.declared.kind.Kind.{Kind}

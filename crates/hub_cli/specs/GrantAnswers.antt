@@ -1,7 +1,7 @@
 -- What `grant` answers: the grants of a file, in place of all grants of the newest version.
 use Rattle.std.specs.Prelude.{◌≡◌, ◌⊎◌, ℤ, ℕ, List, [], Option, Result, Ok, Err, codes}
 use Rattle.csv_sets.specs.Files.{largest}
-use Rattle.grant_changes.specs.Granting.{GrantsMake}
+use Rattle.version_changes.specs.grants.Granting.{GrantsMake}
 use Rattle.grant_files.specs.declared.fault.GrantFault.{GrantFault}
 use Rattle.grant_files.specs.Grants.{grants_of}
 use Rattle.grant_scopes.specs.declared.entry.GrantEntry.{GrantEntry}
@@ -14,7 +14,7 @@ use Rattle.outside_ports.specs.declared.failed.IoError.{IoError}
 use Rattle.outside_ports.specs.declared.folder.FileRead.{FileRead}
 use Rattle.outside_ports.specs.declared.folder.FileRead.TheVariants.{Absent, Bytes, TooLong}
 use Rattle.outside_ports.specs.Files.{ReadsFile, Stored}
-use Rattle.hub_streams.specs.Moments.{IsMomentOf}
+use Rattle.rest_provider.specs.Moments.{IsMomentOf}
 use Rattle.hub_cli.specs.declared.answer.Answer.{Answer}
 use Rattle.hub_cli.specs.declared.answer.End.{End}
 use Rattle.hub_cli.specs.declared.answer.End.TheVariants.{Done, FileTooLarge, FolderFailed, GrantsRefused, HubFailed, MissingFile, NoMemory, NotPublished}

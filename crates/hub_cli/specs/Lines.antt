@@ -13,16 +13,16 @@ use Rattle.grant_files.specs.declared.fault.GrantFault.{GrantFault}
 use Rattle.grant_files.specs.declared.fault.GrantFault.TheVariants as grant
 use Rattle.http_wire.specs.declared.fault.WireFault.{WireFault}
 use Rattle.http_wire.specs.declared.fault.WireFault.TheVariants as wire
-use Rattle.hub_streams.specs.declared.request_fault.RequestFault.{RequestFault}
-use Rattle.hub_streams.specs.declared.request_fault.RequestFault.TheVariants.{AfterClose, Unreadable}
+use Rattle.rest_provider.specs.declared.request_fault.RequestFault.{RequestFault}
+use Rattle.rest_provider.specs.declared.request_fault.RequestFault.TheVariants.{AfterClose, Unreadable}
 use Rattle.reference_rules.specs.declared.ref_fault.Fault.{Fault}
 use Rattle.reference_rules.specs.declared.ref_fault.Fault.TheVariants as reference
 use Rattle.reference_rules.specs.declared.ref_fault.RefFault.{RefFault}
 use Rattle.roster_types.specs.declared.owner.Owner.{Owner}
 use Rattle.roster_types.specs.declared.owner.Owner.TheVariants.{Caller, Feed}
 use Rattle.roster_values.specs.Kinds.{plural_of}
-use Rattle.set_changes.specs.declared.publish_fault.PublishFault.{PublishFault}
-use Rattle.set_changes.specs.declared.publish_fault.PublishFault.TheVariants.{LastVersion, OwnedByOther, TooManyRows, Unsound}
+use Rattle.version_changes.specs.declared.sets.publish_fault.PublishFault.{PublishFault}
+use Rattle.version_changes.specs.declared.sets.publish_fault.PublishFault.TheVariants.{LastVersion, OwnedByOther, TooManyRows, Unsound}
 use Rattle.roster_texts.specs.declared.fault.ValueFault.{ValueFault}
 use Rattle.roster_texts.specs.declared.fault.ValueFault.TheVariants.{BadDay, BadId, BadList, BadMoment, BadNumber, Empty, Fractional, NotInList, TooLong, Width}
 

@@ -1,16 +1,16 @@
 -- What `enter`, `send` and `outbox` answer.
 use Rattle.std.specs.Prelude.{◌≡◌, ◌⊎◌, ℕ, ℤ, true, false, List, [], Option, Result, Ok, Err, if◌then◌else◌, ⊤}
 use Rattle.std.specs.Str.{is_utf8}
-use Rattle.consumer_cli.specs.Consumers.{CopyRun, LinkRun}
-use Rattle.consumer_cli.specs.Outbox.{IsOutboxText}
-use Rattle.consumer_cli.specs.SendLines.{entered_text}
-pub use Rattle.consumer_cli.specs.Sends.{IsEnterOf, IsSendOf}
-use Rattle.consumer_cli.specs.Tasks.{Object}
-pub use Rattle.consumer_cli.specs.Tasks.{Sending}
-use Rattle.copy_keeper.specs.Copies.{max_body}
+use Rattle.consumer_commands.specs.Consumers.{CopyRun, LinkRun}
+use Rattle.consumer_commands.specs.Outbox.{IsOutboxText}
+use Rattle.consumer_commands.specs.SendLines.{entered_text}
+pub use Rattle.consumer_commands.specs.Sends.{IsEnterOf, IsSendOf}
+use Rattle.consumer_commands.specs.Tasks.{Object}
+pub use Rattle.consumer_commands.specs.Tasks.{Sending}
+use Rattle.keeper_memory.specs.copy.Copies.{max_body}
 use Rattle.exchange_link.specs.declared.send_answer.EnterError.{EnterError}
 use Rattle.exchange_link.specs.declared.send_answer.SendAnswer.{SendAnswer}
-use Rattle.hub_streams.specs.Moments.{IsMomentOf}
+use Rattle.rest_provider.specs.Moments.{IsMomentOf}
 use Rattle.outside_ports.specs.declared.failed.IoError.{IoError}
 use Rattle.outside_ports.specs.declared.folder.FileRead.{FileRead}
 use Rattle.outside_ports.specs.declared.folder.FileRead.TheVariants.{Absent, Bytes, TooLong}

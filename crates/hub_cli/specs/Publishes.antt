@@ -11,8 +11,8 @@ use Rattle.hub_core.specs.Steps.{MakesNext}
 use Rattle.keeper_memory.specs.Kept.{KeptState}
 use Rattle.outside_ports.specs.Files.{Stored}
 use Rattle.roster_types.specs.Sets.{SetRecord}
-use Rattle.set_changes.specs.Applying.{Applies}
-use Rattle.hub_streams.specs.Moments.{IsMomentOf}
+use Rattle.version_changes.specs.sets.Applying.{Applies}
+use Rattle.rest_provider.specs.Moments.{IsMomentOf}
 use Rattle.hub_cli.specs.declared.answer.End.{End}
 use Rattle.hub_cli.specs.declared.answer.End.TheVariants.{Done, FolderFailed, HubFailed, NoMemory, NotPublished, Refused}
 use Rattle.hub_cli.specs.declared.words.Feed.{Feed}

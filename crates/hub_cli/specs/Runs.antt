@@ -1,7 +1,7 @@
 -- What a run of the program answers, and why.
 use Rattle.std.specs.Prelude.{◌≡◌, ◌≢◌, ◌⊎◌, ℕ, List, [], Option, Result, Ok, Err}
 use Rattle.std.specs.Io.KnownBytes.{Appends}
-use Rattle.consumer_cli.specs.Consumers.{CopyRun, LinkRun}
+use Rattle.consumer_commands.specs.Consumers.{CopyRun, LinkRun}
 use Rattle.keeper_memory.specs.Kept.{IsKept, KeptState}
 use Rattle.outside_ports.specs.Written.{AppendsPart}
 use Rattle.roster_base.specs.Faults.{Rose}

@@ -12,7 +12,7 @@ use Rattle.roster_values.specs.declared.kind.Kind.{Kind}
 use Rattle.roster_values.specs.declared.mode.Mode.TheVariants.{Bulk}
 use Rattle.roster_values.specs.Kinds.{file_of}
 use Rattle.row_json.specs.Json.{collection_text}
-use Rattle.hub_streams.specs.Moments.{IsMomentOf}
+use Rattle.rest_provider.specs.Moments.{IsMomentOf}
 use Rattle.hub_cli.specs.declared.answer.Answer.{Answer}
 use Rattle.hub_cli.specs.declared.answer.End.TheVariants.{Done, Refused}
 use Rattle.hub_cli.specs.Outside.{Outside}

@@ -1,7 +1,7 @@
 -- The command that words spell, or the place of the first word that no command continues.
 use Rattle.std.specs.Prelude.{ℕ, ◌+◌, ◌==◌, ◌&&◌, ◌||◌, Bool, false, not, List, [], ◌∷◌, Option, None, Some, Result, Ok, Err, bytes_eq, codes, if◌then◌else◌, is_none, is_some, length, nat_le, nat_lt, unwrap_or}
 use Rattle.std.specs.List.{after_first, before_first}
-use Rattle.hub_paths.specs.Routes.{is_gradebook}
+use Rattle.rest_paths.specs.Routes.{is_gradebook}
 use Rattle.roster_base.specs.Reading.{◌>>=◌}
 use Rattle.roster_texts.specs.Digits.{digits_value}
 use Rattle.roster_texts.specs.Signs.{digit_zero, dot}

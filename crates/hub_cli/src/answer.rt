@@ -8,16 +8,16 @@ use crate::lines::{
     FOLDER_FAILED, HUB_FAILED, NO_MEMORY, bad_word_line, fault_line, grants_fault_line,
     named_file_line, publish_fault_lines, request_line,
 };
-use consumer_cli::{
+use consumer_commands::{
     COPY_FAILED, enter_line, enter_status, send_line, send_status, sync_line, sync_status,
 };
 use csv_sets::SetFault;
 use exchange_link::{EnterError, SendAnswer, SyncAnswer};
 use grant_files::GrantFault;
-use hub_streams::RequestFault;
+use rest_provider::RequestFault;
 use roster_base::{NoMemory, Text};
-use set_changes::PublishFault;
 use std::alloc::Global;
+use version_changes::PublishFault;
 
 /// How a command ended. The status follows from it alone.
 #[derive(Drop)]

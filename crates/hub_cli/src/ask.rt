@@ -13,12 +13,11 @@ use crate::answer::{Answer, End};
 use crate::printing::tell;
 use crate::publish::end_of_error;
 use csv_sets::file::LARGEST;
-use held_source::HeldSource;
 use hub_core::Hub;
-use hub_paths::PathRouter;
-use hub_streams::{RequestFault, StreamEnd, serve_stream};
 use keeper_memory::HubKeeper;
-use outside_ports::{Clock, FileRead, Folder, IoError, Sink};
+use outside_ports::{Clock, FileRead, Folder, HeldSource, IoError, Sink};
+use rest_paths::PathRouter;
+use rest_provider::{RequestFault, StreamEnd, serve_stream};
 use roster_base::{Bytes, NoMemory, Text, TryCopy};
 use std::alloc::Global;
 

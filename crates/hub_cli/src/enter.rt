@@ -1,8 +1,8 @@
 //! The command `enter`.
 
 ghost use Rattle.std.specs.Prelude.{◌≡◌, ◌≤◌, IfOk, length};
-ghost use Rattle.consumer_cli.specs.Consumers.{copy_run};
-ghost use Rattle.copy_keeper.specs.Copies.{IsOutWrite, max_body};
+ghost use Rattle.consumer_commands.specs.Consumers.{copy_run};
+ghost use Rattle.keeper_memory.specs.copy.Copies.{IsOutWrite, max_body};
 ghost use Rattle.outside_ports.specs.Files.{IsWithin};
 ghost use Rattle.row_json.specs.Puts.{put_of};
 ghost use Rattle.hub_cli.specs.Outside.{Faults, faults_of, outside_of};
@@ -11,11 +11,11 @@ ghost use Rattle.hub_cli.specs.declared.words.EnterTask.TheVariants.{Put};
 
 use crate::answer::{Answer, End};
 use crate::words::EnterTask;
-use consumer_cli::{GradebookObject, enter_write, entered_line};
-use copy_keeper::CopyKeeper;
+use consumer_commands::{GradebookObject, enter_write, entered_line};
 use exchange_link::EnterError;
-use hub_streams::moment_of;
+use keeper_memory::CopyKeeper;
 use outside_ports::{Clock, FileRead, Folder, IoError};
+use rest_provider::moment_of;
 use roster_base::{Bytes, NoMemory, Refusal, Text, TryCopy};
 use roster_texts::Moment;
 use row_json::read_put;

@@ -13,9 +13,9 @@ use csv_sets::file::LARGEST;
 use grant_files::read_grants;
 use grant_scopes::GrantList;
 use hub_core::{Hub, Published};
-use hub_streams::moment_of;
 use keeper_memory::HubKeeper;
 use outside_ports::{Clock, FileRead, Folder, IoError};
+use rest_provider::moment_of;
 use roster_base::{NoMemory, Refusal, Text, TryCopy};
 use std::alloc::Global;
 

@@ -10,14 +10,14 @@ ghost use Rattle.hub_cli.specs.Lines as lines;
 use csv_sets::{ColumnFault, ManifestFault, Property, SetFault, SetFile};
 use grant_files::GrantFault;
 use http_wire::WireFault;
-use hub_streams::RequestFault;
 use reference_rules::{Fault, RefFault};
+use rest_provider::RequestFault;
 use roster_base::NoMemory;
 use roster_texts::{Id, ValueFault};
 use roster_types::owner::Owner;
 use roster_values::Kind;
-use set_changes::PublishFault;
 use std::alloc::Global;
+use version_changes::PublishFault;
 
 /// Status 3.
 pub const FOLDER_FAILED: &str = "folder failed\n";

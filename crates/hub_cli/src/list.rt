@@ -1,12 +1,12 @@
 //! The command `list`.
 
 ghost use Rattle.std.specs.Prelude.{◌≡◌};
-ghost use Rattle.consumer_cli.specs.Consumers.{copy_run};
+ghost use Rattle.consumer_commands.specs.Consumers.{copy_run};
 ghost use Rattle.hub_cli.specs.ConsumerAnswers.{IsListAnswer};
 
 use crate::answer::{Answer, End};
-use consumer_cli::held_text;
-use copy_keeper::CopyKeeper;
+use consumer_commands::held_text;
+use keeper_memory::CopyKeeper;
 use roster_base::{KeeperError, Text};
 use roster_values::Kind;
 use std::alloc::Global;

@@ -2,10 +2,10 @@
 
 ghost use Rattle.std.specs.Prelude.{◌≡◌, ◌≢◌, IsErr, Ok, Some, map, string_bytes};
 ghost use Rattle.std.specs.Io.KnownBytes.{Appends};
-ghost use Rattle.consumer_cli.specs.Consumers.{copy_run, link_run};
-ghost use Rattle.consumer_cli.specs.SyncLines.{sync_status, sync_text};
-ghost use Rattle.consumer_cli.specs.Syncs.{IsSyncOf};
-ghost use Rattle.consumer_cli.specs.Tasks.{Task};
+ghost use Rattle.consumer_commands.specs.Consumers.{copy_run, link_run};
+ghost use Rattle.consumer_commands.specs.SyncLines.{sync_status, sync_text};
+ghost use Rattle.consumer_commands.specs.Syncs.{IsSyncOf};
+ghost use Rattle.consumer_commands.specs.Tasks.{Task};
 ghost use Rattle.exchange_link.specs.declared.answer.SyncAnswer.{SyncAnswer as SyncAnswerValue};
 ghost use Rattle.outside_ports.specs.Written.{AppendsPart};
 ghost use Rattle.roster_base.specs.Faults.{Rose};
@@ -28,9 +28,8 @@ use crate::send::send;
 use crate::show::show;
 use crate::sync::sync;
 use crate::words::{Command, Parsed, split_words};
-use copy_keeper::CopyKeeper;
 use exchange_link::Link;
-use keeper_memory::HubKeeper;
+use keeper_memory::{CopyKeeper, HubKeeper};
 use outside_ports::{Clock, Folder, Sink};
 use roster_base::{NoMemory, Refusal};
 use roster_values::Kind;

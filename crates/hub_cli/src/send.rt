@@ -1,13 +1,13 @@
 //! The command `send`.
 
 ghost use Rattle.std.specs.Prelude.{◌≡◌};
-ghost use Rattle.consumer_cli.specs.Consumers.{copy_run, link_run};
+ghost use Rattle.consumer_commands.specs.Consumers.{copy_run, link_run};
 ghost use Rattle.hub_cli.specs.OutboxAnswers.{IsSendAnswer};
 
 use crate::answer::{Answer, End};
-use consumer_cli::{SendTask, send_writes};
-use copy_keeper::CopyKeeper;
+use consumer_commands::{SendTask, send_writes};
 use exchange_link::Link;
+use keeper_memory::CopyKeeper;
 use std::alloc::Global;
 
 /// Sends the writes of the outbox, under the task's token, to the hub behind a link.

@@ -1,13 +1,13 @@
 //! The command `sync`.
 
 ghost use Rattle.std.specs.Prelude.{◌≡◌};
-ghost use Rattle.consumer_cli.specs.Consumers.{copy_run, link_run};
+ghost use Rattle.consumer_commands.specs.Consumers.{copy_run, link_run};
 ghost use Rattle.hub_cli.specs.ConsumerAnswers.{IsSyncAnswer};
 
 use crate::answer::{Answer, End};
-use consumer_cli::{SyncTask, synchronise};
-use copy_keeper::CopyKeeper;
+use consumer_commands::{SyncTask, synchronise};
 use exchange_link::Link;
+use keeper_memory::CopyKeeper;
 use std::alloc::Global;
 
 /// Copies what the task's token sees of the hub behind a link.

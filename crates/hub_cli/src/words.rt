@@ -1,13 +1,13 @@
 //! The words of the command line.
 
 ghost use Rattle.std.specs.Prelude.{◌≡◌, ◌+◌, ◌<◌, ◌≤◌, ◌^◌, ℕ, IfOk, IfSome, List, Ok, length, map, string_bytes};
-ghost use Rattle.copy_keeper.specs.Copies.{IsGradebook};
+ghost use Rattle.keeper_memory.specs.copy.Copies.{IsGradebook};
 ghost use Rattle.roster_base.specs.Reading.{Gives};
 ghost use Rattle.hub_cli.specs.Words.{command_words, delete_id_words, delete_words, ended, enter_words, feed_in, feed_of, feed_words, file_words, gradebook_kind, is_file_word, keep_in, kind_words, largest_keep, limit_words, no_options, number_in, number_to, option_of, option_words, peer_in, publish_words, put_id_words, put_words, root_in, send_tries_words, send_words, set_option, split, store_in, sync_words, tries_words, with_folder, with_keep, with_options, with_peer, with_store};
 ghost use Rattle.hub_cli.specs.declared.words.Command.{Command as CommandValue};
 ghost use Rattle.hub_cli.specs.declared.words.Command.TheVariants.{Ask, Grant, ListHeld, Show};
 
-use consumer_cli::{GradebookObject, SendTask, SyncTask, is_gradebook};
+use consumer_commands::{GradebookObject, SendTask, SyncTask, is_gradebook};
 use roster_base::{Items, NoMemory, Refusal, Text};
 use roster_texts::digits::number;
 use roster_texts::{Id, Name, Token};

@@ -3,12 +3,12 @@ use Rattle.std.proofs.Common.{◌≡◌, ℕ, ℤ, ◌≤◌, ◌⊎◌, true, L
 use Rattle.std.specs.List.{AllByRecursion}
 use Rattle.std.specs.Prelude.{IfOk, is_ok}
 use Rattle.std.specs.Option.{ForSome}
-use Rattle.grant_changes.proofs.Finding.{all_each, found_meets}
-use Rattle.grant_changes.proofs.Following.{KeepGrants-push, below, same_grants}
-use Rattle.grant_changes.proofs.Granted.{grants_go_on}
-use Rattle.grant_changes.specs.Asked.{AnswersBy}
-use Rattle.grant_changes.specs.Granting.{GrantsMake}
-use Rattle.grant_changes.specs.Next.{IsNext}
+use Rattle.version_changes.proofs.Finding.{all_each, found_meets}
+use Rattle.version_changes.proofs.Following.{KeepGrants-push, below, same_grants}
+use Rattle.version_changes.proofs.Granted.{grants_go_on}
+use Rattle.version_changes.specs.grants.Asked.{AnswersBy}
+use Rattle.version_changes.specs.grants.Granting.{GrantsMake}
+use Rattle.version_changes.specs.grants.Next.{IsNext}
 use Rattle.grant_scopes.specs.declared.entry.GrantEntry.{GrantEntry}
 use Rattle.version_core.specs.Grants.{HasGrant}
 use Rattle.version_core.specs.Version.{IsVersion, after, empty_version, last_or}
@@ -17,15 +17,15 @@ use Rattle.version_core.specs.declared.change.Change.{Change}
 use Rattle.version_core.specs.declared.grant_row.GrantRow.{GrantRow}
 use Rattle.roster_base.specs.declared.refusal.Refusal.{Refusal}
 use Rattle.roster_base.specs.declared.refusal.Refusal.TheVariants as refusal
-use Rattle.set_changes.specs.Applying.{Answers, Applies, LeadsOn, Leads, Outcome}
-use Rattle.set_changes.specs.declared.publish_fault.PublishFault.{PublishFault}
+use Rattle.version_changes.specs.sets.Applying.{Answers, Applies, LeadsOn, Leads, Outcome}
+use Rattle.version_changes.specs.declared.sets.publish_fault.PublishFault.{PublishFault}
 use Rattle.version_core.proofs.TableLemmas.{last_number}
 use Rattle.keeper_memory.proofs.KeptLemmas.{newest_after, versions_are}
 use Rattle.keeper_memory.specs.Commits.{CanFollow, CanLead}
 use Rattle.keeper_memory.specs.Kept.{AreHubVersions, IsKept, KeptState, newest_kept, oldest_kept}
 use Rattle.keeper_memory.specs.declared.hub_commit.HubCommit.{HubCommit}
 use Rattle.roster_types.specs.Sets.{SetRecord}
-use Rattle.set_changes.specs.Steps.{IsSound, led_to}
+use Rattle.version_changes.specs.sets.Steps.{IsSound, led_to}
 use Rattle.hub_core.specs.Made.{Adopts, after_change}
 use Rattle.hub_core.specs.Steps.{Installs, MakesNext}
 use Rattle.hub_core.specs.declared.hub_error.HubError.{HubError}

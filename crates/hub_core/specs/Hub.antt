@@ -1,6 +1,6 @@
 -- What a hub keeps of its fields.
 use Rattle.std.specs.Prelude.{◌≡◌, IsTrue, List, Option, Some}
-use Rattle.set_changes.specs.Steps.{IsSound}
+use Rattle.version_changes.specs.sets.Steps.{IsSound}
 use Rattle.version_core.specs.Version.{Versions}
 use Rattle.version_core.specs.declared.mark.MarkRow.{MarkRow}
 use Rattle.keeper_memory.specs.Commits.{CanCommit}

@@ -10,7 +10,7 @@ use Rattle.keeper_memory.specs.Kept.{KeptState, newest_kept}
 use Rattle.keeper_memory.specs.declared.hub_commit.HubCommit.{HubCommit}
 use Rattle.roster_base.specs.declared.refusal.Refusal.{Refusal}
 use Rattle.roster_base.specs.declared.refusal.Refusal.TheVariants as refusal
-use Rattle.set_changes.specs.declared.publish_fault.PublishFault.{PublishFault}
+use Rattle.version_changes.specs.declared.sets.publish_fault.PublishFault.{PublishFault}
 use Rattle.hub_core.specs.declared.hub_error.HubError.{HubError}
 use Rattle.hub_core.specs.declared.hub_error.HubError.TheVariants as error
 use Rattle.hub_core.specs.declared.published.Published.{Published}

@@ -3,7 +3,7 @@ use Rattle.std.specs.Prelude.{◌≡◌, ◌⊎◌, ⊤, ℕ, ◌+◌, ◌-◌, 
 use Rattle.keeper_memory.specs.Commits.{followed_by, with_commit}
 use Rattle.keeper_memory.specs.Kept.{KeptState, newest_kept}
 use Rattle.keeper_memory.specs.declared.hub_commit.HubCommit.{HubCommit}
-use Rattle.set_changes.specs.Applying.{Leads, Outcome, Refuses, Unchanged}
+use Rattle.version_changes.specs.sets.Applying.{Leads, Outcome, Refuses, Unchanged}
 use Rattle.version_core.specs.declared.change.BaseVersion.{BaseVersion}
 use Rattle.hub_core.specs.declared.hub_error.HubError.{HubError}
 use Rattle.hub_core.specs.declared.hub_error.HubError.TheVariants as error

@@ -2,9 +2,9 @@
 
 ghost use Rattle.std.specs.Prelude.{◌≡◌, IfOk, None, Ok, OnErr, Some, false, true};
 ghost use Rattle.std.specs.Option.{ForSome};
-ghost use Rattle.grant_changes.specs.Granting.{GrantsMake};
-ghost use Rattle.set_changes.specs.Applying.{Applies};
-ghost use Rattle.set_changes.specs.Steps.{IsSound};
+ghost use Rattle.version_changes.specs.grants.Granting.{GrantsMake};
+ghost use Rattle.version_changes.specs.sets.Applying.{Applies};
+ghost use Rattle.version_changes.specs.sets.Steps.{IsSound};
 ghost use Rattle.version_core.specs.Version.{newest_of};
 ghost use Rattle.keeper_memory.specs.Commits.{CanCommit, CanLead};
 ghost use Rattle.keeper_memory.specs.Kept.{IsKept, KeptState, newest_kept};
@@ -15,15 +15,14 @@ ghost use Rattle.hub_core.specs.Steps.{CountsFault, Installs, IsLast, LeavesOpen
 use crate::hub_error::HubError;
 use crate::published::Published;
 use crate::room::{make_room, take_in, take_in_made};
-use grant_changes::grants_change;
 use grant_scopes::GrantList;
 use keeper_memory::{HubCommit, HubKeeper};
 use roster_base::{KeeperError, NoMemory, Refusal};
 use roster_texts::Moment;
 use roster_types::set::RosterSet;
-use set_changes::{PublishFault, set_change_over};
 use std::alloc::Global;
 use std::marker::Model;
+use version_changes::{PublishFault, grants_change, set_change_over};
 use version_core::change::Change;
 use version_core::marks::Marks;
 use version_core::table::Table;

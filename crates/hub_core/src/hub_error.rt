@@ -5,7 +5,7 @@ ghost use Rattle.hub_core.specs.Errors.{error_of_keeper};
 ghost use Rattle.hub_core.specs.declared.hub_error.HubError.TheVariants as error;
 
 use roster_base::{KeeperError, NoMemory};
-use set_changes::PublishFault;
+use version_changes::PublishFault;
 
 /// A failure of the keeper, want of memory, or a refusal.
 #[derive(Drop)]

@@ -1,10 +1,9 @@
 //! Synchronisations over replies that are given beforehand, and what the copy holds then.
 
 use crate::outside::{run_between, run_with_copy};
-use copy_keeper::{CopyChange, CopyKeeper, LAST, MemCopy};
-use keeper_memory::MemHub;
+use exchange_link::PeerLink;
+use keeper_memory::{CopyChange, CopyKeeper, LAST, MemCopy, MemHub};
 use outside_ports::MemSink;
-use peer_links::PeerLink;
 use roster_values::Kind;
 use std::alloc::Global;
 use std::process::Abort;

@@ -1,10 +1,9 @@
 //! Writes that are entered, listed and sent, over replies that are given beforehand.
 
 use crate::outside::{Files, push_file, run_among};
-use copy_keeper::MemCopy;
-use keeper_memory::MemHub;
+use exchange_link::PeerLink;
+use keeper_memory::{MemCopy, MemHub};
 use outside_ports::{MemFolder, MemSink};
-use peer_links::PeerLink;
 use std::alloc::Global;
 use std::process::Abort;
 use std::test::Fail;

@@ -1,10 +1,9 @@
 //! What a run of a test is given, and what it left.
 
-use copy_keeper::MemCopy;
+use exchange_link::{NoLink, PeerLink};
 use hub_cli::run_hub;
-use keeper_memory::MemHub;
+use keeper_memory::{MemCopy, MemHub};
 use outside_ports::{FixedClock, MemFolder, MemSink};
-use peer_links::{NoLink, PeerLink};
 use std::alloc::Global;
 use std::process::Abort;
 use std::test::Fail;

@@ -3,14 +3,14 @@ use Rattle.sqlite.specs.State.{State}
 use Rattle.sqlite.specs.declared.error.Error.{Error}
 use Rattle.roster_base.specs.declared.keeper.KeeperError.{KeeperError}
 use Rattle.roster_base.specs.declared.keeper.KeeperError.TheVariants.{Failed, NoMemory}
-use Rattle.item_sql.specs.Asked.{IsRefused}
-use Rattle.item_sql.specs.Stands.{StandsFor, GoesBackTo}
+use Rattle.item_store.specs.Asked.{IsRefused}
+use Rattle.item_store.specs.Stands.{StandsFor, GoesBackTo}
 use Rattle.std.proofs.Common.{Result, Ok, Err, OnOk, OnErr, ◌≡◌, ◌≢◌, ◌<◌, ◌≤◌, ℕ, zero, suc, ◌+◌, List, [], ◌∷◌, length, map, take, ◌++◌, ap₂, drop, get_or, refl, sym, ap, ◌∙◌, drop-cons, add-one, arith}
 use Rattle.sqlite.specs.Order.{Row}
 use Rattle.std.proofs.lemmas.List.{drop_all, length-map, map-append, take_more}
-use Rattle.item_sql.proofs.Range.{got_mapped}
+use Rattle.item_store.proofs.Range.{got_mapped}
 use Rattle.item_maps.specs.Items.{Items}
-use Rattle.item_sql.specs.Items.{shown}
+use Rattle.item_store.specs.Items.{shown}
 use Rattle.item_maps.specs.declared.item.Item.{Item}
 use Rattle.item_maps.specs.Edits.{entry_of}
 use Rattle.item_store.specs.Causes.{no_memory, IsFailed, IsCaused}

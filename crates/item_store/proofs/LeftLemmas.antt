@@ -7,8 +7,8 @@ use Rattle.sqlite.specs.State.{State, HasCleanDisk, IsLive}
 use Rattle.sqlite.specs.Tree.{Trees}
 use Rattle.sqlite_trees.specs.declared.store.Store.{Ghosts}
 use Rattle.item_maps.specs.Items.{Items}
-use Rattle.item_sql.specs.Left.{IsLeft, LeavesAs, Leaves, MayHold}
-use Rattle.item_sql.specs.Stands.{IsTold, StandsFor, GoesBackTo}
+use Rattle.item_store.specs.Left.{IsLeft, LeavesAs, Leaves, MayHold}
+use Rattle.item_store.specs.Stands.{IsTold, StandsFor, GoesBackTo}
 use Rattle.item_store.proofs.EditLemmas.{stands_back}
 
 -- an open connection is open still, and a stop leaves nothing new

@@ -6,7 +6,7 @@ use Rattle.sqlite.specs.declared.error.ErrorCode.TheVariants.{OutOfMemory}
 use Rattle.sqlite.specs.State.{State}
 use Rattle.roster_base.specs.declared.keeper.KeeperError.{KeeperError}
 use Rattle.roster_base.specs.declared.keeper.KeeperError.TheVariants.{Failed, NoMemory}
-use Rattle.item_sql.specs.Asked.{IsRefused}
+use Rattle.item_store.specs.Asked.{IsRefused}
 
 abbrev pub no_memory : Error
 no_memory = SqliteFailure OutOfMemory

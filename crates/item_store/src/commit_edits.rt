@@ -4,10 +4,10 @@ ghost use Rattle.std.specs.Prelude.{◌≡◌, ◌≢◌, ◌⊎◌, false, IsTr
 ghost use Rattle.sqlite.specs.Held.{state};
 ghost use Rattle.sqlite.specs.State.{HasCleanDisk};
 ghost use Rattle.sqlite.specs.Tree.{Trees};
-ghost use Rattle.item_sql.specs.Asked.{AsksInTurn, IsRefused};
+ghost use Rattle.item_store.specs.Asked.{AsksInTurn, IsRefused};
 ghost use Rattle.item_maps.specs.Items.{Items};
-ghost use Rattle.item_sql.specs.Left.{IsLeft, Leaves, WasOpen};
-ghost use Rattle.item_sql.specs.Stands.{StandsFor, IsWithin, GoesBackTo, Earlier};
+ghost use Rattle.item_store.specs.Left.{IsLeft, Leaves, WasOpen};
+ghost use Rattle.item_store.specs.Stands.{StandsFor, IsWithin, GoesBackTo, Earlier};
 ghost use Rattle.item_maps.specs.Edits.{after, after_edit};
 ghost use Rattle.item_store.specs.Causes.{no_memory};
 
@@ -26,10 +26,10 @@ fn make_edit<S: Alter>(conn: &mut Connection<S>, edit: &Edit) -> Result<(), Erro
 {
     match edit {
         Edit::Put { area, label, body } => {
-            item_sql::put(conn, *area, label.as_slice(), body.as_slice())
+            crate::changes::put(conn, *area, label.as_slice(), body.as_slice())
         }
         Edit::Clear { area, from, to } => {
-            item_sql::clear(conn, *area, from.as_slice(), to.as_slice())
+            crate::changes::clear(conn, *area, from.as_slice(), to.as_slice())
         }
     }
 }
@@ -61,7 +61,7 @@ fn finish<S: Alter>(conn: &mut Connection<S>, edits: &[Edit]) -> Result<(), Erro
     ensures honest { Earlier (state S.Store conn.old) (state S.Store conn.new) }
 {
     make_edits(conn, edits)?;
-    item_sql::commit(conn)
+    crate::transaction::commit(conn)
 }
 
 /// Makes the edits in order, all of them or none. Inside a transaction of the caller it is refused.
@@ -79,9 +79,9 @@ pub fn commit_edits<S: Alter>(conn: &mut Connection<S>, edits: &[Edit]) -> Resul
     if !conn.is_autocommit() {
         return Err(Error::SqliteFailure(ErrorCode::TransactionState));
     }
-    item_sql::make(conn)?;
-    item_sql::begin(conn)?;
+    crate::table::make(conn)?;
+    crate::transaction::begin(conn)?;
     let ended = finish(conn, edits);
-    item_sql::roll_back(conn);
+    crate::transaction::roll_back(conn);
     ended
 }

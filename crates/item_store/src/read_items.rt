@@ -4,11 +4,11 @@ ghost use Rattle.std.specs.Prelude.{◌≡◌, ◌≢◌, ◌≤◌, ◌⊎◌, 
 ghost use Rattle.sqlite.specs.Held.{state};
 ghost use Rattle.sqlite.specs.State.{HasCleanDisk};
 ghost use Rattle.sqlite.specs.Tree.{Trees};
-ghost use Rattle.item_sql.specs.Asked.{IsRefused};
+ghost use Rattle.item_store.specs.Asked.{IsRefused};
 ghost use Rattle.item_maps.specs.Items.{Items, listed};
-ghost use Rattle.item_sql.specs.Items.{shown};
-ghost use Rattle.item_sql.specs.Left.{IsLeft, WasOpen};
-ghost use Rattle.item_sql.specs.Stands.{StandsFor, Earlier};
+ghost use Rattle.item_store.specs.Items.{shown};
+ghost use Rattle.item_store.specs.Left.{IsLeft, WasOpen};
+ghost use Rattle.item_store.specs.Stands.{StandsFor, Earlier};
 ghost use Rattle.item_maps.specs.Edits.{entry_of};
 ghost use Rattle.item_store.specs.Causes.{no_memory};
 
@@ -66,7 +66,7 @@ pub fn read_items<S: Alter>(
     if !conn.is_autocommit() {
         return Err(Error::SqliteFailure(ErrorCode::TransactionState));
     }
-    item_sql::make(conn)?;
-    let rows = item_sql::select(conn, area, from, to, limit)?;
+    crate::table::make(conn)?;
+    let rows = crate::listing::select(conn, area, from, to, limit)?;
     items_of(alloc, rows.as_slice())
 }

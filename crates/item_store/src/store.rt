@@ -6,8 +6,8 @@ ghost use Rattle.sqlite.specs.State.{HasCleanDisk};
 ghost use Rattle.roster_base.specs.Faults.{CountsError, CountsFailure};
 ghost use Rattle.roster_base.specs.declared.keeper.KeeperError.TheVariants as keeper;
 ghost use Rattle.item_maps.specs.Items.{Items, listed};
-ghost use Rattle.item_sql.specs.Left.{MayHold, WasOpen};
-ghost use Rattle.item_sql.specs.Stands.{StandsFor, Earlier};
+ghost use Rattle.item_store.specs.Left.{MayHold, WasOpen};
+ghost use Rattle.item_store.specs.Stands.{StandsFor, Earlier};
 ghost use Rattle.item_maps.specs.Edits.{after, entry_of};
 ghost use Rattle.item_store.specs.Causes.{IsFailed, IsCaused};
 

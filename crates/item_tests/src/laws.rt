@@ -1,7 +1,7 @@
 //! The laws of the store, as they run.
 
 use crate::samples::{commit_over, first_edits, found_over, items_line};
-use item_laws::{fresh, opened, read_back, reopen};
+use crate::store_laws::{fresh, opened, read_back, reopen};
 use item_store::Edit;
 use roster_base::KeeperError;
 use sqlite::{Connection, FileStore, Files, Options};

@@ -1,4 +1,4 @@
-//! Tests of the item store over a database in memory, over a file, and over disks that stop.
+//! Tests of the item store over a database in memory, over a file, and over disks that stop; and what a caller has of it there.
 #![tactic(auto)]
 
 #[cfg(test)]
@@ -9,3 +9,6 @@ mod laws;
 mod samples;
 #[cfg(test)]
 mod stops;
+mod store_laws;
+
+pub use store_laws::opened;

@@ -1,7 +1,7 @@
 //! Commits over disks that stop.
 
 use crate::samples::{commit_over, first_edits, found_over, second_edits};
-use item_laws::opened;
+use crate::store_laws::opened;
 use item_store::Edit;
 use sqlite::{Connection, FileStore, Files, Options};
 use sqlite_disk::{Crash, Disk, Fuse, Memory};

@@ -1,1 +1,3 @@
+pub mod hub
+pub mod copy
 pub mod Trust

@@ -4,8 +4,7 @@ ghost use Rattle.std.specs.Prelude.{◌≡◌, ◌≤◌, Err};
 ghost use Rattle.roster_base.specs.Faults.{CountsError, CountsFailure};
 ghost use Rattle.roster_base.specs.declared.keeper.KeeperError.TheVariants as keeper;
 
-use copy_keeper::{CopyChange, CopyKeeper, CopyState, OutEntry};
-use keeper_memory::{HubCommit, HubKeeper};
+use keeper_memory::{CopyChange, CopyKeeper, CopyState, HubCommit, HubKeeper, OutEntry};
 use roster_base::{Items, KeeperError};
 use roster_types::row::Row;
 use roster_values::Kind;

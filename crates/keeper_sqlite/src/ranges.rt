@@ -5,7 +5,7 @@ ghost use Rattle.sqlite.specs.Held.{state};
 ghost use Rattle.roster_base.specs.Faults.{CountsFailure};
 ghost use Rattle.item_maps.specs.Edits.{entry_of};
 ghost use Rattle.item_maps.specs.Items.{Items, listed};
-ghost use Rattle.item_sql.specs.Stands.{StandsFor};
+ghost use Rattle.item_store.specs.Stands.{StandsFor};
 ghost use Rattle.keeper_sqlite.specs.Trust.{IsTrusted};
 
 use item_store::{Item, ItemStore};

@@ -2,12 +2,12 @@
 
 ghost use Rattle.std.specs.Prelude.{◌≡◌};
 ghost use Rattle.sqlite.specs.Held.{state};
-ghost use Rattle.item_sql.specs.Stands.{StandsFor};
+ghost use Rattle.item_store.specs.Stands.{StandsFor};
 ghost use Rattle.keeper_sqlite.specs.Trust.{IsTrusted};
 
 use crate::ranges::{all_of, first_of};
+use crate::stored_items::StoredItems;
 use item_store::{Edit, Item, ItemStore};
-use keeper_items::StoredItems;
 use roster_base::KeeperError;
 use sqlite::{Alter, Connection};
 use std::alloc::Global;
@@ -39,7 +39,7 @@ impl<S: Alter> SqlItems<S> {
 }
 
 impl<S: Alter + Drop> StoredItems for SqlItems<S> {
-    ghost use Rattle.item_sql.proofs.OneMap.{stands_once};
+    ghost use Rattle.item_store.proofs.OneMap.{stands_once};
 
     ghost stands_for = { λ items m. StandsFor (state S.Store items.store.connection) m };
 

@@ -2,8 +2,8 @@
 
 use crate::district::put_line;
 use crate::pages::{VERSION, path_of, push_ids, query_of};
-use hub_paths::{Path, PathRouter};
 use query_pages::page;
+use rest_paths::{Path, PathRouter};
 use roster_values::Kind;
 use std::alloc::Global;
 use std::process::Abort;

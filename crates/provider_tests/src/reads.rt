@@ -1,12 +1,12 @@
 //! Replies to requests that write nothing, from the wire to the wire.
 
 ghost use Rattle.std.specs.Prelude.{◌≡◌};
-ghost use Rattle.hub_rules.specs.Wanted.{is_write};
+ghost use Rattle.hub_spec.specs.rules.Wanted.{is_write};
 
 use crate::tables::table;
 use http_wire::{WireReader, write_reply};
-use hub_paths::PathRouter;
 use outside_ports::{MemSink, MemSource};
+use rest_paths::PathRouter;
 use rest_provider::answer_read;
 use status_info::{Reply, Request, Verb};
 use std::alloc::Global;

@@ -2,11 +2,10 @@
 
 ghost use Rattle.std.specs.Prelude.{IfOk};
 ghost use Rattle.hub_core.specs.Standing.{KeeperFits};
-ghost use Rattle.set_changes.specs.Applying.{LeadsOn};
+ghost use Rattle.version_changes.specs.sets.Applying.{LeadsOn};
 ghost use Rattle.version_core.specs.Version.{newest_of};
 
 use csv_sets::read_set;
-use grant_changes::granting::grants_change;
 use grant_files::read_grants;
 use grant_scopes::GrantList;
 use hub_core::Hub;
@@ -15,10 +14,10 @@ use outside_ports::MemFolder;
 use roster_base::Refusal;
 use roster_texts::{Moment, Name};
 use roster_types::set::RosterSet;
-use set_changes::publish::set_change;
 use std::alloc::Global;
 use std::process::Abort;
 use std::test::Fail;
+use version_changes::{grants_change, set_change};
 use version_core::change::Change;
 use version_core::table::Table;
 

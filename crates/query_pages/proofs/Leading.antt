@@ -2,9 +2,9 @@
 use Rattle.std.proofs.Common.{◌≡◌, ℕ, true, List, subst}
 use Rattle.grant_scopes.specs.declared.schools.Schools.{Schools}
 use Rattle.grant_scopes.specs.declared.schools.Schools.TheVariants as school
-use Rattle.hub_paths.specs.Paths.{PathParts}
-use Rattle.hub_views.specs.Lists.{belongs, kind_of_path}
-use Rattle.hub_views.specs.Seen.{sees_at, sees_row}
+use Rattle.rest_paths.specs.Paths.{PathParts}
+use Rattle.hub_spec.specs.views.Lists.{belongs, kind_of_path}
+use Rattle.hub_spec.specs.views.Seen.{sees_at, sees_row}
 use Rattle.reference_rules.proofs.KeyOrder.{and_first}
 use Rattle.roster_types.specs.Keys.{is_of_kind}
 use Rattle.roster_types.specs.Records.{Record}

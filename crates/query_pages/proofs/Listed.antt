@@ -2,9 +2,9 @@
 use Rattle.std.proofs.Common.{◌≡◌, ℕ, ◌≤◌, List, [], ◌∷◌, Bool, true, false, ◌&&◌, cond, filter, length, refl, sym, ap, ◌∙◌, arith, None, Some, Option}
 use Rattle.std.specs.List.{AllByRecursion}
 use Rattle.filter_grammar.specs.declared.query.Order.TheVariants.{Asc}
-use Rattle.hub_views.proofs.ListLemmas.{arranged_by_id, ascends_kept}
+use Rattle.hub_spec.proofs.ListLemmas.{arranged_by_id, ascends_kept}
 use Rattle.query_pages.specs.Listed.{listed}
-use Rattle.row_queries.specs.Orders.{arranged, by_id, sorting_of}
+use Rattle.filter_grammar.specs.rows.Orders.{arranged, by_id, sorting_of}
 use Rattle.std.proofs.lemmas.List.Sums.{length-filter}
 use Rattle.filter_grammar.specs.declared.query.Query.{Query}
 use Rattle.reference_rules.proofs.Rest.{is_next, rest_at, rest_none, rest_of}

@@ -3,7 +3,7 @@ use Rattle.std.proofs.Common.{◌≡◌, ℕ, zero, suc, ◌+◌, ◌-◌, ◌<�
 use Rattle.std.proofs.lemmas.Bool.Decides.{nat_tests}
 use Rattle.std.proofs.lemmas.List.{length-append}
 use Rattle.query_pages.specs.Parts.{with_row}
-use Rattle.hub_views.specs.Pages.{slice}
+use Rattle.hub_spec.specs.views.Pages.{slice}
 
 module _ {A : Type 0} where
   -- with what is left of the list, the rows so far make the part

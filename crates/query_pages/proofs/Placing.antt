@@ -6,12 +6,12 @@ use Rattle.std.specs.List.{AllByRecursion}
 use Rattle.std.specs.List.Sorted.{IsSortedBy, IsStableBy, ties}
 use Rattle.std.specs.Ordering.{is_lt}
 use Rattle.filter_grammar.specs.declared.query.Order.{Order}
-use Rattle.hub_views.proofs.Sorting.{Rises, arranged_rises, arranged_stable, by_key, rises, same_sorted, sorting_orders}
+use Rattle.hub_spec.proofs.Sorting.{Rises, arranged_rises, arranged_stable, by_key, rises, same_sorted, sorting_orders}
 use Rattle.query_pages.specs.Placed.{AreKeyed, row_of, rows_placed}
 use Rattle.query_pages.specs.declared.in_order.Placed.{Placed}
 use Rattle.roster_types.specs.Records.{Record}
-use Rattle.row_queries.specs.Orders.{Sorting, arranged, comes_before, directed, sort_key_cmp}
-use Rattle.row_queries.specs.declared.sort_key.SortKey.{SortKey}
+use Rattle.filter_grammar.specs.rows.Orders.{Sorting, arranged, comes_before, directed, sort_key_cmp}
+use Rattle.filter_grammar.specs.declared.rows.sort_key.SortKey.{SortKey}
 
 all_by_recursion : {X : Type 0} (P : X → Type 0) (xs : List X) → All P xs → AllByRecursion P xs
 all_by_recursion P [] all = tt

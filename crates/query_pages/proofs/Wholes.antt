@@ -2,7 +2,7 @@
 use Rattle.std.proofs.Common.{◌≡◌, ℕ, zero, suc, ◌-◌, ◌<◌, List, [], ◌∷◌, ◌++◌, append_assoc, drop, filter, length, slice_get, take, None, Some, Option, refl, sym, ap, ◌∙◌, arith}
 use Rattle.std.proofs.lemmas.List.{length-append}
 use Rattle.grant_scopes.specs.declared.schools.Schools.TheVariants as school
-use Rattle.hub_views.specs.Seen.{sees_row}
+use Rattle.hub_spec.specs.views.Seen.{sees_row}
 use Rattle.query_pages.specs.Whole.{rows_from}
 use Rattle.reference_rules.proofs.Rest.{rest_at, rest_none, rest_of, rest_start}
 use Rattle.roster_types.specs.Keys.{Ascends, is_of_kind, next_of, row_key}

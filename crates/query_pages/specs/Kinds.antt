@@ -1,8 +1,8 @@
 -- The rows that a path lists are of one kind.
 use Rattle.std.specs.Prelude.{◌≡◌, true, List}
 use Rattle.filter_grammar.specs.declared.query.Query.{Query}
-use Rattle.hub_paths.specs.Paths.{PathParts}
-use Rattle.hub_views.specs.Lists.{belongs, is_listed, kind_of_path}
+use Rattle.rest_paths.specs.Paths.{PathParts}
+use Rattle.hub_spec.specs.views.Lists.{belongs, is_listed, kind_of_path}
 use Rattle.reference_rules.proofs.KeyOrder.{and_first}
 use Rattle.roster_types.specs.Keys.{is_of_kind}
 use Rattle.roster_types.specs.Records.{Record}

@@ -1,7 +1,7 @@
 -- Ways to the rows of paths.
 use Rattle.std.specs.Prelude.{◌≡◌, true, List}
-use Rattle.hub_paths.specs.Paths.{PathParts}
-use Rattle.hub_views.specs.Lists.{belongs}
+use Rattle.rest_paths.specs.Paths.{PathParts}
+use Rattle.hub_spec.specs.views.Lists.{belongs}
 use Rattle.roster_types.specs.Records.{Record}
 use Rattle.row_walks.specs.Walks.{IsAmong, is_walked}
 use Rattle.row_walks.specs.declared.walk.Walk.{Walk}

@@ -1,14 +1,14 @@
 -- Lists of rows.
 use Rattle.std.specs.Prelude.{ℕ, Bool, List, filter, length}
 use Rattle.filter_grammar.specs.declared.query.Query.{Query}
-use Rattle.hub_paths.specs.Paths.{PathParts}
-use Rattle.hub_views.specs.Links.{links_of}
-use Rattle.hub_views.specs.Pages.{slice}
-use Rattle.hub_views.specs.declared.page.Page.{Page}
+use Rattle.rest_paths.specs.Paths.{PathParts}
+use Rattle.hub_spec.specs.views.Links.{links_of}
+use Rattle.hub_spec.specs.views.Pages.{slice}
+use Rattle.hub_spec.specs.declared.views.page.Page.{Page}
 use Rattle.query_pages.specs.declared.list_part.Part.{Part}
 use Rattle.roster_types.specs.Records.{Record}
 use Rattle.roster_values.specs.declared.kind.Kind.{Kind}
-use Rattle.row_queries.specs.Orders.{arranged, sorting_of}
+use Rattle.filter_grammar.specs.rows.Orders.{arranged, sorting_of}
 
 -- the rows that pass a test, all of one kind, in the order that a query asks for
 abbrev pub listed : Kind → Query → (Record → Bool) → List Record → List Record

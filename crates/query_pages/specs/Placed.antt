@@ -2,7 +2,7 @@
 use Rattle.std.specs.Prelude.{◌≡◌, All, List, map}
 use Rattle.query_pages.specs.declared.in_order.Placed.{Placed}
 use Rattle.roster_types.specs.Records.{Record}
-use Rattle.row_queries.specs.Orders.{Sorting}
+use Rattle.filter_grammar.specs.rows.Orders.{Sorting}
 
 abbrev pub row_of : Placed → Record
 row_of placed = placed.row.now

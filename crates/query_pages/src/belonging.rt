@@ -1,17 +1,17 @@
 //! Which rows belong to a path.
 
 ghost use Rattle.std.specs.Prelude.{◌≡◌, ◌<◌, ◌&&◌, ◌||◌, codes, length};
-ghost use Rattle.hub_views.specs.Lists as spec;
-ghost use Rattle.hub_views.specs.Rules.{has_role, rule_of};
-ghost use Rattle.hub_views.specs.References.{is_named_by, leads_to, stands_where};
+ghost use Rattle.hub_spec.specs.views.Lists as spec;
+ghost use Rattle.hub_spec.specs.views.Rules.{has_role, rule_of};
+ghost use Rattle.hub_spec.specs.views.References.{is_named_by, leads_to, stands_where};
 ghost use Rattle.version_core.specs.References.{names};
 
 use crate::row_tests::{IsIn, IsInClass, Names, is_in};
-use hub_paths::{Collection, Path, Route};
+use crate::seen::references::{is_named_by, leads_to, stands_where};
+use rest_paths::{Collection, Path, Route};
 use roster_texts::Id;
 use roster_types::row::Row;
 use roster_values::Kind;
-use seen_rows::references::{is_named_by, leads_to, stands_where};
 use version_core::references::{Refs, names};
 
 /// The id of the object at a place.
@@ -133,7 +133,7 @@ fn both_name<R: Refs>(rows: &R, path: &Path, kind: Kind, field: &str, by: &str, 
 }
 
 // Whether the rule of the path's route holds for the row.
-#[tactic(auto, unfolding(hub_views::specs::Rules::rule_of))]
+#[tactic(auto, unfolding(hub_spec::specs::views::Rules::rule_of))]
 fn rule_holds<R: Refs>(rows: &R, path: &Path, row: &Row) -> bool
     ensures { result ≡ rule_of path.now.route (R.rows rows.now) (spec.id_at path.now 0) (spec.id_at path.now 1) row.now }
 {
@@ -180,7 +180,7 @@ fn is_of_class<R: Refs>(rows: &R, class: &Id, result_row: &Row) -> bool
 }
 
 /// Whether the row belongs to the path.
-#[tactic(auto, unfolding(hub_views::specs::Lists::belongs))]
+#[tactic(auto, unfolding(hub_spec::specs::views::Lists::belongs))]
 pub fn belongs<R: Refs>(rows: &R, path: &Path, row: &Row) -> bool
     ensures { result ≡ spec.belongs (R.rows rows.now) path.now row.now }
 {

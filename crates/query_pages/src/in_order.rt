@@ -1,17 +1,17 @@
 //! Rows with what they are sorted by.
 
 ghost use Rattle.std.specs.Prelude.{◌≡◌, IfOk, OnOk, filter};
-ghost use Rattle.hub_views.specs.Pages.{slice};
+ghost use Rattle.hub_spec.specs.views.Pages.{slice};
 ghost use Rattle.query_pages.specs.Placed.{AreKeyed, rows_placed};
 ghost use Rattle.query_pages.specs.Sortings.{sorting_shown};
-ghost use Rattle.row_queries.specs.Orders.{arranged};
+ghost use Rattle.filter_grammar.specs.rows.Orders.{arranged};
 ghost use Rattle.row_walks.specs.Walks.{Covers};
 
 use crate::list_test::ListTest;
 use crate::sorting::{Sorting, directed};
+use filter_grammar::SortKey;
 use roster_base::{Items, NoMemory, TryCopy};
 use roster_types::row::Row;
-use row_queries::SortKey;
 use row_walks::Walk;
 use std::alloc::Global;
 use version_core::references::Refs;

@@ -1,16 +1,21 @@
-//! Pages of the rows that paths list, in the order that a query asks for.
+//! Which rows a grant sees, pages of the rows that paths list in the order that a query asks for, and the links of a page to the
+//! others of its list.
 #![tactic(auto)]
 
 pub mod belonging;
 mod by_id;
 mod in_order;
+mod links;
 pub mod list_part;
 pub mod list_test;
 mod pages;
 mod row_tests;
+pub mod seen;
 mod sorting;
+mod target;
 mod whole;
 
 pub use list_part::{Part, part_of};
 pub use list_test::ListTest;
 pub use pages::{one, page, seen_page, version_page};
+pub use seen::{RowTest, SeenRows, sees};

@@ -1,10 +1,10 @@
 //! The part of a list that a query asks for.
 
 ghost use Rattle.std.specs.Prelude.{◌≡◌, IfOk, filter, length};
-ghost use Rattle.hub_views.specs.Pages.{slice};
+ghost use Rattle.hub_spec.specs.views.Pages.{slice};
 ghost use Rattle.query_pages.specs.Listed.{listed};
 ghost use Rattle.query_pages.specs.Sortings.{sorting_shown};
-ghost use Rattle.row_queries.specs.Orders.{arranged};
+ghost use Rattle.filter_grammar.specs.rows.Orders.{arranged};
 ghost use Rattle.row_walks.specs.Walks.{Covers};
 
 use crate::by_id::part_by_id;

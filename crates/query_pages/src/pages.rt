@@ -1,29 +1,28 @@
 //! What paths list.
 
 ghost use Rattle.std.specs.Prelude.{◌≡◌, ◌≤◌, true, IfOk, filter, option_copied, option_map};
-ghost use Rattle.hub_views.specs.Lists as spec;
-ghost use Rattle.hub_views.specs.Pages.{page_of, page_of_list};
-ghost use Rattle.hub_views.specs.Seen.{seen};
+ghost use Rattle.hub_spec.specs.views.Lists as spec;
+ghost use Rattle.hub_spec.specs.views.Pages.{page_of, page_of_list};
+ghost use Rattle.hub_spec.specs.views.Seen.{seen};
 ghost use Rattle.query_pages.specs.Listed.{linked, part_of_list};
 ghost use Rattle.query_pages.specs.Leading.{Leads};
 ghost use Rattle.roster_types.specs.Keys.{Ascends, is_of_kind, row_key};
 ghost use Rattle.version_core.specs.Changes.{rows_of};
 
 use crate::belonging::{belongs, has_objects, id_at};
+use crate::links::links_of;
 use crate::list_part::{Part, part_of};
 use crate::list_test::ListTest;
+use crate::seen::SeenRows;
 use crate::whole::{kind_part, whole_kind};
-use filter_grammar::Query;
+use filter_grammar::{Query, passes};
 use grant_scopes::Schools;
-use hub_paths::{Path, Route};
-use hub_views::Page;
-use page_links::links_of;
+use hub_spec::Page;
+use rest_paths::{Path, Route};
 use roster_base::NoMemory;
 use roster_types::row::Row;
 use roster_values::Kind;
-use row_queries::passes;
 use row_walks::{Walk, walk_at_schools, walk_of};
-use seen_rows::SeenRows;
 use std::alloc::Global;
 use version_core::references::Refs;
 use version_core::view::VersionView;
@@ -59,7 +58,7 @@ impl<'a, R: Refs> ListTest for Listed<'a, R> {
 
 // The part that a query asks for of the list of a path, all on a way through the rows; nothing where an object that the path
 // names isn't among the rows.
-#[tactic(auto, unfolding(hub_views::specs::Lists::list_of))]
+#[tactic(auto, unfolding(hub_spec::specs::views::Lists::list_of))]
 fn part<R: Refs>(
     alloc: Global,
     rows: &R,
@@ -78,7 +77,7 @@ fn part<R: Refs>(
 }
 
 /// The row that a path of one object names. No memory is taken.
-#[tactic(auto, unfolding(hub_views::specs::Lists::object_of))]
+#[tactic(auto, unfolding(hub_spec::specs::views::Lists::object_of))]
 pub fn one<'r, R: Refs>(rows: &'r R, path: &Path) -> Option<&'r Row>
     requires { spec.is_single path.now.route ≡ true }
     ensures { option_copied result ≡ spec.object_of (R.rows rows.now) path.now }

@@ -1,16 +1,16 @@
 //! What the rules of routes ask of one row.
 
 ghost use Rattle.std.specs.Prelude.{◌≡◌, ◌&&◌, codes};
-ghost use Rattle.hub_views.specs.Rules.{has_role, is_in, is_of_type};
+ghost use Rattle.hub_spec.specs.views.Rules.{has_role, is_in, is_of_type};
 ghost use Rattle.reference_rules.specs.Faults.{is_word};
 ghost use Rattle.roster_types.specs.Records.{field_of};
 ghost use Rattle.version_core.specs.References.{names};
 
-use hub_paths::Collection;
+use crate::seen::RowTest;
+use rest_paths::Collection;
 use roster_texts::Id;
 use roster_types::row::Row;
 use roster_values::ValueRef;
-use seen_rows::RowTest;
 use version_core::references::{lent_field, names};
 
 // Whether the field is this word.

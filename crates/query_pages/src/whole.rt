@@ -1,14 +1,14 @@
 //! All rows of a kind, found by their places.
 
 ghost use Rattle.std.specs.Prelude.{◌≡◌, true, IfOk, IfSome, filter, length, option_copied, take};
-ghost use Rattle.hub_views.specs.Pages.{IsPlain, slice, whole};
+ghost use Rattle.hub_spec.specs.views.Pages.{IsPlain, slice, whole};
 ghost use Rattle.query_pages.specs.Whole.{rows_from};
 ghost use Rattle.roster_types.specs.Keys.{Ascends, is_of_kind, row_key};
 ghost use Rattle.version_core.specs.Changes.{rows_of};
 
 use crate::list_part::Part;
 use filter_grammar::Query;
-use hub_paths::{Collection, Path, Route};
+use rest_paths::{Collection, Path, Route};
 use roster_base::{Items, NoMemory, TryCopy};
 use roster_types::row::Row;
 use roster_types::rows::Rows;

@@ -1,6 +1,6 @@
 //! Paths as the worked requests have them, and texts that are none.
 
-use hub_paths::{Collection, Path, PathRouter, Route};
+use rest_paths::{Collection, Path, PathRouter, Route};
 use roster_base::NoMemory;
 use roster_values::Kind;
 use std::alloc::Global;

@@ -1,11 +1,10 @@
 //! Which rows a filter lets through, and what they are sorted by.
 
 use csv_sets::read_file;
-use filter_grammar::read_query;
 use filter_grammar::subject::subject_of;
+use filter_grammar::{SortKey, passes, read_query};
 use roster_types::set_row::SetRow;
 use roster_values::{Kind, Mode};
-use row_queries::{SortKey, passes};
 use std::alloc::Global;
 use std::cmp::Ordering;
 use std::test::Fail;

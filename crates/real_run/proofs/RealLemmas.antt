@@ -4,8 +4,8 @@ use Rattle.std.specs.Io.KnownBytes.{Appends}
 use Rattle.std.specs.Bool.{⊤}
 use Rattle.hub_cli.specs.ConsumerAnswers.{CopyRun, IsSyncOf, LinkRun, Task, copy_run, link_run}
 use Rattle.hub_cli.specs.OutboxAnswers.{IsEnterOf, IsSendOf, Sending}
-use Rattle.copy_keeper.specs.Copies.{Copy, IsCopy}
-use Rattle.copy_keeper.specs.HeldCopy.{HeldCopy, empty_copy}
+use Rattle.keeper_memory.specs.copy.Copies.{Copy, IsCopy}
+use Rattle.keeper_memory.specs.copy.HeldCopy.{HeldCopy, empty_copy}
 use Rattle.exchange_link.specs.Causes.{Caused}
 use Rattle.exchange_link.specs.Exchanges.{Told}
 use Rattle.exchange_link.specs.SendCauses.{SendCaused}

@@ -2,8 +2,8 @@
 use Rattle.std.specs.Prelude.{◌≡◌, ◌≢◌, ⊤, ℕ, List, [], ◌∷◌, Option, None, Some, Result, IsErr, IfNone}
 use Rattle.std.specs.Io.KnownBytes.{Appends}
 use Rattle.hub_cli.specs.ConsumerAnswers.{CopyRun, LinkRun, copy_run, link_run}
-use Rattle.copy_keeper.specs.Copies.{Copy, IsCopy}
-use Rattle.copy_keeper.specs.HeldCopy.{empty_copy}
+use Rattle.keeper_memory.specs.copy.Copies.{Copy, IsCopy}
+use Rattle.keeper_memory.specs.copy.HeldCopy.{empty_copy}
 use Rattle.outside_ports.specs.Written.{AppendsPart}
 use Rattle.roster_base.specs.Faults.{Rose}
 use Rattle.keeper_memory.specs.Kept.{IsKept, KeptState}

@@ -1,19 +1,19 @@
 -- A step that takes a request leads from a state in which each caller keeps its grant to another, whatever its versions hold.
 use Rattle.std.proofs.Common.{◌≡◌, ℕ, ℤ, ◌+◌, ◌-◌, ◌≤◌, inl, inr, Bool, true, false, List, [], ◌∷◌, ◌++◌, length, length-append, Option, None, Some, Result, Ok, Err, slice_get, refl, sym, subst, ◌∙◌, arith}
 use Rattle.std.specs.Option.{ForSome}
-use Rattle.grant_changes.proofs.Following.{KeepGrants-push, below}
-use Rattle.grant_changes.specs.Next.{IsNext}
-use Rattle.hub_paths.specs.Paths.{IsPath}
-use Rattle.hub_rules.proofs.Following.{run_push}
-use Rattle.hub_rules.proofs.Judging.{judged_led}
-use Rattle.hub_rules.proofs.Keeping.{may_hold}
-use Rattle.hub_rules.proofs.Versions.{newest_has, newest_is, some_version}
-use Rattle.hub_rules.specs.Answers.{Answered, Answers, Entered, Written, write_of, write_result}
-use Rattle.hub_rules.specs.Checks.{Entry, entry_of}
-use Rattle.hub_rules.specs.Runs.{ActedOrNot, Acts, Fails, Replied, Steps, Take, WantsMemory}
-use Rattle.hub_rules.specs.Verdicts.{Judged, Judges, Leads, Refused, Repeat, Same, Verdict, held_mark, newest_in}
-use Rattle.hub_rules.specs.Wanted.{Wanted, is_write, mark_number}
-use Rattle.hub_rules.specs.Written.{kept_mark, newest_after, outcome_of, published_after, state_after, with_kept}
+use Rattle.version_changes.proofs.Following.{KeepGrants-push, below}
+use Rattle.version_changes.specs.grants.Next.{IsNext}
+use Rattle.rest_paths.specs.Paths.{IsPath}
+use Rattle.hub_spec.proofs.Following.{run_push}
+use Rattle.hub_spec.proofs.Judging.{judged_led}
+use Rattle.hub_spec.proofs.Keeping.{may_hold}
+use Rattle.hub_spec.proofs.Versions.{newest_has, newest_is, some_version}
+use Rattle.hub_spec.specs.rules.Answers.{Answered, Answers, Entered, Written, write_of, write_result}
+use Rattle.hub_spec.specs.rules.Checks.{Entry, entry_of}
+use Rattle.hub_spec.specs.rules.Runs.{ActedOrNot, Acts, Fails, Replied, Steps, Take, WantsMemory}
+use Rattle.hub_spec.specs.rules.Verdicts.{Judged, Judges, Leads, Refused, Repeat, Same, Verdict, held_mark, newest_in}
+use Rattle.hub_spec.specs.rules.Wanted.{Wanted, is_write, mark_number}
+use Rattle.hub_spec.specs.rules.Written.{kept_mark, newest_after, outcome_of, published_after, state_after, with_kept}
 use Rattle.rest_provider.specs.Steps.{IsGranted}
 use Rattle.status_info.specs.declared.reply.Reply.{Reply}
 use Rattle.version_core.proofs.MarkLemmas.{AreMarks-later, AreMarks-with_mark}

@@ -2,3 +2,5 @@ pub mod GrantLemmas
 pub mod ReadLemmas
 pub mod StepLemmas
 pub mod WriteLemmas
+mod Dating
+pub mod Progressing

@@ -3,13 +3,13 @@ use Rattle.std.proofs.Common.{◌≡◌, ℕ, ℤ, Bool, true, false, List, Opti
 use Rattle.filter_grammar.specs.declared.query.Query.{Query}
 use Rattle.grant_scopes.specs.Opens.{opens}
 use Rattle.grant_scopes.specs.declared.grant.Grant.{Grant}
-use Rattle.hub_paths.specs.Paths.{PathParts as Path}
-use Rattle.hub_rules.specs.Answers.{Answered, Answers, Entered, either, sent}
-use Rattle.hub_rules.specs.Checks.{Entry, check, entry_of, grant_in, method_refused, query_or, refused, refused_at, version_at}
-use Rattle.hub_rules.specs.Reads.{contents_of, object_shown, read_at, read_result}
-use Rattle.hub_rules.specs.Wanted.{Wanted, access_of, allows, is_write}
-use Rattle.hub_views.specs.Lists.{is_single, kind_of_path, object_of}
-use Rattle.hub_views.specs.Seen.{seen}
+use Rattle.rest_paths.specs.Paths.{PathParts as Path}
+use Rattle.hub_spec.specs.rules.Answers.{Answered, Answers, Entered, either, sent}
+use Rattle.hub_spec.specs.rules.Checks.{Entry, check, entry_of, grant_in, method_refused, query_or, refused, refused_at, version_at}
+use Rattle.hub_spec.specs.rules.Reads.{contents_of, object_shown, read_at, read_result}
+use Rattle.hub_spec.specs.rules.Wanted.{Wanted, access_of, allows, is_write}
+use Rattle.hub_spec.specs.views.Lists.{is_single, kind_of_path, object_of}
+use Rattle.hub_spec.specs.views.Seen.{seen}
 use Rattle.rest_provider.specs.Replies.{entry, path_allowed, path_checked, query_read, read_in_turn}
 use Rattle.rest_provider.specs.Shown.{contents_shown}
 use Rattle.rest_provider.specs.declared.contents.Contents.{Contents}

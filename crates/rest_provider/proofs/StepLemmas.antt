@@ -1,12 +1,12 @@
 -- Replies as steps of a hub, at the states of which something is kept.
 use Rattle.std.proofs.Common.{◌≡◌, ◌⊎◌, false, inl, inr, ℤ, ◌-◌, List, [], ◌∷◌, get_or, refl, ap, sym, ◌∙◌, arith}
 use Rattle.hub_core.specs.Standing.{HeldHub, IsStanding}
-use Rattle.hub_requests.specs.Requests.{AnswersRequest, wanted_by}
-use Rattle.hub_rules.proofs.Versions.{newest_has, number_at, reads_kept}
-use Rattle.hub_rules.specs.Answers.{sent}
-use Rattle.hub_rules.specs.Checks.{refused}
-use Rattle.hub_rules.specs.Runs.{Acts, Fails, Replied, WantsMemory}
-use Rattle.hub_rules.specs.States.{ReadsAs}
+use Rattle.hub_spec.specs.requests.Requests.{AnswersRequest, wanted_by}
+use Rattle.hub_spec.proofs.Versions.{newest_has, number_at, reads_kept}
+use Rattle.hub_spec.specs.rules.Answers.{sent}
+use Rattle.hub_spec.specs.rules.Checks.{refused}
+use Rattle.hub_spec.specs.rules.Runs.{Acts, Fails, Replied, WantsMemory}
+use Rattle.hub_spec.specs.rules.States.{ReadsAs}
 use Rattle.keeper_memory.specs.Kept.{KeptState}
 use Rattle.keeper_memory.specs.Parts.{IsPartOf}
 use Rattle.rest_provider.specs.Replies.{IsReadOf, out_of_memory}

@@ -7,16 +7,16 @@ use Rattle.gradebook_core.specs.declared.written.Written.{Written}
 use Rattle.hub_core.specs.Steps.{CountsFault, RefusesNothing}
 use Rattle.hub_core.specs.declared.hub_error.HubError.{HubError}
 use Rattle.hub_core.specs.declared.hub_error.HubError.TheVariants as error
-use Rattle.hub_paths.specs.Paths.{IsPath, PathParts as Path}
-use Rattle.hub_requests.specs.Requests.{wanted_by}
-use Rattle.hub_rules.proofs.Keeping.{step_keeps}
-use Rattle.hub_rules.specs.Answers.{Answered, Answers, Entered, Written as WrittenAs, reply_to_write, sent, told, write_of, write_result}
-use Rattle.hub_rules.specs.Checks.{Entry, check, entry_of, grant_in, method_refused, refused}
-use Rattle.hub_rules.specs.Runs.{ActedOrNot, Acts, Fails, Replied, Steps, Take, WantsMemory}
-use Rattle.hub_rules.specs.States.{IsHub}
-use Rattle.hub_rules.specs.Verdicts.{Judges, Leads, Refused, Repeat, Same, Verdict}
-use Rattle.hub_rules.specs.Wanted.{Wanted, allows, is_write, mark_number, takes_writes}
-use Rattle.hub_rules.specs.Written.{done_of, newest_after, state_after}
+use Rattle.rest_paths.specs.Paths.{IsPath, PathParts as Path}
+use Rattle.hub_spec.specs.requests.Requests.{wanted_by}
+use Rattle.hub_spec.proofs.Keeping.{step_keeps}
+use Rattle.hub_spec.specs.rules.Answers.{Answered, Answers, Entered, Written as WrittenAs, reply_to_write, sent, told, write_of, write_result}
+use Rattle.hub_spec.specs.rules.Checks.{Entry, check, entry_of, grant_in, method_refused, refused}
+use Rattle.hub_spec.specs.rules.Runs.{ActedOrNot, Acts, Fails, Replied, Steps, Take, WantsMemory}
+use Rattle.hub_spec.specs.rules.States.{IsHub}
+use Rattle.hub_spec.specs.rules.Verdicts.{Judges, Leads, Refused, Repeat, Same, Verdict}
+use Rattle.hub_spec.specs.rules.Wanted.{Wanted, allows, is_write, mark_number, takes_writes}
+use Rattle.hub_spec.specs.rules.Written.{done_of, newest_after, state_after}
 use Rattle.keeper_memory.specs.Kept.{KeptState}
 use Rattle.keeper_memory.specs.Parts.{IsPartOf}
 use Rattle.rest_provider.proofs.ReadLemmas.{in_turn}

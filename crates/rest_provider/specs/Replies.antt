@@ -1,12 +1,12 @@
 -- The replies to reads, from a table that stands for a hub's state.
 use Rattle.std.specs.Prelude.{◌≡◌, ℕ, List, Some, Result, Ok}
-use Rattle.hub_paths.specs.Paths.{PathParts as Path}
-use Rattle.hub_rules.specs.Answers.{sent}
-use Rattle.hub_rules.specs.Checks.{Entry, check, grant_in, method_refused, refused, refused_at}
+use Rattle.rest_paths.specs.Paths.{PathParts as Path}
+use Rattle.hub_spec.specs.rules.Answers.{sent}
+use Rattle.hub_spec.specs.rules.Checks.{Entry, check, grant_in, method_refused, refused, refused_at}
 use Rattle.filter_grammar.specs.declared.query.Query.{Query}
-use Rattle.hub_rules.specs.Reads.{contents_of, read_result, shown}
-use Rattle.hub_rules.specs.States.{ReadsAs}
-use Rattle.hub_rules.specs.Wanted.{Wanted, allows, is_good_mark}
+use Rattle.hub_spec.specs.rules.Reads.{contents_of, read_result, shown}
+use Rattle.hub_spec.specs.rules.States.{ReadsAs}
+use Rattle.hub_spec.specs.rules.Wanted.{Wanted, allows, is_good_mark}
 use Rattle.roster_base.specs.Reading.{◌>>=◌}
 use Rattle.roster_texts.specs.Results.{found_or}
 use Rattle.roster_types.specs.Records.{Record}

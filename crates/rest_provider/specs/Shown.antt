@@ -1,5 +1,5 @@
 -- What a 200 has, as it is made.
-use Rattle.hub_rules.specs.Reads as reads
+use Rattle.hub_spec.specs.rules.Reads as reads
 use Rattle.rest_provider.specs.declared.contents.Contents.{Contents}
 
 abbrev pub contents_shown : Contents → reads.Contents

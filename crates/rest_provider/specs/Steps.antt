@@ -2,12 +2,12 @@
 use Rattle.std.specs.Prelude.{◌≡◌, ◌⊎◌, ◌+◌, ◌-◌, ◌^◌, ℕ, ℤ, min}
 use Rattle.hub_core.specs.declared.hub_error.HubError.{HubError}
 use Rattle.hub_core.specs.declared.hub_error.HubError.TheVariants as error
-use Rattle.hub_requests.specs.Requests.{wanted_by}
-use Rattle.hub_rules.specs.Answers.{sent}
-use Rattle.hub_rules.specs.Checks.{refused}
-use Rattle.hub_rules.specs.Runs.{Replied, Steps, Take}
-use Rattle.hub_rules.specs.States.{IsHub}
-use Rattle.hub_rules.specs.Wanted.{Wanted}
+use Rattle.hub_spec.specs.requests.Requests.{wanted_by}
+use Rattle.hub_spec.specs.rules.Answers.{sent}
+use Rattle.hub_spec.specs.rules.Checks.{refused}
+use Rattle.hub_spec.specs.rules.Runs.{Replied, Steps, Take}
+use Rattle.hub_spec.specs.rules.States.{IsHub}
+use Rattle.hub_spec.specs.rules.Wanted.{Wanted}
 use Rattle.keeper_memory.specs.Kept.{KeptState}
 use Rattle.keeper_memory.specs.Parts.{IsPartOf}
 use Rattle.status_info.specs.declared.cause.Cause.TheVariants as cause

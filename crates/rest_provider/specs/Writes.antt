@@ -1,13 +1,13 @@
 -- Writes, from a table that stands for a hub's state.
 use Rattle.std.specs.Prelude.{◌≡◌, ℕ, ℤ, None, Result, Ok, if◌then◌else◌}
 use Rattle.gradebook_core.specs.declared.written.Written.{Written}
-use Rattle.hub_paths.specs.Paths.{PathParts as Path}
-use Rattle.hub_requests.specs.Requests.{wanted_by}
-use Rattle.hub_rules.specs.Answers.{sent, told, write_of, write_result}
-use Rattle.hub_rules.specs.Checks.{grant_in, refused}
-use Rattle.hub_rules.specs.Runs.{Replied, Steps, Take}
-use Rattle.hub_rules.specs.States.{IsHub}
-use Rattle.hub_rules.specs.Wanted.{Wanted, mark_number}
+use Rattle.rest_paths.specs.Paths.{PathParts as Path}
+use Rattle.hub_spec.specs.requests.Requests.{wanted_by}
+use Rattle.hub_spec.specs.rules.Answers.{sent, told, write_of, write_result}
+use Rattle.hub_spec.specs.rules.Checks.{grant_in, refused}
+use Rattle.hub_spec.specs.rules.Runs.{Replied, Steps, Take}
+use Rattle.hub_spec.specs.rules.States.{IsHub}
+use Rattle.hub_spec.specs.rules.Wanted.{Wanted, mark_number}
 use Rattle.keeper_memory.specs.Kept.{KeptState}
 use Rattle.keeper_memory.specs.Parts.{IsPartOf}
 use Rattle.rest_provider.specs.Steps.{IsGranted}

@@ -2,8 +2,8 @@
 
 ghost use Rattle.std.specs.Prelude.{◌≡◌, ℕ, false, true};
 ghost use Rattle.hub_core.specs.Standing.{IsStanding, KeeperFits};
-ghost use Rattle.hub_requests.specs.Requests.{wanted_by};
-ghost use Rattle.hub_rules.specs.Wanted.{is_write};
+ghost use Rattle.hub_spec.specs.requests.Requests.{wanted_by};
+ghost use Rattle.hub_spec.specs.rules.Wanted.{is_write};
 ghost use Rattle.keeper_memory.specs.Kept.{KeptState};
 ghost use Rattle.rest_provider.specs.Steps.{CountsFailed, TakesRequest, error_reply};
 
@@ -11,8 +11,8 @@ use crate::reads::{answer_read, sent};
 use crate::refusals::refused;
 use crate::writes::answer_write;
 use hub_core::{Hub, HubError};
-use hub_paths::PathRouter;
 use keeper_memory::HubKeeper;
+use rest_paths::PathRouter;
 use roster_texts::Moment;
 use status_info::{Cause, Reply, Request, Verb};
 use std::alloc::Global;

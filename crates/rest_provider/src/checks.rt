@@ -1,10 +1,10 @@
 //! The checks that a read meets on its way.
 
 ghost use Rattle.std.specs.Prelude.{◌≡◌, ◌≤◌, true, ◌&&◌, not, nat_lt, if◌then◌else◌, IfOk, Ok, Err, Some};
-ghost use Rattle.hub_requests.specs.Requests.{wanted_by};
-ghost use Rattle.hub_rules.specs.Checks as spec;
-ghost use Rattle.hub_rules.specs.Verdicts.{newest_in};
-ghost use Rattle.hub_rules.specs.Wanted.{access_of, allows, is_good_mark};
+ghost use Rattle.hub_spec.specs.requests.Requests.{wanted_by};
+ghost use Rattle.hub_spec.specs.rules.Checks as spec;
+ghost use Rattle.hub_spec.specs.rules.Verdicts.{newest_in};
+ghost use Rattle.hub_spec.specs.rules.Wanted.{access_of, allows, is_good_mark};
 ghost use Rattle.rest_provider.specs.Replies.{IsReadOf, path_checked, pin_reply};
 ghost use Rattle.roster_base.specs.Reading.{Gives};
 ghost use Rattle.roster_texts.specs.Results.{found_or};
@@ -16,7 +16,7 @@ ghost use Rattle.version_core.specs.declared.grant_row.GrantRow.{GrantRow};
 use crate::refusals::{Stop, method_refused, pin_refused, refused, takes_writes};
 use filter_grammar::pin_of;
 use grant_scopes::{Access, Grant};
-use hub_paths::{Path, PathRouter};
+use rest_paths::{Path, PathRouter};
 use roster_base::Refusal;
 use roster_texts::Name;
 use status_info::{Cause, MarkField, Request, Verb};

@@ -1,15 +1,15 @@
 //! What a 200 has, beside what every reply has.
 
 ghost use Rattle.std.specs.Prelude.{◌≡◌, true, ℕ, IfOk, option_map};
-ghost use Rattle.hub_rules.specs.Reads.{contents_of, object_shown, page_shown};
-ghost use Rattle.hub_views.specs.Lists.{is_single};
+ghost use Rattle.hub_spec.specs.rules.Reads.{contents_of, object_shown, page_shown};
+ghost use Rattle.hub_spec.specs.views.Lists.{is_single};
 ghost use Rattle.rest_provider.specs.Shown.{contents_shown};
 ghost use Rattle.roster_values.specs.declared.kind.Kind as kinds;
 
 use filter_grammar::Query;
-use hub_paths::Path;
-use hub_views::Page;
+use hub_spec::Page;
 use query_pages::one;
+use rest_paths::Path;
 use roster_base::{Items, NoMemory, Text};
 use roster_types::row::Row;
 use roster_values::Kind;

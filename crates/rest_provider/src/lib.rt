@@ -1,13 +1,22 @@
-//! The hub's answers to requests.
+//! The hub's answers to requests, and streams of requests, served by a hub over its keeper.
 #![tactic(auto)]
 
 pub mod answering;
 mod checks;
 mod contents;
+pub mod moment;
 mod reading;
 pub mod reads;
 mod refusals;
+pub mod request_fault;
+pub mod serving;
+pub mod stream_end;
+mod turn;
 mod writes;
 
 pub use answering::answer;
+pub use moment::moment_of;
 pub use reads::answer_read;
+pub use request_fault::RequestFault;
+pub use serving::serve_stream;
+pub use stream_end::StreamEnd;

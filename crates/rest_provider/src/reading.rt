@@ -2,14 +2,14 @@
 
 ghost use Rattle.std.specs.Prelude.{◌≡◌, ◌≤◌, true, false, IfOk, Ok, Err, Some, option_map};
 ghost use Rattle.filter_grammar.specs.Queries.{query_of};
-ghost use Rattle.hub_requests.specs.Requests.{query_or_cause, wanted_by};
-ghost use Rattle.hub_rules.specs.Answers.{write_result};
-ghost use Rattle.hub_rules.specs.Checks as spec;
-ghost use Rattle.hub_rules.specs.Reads as reads;
-ghost use Rattle.hub_rules.specs.Wanted.{access_of, is_good_mark};
+ghost use Rattle.hub_spec.specs.requests.Requests.{query_or_cause, wanted_by};
+ghost use Rattle.hub_spec.specs.rules.Answers.{write_result};
+ghost use Rattle.hub_spec.specs.rules.Checks as spec;
+ghost use Rattle.hub_spec.specs.rules.Reads as reads;
+ghost use Rattle.hub_spec.specs.rules.Wanted.{access_of, is_good_mark};
 ghost use Rattle.grant_scopes.specs.Opens as opening;
-ghost use Rattle.hub_views.specs.Lists.{is_single, kind_of_path};
-ghost use Rattle.hub_views.specs.Seen.{seen};
+ghost use Rattle.hub_spec.specs.views.Lists.{is_single, kind_of_path};
+ghost use Rattle.hub_spec.specs.views.Seen.{seen};
 ghost use Rattle.rest_provider.specs.Replies.{entry, query_read};
 ghost use Rattle.rest_provider.specs.Shown.{contents_shown};
 ghost use Rattle.roster_base.specs.Reading.{Gives};
@@ -25,11 +25,10 @@ use crate::contents::{Contents, one_contents, page_contents};
 use crate::refusals::{Stop, refused_at};
 use filter_grammar::{Query, read_query};
 use grant_scopes::{Grant, opens};
-use hub_paths::{Path, Route};
-use query_pages::version_page;
+use query_pages::{SeenRows, version_page};
+use rest_paths::{Path, Route};
 use roster_base::{NoMemory, Refusal};
 use roster_values::Kind;
-use seen_rows::SeenRows;
 use status_info::{Cause, Reply, Request};
 use std::alloc::Global;
 use version_core::view::VersionView;
@@ -201,7 +200,7 @@ impl<'a> Reading<'a> {
     }
 
     /// The reply that answers the read of the version, or the first check that it fails: scope, query, mark, object.
-    #[tactic(auto, unfolding(hub_rules::specs::Reads::read_at))]
+    #[tactic(auto, unfolding(hub_spec::specs::rules::Reads::read_at))]
     pub fn answer(self, alloc: Global, view: &VersionView<'_>) -> Result<Reply, Stop>
         ensures { (state : HubState) (by : GrantRow) → spec.version_at state self.entry.version ≡ view.now → by.grant ≡ self.entry.grant.now
             → (wanted_by self.entry.request.now).path ≡ Some self.entry.path.now

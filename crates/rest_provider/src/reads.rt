@@ -1,11 +1,11 @@
 //! Answers to reads.
 
 ghost use Rattle.std.specs.Prelude.{◌≡◌, ◌⊎◌, false, Result, Some, ℤ};
-ghost use Rattle.hub_requests.specs.Requests.{AnswersRequest, wanted_by};
-ghost use Rattle.hub_rules.specs.Answers.{either, sent};
-ghost use Rattle.hub_rules.specs.Checks as spec;
-ghost use Rattle.hub_rules.specs.Reads.{read_result};
-ghost use Rattle.hub_rules.specs.Wanted.{is_head, is_write};
+ghost use Rattle.hub_spec.specs.requests.Requests.{AnswersRequest, wanted_by};
+ghost use Rattle.hub_spec.specs.rules.Answers.{either, sent};
+ghost use Rattle.hub_spec.specs.rules.Checks as spec;
+ghost use Rattle.hub_spec.specs.rules.Reads.{read_result};
+ghost use Rattle.hub_spec.specs.rules.Wanted.{is_head, is_write};
 ghost use Rattle.rest_provider.specs.Replies.{IsReadOf, entry, out_of_memory, read_by_token, read_in_turn};
 ghost use Rattle.roster_base.specs.Reading.{Gives};
 ghost use Rattle.status_info.specs.declared.cause.Cause.TheVariants as cause;
@@ -17,7 +17,7 @@ use crate::checks::{caller_of, path_of, version_read};
 use crate::reading::Reading;
 use crate::refusals::{Stop, refused};
 use grant_scopes::Grant;
-use hub_paths::{Path, PathRouter};
+use rest_paths::{Path, PathRouter};
 use roster_base::Refusal;
 use status_info::{Cause, Reply, Request, Verb};
 use std::alloc::Global;

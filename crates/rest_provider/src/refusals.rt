@@ -1,14 +1,14 @@
 //! Replies that refuse a request.
 
 ghost use Rattle.std.specs.Prelude.{◌≡◌};
-ghost use Rattle.hub_requests.specs.Requests.{wanted_by};
+ghost use Rattle.hub_spec.specs.requests.Requests.{wanted_by};
 ghost use Rattle.std.specs.List.{list_any};
 ghost use Rattle.grant_scopes.specs.Opens.{gradebook_kinds, is_kind};
-ghost use Rattle.hub_rules.specs.Checks as spec;
-ghost use Rattle.hub_rules.specs.Wanted.{takes_writes};
+ghost use Rattle.hub_spec.specs.rules.Checks as spec;
+ghost use Rattle.hub_spec.specs.rules.Wanted.{takes_writes};
 ghost use Rattle.rest_provider.specs.Replies.{pin_reply};
 
-use hub_paths::{Collection, Path, Route};
+use rest_paths::{Collection, Path, Route};
 use roster_base::Refusal;
 use roster_values::Kind;
 use status_info::{Cause, Reply, Request};

@@ -4,16 +4,16 @@ use crate::grants::{grant_of, id_of};
 use csv_sets::read_set;
 use grant_scopes::Grant;
 use outside_ports::MemFolder;
+use query_pages::{SeenRows, sees};
 use roster_base::Refusal;
 use roster_texts::{Moment, Name};
 use roster_types::rows::Rows;
 use roster_types::set::RosterSet;
 use roster_values::Kind;
-use seen_rows::{SeenRows, sees};
-use set_changes::publish::set_change;
 use std::alloc::Global;
 use std::process::Abort;
 use std::test::Fail;
+use version_changes::set_change;
 use version_core::references::Refs;
 use version_core::table::Table;
 

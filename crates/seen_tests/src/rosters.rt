@@ -2,13 +2,13 @@
 
 use crate::grants::{grant_of, id_of};
 use grant_scopes::Grant;
+use query_pages::sees;
 use roster_tests::samples::row_of;
 use roster_texts::Name;
 use roster_types::metadata::Metadata;
 use roster_types::owner::Owner;
 use roster_types::row::Row;
 use roster_values::Kind;
-use seen_rows::sees;
 use std::alloc::Global;
 use std::process::Abort;
 use std::test::Fail;

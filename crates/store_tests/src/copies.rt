@@ -2,7 +2,7 @@
 
 use crate::kept::empty;
 use crate::steps::{Reply, Step, Turn, step_in, turn_told};
-use copy_keeper::MemCopy;
+use keeper_memory::MemCopy;
 use roster_base::NoMemory;
 use std::alloc::Global;
 use std::process::Abort;

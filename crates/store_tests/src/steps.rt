@@ -1,13 +1,10 @@
 //! Steps over a store: words over a hub, and words over a consumer's copy with the replies to their exchanges, which are given beforehand.
 
 use crate::words::{printed, told};
-use copy_keeper::CopyKeeper;
-use item_laws::opened;
-use keeper_copies::ItemCopy;
-use keeper_items::{ItemHub, StoredItems};
-use keeper_memory::MemHub;
-use keeper_sqlite::SqlItems;
-use peer_links::PeerLink;
+use exchange_link::PeerLink;
+use item_tests::opened;
+use keeper_memory::{CopyKeeper, MemHub};
+use keeper_sqlite::{ItemCopy, ItemHub, SqlItems, StoredItems};
 use roster_base::NoMemory;
 use sqlite::{Connection, FileStore, Files, Options};
 use sqlite_disk::Disk;

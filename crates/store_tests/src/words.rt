@@ -1,10 +1,9 @@
 //! Words that are run over a keeper, and the files that they name.
 
 use crate::tables::push_keeper;
-use copy_keeper::{CopyKeeper, MemCopy};
-use keeper_memory::HubKeeper;
+use exchange_link::PeerLink;
+use keeper_memory::{CopyKeeper, HubKeeper, MemCopy};
 use outside_ports::{FixedClock, MemFolder, MemSink};
-use peer_links::PeerLink;
 use real_run::run_hub;
 use roster_base::NoMemory;
 use std::alloc::Global;

@@ -7,11 +7,11 @@ use Rattle.http_wire.specs.Answers.{IsReplyText}
 use Rattle.http_wire.specs.Seen.{seen_of}
 use Rattle.http_wire.specs.Sending.{CanSend}
 use Rattle.hub_replies.proofs.ReplyLemmas.{step_readable}
-use Rattle.hub_requests.specs.Requests.{wanted_by}
-use Rattle.hub_rules.proofs.Growing.{Grew-refl}
-use Rattle.hub_rules.specs.Growth.{Grew}
-use Rattle.hub_rules.specs.Runs.{Replied, Steps, Take}
-use Rattle.hub_rules.specs.States.{IsHub}
+use Rattle.hub_spec.specs.requests.Requests.{wanted_by}
+use Rattle.hub_spec.proofs.Growing.{Grew-refl}
+use Rattle.hub_spec.specs.rules.Growth.{Grew}
+use Rattle.hub_spec.specs.rules.Runs.{Replied, Steps, Take}
+use Rattle.hub_spec.specs.rules.States.{IsHub}
 use Rattle.outside_ports.specs.declared.failed.IoError.{IoError}
 use Rattle.outside_ports.specs.declared.failed.IoError.TheVariants as io_error
 use Rattle.rest_provider.specs.Steps.{CountsFailed}

@@ -2,7 +2,7 @@
 use Rattle.std.proofs.Common.{List, [], ◌∷◌}
 use Rattle.std.specs.List.{AllByRecursion}
 use Rattle.std.specs.declared.cmp.Ordering.TheVariants.{Less, Equal, Greater}
-use Rattle.hub_rules.specs.States.{HoldsRows}
+use Rattle.hub_spec.specs.rules.States.{HoldsRows}
 use Rattle.roster_types.specs.Keys.{key_cmp}
 use Rattle.version_core.specs.Changes.{change_key}
 use Rattle.version_core.specs.Order.{by_order, overlaid, put}

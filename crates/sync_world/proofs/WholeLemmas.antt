@@ -8,13 +8,13 @@ use Rattle.std.specs.Prelude.{nat_lt}
 use Rattle.hub_core.specs.Errors.{error_of_keeper}
 use Rattle.hub_core.specs.Standing.{HeldHub, IsStanding, KeeperFits}
 use Rattle.hub_core.specs.declared.hub_error.HubError.{HubError}
-use Rattle.hub_requests.specs.Requests.{wanted_by}
-use Rattle.hub_rules.proofs.Growing.{step_goes}
-use Rattle.hub_rules.proofs.Versions.{some_version}
-use Rattle.hub_rules.specs.Growth.{Grew}
-use Rattle.hub_rules.specs.Runs.{Fails, Replied, Steps, Take, WantsMemory}
-use Rattle.hub_rules.specs.States.{HoldsRows, IsHub}
-use Rattle.hub_rules.specs.Wanted.{is_write}
+use Rattle.hub_spec.specs.requests.Requests.{wanted_by}
+use Rattle.hub_spec.proofs.Growing.{step_goes}
+use Rattle.hub_spec.proofs.Versions.{some_version}
+use Rattle.hub_spec.specs.rules.Growth.{Grew}
+use Rattle.hub_spec.specs.rules.Runs.{Fails, Replied, Steps, Take, WantsMemory}
+use Rattle.hub_spec.specs.rules.States.{HoldsRows, IsHub}
+use Rattle.hub_spec.specs.rules.Wanted.{is_write}
 use Rattle.keeper_memory.specs.Kept.{KeptState, kept_by, oldest_kept}
 use Rattle.keeper_memory.specs.Parts.{IsPartOf}
 use Rattle.rest_provider.proofs.StepLemmas.{read_of}

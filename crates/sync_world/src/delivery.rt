@@ -3,7 +3,7 @@
 ghost use Rattle.std.specs.Prelude.{◌≡◌, ◌⊎◌, ◌≤◌, ◌<◌, ◌++◌, ◌∷◌, [], List, IfOk, IsErr, IsTrue, Err, vec_capacity, vec_len};
 ghost use Rattle.exchange_link.specs.Exchanges.{IsOwn, IsSentText, IsTextOf};
 ghost use Rattle.http_wire.specs.Sending.{CanSend};
-ghost use Rattle.hub_rules.specs.Growth.{Grew};
+ghost use Rattle.hub_spec.specs.rules.Growth.{Grew};
 ghost use Rattle.outside_ports.specs.declared.failed.IoError.TheVariants as io_error;
 ghost use Rattle.status_info.specs.declared.request.Request.{Request as Asked};
 ghost use Rattle.sync_world.specs.Links.{told_world};

@@ -1,7 +1,7 @@
 //! Rows, read for what each of them keeps.
 
 ghost use Rattle.std.specs.List.{AllByRecursion};
-ghost use Rattle.hub_rules.specs.States.{HoldsRows};
+ghost use Rattle.hub_spec.specs.rules.States.{HoldsRows};
 ghost use Rattle.version_core.specs.Version.{versions_from};
 ghost use Rattle.sync_world.specs.Rows.{AreRows, BringRows};
 

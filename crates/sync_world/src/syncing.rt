@@ -1,8 +1,8 @@
 //! The synchronisation over a world.
 
 ghost use Rattle.std.specs.Prelude.{◌≡◌, ◌≢◌, ℕ, ◌+◌, ◌<◌, ◌≤◌, Some};
-ghost use Rattle.copy_keeper.specs.HeldCopy.{empty_copy};
-ghost use Rattle.copy_keeper.specs.States.{stage_of};
+ghost use Rattle.keeper_memory.specs.copy.HeldCopy.{empty_copy};
+ghost use Rattle.keeper_memory.specs.copy.States.{stage_of};
 ghost use Rattle.exchange_link.specs.Agreement.{StageAgrees};
 ghost use Rattle.exchange_link.specs.Bounds.{Bounded, IsCallPin};
 ghost use Rattle.exchange_link.specs.Causes.{ToldCause};
@@ -15,8 +15,8 @@ ghost use Rattle.version_core.specs.HubStates.{HubState};
 
 use crate::world_link::WorldLink;
 use consumer_sync::sync;
-use copy_keeper::{CopyKeeper, LAST, MemCopy};
 use exchange_link::{Link, SyncAnswer};
+use keeper_memory::{CopyKeeper, LAST, MemCopy};
 use roster_texts::Token;
 use std::alloc::Global;
 

@@ -1,10 +1,10 @@
 //! A hub over its keeper in memory.
 
 ghost use Rattle.std.specs.Prelude.{◌≡◌, ℕ, [], IfOk, OnOk, false, true};
-ghost use Rattle.hub_requests.specs.Requests.{wanted_by};
-ghost use Rattle.hub_rules.specs.Runs.{Replied, Steps, Take};
-ghost use Rattle.hub_rules.specs.States.{IsHub};
-ghost use Rattle.hub_rules.specs.Wanted.{is_write};
+ghost use Rattle.hub_spec.specs.requests.Requests.{wanted_by};
+ghost use Rattle.hub_spec.specs.rules.Runs.{Replied, Steps, Take};
+ghost use Rattle.hub_spec.specs.rules.States.{IsHub};
+ghost use Rattle.hub_spec.specs.rules.Wanted.{is_write};
 ghost use Rattle.keeper_memory.specs.Kept.{oldest_kept};
 ghost use Rattle.keeper_memory.specs.Parts.{IsPartOf};
 ghost use Rattle.rest_provider.specs.Steps.{CountsFailed};
@@ -14,8 +14,8 @@ ghost use Rattle.hub_core.specs.Steps.{CountsFault};
 use crate::gone::hold_oldest;
 use crate::rows::read_tables;
 use hub_core::{Hub, HubError};
-use hub_paths::PathRouter;
 use keeper_memory::{HubKeeper, MemHub};
+use rest_paths::PathRouter;
 use rest_provider::answer;
 use rest_provider::answering::failing;
 use roster_base::KeeperError;

@@ -2,7 +2,7 @@
 
 ghost use Rattle.std.specs.Prelude.{◌≡◌, ◌⊎◌, ◌≤◌, ℕ, ◌+◌, ◌-◌, ◌^◌, [], min, IfOk, IsErr, IsTrue, OnErr, OnOk, Err};
 ghost use Rattle.exchange_link.specs.Exchanges.{Carries, Exchanged, IsSentText, IsTextOf, Misses, Told};
-ghost use Rattle.hub_rules.specs.States.{IsHub};
+ghost use Rattle.hub_spec.specs.rules.States.{IsHub};
 ghost use Rattle.keeper_memory.specs.Failures.{is_among, one_more};
 ghost use Rattle.keeper_memory.specs.Kept.{oldest_kept};
 ghost use Rattle.keeper_memory.specs.Parts.{IsPartOf};
@@ -15,11 +15,10 @@ ghost use Rattle.sync_world.specs.Worlds.{all_of};
 
 use crate::delivery::{Losses, deliver};
 use crate::world::World;
-use exchange_link::Link;
+use exchange_link::{Link, Tally};
 use hub_core::HubError;
 use keeper_memory::MemHub;
 use outside_ports::IoError;
-use peer_links::Tally;
 use roster_texts::Moment;
 use status_info::Request;
 use std::alloc::Global;
@@ -132,7 +131,7 @@ impl WorldLink {
 }
 
 impl Link for WorldLink {
-    ghost use Rattle.hub_rules.specs.States.{IsHub};
+    ghost use Rattle.hub_spec.specs.rules.States.{IsHub};
     ghost use Rattle.std.specs.Prelude.{◌≡◌};
     ghost use Rattle.sync_world.specs.Links.{told_by};
 

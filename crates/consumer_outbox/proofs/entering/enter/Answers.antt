@@ -1,6 +1,6 @@
 use Rattle.std.proofs.Common.{◌+◌, ap}
 use Rattle.std.specs.Prelude.{Ok, Err}
-use Rattle.copy_keeper.specs.declared.state.CopyState.{CopyState}
+use Rattle.keeper_memory.specs.declared.copy.state.CopyState.{CopyState}
 use Rattle.consumer_outbox.proofs.CallLemmas.{commits_agree}
 use Rattle.consumer_outbox.proofs.entering.enter.Goals as goal
 

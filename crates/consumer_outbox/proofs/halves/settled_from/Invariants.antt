@@ -1,5 +1,5 @@
 use Rattle.std.proofs.Common.{◌-◌, ◌≤◌}
-use Rattle.copy_keeper.specs.Copies.{Copy}
+use Rattle.keeper_memory.specs.copy.Copies.{Copy}
 use Rattle.consumer_outbox.specs.Sends.{SettledTo}
 use Rattle.consumer_outbox.proofs.halves.settled_from.Given as goal
 

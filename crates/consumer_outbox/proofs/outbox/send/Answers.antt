@@ -1,5 +1,5 @@
 use Rattle.std.proofs.Common.{arith, sym, subst}
-use Rattle.copy_keeper.specs.Copies.{Copy}
+use Rattle.keeper_memory.specs.copy.Copies.{Copy}
 use Rattle.exchange_link.specs.Exchanges.{Told}
 use Rattle.exchange_link.specs.SendCauses.{SendLastLaw}
 use Rattle.exchange_link.specs.SendCompleteness.{IsFine}

@@ -1,9 +1,9 @@
 use Rattle.std.proofs.Common.{sym, subst, IsUtf8}
 use Rattle.status_info.specs.declared.request.Request.{Request}
 use Rattle.http_wire.specs.Sending.{CanSend}
-use Rattle.marked_writes.specs.Marked.{mark_of, marked_by}
+use Rattle.hub_spec.specs.marks.Marked.{mark_of, marked_by}
 use Rattle.std.proofs.Common.{◌≡◌, Some}
-use Rattle.tried_requests.specs.Requests.{numbered}
+use Rattle.exchange_link.specs.Requests.{numbered}
 use Rattle.consumer_outbox.proofs.RequestLemmas.{ok_map, request_can, request_marked}
 use Rattle.consumer_outbox.proofs.request.request_for.Goals as goal
 

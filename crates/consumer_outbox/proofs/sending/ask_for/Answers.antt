@@ -1,9 +1,9 @@
 use Rattle.std.proofs.Common.{ap, subst, ◌∙◌}
-use Rattle.marked_writes.specs.Marked.{marked_by}
+use Rattle.hub_spec.specs.marks.Marked.{marked_by}
 use Rattle.status_info.specs.declared.request.Request.{Request}
-use Rattle.tried_requests.proofs.AskLemmas.{asks_refl, asks_weaker}
-use Rattle.tried_requests.specs.Owning.{IsOwnRead}
-use Rattle.tried_requests.specs.Requests.{IfOwn, IsNumbered, number, numbered}
+use Rattle.exchange_link.proofs.AskLemmas.{asks_refl, asks_weaker}
+use Rattle.exchange_link.specs.Owning.{IsOwnRead}
+use Rattle.exchange_link.specs.Requests.{IfOwn, IsNumbered, number, numbered}
 use Rattle.consumer_outbox.specs.Sends.{Carries}
 use Rattle.consumer_outbox.proofs.sending.ask_for.Goals as goal
 

@@ -1,7 +1,7 @@
 use Rattle.std.proofs.Common.{arith, sym, subst, ◌∙◌}
 use Rattle.std.specs.Prelude.{IfSome, Option}
-use Rattle.copy_keeper.specs.States.{CanBeEntry}
-use Rattle.copy_keeper.specs.declared.entry.OutEntry.{OutEntry}
+use Rattle.keeper_memory.specs.copy.States.{CanBeEntry}
+use Rattle.keeper_memory.specs.declared.copy.entry.OutEntry.{OutEntry}
 use Rattle.consumer_outbox.proofs.WalkLemmas.{walk_ends, walk_finds, walk_goes, walk_over}
 use Rattle.consumer_outbox.proofs.sending.next_unsettled.Goals as goal
 

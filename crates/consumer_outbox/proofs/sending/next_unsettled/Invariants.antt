@@ -1,6 +1,6 @@
 use Rattle.std.proofs.Common.{◌-◌, ◌≤◌}
-use Rattle.copy_keeper.specs.Copies.{Copy}
-use Rattle.copy_keeper.specs.declared.state.TheConstants.{LAST}
+use Rattle.keeper_memory.specs.copy.Copies.{Copy}
+use Rattle.keeper_memory.specs.declared.copy.state.TheConstants.{LAST}
 use Rattle.consumer_outbox.specs.Sends.{SettledTo}
 use Rattle.consumer_outbox.proofs.sending.next_unsettled.Given as goal
 

@@ -1,10 +1,10 @@
 use Rattle.std.proofs.Common.{◌≡◌, ◌+◌, inl, inr, refl, subst, ◌∙◌, Some, None, arith}
 use Rattle.std.specs.Prelude.{IfSome, Option}
-use Rattle.copy_keeper.specs.Copies.{Copy, first_unsettled}
-use Rattle.copy_keeper.specs.States.{CanBeEntry}
-use Rattle.copy_keeper.specs.declared.entry.OutEntry.{OutEntry}
+use Rattle.keeper_memory.specs.copy.Copies.{Copy, first_unsettled}
+use Rattle.keeper_memory.specs.copy.States.{CanBeEntry}
+use Rattle.keeper_memory.specs.declared.copy.entry.OutEntry.{OutEntry}
 use Rattle.exchange_link.specs.Exchanges.{Told}
-use Rattle.tried_requests.proofs.AskLemmas.{moved_on, moved_refl}
+use Rattle.exchange_link.proofs.AskLemmas.{moved_on, moved_refl}
 use Rattle.consumer_outbox.proofs.AllLemmas.{aside_cause, aside_fine, aside_names, aside_settled, aside_stays, aside_told, bound_at, bound_next, can_send, cause_more, end_names, end_not_last, entry_left, goes_end, goes_on, goes_to, more_none, more_to, rose_from, so_far_none, told_on}
 use Rattle.consumer_outbox.proofs.VerdictLemmas.{settled_exact}
 use Rattle.consumer_outbox.proofs.WalkLemmas.{walk_begins, walk_over}

@@ -1,10 +1,10 @@
 use Rattle.std.proofs.Common.{◌-◌, ◌*◌, ◌≤◌}
-use Rattle.copy_keeper.specs.Copies.{Copy}
-use Rattle.copy_keeper.specs.declared.state.TheConstants.{LAST}
+use Rattle.keeper_memory.specs.copy.Copies.{Copy}
+use Rattle.keeper_memory.specs.declared.copy.state.TheConstants.{LAST}
 use Rattle.exchange_link.specs.Causes.{IsMore, IsOwnReply}
 use Rattle.exchange_link.specs.Exchanges.{Told}
 use Rattle.http_wire.specs.declared.answer.WireReply.{WireReply}
-use Rattle.tried_requests.specs.Requests.{Moved}
+use Rattle.exchange_link.specs.Requests.{Moved}
 use Rattle.consumer_outbox.specs.Sends.{Ready, SettledTo, SoFar}
 use Rattle.consumer_outbox.specs.Verdicts.{Settled}
 use Rattle.consumer_outbox.proofs.sending.send_all.Given as goal

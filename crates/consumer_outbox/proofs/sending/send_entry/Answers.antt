@@ -1,13 +1,13 @@
 use Rattle.std.proofs.Common.{◌≡◌, refl, subst}
 use Rattle.std.specs.Prelude.{is_none}
-use Rattle.copy_keeper.specs.declared.entry.OutEntry.{OutEntry}
-use Rattle.hub_rules.proofs.Below.{found_passes}
+use Rattle.keeper_memory.specs.declared.copy.entry.OutEntry.{OutEntry}
+use Rattle.hub_spec.proofs.Below.{found_passes}
 use Rattle.http_wire.proofs.AnswerLemmas.{one_answer}
 use Rattle.http_wire.specs.declared.answer.WireReply.{WireReply}
-use Rattle.marked_writes.specs.Marked.{mark_of}
+use Rattle.hub_spec.specs.marks.Marked.{mark_of}
 use Rattle.status_info.specs.declared.request.Request.{Request}
-use Rattle.tried_requests.proofs.AskLemmas.{own_other}
-use Rattle.tried_requests.specs.Requests.{number, numbered}
+use Rattle.exchange_link.proofs.AskLemmas.{own_other}
+use Rattle.exchange_link.specs.Requests.{number, numbered}
 use Rattle.consumer_outbox.specs.Sends.{ExactIf, request_of}
 use Rattle.consumer_outbox.proofs.OwnLemmas.{ready_asked, ready_taken, said_of, taken_fine, taken_told}
 use Rattle.consumer_outbox.proofs.StepLemmas.{carries_first, stays_first, takes_goes}

@@ -1,8 +1,8 @@
 use Rattle.std.proofs.Common.{arith, ◌≡◌, ◌<◌, ◌≤◌, refl, sym, subst, Some, ◌∙◌, ap, ⊎_elim, inl, inr}
 use Rattle.std.specs.Prelude.{Option}
-use Rattle.copy_keeper.specs.Lists.{kind_count}
-use Rattle.copy_keeper.specs.States.{stage_of}
-use Rattle.copy_keeper.specs.declared.state.StageState.{StageState}
+use Rattle.keeper_memory.specs.copy.Lists.{kind_count}
+use Rattle.keeper_memory.specs.copy.States.{stage_of}
+use Rattle.keeper_memory.specs.declared.copy.state.StageState.{StageState}
 use Rattle.exchange_link.specs.Bounds.{HasPin}
 use Rattle.exchange_link.specs.Causes.{IsPageStatus}
 use Rattle.exchange_link.specs.Places.{kind_at, kinds_of, staged_of}
@@ -14,7 +14,7 @@ use Rattle.consumer_sync.specs.Filling.{BoundSoFar, HasToken, IsCallPinIf, IsDon
 use Rattle.consumer_sync.specs.Judging.{judged}
 use Rattle.consumer_sync.specs.Staging.{IsBroken, answer_of}
 use Rattle.consumer_sync.proofs.AgreeLemmas.{agrees_if_on, own_page, performs_agrees, said_of}
-use Rattle.tried_requests.proofs.AskLemmas.{asks_trans, missed_other, own_other}
+use Rattle.exchange_link.proofs.AskLemmas.{asks_trans, missed_other, own_other}
 use Rattle.consumer_sync.proofs.BoundLemmas.{StandingIf, bound_done, bound_end, bound_on, call_pin, pin_performs, pin_same, standing_if}
 use Rattle.consumer_sync.proofs.CauseLemmas.{answer_cause, broken_cause, exact_own, page_status, performs_on}
 use Rattle.consumer_sync.proofs.DoneLemmas.{broken_told, own_done, own_told}
@@ -22,7 +22,7 @@ use Rattle.consumer_sync.proofs.FaultLemmas.{says_gone}
 use Rattle.consumer_sync.proofs.FillLemmas.{can_next, ends_on, fault_stage, fills_end, fills_on, kinds_on, pin_on, small_fits, small_on, token_on, weight_falls}
 use Rattle.consumer_sync.proofs.JudgeLemmas.{taken_page}
 use Rattle.consumer_sync.proofs.SyncLemmas.{cause_end}
-use Rattle.tried_requests.proofs.TextLemmas.{version_low}
+use Rattle.exchange_link.proofs.TextLemmas.{version_low}
 use Rattle.consumer_sync.proofs.fill.fill.Goals as goal
 
 pub returns-in-NoReply-clause-holds : goal.returns-in-NoReply-clause-holds

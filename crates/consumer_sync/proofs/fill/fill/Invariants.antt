@@ -1,16 +1,16 @@
 use Rattle.std.proofs.Common.{◌≡◌, ◌+◌, ◌*◌, ◌≤◌}
-use Rattle.copy_keeper.specs.Copies.{Copy}
-use Rattle.copy_keeper.specs.Lists.{kind_count}
-use Rattle.copy_keeper.specs.States.{stage_of}
+use Rattle.keeper_memory.specs.copy.Copies.{Copy}
+use Rattle.keeper_memory.specs.copy.Lists.{kind_count}
+use Rattle.keeper_memory.specs.copy.States.{stage_of}
 use Rattle.exchange_link.specs.Agreement.{StageFitsIf}
 use Rattle.exchange_link.specs.Causes.{IsLast, IsMore, IsOwnReply, IsPageStatus}
 use Rattle.exchange_link.specs.Exchanges.{Told}
 use Rattle.exchange_link.specs.Places.{kinds_of}
 use Rattle.http_wire.specs.declared.answer.WireReply.{WireReply}
-use Rattle.copy_keeper.specs.declared.state.StageState.{StageState}
+use Rattle.keeper_memory.specs.declared.copy.state.StageState.{StageState}
 use Rattle.std.specs.Prelude.{Option}
 use Rattle.consumer_sync.specs.Filling.{BoundSoFar, Fills, HasToken, IsSmall, PinLaw, request_of, weight}
-use Rattle.tried_requests.specs.Requests.{Asks, IsReady}
+use Rattle.exchange_link.specs.Requests.{Asks, IsReady}
 use Rattle.consumer_sync.specs.Requests.{IsUnmarked}
 use Rattle.consumer_sync.proofs.fill.fill.Given as goal
 

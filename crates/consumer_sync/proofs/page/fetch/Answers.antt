@@ -1,8 +1,8 @@
 use Rattle.std.proofs.Common.{◌∙◌, ap, subst}
 use Rattle.status_info.specs.declared.request.Request.{Request}
-use Rattle.tried_requests.proofs.AskLemmas.{asks_refl, asks_weaker}
-use Rattle.tried_requests.specs.Owning.{IsOwnRead}
-use Rattle.tried_requests.specs.Requests.{IfOwn, IsNumbered, number, numbered}
+use Rattle.exchange_link.proofs.AskLemmas.{asks_refl, asks_weaker}
+use Rattle.exchange_link.specs.Owning.{IsOwnRead}
+use Rattle.exchange_link.specs.Requests.{IfOwn, IsNumbered, number, numbered}
 use Rattle.consumer_sync.specs.Requests.{IsUnmarked}
 use Rattle.consumer_sync.proofs.page.fetch.Goals as goal
 

@@ -1,9 +1,9 @@
 use Rattle.std.proofs.Common.{arith, ◌≡◌, ◌+◌, ◌≤◌, ◌⊎◌, sym, subst, None, Some, ◌∙◌, ap, ⊎_elim, inl, inr}
 use Rattle.std.specs.Prelude.{Option}
-use Rattle.copy_keeper.specs.Copies.{Copy}
-use Rattle.copy_keeper.specs.Lists.{kind_count}
-use Rattle.copy_keeper.specs.States.{stage_of}
-use Rattle.copy_keeper.specs.declared.state.StageState.{StageState}
+use Rattle.keeper_memory.specs.copy.Copies.{Copy}
+use Rattle.keeper_memory.specs.copy.Lists.{kind_count}
+use Rattle.keeper_memory.specs.copy.States.{stage_of}
+use Rattle.keeper_memory.specs.declared.copy.state.StageState.{StageState}
 use Rattle.exchange_link.specs.Bounds.{Bounded, HasPin, IsCallPin}
 use Rattle.exchange_link.specs.Causes.{AnswersTo, AsksOn, CauseOf, IsAside, LastLaw, RoseBy, ToldCause}
 use Rattle.exchange_link.specs.Completeness.{IsDone, StandsAt, first_pin}
@@ -22,9 +22,9 @@ use Rattle.consumer_sync.proofs.DoneLemmas.{start_told}
 use Rattle.consumer_sync.proofs.MarkLemmas.{marks_asked, marks_dropped, marks_kept}
 use Rattle.consumer_sync.proofs.SyncLemmas.{begun_is, cause_whole, drop_done, drop_fails, drop_sync, enter_cause, enter_done, enter_leaves, enter_sync, entry, fill_leaves, fill_sync, finish_by, finish_other, last_dropped, last_ended, last_entered, last_low, own_few, own_token, start_cause, start_on, swap_leaves, swap_run, swap_sync}
 use Rattle.consumer_sync.specs.Starting.{StartCause, unentered}
-use Rattle.tried_requests.proofs.RunLemmas.{ready_from}
-use Rattle.tried_requests.specs.declared.begin.NoRun.{NoRun}
-use Rattle.tried_requests.specs.declared.begin.NoRun.TheVariants as no_run
+use Rattle.exchange_link.proofs.RunLemmas.{ready_from}
+use Rattle.exchange_link.specs.declared.begin.NoRun.{NoRun}
+use Rattle.exchange_link.specs.declared.begin.NoRun.TheVariants as no_run
 use Rattle.consumer_sync.proofs.run.sync.Goals as goal
 
 start_of : {K : Type 0} {e : NoRun} {a : SyncAnswer} → a ≡ unentered e → (e ≡ no_run.KeeperFault → K) → StartCause K a

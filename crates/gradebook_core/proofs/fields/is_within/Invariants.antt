@@ -1,5 +1,5 @@
 use Rattle.std.proofs.Common.{◌≡◌, drop}
-use Rattle.hub_rules.specs.Refusals.{all_name_seen, is_within}
+use Rattle.hub_spec.specs.rules.Refusals.{all_name_seen, is_within}
 use Rattle.roster_types.specs.Records.{all_values}
 use Rattle.roster_values.specs.Table.{table}
 use Rattle.version_core.specs.Changes.{rows_of}

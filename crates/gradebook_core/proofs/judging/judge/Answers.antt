@@ -1,7 +1,7 @@
 use Rattle.std.proofs.Common.{None, Some}
 use Rattle.gradebook_core.proofs.Verdicts.{both, each, judges, may_lead}
 use Rattle.gradebook_core.specs.Judging.{HasOrder, MayLead, verdict_of}
-use Rattle.hub_rules.specs.Verdicts.{Judges, NewJudged}
+use Rattle.hub_spec.specs.rules.Verdicts.{Judges, NewJudged}
 use Rattle.version_core.specs.Version.{newest_of}
 use Rattle.gradebook_core.proofs.judging.judge.Goals as goal
 

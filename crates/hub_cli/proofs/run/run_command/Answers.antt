@@ -1,5 +1,5 @@
 use Rattle.std.proofs.Common.{◌≡◌, refl}
-use Rattle.consumer_cli.specs.Consumers.{copy_run, link_run}
+use Rattle.consumer_commands.specs.Consumers.{copy_run, link_run}
 use Rattle.hub_cli.proofs.Ending.{leads-command, leads-entered, leads-listed, leads-outbox, leads-resting, leads-sent, leads-shown, leads-synchronised, leads-told}
 use Rattle.hub_cli.proofs.Telling.{writes_as}
 use Rattle.hub_cli.specs.Outside.{faults_of, outside_of}

@@ -1,5 +1,5 @@
 use Rattle.std.proofs.Common.{◌≡◌, Err, map, refl, string_bytes}
-use Rattle.consumer_cli.specs.Consumers.{copy_run, link_run}
+use Rattle.consumer_commands.specs.Consumers.{copy_run, link_run}
 use Rattle.hub_cli.proofs.Ending.{leads-bad-words, leads-no-memory}
 use Rattle.hub_cli.proofs.Telling.{writes_as}
 use Rattle.hub_cli.specs.Outside.{faults_of, outside_of}

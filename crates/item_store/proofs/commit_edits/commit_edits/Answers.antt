@@ -1,8 +1,8 @@
 use Rattle.std.proofs.lemmas.Result.{err_from_is_err_and}
 use Rattle.sqlite.specs.Held.{state}
-use Rattle.item_sql.specs.Stands.{StandsFor, GoesBackTo}
-use Rattle.item_sql.proofs.Asking.{one, joined, late, at_once, in_turn, rolled}
-use Rattle.item_sql.proofs.States.{on_err}
+use Rattle.item_store.specs.Stands.{StandsFor, GoesBackTo}
+use Rattle.item_store.proofs.Asking.{one, joined, late, at_once, in_turn, rolled}
+use Rattle.item_store.proofs.States.{on_err}
 use Rattle.item_maps.specs.Edits.{after}
 use Rattle.item_store.proofs.EditLemmas.{ok_then, err_then, stands_back}
 use Rattle.std.proofs.Common.{inl, inr}

@@ -1,10 +1,10 @@
 use Rattle.sqlite.specs.Held.{state}
-use Rattle.item_sql.specs.Stands.{GoesBackTo}
-use Rattle.item_sql.proofs.Asking.{in_turn, once}
-use Rattle.item_sql.proofs.States.{on_err}
+use Rattle.item_store.specs.Stands.{GoesBackTo}
+use Rattle.item_store.proofs.Asking.{in_turn, once}
+use Rattle.item_store.proofs.States.{on_err}
 use Rattle.item_maps.specs.Edits.{after}
 use Rattle.std.proofs.lemmas.Result.{err_from_is_err_and}
-use Rattle.item_sql.specs.Left.{IsLeft}
+use Rattle.item_store.specs.Left.{IsLeft}
 use Rattle.item_store.proofs.LeftLemmas.{err_on, leaves_then, nothing_ok}
 use Rattle.item_store.proofs.commit_edits.finish.Goals as goal
 

@@ -1,5 +1,5 @@
 use Rattle.sqlite.specs.Held.{state}
-use Rattle.item_sql.proofs.Asking.{once}
+use Rattle.item_store.proofs.Asking.{once}
 use Rattle.item_store.proofs.commit_edits.make_edit.Goals as goal
 
 pub returns-in-Put-clause-asks : goal.returns-in-Put-clause-asks

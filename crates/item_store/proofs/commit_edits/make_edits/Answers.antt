@@ -2,9 +2,9 @@ use Rattle.std.proofs.Common.{◌≡◌, [], inl, refl, sym, ◌∙◌, subst, a
 use Rattle.std.proofs.lemmas.Result.{err_from_is_err_and}
 use Rattle.sqlite.specs.Held.{state}
 use Rattle.item_maps.specs.Items.{Items}
-use Rattle.item_sql.specs.Stands.{IsWithin, GoesBackTo}
-use Rattle.item_sql.proofs.States.{on_err}
-use Rattle.item_sql.proofs.Asking.{joined, late}
+use Rattle.item_store.specs.Stands.{IsWithin, GoesBackTo}
+use Rattle.item_store.proofs.States.{on_err}
+use Rattle.item_store.proofs.Asking.{joined, late}
 use Rattle.item_maps.specs.Edits.{after, after_edit}
 use Rattle.item_store.proofs.EditLemmas.{step_after, all_after}
 use Rattle.item_store.proofs.LeftLemmas.{err_on, leaves_then, no_calls, nothing_ok, nothing_then}

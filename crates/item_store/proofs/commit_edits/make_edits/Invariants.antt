@@ -1,10 +1,10 @@
 use Rattle.std.proofs.Common.{◌≡◌, drop, List}
 use Rattle.sqlite.specs.Held.{state}
 use Rattle.sqlite.specs.State.{HasCleanDisk}
-use Rattle.item_sql.specs.Asked.{Leads}
+use Rattle.item_store.specs.Asked.{Leads}
 use Rattle.item_maps.specs.Items.{Items}
-use Rattle.item_sql.specs.Left.{WasOpen}
-use Rattle.item_sql.specs.Stands.{IsWithin, Earlier}
+use Rattle.item_store.specs.Left.{WasOpen}
+use Rattle.item_store.specs.Stands.{IsWithin, Earlier}
 use Rattle.item_maps.specs.Edits.{after}
 use Rattle.item_store.proofs.LeftLemmas.{LeavesNothing}
 use Rattle.item_store.proofs.commit_edits.make_edits.Given as goal

@@ -1,5 +1,5 @@
 use Rattle.std.proofs.Common.{◌≡◌, ℕ, List, map, take}
-use Rattle.item_sql.specs.Items.{shown}
+use Rattle.item_store.specs.Items.{shown}
 use Rattle.item_maps.specs.Edits.{entry_of}
 use Rattle.item_store.proofs.read_items.items_of.Given as goal
 

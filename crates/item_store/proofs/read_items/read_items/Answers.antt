@@ -1,7 +1,7 @@
 use Rattle.std.proofs.Common.{take, ◌∙◌}
 use Rattle.std.proofs.lemmas.Result.{IfErr-weaker, err_from_is_err_and}
 use Rattle.sqlite.specs.Held.{state}
-use Rattle.item_sql.proofs.Asking.{one, late, at_once}
+use Rattle.item_store.proofs.Asking.{one, late, at_once}
 use Rattle.item_maps.specs.Items.{listed}
 use Rattle.std.proofs.Common.{inl, inr}
 use Rattle.item_store.proofs.read_items.read_items.Goals as goal

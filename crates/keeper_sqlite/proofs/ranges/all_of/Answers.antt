@@ -1,7 +1,7 @@
 use Rattle.std.proofs.Common.{sym, subst, arith}
 use Rattle.sqlite.specs.Held.{Held, state}
 use Rattle.item_maps.specs.Items.{listed}
-use Rattle.item_sql.specs.Stands.{StandsFor}
+use Rattle.item_store.specs.Stands.{StandsFor}
 use Rattle.keeper_sqlite.proofs.RangeLemmas.{whole_range}
 use Rattle.keeper_sqlite.proofs.ranges.all_of.Goals as goal
 

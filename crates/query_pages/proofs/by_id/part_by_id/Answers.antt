@@ -1,5 +1,5 @@
 use Rattle.std.proofs.Common.{◌≡◌, ◌≤◌, ◌+◌, ◌∙◌, ap, subst, sym, arith, filter, length, None, Some, List, [], ◌∷◌, option_copied}
-use Rattle.hub_views.specs.Pages.{slice}
+use Rattle.hub_spec.specs.views.Pages.{slice}
 use Rattle.roster_types.specs.Keys.{count_of}
 use Rattle.roster_types.specs.Records.{Record}
 use Rattle.query_pages.proofs.Listed.{listed_few}

@@ -1,5 +1,5 @@
 use Rattle.std.proofs.Common.{◌≡◌, take}
-use Rattle.hub_views.specs.Pages.{slice}
+use Rattle.hub_spec.specs.views.Pages.{slice}
 use Rattle.query_pages.specs.Placed.{rows_placed}
 use Rattle.query_pages.proofs.in_order.copied.Given as goal
 

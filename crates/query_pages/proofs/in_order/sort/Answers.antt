@@ -1,7 +1,7 @@
 use Rattle.std.proofs.Common.{rules, subst}
 use Rattle.std.proofs.lemmas.Fn.{always_returns_same}
 use Rattle.std.specs.List.Sorted.{IsSortedBy, IsStableBy}
-use Rattle.hub_views.proofs.Sorting.{by_key}
+use Rattle.hub_spec.proofs.Sorting.{by_key}
 use Rattle.query_pages.proofs.Placing.{placed_before, placed_sorted}
 use Rattle.query_pages.specs.Sortings.{sorting_shown}
 use Rattle.query_pages.specs.declared.in_order.Placed.{Placed}

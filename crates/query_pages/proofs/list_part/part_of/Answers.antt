@@ -1,9 +1,9 @@
 use Rattle.std.proofs.Common.{◌≡◌, ◌∙◌, ap, IfOk, length, subst, sym, List}
-use Rattle.hub_views.specs.Pages.{slice}
+use Rattle.hub_spec.specs.views.Pages.{slice}
 use Rattle.filter_grammar.specs.declared.query.Order.TheVariants.{Asc}
 use Rattle.query_pages.proofs.Listed.{listed_by_id}
 use Rattle.roster_types.specs.Records.{Record}
-use Rattle.row_queries.specs.Orders.{by_id, sorting_of}
+use Rattle.filter_grammar.specs.rows.Orders.{by_id, sorting_of}
 use Rattle.query_pages.proofs.list_part.part_of.Goals as goal
 
 pub returns-in-ById-Asc-clause-rows : goal.returns-in-ById-Asc-clause-rows

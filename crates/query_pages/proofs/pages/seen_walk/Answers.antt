@@ -1,7 +1,7 @@
 use Rattle.std.proofs.Common.{◌≡◌, ◌∙◌, true, subst, sym}
 use Rattle.std.proofs.lemmas.Result.{IfOk-weaker}
-use Rattle.hub_views.specs.Lists.{kind_of_path}
-use Rattle.hub_views.specs.Seen.{seen, sees_at, sees_row}
+use Rattle.hub_spec.specs.views.Lists.{kind_of_path}
+use Rattle.hub_spec.specs.views.Seen.{seen, sees_at, sees_row}
 use Rattle.roster_types.specs.Keys.{is_of_kind}
 use Rattle.row_walks.proofs.AtSchools.{among_kept}
 use Rattle.query_pages.proofs.Leading.{belongs_kind, sees_listed}

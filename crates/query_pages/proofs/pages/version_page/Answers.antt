@@ -1,7 +1,7 @@
 use Rattle.std.proofs.Common.{◌≡◌, ◌∙◌, IfOk, List, ap, subst, sym}
 use Rattle.grant_scopes.specs.declared.schools.Schools.{Schools}
-use Rattle.hub_views.specs.Pages.{page_of}
-use Rattle.hub_views.specs.Seen.{seen}
+use Rattle.hub_spec.specs.views.Pages.{page_of}
+use Rattle.hub_spec.specs.views.Seen.{seen}
 use Rattle.roster_types.specs.Records.{Record}
 use Rattle.version_core.specs.Changes.{rows_of}
 use Rattle.query_pages.proofs.Wholes.{seen_all}

@@ -1,7 +1,7 @@
 use Rattle.std.proofs.Common.{◌∙◌, Some, ap, option_map, sym}
-use Rattle.hub_views.proofs.ListLemmas.{list_of-whole}
-use Rattle.hub_views.specs.Lists.{list_of}
-use Rattle.hub_views.specs.Pages.{page_of_list}
+use Rattle.hub_spec.proofs.ListLemmas.{list_of-whole}
+use Rattle.hub_spec.specs.views.Lists.{list_of}
+use Rattle.hub_spec.specs.views.Pages.{page_of_list}
 use Rattle.version_core.specs.Changes.{rows_of}
 use Rattle.query_pages.proofs.pages.whole_page.Goals as goal
 

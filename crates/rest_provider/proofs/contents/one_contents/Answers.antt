@@ -1,5 +1,5 @@
 use Rattle.std.proofs.Common.{ap, sym, ◌∙◌, option_copied}
-use Rattle.hub_views.specs.Lists.{kind_of_path}
+use Rattle.hub_spec.specs.views.Lists.{kind_of_path}
 use Rattle.rest_provider.proofs.ReadLemmas.{object_found}
 use Rattle.rest_provider.proofs.contents.one_contents.Goals as goal
 

@@ -1,6 +1,6 @@
 use Rattle.std.proofs.Common.{inl, inr, ap, sym, ◌∙◌, subst}
-use Rattle.hub_requests.specs.Requests.{wanted_by}
-use Rattle.hub_rules.specs.Answers.{Answers, sent}
+use Rattle.hub_spec.specs.requests.Requests.{wanted_by}
+use Rattle.hub_spec.specs.rules.Answers.{Answers, sent}
 use Rattle.rest_provider.specs.Replies.{read_in_turn}
 use Rattle.rest_provider.proofs.ReadLemmas.{read_answers}
 use Rattle.rest_provider.proofs.reads.answer_read.Goals as goal

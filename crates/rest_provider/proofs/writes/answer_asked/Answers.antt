@@ -1,7 +1,7 @@
 use Rattle.std.proofs.Common.{Err, Ok, inl, refl, ap, subst, ◌∙◌}
 use Rattle.gradebook_core.specs.Writing.{Writes}
-use Rattle.hub_requests.specs.Requests.{wanted_by}
-use Rattle.hub_rules.specs.Answers.{sent}
+use Rattle.hub_spec.specs.requests.Requests.{wanted_by}
+use Rattle.hub_spec.specs.rules.Answers.{sent}
 use Rattle.rest_provider.proofs.WriteLemmas.{done_step, error_step}
 use Rattle.rest_provider.proofs.writes.answer_asked.Goals as goal
 

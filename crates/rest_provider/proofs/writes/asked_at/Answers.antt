@@ -1,5 +1,5 @@
 use Rattle.std.proofs.Common.{refl, sym, ◌∙◌}
-use Rattle.hub_requests.specs.Requests.{wanted_by}
+use Rattle.hub_spec.specs.requests.Requests.{wanted_by}
 use Rattle.rest_provider.proofs.WriteLemmas.{behind_caller}
 use Rattle.version_core.specs.declared.grant_row.GrantRow.{GrantRow}
 use Rattle.rest_provider.proofs.writes.asked_at.Goals as goal

@@ -1,6 +1,6 @@
-use Rattle.hub_requests.specs.Requests.{wanted_by}
-use Rattle.hub_rules.proofs.Growing.{step_goes}
-use Rattle.hub_rules.specs.Runs.{Replied, Take}
+use Rattle.hub_spec.specs.requests.Requests.{wanted_by}
+use Rattle.hub_spec.proofs.Growing.{step_goes}
+use Rattle.hub_spec.specs.rules.Runs.{Replied, Take}
 use Rattle.sync_world.proofs.ExchangeLemmas.{if_ok_each, is_own}
 use Rattle.sync_world.proofs.delivery.answered.Goals as goal
 

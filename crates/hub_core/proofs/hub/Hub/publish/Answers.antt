@@ -1,8 +1,8 @@
 use Rattle.std.proofs.Common.{◌∙◌, inl, refl, subst, sym}
 use Rattle.std.specs.Prelude.{IfOk}
 use Rattle.keeper_memory.specs.Kept.{newest_kept}
-use Rattle.set_changes.specs.Applying.{Answers, Applies}
-use Rattle.set_changes.specs.Steps.{IsSound, led_to}
+use Rattle.version_changes.specs.sets.Applying.{Answers, Applies}
+use Rattle.version_changes.specs.sets.Steps.{IsSound, led_to}
 use Rattle.hub_core.proofs.StepLemmas.{publishes, set_answers, set_can, sound_after}
 use Rattle.hub_core.specs.Hub.{kept_in}
 use Rattle.hub_core.specs.Standing.{HeldHub}

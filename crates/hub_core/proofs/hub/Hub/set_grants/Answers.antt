@@ -1,6 +1,6 @@
 use Rattle.std.proofs.Common.{inl, refl, subst}
-use Rattle.grant_changes.specs.Asked.{AnswersBy}
-use Rattle.grant_changes.specs.Granting.{GrantsMake}
+use Rattle.version_changes.specs.grants.Asked.{AnswersBy}
+use Rattle.version_changes.specs.grants.Granting.{GrantsMake}
 use Rattle.keeper_memory.specs.Kept.{newest_kept}
 use Rattle.hub_core.proofs.StepLemmas.{grants_can, publishes}
 use Rattle.hub_core.specs.Hub.{kept_in}

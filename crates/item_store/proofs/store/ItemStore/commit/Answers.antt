@@ -1,8 +1,8 @@
 use Rattle.std.proofs.Common.{sym, subst}
 use Rattle.sqlite.specs.Held.{Held, state}
-use Rattle.item_sql.specs.Stands.{StandsFor}
+use Rattle.item_store.specs.Stands.{StandsFor}
 use Rattle.std.proofs.Common.{[], ◌∷◌}
-use Rattle.item_sql.specs.Left.{MayHold, WasOpen}
+use Rattle.item_store.specs.Left.{MayHold, WasOpen}
 use Rattle.sqlite.specs.State.{HasCleanDisk}
 use Rattle.item_maps.specs.Edits.{after}
 use Rattle.item_store.proofs.LeftLemmas.{held_either, held_open}

@@ -1,11 +1,11 @@
 use Rattle.std.proofs.Common.{sym, subst}
 use Rattle.sqlite.specs.Held.{Held, state}
-use Rattle.item_sql.specs.Stands.{StandsFor}
+use Rattle.item_store.specs.Stands.{StandsFor}
 use Rattle.sqlite.specs.State.{HasCleanDisk}
 use Rattle.item_store.proofs.EditLemmas.{caused}
 use Rattle.item_store.specs.Causes.{IsCaused}
 use Rattle.std.proofs.Common.{[], ◌∷◌}
-use Rattle.item_sql.specs.Left.{MayHold, WasOpen}
+use Rattle.item_store.specs.Left.{MayHold, WasOpen}
 use Rattle.item_store.proofs.LeftLemmas.{held_by, held_open}
 use Rattle.item_store.proofs.store.ItemStore.range.Goals as goal
 

@@ -1,6 +1,6 @@
 use Rattle.std.proofs.Common.{ap, sym, ◌∙◌, subst}
-use Rattle.hub_requests.specs.Requests.{query_for_path, wanted_by}
-use Rattle.hub_rules.specs.Checks.{query_or}
+use Rattle.hub_spec.specs.requests.Requests.{query_for_path, wanted_by}
+use Rattle.hub_spec.specs.rules.Checks.{query_or}
 use Rattle.rest_provider.proofs.ReadLemmas.{behind_query}
 use Rattle.roster_base.specs.Reading.{Gives}
 use Rattle.rest_provider.proofs.reading.Reading.answer.Goals as goal

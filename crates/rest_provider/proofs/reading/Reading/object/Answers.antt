@@ -1,5 +1,5 @@
 use Rattle.std.proofs.Common.{◌≡◌, IfOk, option_map, subst}
-use Rattle.hub_rules.specs.Reads.{contents_of}
+use Rattle.hub_spec.specs.rules.Reads.{contents_of}
 use Rattle.rest_provider.specs.Shown.{contents_shown}
 use Rattle.rest_provider.proofs.reading.Reading.object.Goals as goal
 

@@ -1,0 +1,16 @@
+use Rattle.consumer_commands.proofs.SameTasks.{synced_as}
+use Rattle.consumer_commands.proofs.run.synchronise.Goals as goal
+
+pub returns : goal.returns
+returns g c =
+    synced_as c.args.task.now c.token.result.now c.limit.result c.tries.result c.token.ensures c.limit.ensures.value c.tries.ensures.value _ _ _
+    (record {
+      copy = c.sync.ensures.copy;
+      last_run = c.sync.ensures.last_run;
+      cause = c.sync.ensures.cause;
+      told = c.sync.ensures.told;
+      bound = c.sync.ensures.bound;
+      cause_told = c.sync.ensures.cause_told;
+      complete = c.sync.ensures.complete;
+      marks = c.sync.ensures.marks;
+    })

@@ -1,0 +1,42 @@
+-- What a run of the program does to a consumer's copy and to the link to its hub.
+use Rattle.std.specs.Prelude.{ℕ, List}
+use Rattle.keeper_memory.specs.copy.Copies.{Copy}
+use Rattle.exchange_link.specs.Exchanges.{Told}
+
+-- the copies for which the keeper stood before and for which it stands now, both counts of its faults, and that it is as it was
+pub record CopyRun : Type 1 where
+  pub stood : Copy → Type 0
+  pub stands : Copy → Type 0
+  pub faults_before : ℕ
+  pub faults_now : ℕ
+  pub same : Type 0
+
+abbrev pub copy_run : (Copy → Type 0) → (Copy → Type 0) → ℕ → ℕ → Type 0 → CopyRun
+copy_run stood stands faults_before faults_now same =
+    record { stood = stood; stands = stands; faults_before = faults_before; faults_now = faults_now; same = same }
+
+-- what the link told before and tells now, how many exchanges there were then and are now, how many missed in a row, the answer that is
+-- kept, both counts of faults, and that it is as it was
+pub record LinkRun : Type 1 where
+  pub told : Told → Type 0
+  pub tells : Told → Type 0
+  pub asked_before : ℕ
+  pub asked_now : ℕ
+  pub missed : ℕ
+  pub kept : List ℕ
+  pub faults_before : ℕ
+  pub faults_now : ℕ
+  pub same : Type 0
+
+abbrev pub link_run : (Told → Type 0) → (Told → Type 0) → ℕ → ℕ → ℕ → List ℕ → ℕ → ℕ → Type 0 → LinkRun
+link_run told tells asked_before asked_now missed kept faults_before faults_now same = record {
+  told = told;
+  tells = tells;
+  asked_before = asked_before;
+  asked_now = asked_now;
+  missed = missed;
+  kept = kept;
+  faults_before = faults_before;
+  faults_now = faults_now;
+  same = same;
+}

@@ -1,0 +1,43 @@
+-- What is promised of a synchronisation between a copy and a link: the clauses of `consumer_sync::sync`, one by one.
+use Rattle.std.specs.Prelude.{◌≢◌, ℕ, ◌+◌, ◌≤◌}
+use Rattle.keeper_memory.specs.copy.Copies.{Copy}
+use Rattle.keeper_memory.specs.copy.States.{stage_of}
+use Rattle.keeper_memory.specs.declared.copy.state.TheConstants.{LAST}
+use Rattle.exchange_link.specs.Agreement.{StageAgrees}
+use Rattle.exchange_link.specs.Bounds.{Bounded, IsCallPin}
+use Rattle.exchange_link.specs.Causes.{Caused, LastLaw, RoseBy, ToldCause}
+use Rattle.exchange_link.specs.Completeness.{IsDone, StandsAt, first_pin}
+use Rattle.exchange_link.specs.Exchanges.{Told}
+use Rattle.exchange_link.specs.Marks.{MarksTold}
+use Rattle.exchange_link.specs.Synchronised.{Leaves, Synchronised, own_state}
+use Rattle.exchange_link.specs.declared.answer.SyncAnswer.{SyncAnswer}
+use Rattle.roster_base.specs.Faults.{Rose}
+use Rattle.consumer_commands.specs.Consumers.{CopyRun, LinkRun}
+use Rattle.consumer_commands.specs.Tasks.{Task}
+
+-- copy and link agreed before, where both tell
+abbrev pub Agreed : CopyRun → LinkRun → Type 0
+Agreed copy link = (c : Copy) (t : Told) → copy.stood c → link.told t → StageAgrees c t
+
+pub record IsSyncOf (task : Task) (a : SyncAnswer) (copies : CopyRun) (link : LinkRun) : Type 0 where
+  -- over any link
+  pub copy : (after : Copy) → copies.stands after → (before : Copy) × copies.stood before × Leaves task.token a before after
+  pub last_run : (after : Copy) → copies.stands after → (before : Copy) × copies.stood before × LastLaw a before after
+  pub cause : Caused task.token task.limit copies.stands link.tells link.asked_before link.asked_now link.kept
+      (λ n. (task.tries ≤ link.missed) × (task.tries ≤ n) × RoseBy task.tries link.faults_before link.faults_now) (Rose copies.faults_before copies.faults_now) a
+  -- over one that tells
+  pub told : Agreed copies link → (after : Copy) (tells : Told) → copies.stands after → link.tells tells
+      → (before : Copy) × (told : Told) × copies.stood before × link.told told × Synchronised task.token a before told after tells
+  pub bound : Agreed copies link → (after : Copy) (tells : Told) → copies.stands after → link.tells tells
+      → (before : Copy) × copies.stood before × (n : ℕ) × (link.asked_now ≤ link.asked_before + n)
+      × Bounded n task.tries task.limit task.token (own_state task.token (stage_of before)) (λ v. IsCallPin a after.stage v) tells.hub
+  pub cause_told : Agreed copies link → (after : Copy) (tells : Told) → copies.stands after → link.tells tells
+      → (told : Told) × link.told told × ToldCause task.token told tells a
+  -- where no call of the link and of the copy's keeper failed
+  pub complete : Agreed copies link → ¬ Rose link.faults_before link.faults_now → ¬ Rose copies.faults_before copies.faults_now
+      → (after : Copy) (tells : Told) → copies.stands after → link.tells tells
+      → (before : Copy) × (told : Told) × copies.stood before × link.told told
+      × (before.run ≢ LAST → ¬ Rose told.hub_faults tells.hub_faults → StandsAt (first_pin (own_state task.token (stage_of before)) told.hub) task.token tells.hub → IsDone a)
+  -- where they agreed on marks
+  pub marks : ((c : Copy) (t : Told) → copies.stood c → link.told t → MarksTold c t)
+      → (after : Copy) (tells : Told) → copies.stands after → link.tells tells → MarksTold after tells

@@ -1,0 +1,83 @@
+//! The line and the status of a synchronisation's answer.
+
+ghost use Rattle.std.specs.Prelude.{◌≡◌, ◌≢◌, ◌++◌, IfOk, codes, decimal, string_bytes};
+ghost use Rattle.roster_values.specs.Kinds.{plural_of};
+ghost use Rattle.consumer_commands.specs.SyncLines as lines;
+
+use exchange_link::SyncAnswer;
+use roster_base::NoMemory;
+use roster_values::Kind;
+use std::alloc::Global;
+
+/// Status 6.
+pub const COPY_FAILED: &str = "copy store failed\n";
+
+/// The status of the process: 0, 6 to 9, or 12 to 17.
+pub fn sync_status(answer: SyncAnswer) -> u8
+    ensures value { result ≡ lines.sync_status answer }
+    ensures other { result ≢ 1 }
+{
+    match answer {
+        SyncAnswer::Complete { .. } => 0,
+        SyncAnswer::KeeperFault => 6,
+        SyncAnswer::Interrupted { .. } => 7,
+        SyncAnswer::PinGone { .. } => 8,
+        SyncAnswer::UnknownToken => 9,
+        SyncAnswer::BadReply { .. } => 12,
+        SyncAnswer::TooLarge { .. } => 13,
+        SyncAnswer::HubFault => 14,
+        SyncAnswer::HubNoMemory => 15,
+        SyncAnswer::LastRun => 16,
+        SyncAnswer::NoMemory => 17,
+    }
+}
+
+// A word, a kind and a number.
+fn place_line(alloc: Global, word: &str, kind: Kind, number: u64) -> Result<String, NoMemory>
+    ensures { IfOk result (λ t. string_bytes t ≡ lines.place_text word.now kind number) }
+{
+    let mut line = String::from_str(alloc, word)?;
+    line.push_str(kind.plural())?;
+    line.push_str(format!(in alloc; " {number}\n")?.as_str())?;
+    Ok(line)
+}
+
+fn complete_line(alloc: Global, version: u64) -> Result<String, NoMemory>
+    ensures { IfOk result (λ t. string_bytes t ≡ codes "complete " ++ decimal version ++ codes "\n") }
+{
+    Ok(format!(in alloc; "complete {version}\n")?)
+}
+
+fn gone_line(alloc: Global, pin: u64, oldest: u64) -> Result<String, NoMemory>
+    ensures { IfOk result (λ t. string_bytes t ≡ codes "pin gone " ++ decimal pin ++ codes " " ++ decimal oldest ++ codes "\n") }
+{
+    Ok(format!(in alloc; "pin gone {pin} {oldest}\n")?)
+}
+
+fn fixed_line(alloc: Global, line: &str) -> Result<String, NoMemory>
+    ensures { IfOk result (λ t. string_bytes t ≡ line.now) }
+{
+    Ok(String::from_str(alloc, line)?)
+}
+
+/// The line of an answer.
+#[tactic(auto, unfolding(crate::specs::SyncLines::sync_text))]
+pub fn sync_line(alloc: Global, answer: SyncAnswer) -> Result<String, NoMemory>
+    ensures { IfOk result (λ t. string_bytes t ≡ lines.sync_text answer) }
+{
+    match answer {
+        SyncAnswer::Complete { version } => complete_line(alloc, version),
+        SyncAnswer::KeeperFault => fixed_line(alloc, COPY_FAILED),
+        SyncAnswer::Interrupted { kind, offset } => {
+            place_line(alloc, "interrupted ", kind, offset)
+        }
+        SyncAnswer::PinGone { pin, oldest } => gone_line(alloc, pin, oldest),
+        SyncAnswer::UnknownToken => fixed_line(alloc, "unknown token\n"),
+        SyncAnswer::BadReply { kind, offset } => place_line(alloc, "bad reply ", kind, offset),
+        SyncAnswer::TooLarge { kind, total } => place_line(alloc, "too large ", kind, total),
+        SyncAnswer::HubFault => fixed_line(alloc, "hub failed\n"),
+        SyncAnswer::HubNoMemory => fixed_line(alloc, "hub without memory\n"),
+        SyncAnswer::LastRun => fixed_line(alloc, "last number\n"),
+        SyncAnswer::NoMemory => fixed_line(alloc, "no memory\n"),
+    }
+}

@@ -1,0 +1,112 @@
+//! The lines and the statuses of what the outbox answers.
+
+ghost use Rattle.std.specs.Prelude.{◌≡◌, ◌≢◌, IfOk, string_bytes};
+ghost use Rattle.consumer_commands.specs.SendLines as lines;
+
+use crate::line::COPY_FAILED;
+use exchange_link::{EnterError, SendAnswer};
+use keeper_memory::OutEntry;
+use roster_base::NoMemory;
+use std::alloc::Global;
+
+/// The status of the process: 0, 6, 7, 9 to 12, or 14 to 17.
+pub fn send_status(answer: SendAnswer) -> u8
+    ensures value { result ≡ lines.send_status answer }
+    ensures other { result ≢ 1 }
+{
+    match answer {
+        SendAnswer::Settled { .. } => 0,
+        SendAnswer::KeeperFault => 6,
+        SendAnswer::Interrupted { .. } => 7,
+        SendAnswer::UnknownToken => 9,
+        SendAnswer::NoScope { .. } => 10,
+        SendAnswer::MarkTaken { .. } => 11,
+        SendAnswer::BadReply { .. } => 12,
+        SendAnswer::HubFault { .. } => 14,
+        SendAnswer::HubNoMemory { .. } => 15,
+        SendAnswer::LastRun => 16,
+        SendAnswer::NoMemory => 17,
+    }
+}
+
+// A word and a number.
+fn number_line(alloc: Global, word: &str, number: u64) -> Result<String, NoMemory>
+    ensures { IfOk result (λ t. string_bytes t ≡ lines.number_text word.now number) }
+{
+    let mut line = String::from_str(alloc, word)?;
+    line.push_str(format!(in alloc; "{number}\n")?.as_str())?;
+    Ok(line)
+}
+
+fn fixed_line(alloc: Global, line: &str) -> Result<String, NoMemory>
+    ensures { IfOk result (λ t. string_bytes t ≡ line.now) }
+{
+    Ok(String::from_str(alloc, line)?)
+}
+
+/// The line of an answer.
+#[tactic(auto, unfolding(crate::specs::SendLines::send_text))]
+pub fn send_line(alloc: Global, answer: SendAnswer) -> Result<String, NoMemory>
+    ensures { IfOk result (λ t. string_bytes t ≡ lines.send_text answer) }
+{
+    match answer {
+        SendAnswer::Settled { count } => number_line(alloc, "settled ", count),
+        SendAnswer::KeeperFault => fixed_line(alloc, COPY_FAILED),
+        SendAnswer::Interrupted { number } => number_line(alloc, "interrupted ", number),
+        SendAnswer::UnknownToken => fixed_line(alloc, "unknown token\n"),
+        SendAnswer::NoScope { number } => number_line(alloc, "no scope ", number),
+        SendAnswer::MarkTaken { number } => number_line(alloc, "mark taken ", number),
+        SendAnswer::BadReply { number } => number_line(alloc, "bad reply ", number),
+        SendAnswer::HubFault { .. } => fixed_line(alloc, "hub failed\n"),
+        SendAnswer::HubNoMemory { .. } => fixed_line(alloc, "hub without memory\n"),
+        SendAnswer::LastRun => fixed_line(alloc, "last number\n"),
+        SendAnswer::NoMemory => fixed_line(alloc, "no memory\n"),
+    }
+}
+
+/// The line of a write that was entered.
+pub fn entered_line(alloc: Global, number: u64) -> Result<String, NoMemory>
+    ensures { IfOk result (λ t. string_bytes t ≡ lines.entered_text number) }
+{
+    number_line(alloc, "entered ", number)
+}
+
+/// The status of the process: 6, 16 or 17.
+pub fn enter_status(error: EnterError) -> u8
+    ensures value { result ≡ lines.enter_status error }
+    ensures other { result ≢ 1 }
+{
+    match error {
+        EnterError::KeeperFault => 6,
+        EnterError::LastNumber => 16,
+        EnterError::NoMemory => 17,
+    }
+}
+
+/// The line of why a write wasn't entered.
+#[tactic(auto, unfolding(crate::specs::SendLines::enter_text))]
+pub fn enter_line(alloc: Global, error: EnterError) -> Result<String, NoMemory>
+    ensures { IfOk result (λ t. string_bytes t ≡ lines.enter_text error) }
+{
+    match error {
+        EnterError::KeeperFault => fixed_line(alloc, COPY_FAILED),
+        EnterError::LastNumber => fixed_line(alloc, "last number\n"),
+        EnterError::NoMemory => fixed_line(alloc, "no memory\n"),
+    }
+}
+
+/// The line of an entry: its number, and the status and the version that the hub kept, or that it waits.
+#[tactic(auto, unfolding(crate::specs::SendLines::entry_text))]
+pub fn entry_line(alloc: Global, entry: &OutEntry) -> Result<String, NoMemory>
+    ensures { IfOk result (λ t. string_bytes t ≡ lines.entry_text entry.now) }
+{
+    let number = entry.number;
+    match entry.settled {
+        None => Ok(format!(in alloc; "{number} waiting\n")?),
+        Some(settled) => {
+            let status = settled.status;
+            let version = settled.version;
+            Ok(format!(in alloc; "{number} {status} {version}\n")?)
+        }
+    }
+}

@@ -1,0 +1,39 @@
+//! The outbox, with all that is promised of it in one word.
+
+ghost use Rattle.std.specs.Prelude.{◌≡◌};
+ghost use Rattle.keeper_memory.specs.copy.Copies.{IsOutWrite};
+ghost use Rattle.consumer_commands.specs.Consumers.{copy_run, link_run};
+ghost use Rattle.consumer_commands.specs.Sends.{IsEnterOf, IsSendOf};
+
+use crate::task::SendTask;
+use consumer_outbox::{enter, send};
+use exchange_link::{EnterError, Link, SendAnswer};
+use keeper_memory::CopyKeeper;
+use std::alloc::Global;
+use version_core::mark::Write;
+
+/// Puts a write into the outbox, under the next number, which it gives.
+pub fn enter_write<C: CopyKeeper>(
+    alloc: Global,
+    write: Write,
+    copy: &mut C,
+) -> Result<u64, EnterError>
+    requires { IsOutWrite write }
+    ensures { IsEnterOf write result (copy_run (C.stands_for copy.old) (C.stands_for copy.new) (C.fault_count copy.old) (C.fault_count copy.new) (copy.new ≡ copy.old)) }
+{
+    enter(alloc, copy, write)
+}
+
+/// Sends the writes that wait, under the task's token.
+pub fn send_writes<C: CopyKeeper, L: Link>(
+    alloc: Global,
+    task: &SendTask,
+    copy: &mut C,
+    link: &mut L,
+) -> SendAnswer
+    ensures { IsSendOf task.now result
+        (copy_run (C.stands_for copy.old) (C.stands_for copy.new) (C.fault_count copy.old) (C.fault_count copy.new) (copy.new ≡ copy.old))
+        (link_run (L.tells link.old) (L.tells link.new) (L.asked link.old) (L.asked link.new) (L.missed link.new) (L.kept link.new) (L.fault_count link.old) (L.fault_count link.new) (link.new ≡ link.old)) }
+{
+    send(alloc, copy, link, task.token(), task.tries())
+}

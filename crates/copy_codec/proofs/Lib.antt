@@ -1,4 +1,0 @@
-pub mod OutReading
-pub mod PageLemmas
-pub mod RowReading
-pub mod StageReading

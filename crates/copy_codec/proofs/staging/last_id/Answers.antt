@@ -1,7 +1,0 @@
-use Rattle.std.proofs.Common.{◌∙◌, sym, ap, Some}
-use Rattle.copy_keeper.proofs.ListLemmas.{last_get}
-use Rattle.copy_codec.proofs.staging.last_id.Goals as goal
-
-pub returns-in_ok-copy-in-Some : goal.returns-in_ok-copy-in-Some
-returns-in_ok-copy-in-Some c =
-    ap Some (c.in_ok-copy-in-Some.ensures ∙ c.id.ensures) ∙ sym (last_get c.args.last c.args.rows.now c.in-Some.row.now (sym c.in-Some.ensures.value))

@@ -1,0 +1,12 @@
+pub mod Areas
+pub mod Back
+pub mod Changing
+pub mod Climbing
+pub mod Lists
+pub mod Low
+pub mod Once
+pub mod Told
+pub mod OutReading
+pub mod PageLemmas
+pub mod RowReading
+pub mod StageReading

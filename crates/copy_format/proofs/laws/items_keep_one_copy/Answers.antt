@@ -1,0 +1,5 @@
+use Rattle.copy_format.proofs.Once.{kept_once}
+use Rattle.copy_format.proofs.laws.items_keep_one_copy.Goals as goal
+
+pub returns : goal.returns
+returns c = kept_once

@@ -1,0 +1,4 @@
+pub mod Bodies
+pub mod Format
+pub mod Edits
+pub mod Roots

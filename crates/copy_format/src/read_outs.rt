@@ -1,0 +1,97 @@
+//! Entries, read back from their items.
+
+ghost use Rattle.std.specs.Prelude.{◌≡◌, ◌∷◌, ◌++◌, ◌≤◌, true, IfOk, IfSome};
+ghost use Rattle.keeper_memory.specs.copy.Copies.{IsGradebook, IsOutWrite, max_body};
+ghost use Rattle.keeper_memory.specs.declared.copy.entry.OutEntry.{OutEntry as EntryValue};
+ghost use Rattle.keeper_memory.specs.declared.copy.state.TheConstants.{LAST as last_number};
+ghost use Rattle.item_maps.specs.Edits.{entry_of};
+ghost use Rattle.hub_format.specs.Pieces.{IsSized, sized};
+ghost use Rattle.copy_format.specs.Bodies.{optional_settled, out_body, write_bytes};
+ghost use Rattle.copy_format.specs.Format.{FitsSettled, IsOut, out_entry};
+
+use crate::reading::only_optional_settled;
+use hub_format::{number_at, only_number, sized_at, write_of};
+use item_maps::Item;
+use keeper_memory::{LAST, OutEntry};
+use roster_base::NoMemory;
+use roster_values::Kind;
+use std::alloc::Global;
+use version_core::mark::Write;
+
+// The most bytes of a body.
+const MOST: usize = 131_072;
+
+// The parts of a body: whether the write deletes, its kind, its id, its own body, and what stands behind them.
+fn parts_of(body: &[u8]) -> Option<(u8, u8, &[u8], &[u8], &[u8])>
+    ensures parts { IfSome result (λ p. body.now ≡ p.0 ∷ p.1 ∷ (sized p.2.now ++ (sized p.3.now ++ p.4.now))) }
+    ensures id { IfSome result (λ p. IsSized p.2.now) }
+    ensures text { IfSome result (λ p. IsSized p.3.now) }
+{
+    let (delete, rest) = body.split_first()?;
+    let (kind, rest) = rest.split_first()?;
+    let (id, rest) = sized_at(rest)?;
+    let (text, rest) = sized_at(rest)?;
+    Some((*delete, *kind, id, text, rest))
+}
+
+fn is_gradebook(kind: Kind) -> bool
+    ensures { result ≡ true → IsGradebook kind }
+{
+    match kind {
+        Kind::Categories => true,
+        Kind::LineItems => true,
+        Kind::Results => true,
+        _ => false,
+    }
+}
+
+// Whether a write may be entered.
+fn is_out_write(write: &Write) -> bool
+    ensures { result ≡ true → IsOutWrite write.now }
+{
+    let len = write.body.as_slice().len();
+    is_gradebook(write.kind) && len <= MOST && (!write.delete || len == 0)
+}
+
+// The entry of these parts, if a copy can have it.
+fn tested(number: u64, write: Write, settled: &[u8]) -> Option<OutEntry>
+    ensures number { IfSome result (λ e. e.number ≡ number) }
+    ensures write { IfSome result (λ e. e.write ≡ write) }
+    ensures settled { IfSome result (λ e. settled.now ≡ optional_settled e.settled) }
+    ensures fits { IfSome result (λ e. IfSome e.settled FitsSettled) }
+    ensures low { IfSome result (λ e. e.number ≤ last_number) }
+    ensures can { IfSome result (λ e. IsOutWrite e.write) }
+{
+    if number > LAST || !is_out_write(&write) {
+        return None;
+    }
+    match only_optional_settled(settled) {
+        Some(settled) => Some(OutEntry {
+            number,
+            write,
+            settled,
+        }),
+        None => None,
+    }
+}
+
+/// The entry of an item. None where it is no entry's item.
+pub fn out_of(alloc: Global, item: &Item) -> Result<Option<OutEntry>, NoMemory>
+    ensures found { (entry : EntryValue) → IsOut entry → entry_of item.now ≡ out_entry entry → IfOk result (λ o. IfSome o (λ found. found ≡ entry)) }
+    ensures whole { IfOk result (λ o. IfSome o (λ found. entry_of item.now ≡ out_entry found)) }
+    ensures low { IfOk result (λ o. IfSome o (λ found. found.number ≤ last_number)) }
+    ensures can { IfOk result (λ o. IfSome o (λ found. IsOutWrite found.write)) }
+{
+    let number = match only_number(item.label.as_slice()) {
+        Some(number) => number,
+        None => return Ok(None),
+    };
+    let (delete, kind, id, text, settled) = match parts_of(item.body.as_slice()) {
+        Some(parts) => parts,
+        None => return Ok(None),
+    };
+    match write_of(alloc, delete, kind, id, text)? {
+        Some(write) => Ok(tested(number, write, settled)),
+        None => Ok(None),
+    }
+}

@@ -1,5 +1,0 @@
-use Rattle.copy_items.proofs.Changing.{Keep-change}
-use Rattle.copy_items.proofs.laws.edits_keep_the_copy_after_a_change.Goals as goal
-
-pub returns : goal.returns
-returns c = Keep-change

@@ -1,5 +1,0 @@
-use Rattle.copy_items.proofs.Once.{kept_once}
-use Rattle.copy_items.proofs.laws.items_keep_one_copy.Goals as goal
-
-pub returns : goal.returns
-returns c = kept_once

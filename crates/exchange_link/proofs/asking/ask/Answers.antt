@@ -1,0 +1,107 @@
+use Rattle.std.proofs.Common.{arith, ◌≡◌, ◌+◌, ◌<◌, refl, sym, ◌∙◌, ap}
+use Rattle.exchange_link.specs.Exchanges.{IsTextOf}
+use Rattle.http_wire.specs.Sending.{request_text}
+use Rattle.status_info.specs.declared.request.Echo.{Echo}
+use Rattle.status_info.specs.declared.request.Request.{Request}
+use Rattle.exchange_link.specs.Requests.{IsNumbered, number, numbered}
+use Rattle.exchange_link.proofs.AskLemmas.{asks_on, asks_refl, own_map, missed_other, own_on, sent_last}
+use Rattle.exchange_link.proofs.asking.ask.Goals as goal
+
+pub loop-i-init : goal.loop-i-init
+loop-i-init g c = record {
+  count = omega arith;
+  request = refl;
+  missed = omega arith;
+  asked = record { least = omega arith; most = omega arith };
+  later = omega arith;
+  rose = omega arith;
+  none = λ p. absurd (omega (arith, p));
+  told = λ after tells. (after, tells, asks_refl c.args.run c.args.count.now (IsNumbered c.args.request) after);
+  last = λ p. absurd (omega (arith, p));
+}
+
+pub returns-in-Err-clause-told : goal.returns-in-Err-clause-told
+returns-in-Err-clause-told g c after tells = let y = c.loop-i.invariant.told after tells in (y.0, y.1, y.2, λ ready. tt)
+
+pub once-requires : goal.once-requires
+once-requires g c =
+    let n : Echo = number c.args.run (c.loop-i.count + 1) in
+    let same : numbered c.loop-i.request n ≡ numbered c.args.request n = ap (λ (q : Request). numbered q n) c.loop-i.invariant.request in (
+      numbered c.args.request n,
+      record {
+        can = c.requires.can n (c.requires.run.0, c.requires.run.1, omega arith, omega (arith, c.requires.few, c.loop-i.invariant.count, c.loop-i-test.true));
+        text_is = c.as_slice.ensures.value ∙ c.in-Ok.ensures ∙ ap request_text same;
+      },
+      refl,
+    )
+
+pub returns-in_default : goal.returns-in_default
+returns-in_default g c =
+    let n : Echo = number c.args.run (c.loop-i.count + 1) in
+    let same : numbered c.loop-i.request n ≡ numbered c.args.request n = ap (λ (q : Request). numbered q n) c.loop-i.invariant.request in
+    let q : Request = numbered c.args.request n in
+    let is : IsTextOf q c.as_slice.result.now = record {
+      can = c.requires.can n (c.requires.run.0, c.requires.run.1, omega arith, omega (arith, c.requires.few, c.loop-i.invariant.count, c.loop-i-test.true));
+      text_is = c.as_slice.ensures.value ∙ c.in-Ok.ensures ∙ ap request_text same;
+    } in
+    record {
+      count = (omega (arith, c.loop-i.invariant.count), omega (arith, c.loop-i.invariant.count, c.loop-i-test.true));
+      asked = record {
+        least = omega (arith, c.loop-i.invariant.asked.least, c.once.ensures.asked.least, c.loop-i.invariant.count);
+        most = omega (arith, c.loop-i.invariant.asked.most, c.once.ensures.asked.most, c.loop-i.invariant.count);
+      };
+      later = omega (arith, c.loop-i.invariant.later, c.once.ensures.later);
+      own = own_map c.once.result _ _ (λ w x. record { text = x.0; number = x.1; from = omega arith }) c.once.ensures.own;
+      none = λ e. let x = c.once.ensures.none e in (omega arith, x.0, x.1);
+      missed = λ e. absurd (c.in_default.not-Missed e);
+      told = λ after tells.
+          let x = c.once.ensures.told q is after tells in
+          let y = c.loop-i.invariant.told x.0 x.1 in (
+            y.0,
+            y.1,
+            asks_on c.args.run _ c.loop-i.count _ (IsNumbered c.args.request) q _ _ _ _ refl (omega arith) (n, refl) y.2 x.2,
+            λ ready. own_on c.args.run _ c.loop-i.count _ (IsNumbered c.args.request) q _ _ _ _ refl (omega arith) y.2 x.2 ready (own_map c.once.result _ _ (λ w z. z.1) c.once.ensures.own),
+          );
+      last = λ ne after tells.
+          let x = c.once.ensures.told q is after tells in
+          sent_last q c.once.result x.0 after x.2 ne;
+    }
+
+pub loop-i-preserved : goal.loop-i-preserved
+loop-i-preserved g c =
+    let n : Echo = number c.args.run (c.loop-i.count + 1) in
+    let same : numbered c.loop-i.request n ≡ numbered c.args.request n = ap (λ (q : Request). numbered q n) c.loop-i.invariant.request in
+    let q : Request = numbered c.args.request n in
+    let is : IsTextOf q c.as_slice.result.now = record {
+      can = c.requires.can n (c.requires.run.0, c.requires.run.1, omega arith, omega (arith, c.requires.few, c.loop-i.invariant.count, c.loop-i-test.true));
+      text_is = c.as_slice.ensures.value ∙ c.in-Ok.ensures ∙ ap request_text same;
+    } in
+    let m = c.once.ensures.missed c.in-Missed.is in
+    record {
+      count = omega (arith, c.loop-i.invariant.count);
+      request = same;
+      missed = let r = c.once.ensures.misses.again m.0 in omega (arith, r, c.loop-i.invariant.missed, c.requires.tries.1, c.loop-i-test.true);
+      asked = record {
+        least = omega (arith, c.loop-i.invariant.asked.least, c.once.ensures.asked.least);
+        most = omega (arith, c.loop-i.invariant.asked.most, c.once.ensures.asked.most);
+      };
+      later = omega (arith, c.loop-i.invariant.later, c.once.ensures.later);
+      rose = let r = m.0 in omega (arith, r, c.loop-i.invariant.rose);
+      none = λ p w text echo. m.1 w text echo;
+      told = λ after tells.
+          let x = c.once.ensures.told q is after tells in
+          let y = c.loop-i.invariant.told x.0 x.1 in
+          (y.0, y.1, asks_on c.args.run _ c.loop-i.count _ (IsNumbered c.args.request) q _ _ _ _ refl (omega arith) (n, refl) y.2 x.2);
+      last = λ p after tells.
+          let x = c.once.ensures.told q is after tells in
+          sent_last q c.once.result x.0 after x.2 (λ e. missed_other (sym c.in-Missed.is ∙ e));
+    }
+
+pub returns-clause-missed : goal.returns-clause-missed
+returns-clause-missed g c e =
+    let all : c.loop-i.i ≡ c.args.tries = omega (arith, c.loop-i-test.false, c.loop-i.auto.i-end) in
+    let some : 0 < c.loop-i.i = omega (arith, all, c.requires.tries.0) in
+    (omega (arith, all, c.loop-i.invariant.count), omega (arith, all, c.loop-i.invariant.missed), omega (arith, all, c.loop-i.invariant.rose), c.loop-i.invariant.none some)
+
+pub returns-clause-told : goal.returns-clause-told
+returns-clause-told g c after tells = let y = c.loop-i.invariant.told after tells in (y.0, y.1, y.2, λ ready. tt)

@@ -1,0 +1,71 @@
+//! Whether bytes are the own reply to a request.
+
+ghost use Rattle.std.specs.Prelude.{◌≡◌, [], IfOk, None, Ok, true};
+ghost use Rattle.exchange_link.specs.Exchanges.{Carries, IsSentText, IsTextOf};
+ghost use Rattle.status_info.specs.declared.request.Request.{Request as Asked};
+
+use http_wire::{WireFault, WireReader, parse_reply};
+use outside_ports::HeldSource;
+use roster_base::NoMemory;
+use status_info::{Echo, Request};
+use std::alloc::Global;
+
+fn taken_number(request: Request) -> Option<Echo>
+    ensures { result ≡ request.echo }
+{
+    let number = request.echo;
+    drop(request);
+    number
+}
+
+// The number that the text of a request says.
+fn number_in(
+    alloc: Global,
+    reader: &mut WireReader,
+    source: &mut HeldSource,
+) -> Result<Option<Echo>, NoMemory>
+    requires fresh { reader.old ≡ record { kept = []; fault = None } }
+    requires sent { IsSentText source.old }
+    ensures { IfOk result (λ number. (q : Asked) → IsTextOf q source.old → number ≡ q.echo) }
+{
+    match reader.next(alloc, source) {
+        Ok(request) => Ok(taken_number(request)),
+        Err(fault) => match fault {
+            WireFault::NoMemory => Err(NoMemory),
+            _ => unreachable!(),
+        },
+    }
+}
+
+// The number of the request whose text this is.
+fn number_of(alloc: Global, text: &[u8]) -> Result<Option<Echo>, NoMemory>
+    requires { IsSentText text.now }
+    ensures { IfOk result (λ number. (q : Asked) → IsTextOf q text.now → number ≡ q.echo) }
+{
+    let mut source = HeldSource::new(alloc, text.to_vec(alloc)?);
+    let mut reader = WireReader::new(alloc)?;
+    number_in(alloc, &mut reader, &mut source)
+}
+
+fn is_same(one: Option<Echo>, other: Option<Echo>) -> bool
+    ensures { result ≡ true → one ≡ other }
+{
+    match (one, other) {
+        (None, None) => true,
+        (Some(one), Some(other)) => one.run == other.run && one.count == other.count,
+        _ => false,
+    }
+}
+
+/// Whether bytes are a reply with the number of the request whose text this is.
+pub fn is_own(alloc: Global, request: &[u8], reply: &[u8]) -> Result<bool, NoMemory>
+    requires { IsSentText request.now }
+    ensures { result ≡ Ok true → (q : Asked) → IsTextOf q request.now → Carries reply.now q.echo }
+{
+    let number = number_of(alloc, request)?;
+    match parse_reply(alloc, reply) {
+        Ok(reply) => Ok(is_same(reply.echo, number)),
+        Err(WireFault::NoMemory) => Err(NoMemory),
+        Err(_) => Ok(false),
+    }
+}

@@ -1,0 +1,69 @@
+//! A link whose replies are given beforehand.
+
+ghost use Rattle.std.specs.Prelude.{◌≡◌};
+
+use crate::inbox::Inbox;
+use crate::link::Link;
+use outside_ports::IoError;
+use std::alloc::Global;
+
+/// A link whose replies are given beforehand, one for each exchange in turn. An exchange fails where it has none, and each reply without
+/// the number of the exchange's request is counted as a fault. It tells nothing of a hub.
+#[derive(Drop)]
+pub struct PeerLink {
+    replies: Vec<Option<Vec<u8>>>,
+    place: usize,
+    inbox: Inbox,
+}
+
+impl PeerLink {
+    /// A link with these replies, over which nothing was sent yet.
+    pub fn new(alloc: Global, replies: Vec<Option<Vec<u8>>>) -> PeerLink {
+        PeerLink {
+            replies,
+            place: 0,
+            inbox: Inbox::new(alloc),
+        }
+    }
+}
+
+// The reply at a place, which is taken out, and the next place.
+fn taken(replies: &mut [Option<Vec<u8>>], place: &mut usize) -> Option<Vec<u8>> {
+    if *place >= replies.len() {
+        return None;
+    }
+    let reply = replies[*place].take();
+    *place += 1;
+    reply
+}
+
+impl Link for PeerLink {
+    ghost asked = { λ link. link.inbox.tally.asked };
+
+    ghost missed = { λ link. link.inbox.tally.missed };
+
+    ghost kept = { λ link. link.inbox.kept.items };
+
+    ghost fault_count = { λ link. link.inbox.tally.faults };
+
+    ghost tells = { λ _ _. ⊥ };
+
+    ghost is_hub = { λ _ _ none. absurd none };
+
+    fn exchange(&mut self, alloc: Global, request: &[u8]) -> Result<(), IoError> {
+        let came = taken(&mut self.replies, &mut self.place).ok_or(IoError::Failed);
+        self.inbox.take(alloc, request, came)
+    }
+
+    fn reply(&self) -> &[u8] {
+        &self.inbox.kept
+    }
+
+    fn missed(&self) -> u64 {
+        self.inbox.tally.missed
+    }
+
+    fn faults(&self) -> u64 {
+        self.inbox.tally.faults
+    }
+}

@@ -1,7 +1,0 @@
-//! What a list of grants makes of the newest version.
-#![tactic(auto)]
-
-pub mod granting;
-pub mod laws;
-
-pub use granting::grants_change;

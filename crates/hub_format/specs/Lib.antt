@@ -1,0 +1,6 @@
+pub mod Pieces
+pub mod Format
+pub mod Edits
+pub mod Behind
+pub mod Moves
+pub mod Oldest

@@ -1,0 +1,18 @@
+-- What is known of the oldest version and the change behind it.
+use Rattle.std.specs.Prelude.{◌≡◌, ◌-◌, ℕ, List, ◌∷◌, Option, map, nat_lt, true}
+use Rattle.std.specs.Option.{ForSome}
+use Rattle.item_maps.specs.Edits.{entry_of}
+use Rattle.item_maps.specs.declared.item.Item.{Item}
+use Rattle.version_core.specs.declared.change.Change.{Change}
+use Rattle.version_core.specs.declared.hub_tables.HubTables.{HubTables}
+use Rattle.hub_format.specs.Format.{grants_under, own_rows, own_version}
+
+-- these items are those of the base's grants, and of the version and the rows of the first change where there is one
+pub record AreOldest (t : HubTables) (base first laid : List Item) : Type 0 where
+  pub grants : map entry_of base ≡ grants_under t.base.number t.base.grants
+  pub version : (oldest : Change) (changes : List Change) → t.changes ≡ oldest ∷ changes → map entry_of first ≡ own_version oldest
+  pub rows : (oldest : Change) (changes : List Change) → t.changes ≡ oldest ∷ changes → map entry_of laid ≡ own_rows oldest
+
+-- they are, where a change would let the oldest go
+abbrev pub AreOldestFor : HubTables → ℕ → ℕ → Option Change → List Item → List Item → List Item → Type 0
+AreOldestFor t keep base change grants first laid = ForSome change (λ change. nat_lt keep (change.version - base) ≡ true → AreOldest t grants first laid)

@@ -1,0 +1,23 @@
+//! The items in which a hub's state is kept: their labels and bodies as definitions, written and read, and the edits of a commit.
+#![tactic(auto)]
+
+mod edits;
+mod fold;
+pub mod laws;
+mod pieces;
+mod plan;
+mod read_grants;
+mod read_marks;
+mod read_rows;
+mod read_state;
+mod reading;
+mod writing;
+
+pub use edits::{first_edits, put_format};
+pub use pieces::{kind_byte, push_number, push_sized};
+pub use plan::{Oldest, commit_edits, lets_go};
+pub use read_grants::{grants_of, id_at};
+pub use read_marks::{marks_of, write_of};
+pub use read_rows::rows_of;
+pub use read_state::{state_of, version_of};
+pub use reading::{Format, format_of, number_at, only_body, only_number, sized_at, state_parts};

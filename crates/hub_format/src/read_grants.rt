@@ -1,0 +1,223 @@
+//! Grants, read back from their items.
+
+ghost use Rattle.std.specs.Prelude.{◌≡◌, ◌∷◌, ◌++◌, ◌<◌, ◌^◌, ℕ, List, IfOk, IfSome, drop, length, map, true};
+ghost use Rattle.std.specs.Cmp.Lexicographic.{slice_cmp};
+ghost use Rattle.std.specs.List.{AllByRecursion};
+ghost use Rattle.std.specs.Ordering.{is_lt, nat_cmp};
+ghost use Rattle.grant_scopes.specs.Schools.{AreSchools};
+ghost use Rattle.item_maps.specs.Edits.{entry_of};
+ghost use Rattle.version_core.specs.declared.grant_row.GrantRow.{GrantRow as GrantValue};
+ghost use Rattle.hub_format.specs.Format.{FitsGrant, grant_entry, grants_under};
+ghost use Rattle.hub_format.specs.Pieces.{AreSized, IsSized, all_sized, caller_label, grant_body, number, schools_bytes, sized};
+ghost use Rattle.hub_format.specs.Behind.{entry_behind, own_entry};
+
+use crate::reading::{behind, id_of, name_of, number_at, only_number, sized_at};
+use grant_scopes::{Grant, SchoolList, Schools, Scopes};
+use item_maps::Item;
+use roster_base::{Items, NoMemory};
+use roster_texts::{Id, Token};
+use std::alloc::Global;
+use std::str;
+use version_core::grant_row::GrantRow;
+
+// The caller of a label that has no number in front.
+fn caller_in(label: &[u8]) -> Option<&[u8]>
+    ensures { IfSome result (λ caller. label.now ≡ caller_label caller.now) }
+{
+    let (zero, caller) = label.split_last()?;
+    if *zero == 0 { Some(caller) } else { None }
+}
+
+/// The id in front, without its length, and what stands behind it.
+pub fn id_at(alloc: Global, bytes: &[u8]) -> Result<Option<(Id, &[u8])>, NoMemory>
+    ensures id { IfOk result (λ o. IfSome o (λ p. bytes.now ≡ sized p.0 ++ p.1.now)) }
+    ensures small { IfOk result (λ o. IfSome o (λ p. IsSized p.0)) }
+{
+    let (text, rest) = match sized_at(bytes) {
+        Some(parts) => parts,
+        None => return Ok(None),
+    };
+    match id_of(alloc, text)? {
+        Some(id) => Ok(Some((id, rest))),
+        None => Ok(None),
+    }
+}
+
+// So many ids in front, each behind its length, and what stands behind them.
+fn ids_at(alloc: Global, count: u64, bytes: &[u8]) -> Result<Option<(Vec<Id>, &[u8])>, NoMemory>
+    ensures ids { IfOk result (λ o. IfSome o (λ p. bytes.now ≡ all_sized p.0.items ++ p.1.now)) }
+    ensures count { IfOk result (λ o. IfSome o (λ p. length p.0.items ≡ count)) }
+    ensures small { IfOk result (λ o. IfSome o (λ p. AllByRecursion IsSized p.0.items)) }
+{
+    let mut ids = Vec::new(alloc);
+    let mut rest = bytes;
+    let mut left = count;
+    while left > 0 {
+        left -= 1;
+        let (id, later) = match id_at(alloc, rest)? {
+            Some(parts) => parts,
+            None => return Ok(None),
+        };
+        ids.push(id)?;
+        rest = later;
+    }
+    Ok(Some((ids, rest)))
+}
+
+fn is_below(low: &Id, high: &Id) -> bool
+    ensures { result ≡ is_lt (slice_cmp nat_cmp low.now high.now) }
+{
+    low.as_str().cmp(high.as_str()).is_lt()
+}
+
+// Whether each id is below the next.
+fn rise(ids: &[Id]) -> bool
+    ensures { result ≡ true → AreSchools ids.now }
+{
+    for place in 1..ids.len() {
+        if !is_below(&ids[place - 1], &ids[place]) {
+            return false;
+        }
+    }
+    true
+}
+
+// The ids as a list of schools, if they stand in order.
+fn school_list(ids: Vec<Id>) -> Option<SchoolList>
+    ensures { IfSome result (λ list. list ≡ ids.items) }
+{
+    if rise(ids.as_slice()) {
+        Some(SchoolList::new(Items::from_vec(ids)))
+    } else {
+        None
+    }
+}
+
+// Schools that are listed, behind the byte that says so, and what stands behind them.
+fn listed_at(alloc: Global, bytes: &[u8]) -> Result<Option<(Schools, &[u8])>, NoMemory>
+    ensures schools { IfOk result (λ o. IfSome o (λ p. 1 ∷ bytes.now ≡ schools_bytes p.0 ++ p.1.now)) }
+    ensures small { IfOk result (λ o. IfSome o (λ p. AreSized p.0)) }
+{
+    let (count, rest) = match number_at(bytes) {
+        Some(parts) => parts,
+        None => return Ok(None),
+    };
+    let (ids, rest) = match ids_at(alloc, count, rest)? {
+        Some(parts) => parts,
+        None => return Ok(None),
+    };
+    match school_list(ids) {
+        Some(list) => Ok(Some((Schools::Listed(list), rest))),
+        None => Ok(None),
+    }
+}
+
+// The schools in front, and what stands behind them.
+fn schools_at(alloc: Global, bytes: &[u8]) -> Result<Option<(Schools, &[u8])>, NoMemory>
+    ensures schools { IfOk result (λ o. IfSome o (λ p. bytes.now ≡ schools_bytes p.0 ++ p.1.now)) }
+    ensures small { IfOk result (λ o. IfSome o (λ p. AreSized p.0)) }
+{
+    let (byte, rest) = match bytes.split_first() {
+        Some(parts) => parts,
+        None => return Ok(None),
+    };
+    match *byte {
+        0 => Ok(Some((Schools::All, rest))),
+        1 => listed_at(alloc, rest),
+        _ => Ok(None),
+    }
+}
+
+// The token of these bytes, if they are one.
+fn token_of(alloc: Global, bytes: &[u8]) -> Result<Option<Token>, NoMemory>
+    ensures { IfOk result (λ o. IfSome o (λ token. token ≡ bytes.now)) }
+{
+    match str::from_utf8(bytes) {
+        Ok(text) => Token::read(alloc, text),
+        Err(_) => Ok(None),
+    }
+}
+
+// The token and the scopes in front of a grant's body, and what stands behind them.
+fn token_at(alloc: Global, body: &[u8]) -> Result<Option<(Token, Scopes, &[u8])>, NoMemory>
+    ensures parts { IfOk result (λ o. IfSome o (λ p. body.now ≡ sized p.0 ++ (p.1 ∷ p.2.now))) }
+    ensures small { IfOk result (λ o. IfSome o (λ p. IsSized p.0)) }
+{
+    let (text, rest) = match sized_at(body) {
+        Some(parts) => parts,
+        None => return Ok(None),
+    };
+    let (bits, rest) = match rest.split_first() {
+        Some(parts) => parts,
+        None => return Ok(None),
+    };
+    let scopes = match Scopes::from_bits(*bits) {
+        Some(scopes) => scopes,
+        None => return Ok(None),
+    };
+    match token_of(alloc, text)? {
+        Some(token) => Ok(Some((token, scopes, rest))),
+        None => Ok(None),
+    }
+}
+
+// What a body grants.
+fn grant_of_body(alloc: Global, body: &[u8]) -> Result<Option<Grant>, NoMemory>
+    ensures grant { IfOk result (λ o. IfSome o (λ grant. body.now ≡ grant_body grant)) }
+    ensures token { IfOk result (λ o. IfSome o (λ grant. IsSized grant.token)) }
+    ensures schools { IfOk result (λ o. IfSome o (λ grant. AreSized grant.schools)) }
+    ensures since { IfOk result (λ o. IfSome o (λ grant. grant.since < 2 ^ 64)) }
+{
+    let (token, scopes, rest) = match token_at(alloc, body)? {
+        Some(parts) => parts,
+        None => return Ok(None),
+    };
+    let (schools, rest) = match schools_at(alloc, rest)? {
+        Some(parts) => parts,
+        None => return Ok(None),
+    };
+    match only_number(rest) {
+        Some(since) => Ok(Some(Grant {
+            token,
+            scopes,
+            schools,
+            since,
+        })),
+        None => Ok(None),
+    }
+}
+
+// The grant of an item, whose label has a version's number in front. None where it is no grant's item.
+fn grant_of(alloc: Global, item: &Item) -> Result<Option<GrantRow>, NoMemory>
+    ensures found { (version : ℕ) (row : GrantValue) → FitsGrant row → entry_of item.now ≡ grant_entry version row → IfOk result (λ o. IfSome o (λ found. found ≡ row)) }
+    ensures whole { IfOk result (λ o. IfSome o (λ found. entry_behind item.now ≡ own_entry found)) }
+{
+    let caller = match caller_in(behind(item.label.as_slice(), 8)) {
+        Some(caller) => caller,
+        None => return Ok(None),
+    };
+    let caller = match name_of(alloc, caller)? {
+        Some(caller) => caller,
+        None => return Ok(None),
+    };
+    match grant_of_body(alloc, item.body.as_slice())? {
+        Some(grant) => Ok(Some(GrantRow { caller, grant })),
+        None => Ok(None),
+    }
+}
+
+/// The grants of items behind a version's number. None where one is no grant's item.
+pub fn grants_of(alloc: Global, items: &[Item]) -> Result<Option<Vec<GrantRow>>, NoMemory>
+    ensures found { (version : ℕ) (grants : List GrantValue) → AllByRecursion FitsGrant grants → map entry_of items.now ≡ grants_under version grants
+        → IfOk result (λ o. IfSome o (λ found. found.items ≡ grants)) }
+    ensures whole { IfOk result (λ o. IfSome o (λ found. map entry_behind items.now ≡ map own_entry found.items)) }
+{
+    let mut found = Vec::new(alloc);
+    for item in items {
+        match grant_of(alloc, item)? {
+            Some(grant) => found.push(grant)?,
+            None => return Ok(None),
+        }
+    }
+    Ok(Some(found))
+}

@@ -1,0 +1,144 @@
+//! Marks, read back from their items.
+
+ghost use Rattle.std.specs.Prelude.{◌≡◌, ◌∷◌, ◌++◌, ◌<◌, ◌^◌, List, IfOk, IfSome, map};
+ghost use Rattle.std.specs.List.{AllByRecursion};
+ghost use Rattle.item_maps.specs.Edits.{entry_of};
+ghost use Rattle.roster_values.specs.Kinds.{place_of_kind};
+ghost use Rattle.version_core.specs.declared.mark.MarkRow.{MarkRow as MarkValue};
+ghost use Rattle.hub_format.specs.Format.{FitsMark, mark_entry};
+ghost use Rattle.hub_format.specs.Pieces.{IsSized, flag, mark_label, number, sized};
+
+use crate::reading::{id_of, kind_of, name_of, number_at, sized_at};
+use item_maps::Item;
+use roster_base::{Bytes, NoMemory};
+use std::alloc::Global;
+use version_core::mark::{Kept, MarkRow, Write};
+
+// The caller and the number of a label.
+fn label_parts(label: &[u8]) -> Option<(&[u8], u64)>
+    ensures { IfSome result (λ p. label.now ≡ mark_label (p.0.now, p.1)) }
+{
+    let ends = label.len().checked_sub(9)?;
+    let (caller, rest) = label.split_at_checked(ends)?;
+    let (zero, bytes) = rest.split_first()?;
+    let (number, rest) = number_at(bytes)?;
+    if *zero == 0 && rest.is_empty() {
+        Some((caller, number))
+    } else {
+        None
+    }
+}
+
+// What was kept of a write: the outcome and the version.
+fn kept_of(bytes: &[u8]) -> Option<Kept>
+    ensures kept { IfSome result (λ kept. bytes.now ≡ kept.outcome ∷ number kept.version) }
+    ensures version { IfSome result (λ kept. kept.version < 2 ^ 64) }
+{
+    let (outcome, rest) = bytes.split_first()?;
+    let (version, rest) = number_at(rest)?;
+    if rest.is_empty() {
+        Some(Kept {
+            outcome: *outcome,
+            version,
+        })
+    } else {
+        None
+    }
+}
+
+// Whether a write deletes.
+fn delete_of(byte: u8) -> Option<bool>
+    ensures { IfSome result (λ delete. flag delete ≡ byte) }
+{
+    match byte {
+        0 => Some(false),
+        1 => Some(true),
+        _ => None,
+    }
+}
+
+/// The write of these parts: 1 where it deletes and else 0, the byte of its kind, its id, and its own body.
+pub fn write_of(
+    alloc: Global,
+    delete: u8,
+    kind: u8,
+    id: &[u8],
+    text: &[u8],
+) -> Result<Option<Write>, NoMemory>
+    ensures { IfOk result (λ o. IfSome o (λ w. (flag w.delete ≡ delete) × (place_of_kind w.kind ≡ kind) × (w.id ≡ id.now) × (w.body ≡ text.now))) }
+{
+    let (delete, kind) = match (delete_of(delete), kind_of(kind)) {
+        (Some(delete), Some(kind)) => (delete, kind),
+        _ => return Ok(None),
+    };
+    let id = match id_of(alloc, id)? {
+        Some(id) => id,
+        None => return Ok(None),
+    };
+    let body = Bytes::from_vec(Vec::from_slice(alloc, text)?);
+    Ok(Some(Write {
+        delete,
+        kind,
+        id,
+        body,
+    }))
+}
+
+// The parts of a body: whether the write deletes, its kind, its id, its own body, and what was kept of it.
+fn body_parts(body: &[u8]) -> Option<(u8, u8, &[u8], &[u8], Kept)>
+    ensures parts { IfSome result (λ p. body.now ≡ p.0 ∷ p.1 ∷ (sized p.2.now ++ (sized p.3.now ++ (p.4.outcome ∷ number p.4.version)))) }
+    ensures id { IfSome result (λ p. IsSized p.2.now) }
+    ensures text { IfSome result (λ p. IsSized p.3.now) }
+    ensures version { IfSome result (λ p. p.4.version < 2 ^ 64) }
+{
+    let (delete, rest) = body.split_first()?;
+    let (kind, rest) = rest.split_first()?;
+    let (id, rest) = sized_at(rest)?;
+    let (text, rest) = sized_at(rest)?;
+    let kept = kept_of(rest)?;
+    Some((*delete, *kind, id, text, kept))
+}
+
+// The mark of an item. None where it is no mark's item.
+fn mark_of(alloc: Global, item: &Item) -> Result<Option<MarkRow>, NoMemory>
+    ensures found { (mark : MarkValue) → FitsMark mark → entry_of item.now ≡ mark_entry mark → IfOk result (λ o. IfSome o (λ found. found ≡ mark)) }
+    ensures whole { IfOk result (λ o. IfSome o (λ found. entry_of item.now ≡ mark_entry found)) }
+{
+    let (caller, number) = match label_parts(item.label.as_slice()) {
+        Some(parts) => parts,
+        None => return Ok(None),
+    };
+    let (delete, kind, id, text, kept) = match body_parts(item.body.as_slice()) {
+        Some(parts) => parts,
+        None => return Ok(None),
+    };
+    let caller = match name_of(alloc, caller)? {
+        Some(caller) => caller,
+        None => return Ok(None),
+    };
+    match write_of(alloc, delete, kind, id, text)? {
+        Some(write) => Ok(Some(MarkRow {
+            caller,
+            number,
+            write,
+            kept,
+        })),
+        None => Ok(None),
+    }
+}
+
+/// The marks of items. None where one is no mark's item.
+pub fn marks_of(alloc: Global, items: &[Item]) -> Result<Option<Vec<MarkRow>>, NoMemory>
+    ensures found { (marks : List MarkValue) → AllByRecursion FitsMark marks → map entry_of items.now ≡ map mark_entry marks
+        → IfOk result (λ o. IfSome o (λ found. found.items ≡ marks)) }
+    ensures whole { IfOk result (λ o. IfSome o (λ found. map entry_of items.now ≡ map mark_entry found.items)) }
+{
+    let mut found = Vec::new(alloc);
+    for item in items {
+        match mark_of(alloc, item)? {
+            Some(mark) => found.push(mark)?,
+            None => return Ok(None),
+        }
+    }
+    Ok(Some(found))
+}

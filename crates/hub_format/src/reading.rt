@@ -1,0 +1,152 @@
+//! What items say, read back.
+
+ghost use Rattle.std.specs.Prelude.{◌≡◌, ◌≢◌, ◌↔◌, ◌++◌, ◌∷◌, [], IfOk, IfSome, drop, map, true};
+ghost use Rattle.item_maps.specs.Edits.{entry_of};
+ghost use Rattle.hub_format.specs.declared.reading.Format.TheVariants as format;
+ghost use Rattle.roster_values.specs.Kinds.{place_of_kind};
+ghost use Rattle.hub_format.specs.Format.{Entry, format_entry};
+ghost use Rattle.hub_format.specs.Pieces.{IsSized, number, sized};
+
+use item_maps::Item;
+use roster_base::NoMemory;
+use roster_texts::{Id, Name};
+use roster_values::Kind;
+use std::alloc::Global;
+use std::str;
+
+// The number of these bytes.
+fn number_of(bytes: [u8; 8]) -> u64
+    ensures { number result ≡ bytes }
+{
+    u64::from_be_bytes(bytes)
+}
+
+/// The number in front, and what stands behind it.
+pub fn number_at(bytes: &[u8]) -> Option<(u64, &[u8])>
+    ensures { IfSome result (λ r. bytes.now ≡ number r.0 ++ r.1.now) }
+{
+    let (first, rest) = bytes.split_first_chunk::<8>()?;
+    Some((number_of(*first), rest))
+}
+
+/// The only number.
+pub fn only_number(bytes: &[u8]) -> Option<u64>
+    ensures { IfSome result (λ n. bytes.now ≡ number n) }
+{
+    let (n, rest) = number_at(bytes)?;
+    if rest.is_empty() { Some(n) } else { None }
+}
+
+/// What stands behind so many bytes.
+pub(crate) fn behind(bytes: &[u8], skip: usize) -> &[u8]
+    ensures { result.now ≡ drop skip bytes.now }
+{
+    if bytes.len() < skip {
+        return &[];
+    }
+    &bytes[skip..]
+}
+
+/// The text in front, without its length, and what stands behind it.
+pub fn sized_at(bytes: &[u8]) -> Option<(&[u8], &[u8])>
+    ensures text { IfSome result (λ r. bytes.now ≡ sized r.0.now ++ r.1.now) }
+    ensures small { IfSome result (λ r. IsSized r.0.now) }
+{
+    let (len, rest) = number_at(bytes)?;
+    let len = usize::try_from(len).ok()?;
+    rest.split_at_checked(len)
+}
+
+// The name in these bytes, if they are one.
+pub(crate) fn name_of(alloc: Global, bytes: &[u8]) -> Result<Option<Name>, NoMemory>
+    ensures { IfOk result (λ o. IfSome o (λ name. name ≡ bytes.now)) }
+{
+    match str::from_utf8(bytes) {
+        Ok(text) => Name::read(alloc, text),
+        Err(_) => Ok(None),
+    }
+}
+
+// The id in these bytes, if they are one.
+pub(crate) fn id_of(alloc: Global, bytes: &[u8]) -> Result<Option<Id>, NoMemory>
+    ensures { IfOk result (λ o. IfSome o (λ id. id ≡ bytes.now)) }
+{
+    match str::from_utf8(bytes) {
+        Ok(text) => Id::read(alloc, text),
+        Err(_) => Ok(None),
+    }
+}
+
+/// The kind of a byte.
+pub(crate) fn kind_of(byte: u8) -> Option<Kind>
+    ensures { IfSome result (λ kind. place_of_kind kind ≡ byte) }
+{
+    match byte {
+        0 => Some(Kind::Orgs),
+        1 => Some(Kind::AcademicSessions),
+        2 => Some(Kind::Courses),
+        3 => Some(Kind::Classes),
+        4 => Some(Kind::Users),
+        5 => Some(Kind::Enrollments),
+        6 => Some(Kind::Demographics),
+        7 => Some(Kind::Categories),
+        8 => Some(Kind::LineItems),
+        9 => Some(Kind::Results),
+        _ => None,
+    }
+}
+
+/// The body of the only item.
+pub fn only_body(items: &[Item]) -> Option<&[u8]>
+    ensures { (entry : Entry) → map entry_of items.now ≡ entry ∷ [] → IfSome result (λ body. body.now ≡ entry.1) }
+{
+    match items {
+        [item] => Some(item.body.as_slice()),
+        _ => None,
+    }
+}
+
+/// How many versions a state keeps beside the newest, the number of its base, and what stands behind them, from its body.
+pub fn state_parts(body: &[u8]) -> Option<(u64, u64, &[u8])>
+    ensures { IfSome result (λ s. body.now ≡ number s.0 ++ (number s.1 ++ s.2.now)) }
+{
+    let (keep, rest) = number_at(body)?;
+    let (base, rest) = number_at(rest)?;
+    Some((keep, base, rest))
+}
+
+/// The format of a store.
+#[derive(Clone, Copy)]
+pub enum Format {
+    /// It has none yet.
+    New,
+    /// Format 1.
+    One,
+    /// Another, which isn't known here.
+    Other,
+}
+
+fn is_one(body: &[u8]) -> bool
+    ensures { (result ≡ true) ↔ (body.now ≡ number 1) }
+{
+    body == [0, 0, 0, 0, 0, 0, 0, 1].as_slice()
+}
+
+/// The format, from its items.
+pub fn format_of(items: &[Item]) -> Format
+    ensures none { map entry_of items.now ≡ [] → result ≡ format.New }
+    ensures one { map entry_of items.now ≡ format_entry ∷ [] → result ≡ format.One }
+    ensures other { (entry : Entry) → map entry_of items.now ≡ entry ∷ [] → entry.1 ≢ number 1 → result ≡ format.Other }
+{
+    match items {
+        [] => Format::New,
+        [item] => {
+            if is_one(item.body.as_slice()) {
+                Format::One
+            } else {
+                Format::Other
+            }
+        }
+        _ => Format::Other,
+    }
+}

@@ -1,0 +1,196 @@
+//! The edits that store versions, rows, grants and marks.
+
+ghost use Rattle.std.specs.Prelude.{◌≡◌, ◌++◌, ◌<◌, ◌^◌, IfOk, OnOk};
+ghost use Rattle.std.specs.Int.{w64};
+ghost use Rattle.std.specs.Int.RustNames.{FitsSigned};
+ghost use Rattle.std.specs.List.{AllByRecursion};
+ghost use Rattle.roster_values.specs.Kinds.{place_of_kind};
+ghost use Rattle.hub_format.specs.Edits.{put_at, puts};
+ghost use Rattle.hub_format.specs.Format.{FitsGrant, FitsMark, grant_entry, grants_under, mark_entry, row_entry, rows_under, version_entry};
+ghost use Rattle.hub_format.specs.Pieces.{AreSized, HasNoZero, IsReadBack, IsSized, caller_label, change_body, grant_body, key_label, mark_body, mark_label, number, row_body};
+
+use crate::pieces::{
+    kind_byte, push_caller, push_moment, push_number, push_owner, push_schools, push_sized,
+};
+use grant_scopes::Grant;
+use item_maps::Edit;
+use roster_base::{Bytes, NoMemory};
+use roster_texts::{Id, Name};
+use roster_values::Kind;
+use row_json::single_text;
+use std::alloc::Global;
+use version_core::change::Change;
+use version_core::grant_row::GrantRow;
+use version_core::mark::MarkRow;
+use version_core::row_change::RowChange;
+
+fn version_label(alloc: Global, version: u64) -> Result<Bytes, NoMemory>
+    ensures { IfOk result (λ label. label ≡ number version) }
+{
+    let mut label = Vec::new(alloc);
+    push_number(&mut label, version)?;
+    Ok(Bytes::from_vec(label))
+}
+
+/// The body of a change's version.
+pub(crate) fn change_body(alloc: Global, change: &Change) -> Result<Bytes, NoMemory>
+    ensures body { IfOk result (λ body. body ≡ change_body change.now) }
+    ensures fits { OnOk result (FitsSigned w64 change.now.moment) }
+{
+    let mut body = Vec::new(alloc);
+    push_moment(&mut body, change.moment)?;
+    body.push(u8::from(change.grants.is_some()))?;
+    Ok(Bytes::from_vec(body))
+}
+
+/// The edit that stores a change's version.
+pub(crate) fn put_version(alloc: Global, change: &Change) -> Result<Edit, NoMemory>
+    ensures edit { IfOk result (λ edit. edit ≡ put_at 3 (version_entry change.now)) }
+    ensures fits { OnOk result (FitsSigned w64 change.now.moment) }
+{
+    Ok(Edit::Put {
+        area: 3,
+        label: version_label(alloc, change.version)?,
+        body: change_body(alloc, change)?,
+    })
+}
+
+fn row_label(alloc: Global, prefix: &[u8], kind: Kind, id: &Id) -> Result<Bytes, NoMemory>
+    ensures { IfOk result (λ label. label ≡ prefix.now ++ key_label (place_of_kind kind, id.now)) }
+{
+    let mut label = Vec::from_slice(alloc, prefix)?;
+    label.push(kind_byte(kind))?;
+    label.extend_from_slice(id.as_str().as_bytes())?;
+    Ok(Bytes::from_vec(label))
+}
+
+// A row's owner and its text, from which the row is read back.
+fn row_body(alloc: Global, change: &RowChange) -> Result<Bytes, NoMemory>
+    ensures body { IfOk result (λ body. body ≡ row_body change.now) }
+    ensures back { OnOk result (IsReadBack change.now) }
+{
+    let mut body = Vec::new(alloc);
+    push_owner(&mut body, &change.owner)?;
+    let text = single_text(alloc, &change.row, None)?;
+    push_sized(&mut body, text.as_bytes())?;
+    Ok(Bytes::from_vec(body))
+}
+
+fn put_row(alloc: Global, area: u32, prefix: &[u8], change: &RowChange) -> Result<Edit, NoMemory>
+    ensures edit { IfOk result (λ edit. edit ≡ put_at area (row_entry prefix.now change.now)) }
+    ensures back { OnOk result (IsReadBack change.now) }
+{
+    Ok(Edit::Put {
+        area,
+        label: row_label(alloc, prefix, change.row.kind(), change.row.id())?,
+        body: row_body(alloc, change)?,
+    })
+}
+
+/// Adds the edits that store rows behind a prefix.
+pub(crate) fn put_rows(
+    alloc: Global,
+    edits: &mut Vec<Edit>,
+    area: u32,
+    prefix: &[u8],
+    rows: &[RowChange],
+) -> Result<(), NoMemory>
+    ensures edits { OnOk result (edits.new.items ≡ edits.old.items ++ puts area (rows_under prefix.now rows.now)) }
+    ensures back { OnOk result (AllByRecursion IsReadBack rows.now) }
+{
+    for row in rows {
+        edits.push(put_row(alloc, area, prefix, row)?)?;
+    }
+    Ok(())
+}
+
+fn grant_label(alloc: Global, version: u64, caller: &Name) -> Result<Bytes, NoMemory>
+    ensures label { IfOk result (λ label. label ≡ number version ++ caller_label caller.now) }
+    ensures good { OnOk result (HasNoZero caller.now) }
+{
+    let mut label = Vec::new(alloc);
+    push_number(&mut label, version)?;
+    push_caller(&mut label, caller)?;
+    Ok(Bytes::from_vec(label))
+}
+
+fn grant_body(alloc: Global, grant: &Grant) -> Result<Bytes, NoMemory>
+    ensures body { IfOk result (λ body. body ≡ grant_body grant.now) }
+    ensures token { OnOk result (IsSized grant.now.token) }
+    ensures schools { OnOk result (AreSized grant.now.schools) }
+    ensures since { OnOk result (grant.now.since < 2 ^ 64) }
+{
+    let mut body = Vec::new(alloc);
+    push_sized(&mut body, grant.token.as_str().as_bytes())?;
+    body.push(grant.scopes.bits())?;
+    push_schools(&mut body, &grant.schools)?;
+    push_number(&mut body, grant.since)?;
+    Ok(Bytes::from_vec(body))
+}
+
+fn put_grant(alloc: Global, version: u64, row: &GrantRow) -> Result<Edit, NoMemory>
+    ensures edit { IfOk result (λ edit. edit ≡ put_at 5 (grant_entry version row.now)) }
+    ensures fits { OnOk result (FitsGrant row.now) }
+{
+    Ok(Edit::Put {
+        area: 5,
+        label: grant_label(alloc, version, &row.caller)?,
+        body: grant_body(alloc, &row.grant)?,
+    })
+}
+
+/// Adds the edits that store a version's grants.
+pub(crate) fn put_grants(
+    alloc: Global,
+    edits: &mut Vec<Edit>,
+    version: u64,
+    grants: &[GrantRow],
+) -> Result<(), NoMemory>
+    ensures edits { OnOk result (edits.new.items ≡ edits.old.items ++ puts 5 (grants_under version grants.now)) }
+    ensures fits { OnOk result (AllByRecursion FitsGrant grants.now) }
+{
+    for row in grants {
+        edits.push(put_grant(alloc, version, row)?)?;
+    }
+    Ok(())
+}
+
+fn mark_label(alloc: Global, caller: &Name, number: u64) -> Result<Bytes, NoMemory>
+    ensures label { IfOk result (λ label. label ≡ mark_label (caller.now, number)) }
+    ensures good { OnOk result (HasNoZero caller.now) }
+    ensures below { OnOk result (AllByRecursion (λ b. b < 255) caller.now) }
+    ensures small { OnOk result (number < 2 ^ 64) }
+{
+    let mut label = Vec::new(alloc);
+    push_caller(&mut label, caller)?;
+    push_number(&mut label, number)?;
+    Ok(Bytes::from_vec(label))
+}
+
+fn mark_body(alloc: Global, mark: &MarkRow) -> Result<Bytes, NoMemory>
+    ensures body { IfOk result (λ body. body ≡ mark_body mark.now) }
+    ensures id { OnOk result (IsSized mark.now.write.id) }
+    ensures text { OnOk result (IsSized mark.now.write.body) }
+    ensures version { OnOk result (mark.now.kept.version < 2 ^ 64) }
+{
+    let mut body = Vec::new(alloc);
+    body.push(u8::from(mark.write.delete))?;
+    body.push(kind_byte(mark.write.kind))?;
+    push_sized(&mut body, mark.write.id.as_str().as_bytes())?;
+    push_sized(&mut body, mark.write.body.as_slice())?;
+    body.push(mark.kept.outcome)?;
+    push_number(&mut body, mark.kept.version)?;
+    Ok(Bytes::from_vec(body))
+}
+
+/// The edit that stores a mark.
+pub(crate) fn put_mark(alloc: Global, mark: &MarkRow) -> Result<Edit, NoMemory>
+    ensures edit { IfOk result (λ edit. edit ≡ put_at 6 (mark_entry mark.now)) }
+    ensures fits { OnOk result (FitsMark mark.now) }
+{
+    Ok(Edit::Put {
+        area: 6,
+        label: mark_label(alloc, &mark.caller, mark.number)?,
+        body: mark_body(alloc, mark)?,
+    })
+}

@@ -1,0 +1,41 @@
+-- A state with one version more is one that a hub can have.
+use Rattle.std.proofs.Common.{◌≡◌, ℕ, ◌+◌, List, [], ◌∷◌, ◌++◌, length, length-append, slice_get, Some, subst, ◌∙◌, arith}
+use Rattle.version_changes.proofs.Following.{KeepGrants-push, below}
+use Rattle.version_changes.specs.grants.Next.{IsNext}
+use Rattle.hub_spec.proofs.Versions.{newest_has, some_version}
+use Rattle.hub_spec.specs.rules.States.{HoldsRows, IsHub}
+use Rattle.hub_spec.specs.rules.Verdicts.{newest_in}
+use Rattle.version_core.proofs.VersionLemmas.{AllByRecursion-push}
+use Rattle.version_core.specs.HubStates.{AreVersionsFrom, HubState, newest_number}
+use Rattle.version_core.specs.Marks.{AreMarks}
+use Rattle.version_core.specs.Version.{IsVersion, empty_version}
+use Rattle.version_core.specs.declared.change.BaseVersion.{BaseVersion}
+use Rattle.version_core.specs.declared.mark.MarkRow.{MarkRow}
+
+pub run_push : (first : ℕ) (versions : List BaseVersion) (next : BaseVersion) → AreVersionsFrom first versions → next.number ≡ first + length versions → IsVersion next → AreVersionsFrom first (versions ++ next ∷ [])
+run_push first [] next run number is = (number ∙ omega arith, is, tt)
+run_push first (v ∷ vs) next run number is = (run.0, run.1, run_push (first + 1) vs next run.2 (number ∙ omega arith) is)
+
+first_of : (versions : List BaseVersion) (next : BaseVersion) → slice_get versions 0 ≡ Some empty_version → slice_get (versions ++ next ∷ []) 0 ≡ Some empty_version
+first_of [] next first = cc
+first_of (v ∷ vs) next first = first
+
+module _ (state : HubState) (hub : IsHub state) (next : BaseVersion) (is : IsNext (newest_in state) next) where
+  next_number : next.number ≡ length state.published
+  next_number = let number = is.number in omega (arith, newest_has state hub.state, some_version state hub.state)
+
+  -- one version more, and marks of it
+  pub next_is_hub : HoldsRows next → (marks : List MarkRow) → AreMarks (length state.published) marks → IsHub (record state { published = state.published ++ next ∷ []; marks = marks })
+  next_is_hub holds marks are = record {
+    state = record {
+      first = first_of state.published next hub.state.first;
+      run = run_push 0 state.published next hub.state.run (next_number ∙ omega arith) is.version;
+      marks = subst (λ n. AreMarks n marks) (let e = length-append state.published (next ∷ []) in omega arith) are;
+    };
+    grants = KeepGrants-push state.published hub.grants next is (below 0 state.published next.number hub.state.run (omega (arith, next_number)));
+    rows = AllByRecursion-push HoldsRows state.published next hub.rows holds;
+  }
+
+-- another list of marks
+pub marked_is_hub : (state : HubState) → IsHub state → (marks : List MarkRow) → AreMarks (newest_number state) marks → IsHub (record state { marks = marks })
+marked_is_hub state hub marks are = record { state = record { first = hub.state.first; run = hub.state.run; marks = are }; grants = hub.grants; rows = hub.rows }

@@ -1,0 +1,5 @@
+use Rattle.hub_spec.proofs.Being.{has_answer}
+use Rattle.hub_spec.proofs.rules.laws.a_request_has_an_answer.Goals as goal
+
+pub returns : goal.returns
+returns c = has_answer

@@ -1,0 +1,3 @@
+-- A small district and its hub, over which the definitions are computed.
+pub mod Hubs
+pub mod Lake

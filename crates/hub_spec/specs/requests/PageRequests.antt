@@ -1,0 +1,39 @@
+-- The consumer's requests for pages, as texts.
+use Rattle.std.specs.Prelude.{◌≤◌, ◌<◌, ◌^◌, ◌++◌, ℕ, false, List, [], Option, Some, None, IfSome, codes, decimal}
+use Rattle.hub_spec.specs.rules.Asking.{Asking}
+use Rattle.roster_values.specs.Kinds.{plural_of}
+use Rattle.roster_values.specs.declared.kind.Kind.{Kind}
+use Rattle.status_info.specs.declared.request.Echo.{Echo}
+use Rattle.status_info.specs.declared.request.MarkField.TheVariants.{Nothing}
+use Rattle.status_info.specs.declared.request.Request.{Request}
+use Rattle.status_info.specs.declared.request.Verb.TheVariants.{Get}
+
+unfoldable pub page_path : Kind → List ℕ
+page_path kind = codes "/ims/oneroster/v1p1/" ++ plural_of kind
+
+abbrev pub pin_text : Option ℕ → List ℕ
+pin_text None = []
+pin_text (Some pin) = codes "&hubVersion=" ++ decimal pin
+
+unfoldable pub page_query : ℕ → ℕ → Option ℕ → List ℕ
+page_query limit offset pin = codes "limit=" ++ (decimal limit ++ (codes "&offset=" ++ (decimal offset ++ pin_text pin)))
+
+-- the request for a page
+abbrev pub page_request : List ℕ → Asking → Option Echo → Request
+page_request token ask echo = record {
+  verb = Get;
+  path = page_path ask.kind;
+  query = page_query ask.limit ask.offset ask.pin;
+  token = Some token;
+  mark = Nothing;
+  echo = echo;
+  close = false;
+  body = [];
+}
+
+-- numbers that a query may have
+pub record CanAsk (ask : Asking) : Type 0 where
+  pub some : 1 ≤ ask.limit
+  pub limit : ask.limit ≤ 1000
+  pub offset : ask.offset < 10 ^ 18
+  pub pin : IfSome ask.pin (λ pin. pin < 10 ^ 18)

@@ -1,0 +1,9 @@
+-- What a caller sees: rows, the cut of a version to a grant, the lists of paths, pages and their links.
+pub mod Cuts
+pub mod Links
+pub mod Lists
+pub mod Once
+pub mod Pages
+pub mod References
+pub mod Rules
+pub mod Seen

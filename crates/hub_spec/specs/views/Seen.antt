@@ -1,0 +1,67 @@
+-- Which rows a grant sees: under a list of schools, whatever concerns one of them.
+use Rattle.std.specs.Prelude.{ℕ, zero, suc, ◌||◌, Bool, true, List, codes, bytes_eq, filter}
+use Rattle.std.specs.List.{list_any}
+use Rattle.grant_scopes.specs.declared.schools.Schools.{Schools}
+use Rattle.grant_scopes.specs.declared.schools.Schools.TheVariants as school
+use Rattle.hub_spec.specs.views.References.{is_named_by, leads_to, stands_where}
+use Rattle.reference_rules.specs.Parents.{is_id, nth_parent}
+use Rattle.roster_types.specs.Keys.{count_of}
+use Rattle.roster_types.specs.Records.{Record}
+use Rattle.roster_values.specs.declared.kind.Kind.{Kind}
+use Rattle.roster_values.specs.declared.kind.Kind.TheVariants.{Orgs, AcademicSessions, Courses, Classes, Users, Enrollments, Demographics, Categories, LineItems, Results}
+use Rattle.version_core.specs.References.{is_one_of, named_in}
+
+-- the id is the school's, or that of its n-th parent for some n up to `turns`
+abbrev pub leads_up : List Record → List ℕ → ℕ → List ℕ → Bool
+leads_up rows id zero school = bytes_eq school id
+leads_up rows id (suc n) school = leads_up rows id n school || is_id id (nth_parent rows Orgs school (suc n))
+
+-- a listed org, or an ancestor of one
+unfoldable pub sees_org : List (List ℕ) → List Record → Record → Bool
+sees_org schools rows org = list_any (leads_up rows org.id (count_of Orgs rows)) schools
+
+-- its school is listed
+unfoldable pub is_at_school : List (List ℕ) → Record → Bool
+is_at_school schools row = list_any (is_one_of schools) (named_in (codes "school") row)
+
+-- one of its orgs is listed, or an enrollment whose school is listed names it
+unfoldable pub sees_user : List (List ℕ) → List Record → Record → Bool
+sees_user schools rows user =
+    list_any (is_one_of schools) (named_in (codes "orgs") user)
+    || is_named_by (is_at_school schools) rows Enrollments (codes "user") user
+
+-- its org is seen, or a seen class names it
+unfoldable pub sees_course : List (List ℕ) → List Record → Record → Bool
+sees_course schools rows course =
+    leads_to (sees_org schools rows) rows (codes "org") Orgs course
+    || is_named_by (is_at_school schools) rows Classes (codes "course") course
+
+-- its class is seen
+unfoldable pub sees_line_item : List (List ℕ) → List Record → Record → Bool
+sees_line_item schools rows item = leads_to (is_at_school schools) rows (codes "class") Classes item
+
+-- what is seen of each kind under a list of schools
+abbrev pub sees_at : List (List ℕ) → List Record → Kind → Record → Bool
+sees_at schools rows Orgs row = sees_org schools rows row
+sees_at schools rows AcademicSessions row = true
+sees_at schools rows Courses row = sees_course schools rows row
+sees_at schools rows Classes row = is_at_school schools row
+sees_at schools rows Users row = sees_user schools rows row
+sees_at schools rows Enrollments row = is_at_school schools row
+sees_at schools rows Demographics row = stands_where (sees_user schools rows) rows Users row.id
+sees_at schools rows Categories row = true
+sees_at schools rows LineItems row = sees_line_item schools rows row
+sees_at schools rows Results row = leads_to (sees_line_item schools rows) rows (codes "lineItem") LineItems row
+
+-- a row among others is seen
+unfoldable pub sees_row : Schools → List Record → Record → Bool
+sees_row school.All rows row = true
+sees_row (school.Listed schools) rows row = sees_at schools rows row.kind row
+
+-- the row of a kind and id stands and is seen
+abbrev pub sees : Schools → List Record → Kind → List ℕ → Bool
+sees schools rows kind id = stands_where (sees_row schools rows) rows kind id
+
+-- the rows that are seen
+abbrev pub seen : Schools → List Record → List Record
+seen schools rows = filter (sees_row schools rows) rows

@@ -1,0 +1,3 @@
+//! The laws of writes under their marks.
+
+pub mod laws;

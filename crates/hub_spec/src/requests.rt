@@ -1,0 +1,3 @@
+//! The laws of what requests want.
+
+pub mod laws;

@@ -1,0 +1,20 @@
+//! What holds of the texts of requests. Each function here does nothing; its contract is a law.
+
+ghost use Rattle.std.specs.Prelude.{◌≡◌, ℤ, ℕ, List, Option};
+ghost use Rattle.hub_spec.specs.requests.PageRequests.{CanAsk, page_request};
+ghost use Rattle.hub_spec.specs.requests.Requests.{AnswersRequest, wanted_by};
+ghost use Rattle.hub_spec.specs.rules.Asking.{Asking, Says, asking};
+ghost use Rattle.hub_spec.specs.rules.States.{IsHub};
+ghost use Rattle.status_info.specs.declared.reply.Reply.{Reply};
+ghost use Rattle.status_info.specs.declared.request.Echo.{Echo};
+ghost use Rattle.version_core.specs.HubStates.{HubState};
+
+/// A consumer's request for a page, read again, wants that page.
+pub fn a_page_request_wants_its_page()
+    ensures { (ask : Asking) → CanAsk ask → (token : List ℕ) (echo : Option Echo) → wanted_by (page_request token ask echo) ≡ asking token ask echo }
+{}
+
+/// It is answered with 401, 404 with the oldest version, 403, or a page of the cut, and leaves the state.
+pub fn a_page_request_is_told_of_the_cut()
+    ensures { (state : HubState) → IsHub state → (ask : Asking) → CanAsk ask → (token : List ℕ) (echo : Option Echo) (at : ℤ) (reply : Reply) (after : HubState) → AnswersRequest state (page_request token ask echo) at reply after → Says state token ask reply × (after ≡ state) }
+{}

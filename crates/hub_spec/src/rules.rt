@@ -1,0 +1,3 @@
+//! The laws of writes, requests, runs and states.
+
+pub mod laws;

@@ -1,2 +1,0 @@
-mod Dating
-pub mod Progressing

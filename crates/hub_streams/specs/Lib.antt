@@ -1,4 +1,0 @@
-pub mod Exchanges
-pub mod Moments
-pub mod Streams
-pub mod Turns

@@ -1,5 +1,0 @@
-use Rattle.hub_views.proofs.ArrangedLemmas.{list-permutes}
-use Rattle.hub_views.proofs.laws.a_list_has_each_of_its_rows_once.Goals as goal
-
-pub returns : goal.returns
-returns c = list-permutes

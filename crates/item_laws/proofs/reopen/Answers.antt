@@ -1,7 +1,0 @@
-use Rattle.item_laws.proofs.SchemaLemmas.{some_again}
-use Rattle.item_laws.proofs.reopen.Goals as goal
-
-pub returns : goal.returns
-returns g c m h =
-    rw c.ok.ensures.value
-    (some_again c.args.conn c.in-Ok.files m c.opened.result c.schema-schema.ensures.live c.in-Ok.ensures.copied c.opened.ensures.opened c.opened.ensures.found h)

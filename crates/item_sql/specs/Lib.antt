@@ -1,5 +1,0 @@
-pub mod Table
-pub mod Items
-pub mod Stands
-pub mod Left
-pub mod Asked

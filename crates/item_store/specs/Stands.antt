@@ -1,0 +1,53 @@
+-- What items a connection stands for. A connection that a fault has shut, or whose disk has lied, says nothing.
+use Rattle.std.specs.Prelude.{◌≡◌, ◌⊎◌, true, false, IsTrue}
+use Rattle.sqlite.specs.Effect.{Database}
+use Rattle.sqlite.specs.State.{State, HasCleanDisk}
+use Rattle.item_store.specs.Table.{no_schema, item_schema}
+use Rattle.item_maps.specs.Items.{Items, no_items}
+use Rattle.item_store.specs.Items.{Holds}
+
+pub record IsTabled (db : Database) (m : Items) : Type 0 where
+  pub schema : db.schema ≡ item_schema
+  pub rows : Holds (db.trees 0) m
+
+-- no table stands for no items
+abbrev pub IsTold : Database → Items → Type 0
+IsTold db m = ((db.schema ≡ no_schema) × (m ≡ no_items)) ⊎ IsTabled db m
+
+abbrev pub Says : State → Type 0 → Type 0
+Says s P = HasCleanDisk s → IsTrue s.is_open → P
+
+-- between statements, outside a transaction
+pub record IsSettled (s : State) (Table : Database → Items → Type 0) (m : Items) : Type 0 where
+  pub autocommit : s.in_transaction ≡ false
+  pub same : s.now ≡ s.committed
+  pub told : Table s.committed m
+
+abbrev pub StandsFor : State → Items → Type 0
+StandsFor s m = Says s (IsSettled s IsTold m)
+
+-- the same, and the table stands
+abbrev pub IsReady : State → Items → Type 0
+IsReady s m = Says s (IsSettled s IsTabled m)
+
+-- inside a transaction that has come from the items `base` to these
+pub record IsInside (s : State) (base m : Items) : Type 0 where
+  pub inside : s.in_transaction ≡ true
+  pub table : IsTabled s.now m
+  pub base_told : IsTold s.committed base
+
+abbrev pub IsWithin : State → Items → Items → Type 0
+IsWithin s base m = Says s (IsInside s base m)
+
+-- a rollback leads back to the items `base`
+pub record MayGoBack (s : State) (base : Items) : Type 0 where
+  pub base_told : IsTold s.committed base
+  pub table : s.in_transaction ≡ true → s.now.schema ≡ item_schema
+  pub settled : s.in_transaction ≡ false → s.now ≡ s.committed
+
+abbrev pub GoesBackTo : State → Items → Type 0
+GoesBackTo s base = Says s (MayGoBack s base)
+
+-- clean now, so clean before
+abbrev pub Earlier : State → State → Type 0
+Earlier old new = HasCleanDisk new → HasCleanDisk old

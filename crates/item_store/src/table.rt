@@ -1,0 +1,27 @@
+//! The item table itself.
+
+ghost use Rattle.std.specs.Prelude.{OnOk, OnErr};
+ghost use Rattle.sqlite.specs.Held.{state};
+ghost use Rattle.sqlite.specs.State.{HasCleanDisk};
+ghost use Rattle.item_store.specs.Asked.{Asks};
+ghost use Rattle.item_maps.specs.Items.{Items};
+ghost use Rattle.item_store.specs.Left.{IsLeft, Leaves, WasOpen};
+ghost use Rattle.item_store.specs.Stands.{StandsFor, IsReady, Earlier};
+
+use sqlite::{Alter, Connection, Error};
+
+/// Makes the table where it doesn't stand.
+pub fn make<S: Alter>(conn: &mut Connection<S>) -> Result<(), Error>
+    ensures ok { (m : Items) → StandsFor (state S.Store conn.old) m → OnOk result (IsReady (state S.Store conn.new) m) }
+    ensures err { (m : Items) → StandsFor (state S.Store conn.old) m → OnErr result (StandsFor (state S.Store conn.new) m) }
+    ensures asks { HasCleanDisk (state S.Store conn.new) → Asks (state S.Store conn.old) (state S.Store conn.new) result }
+    ensures left { (m : Items) → StandsFor (state S.Store conn.old) m → Leaves (state S.Store conn.old) (state S.Store conn.new) result (λ db. IsLeft db m) }
+    ensures was_open { WasOpen (state S.Store conn.old) (state S.Store conn.new) }
+    ensures honest { Earlier (state S.Store conn.old) (state S.Store conn.new) }
+{
+    conn.execute(
+        "CREATE TABLE IF NOT EXISTS item (area INTEGER NOT NULL, label BLOB NOT NULL, body BLOB NOT NULL, PRIMARY KEY (area, label)) STRICT",
+        &[],
+    )?;
+    Ok(())
+}

@@ -1,0 +1,28 @@
+use Rattle.keeper_memory.specs.copy.Changes.{CanChange, copy_after}
+use Rattle.keeper_sqlite.proofs.TellingLemmas.{still_keep, told_back}
+use Rattle.keeper_sqlite.specs.copy.Keeping.{KeepOrNew}
+use Rattle.keeper_sqlite.proofs.CopyKeepingLemmas.{copy_came, counts_later, one_copy}
+use Rattle.keeper_sqlite.proofs.copy.item_copy.ItemCopyCopyKeeper.commit.Goals as goal
+
+pub invariant_of-self : goal.invariant_of-self
+invariant_of-self g c =
+    let s = g.S.StoredItems in
+    let old = c.self.inside in
+    let change = c.args.change in
+    still_keep KeepOrNew (s.stands_for old.origin.value) (s.stands_for old.store) (s.stands_for c.commit_to.new.store) (s.is_trusted old.store) (s.is_trusted c.commit_to.new.store) (CanChange change) (copy_after change)
+    c.self.invariant c.commit_to.ensures.trust (rw (← c.self.view_is) at c.requires) c.commit_to.result c.commit_to.ensures.ok c.commit_to.ensures.err
+
+pub returns-clause-told : goal.returns-clause-told
+returns-clause-told g c =
+    let s = g.S.StoredItems in
+    let old = c.self.inside in
+    let change = c.args.change in
+    rw (← c.self.view_is) (λ now tells.
+    let back = told_back KeepOrNew (s.stands_for old.origin.value) (s.stands_for old.store) (s.stands_for c.commit_to.new.store) (s.is_trusted old.store) (s.is_trusted c.commit_to.new.store) (CanChange change) (copy_after change)
+    c.self.invariant c.commit_to.ensures.trust (rw (← c.self.view_is) at c.requires) c.commit_to.result c.commit_to.ensures.ok c.commit_to.ensures.err (g.met.S.StoredItems.one c.commit_to.new.store) one_copy now tells in
+    (back.0, back.1, copy_came change c.commit_to.result back.0 now back.2))
+
+pub returns-clause-later : goal.returns-clause-later
+returns-clause-later g c =
+    let s = g.S.StoredItems in
+    rw (← c.self.view_is) (counts_later (s.fault_count c.self.inside.store) (s.fault_count c.commit_to.new.store) c.commit_to.result c.bounded.ensures c.commit_to.ensures.cause)

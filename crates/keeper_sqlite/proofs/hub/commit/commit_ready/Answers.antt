@@ -1,0 +1,21 @@
+use Rattle.std.proofs.Common.{◌∙◌}
+use Rattle.hub_format.specs.Format.{Keep}
+use Rattle.keeper_sqlite.proofs.HubKeepingLemmas.{can_here, committed, keeps_on, on_any, on_err, on_ok, tables_of}
+use Rattle.keeper_sqlite.proofs.hub.commit.commit_ready.Goals as goal
+
+pub returns-clause-ok : goal.returns-clause-ok
+returns-clause-ok g c state this can sure =
+    let old = g.S.StoredItems.stands_for c.args.store.now in
+    let commit = c.args.commit.now in
+    let is = c.in_ok-edits.ensures.edits this.kept.tables (tables_of old state this) (can_here old state commit this can) (c.commit.ensures.trust sure) in
+    on_ok c.commit.result (committed old (g.S.StoredItems.stands_for c.commit.new.self) state commit this c.as_slice.result.now can c.in_ok-edits.ensures.fits (c.as_slice.ensures.value ∙ is))
+    (c.commit.ensures.ok this.items (c.in_ok-edits.ensures.same this.items this.stands))
+
+pub returns-in_err-edits-clause-err : goal.returns-in_err-edits-clause-err
+returns-in_err-edits-clause-err g c state this =
+    on_any c.from_residual.result (keeps_on Keep (g.S.StoredItems.stands_for c.args.store.now) (g.S.StoredItems.stands_for c.edits_for.new.store) state this (c.edits_for.ensures.same this.items this.stands))
+
+pub returns-clause-err : goal.returns-clause-err
+returns-clause-err g c state this =
+    on_err c.commit.result (keeps_on Keep (g.S.StoredItems.stands_for c.args.store.now) (g.S.StoredItems.stands_for c.commit.new.self) state this)
+    (c.commit.ensures.err this.items (c.in_ok-edits.ensures.same this.items this.stands))

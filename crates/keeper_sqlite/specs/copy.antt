@@ -1,0 +1,2 @@
+-- What the items of a copy's store keep.
+pub mod Keeping

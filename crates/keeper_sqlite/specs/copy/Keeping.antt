@@ -1,0 +1,25 @@
+-- Stores whose items keep a copy, by what they stand for.
+use Rattle.std.specs.Prelude.{◌≡◌, ◌⊎◌, ℕ, List}
+use Rattle.item_maps.specs.Items.{Items, no_items}
+use Rattle.item_maps.specs.declared.item.Edit.{Edit}
+use Rattle.keeper_memory.specs.copy.Copies.{Copy, IsCopy}
+use Rattle.keeper_memory.specs.copy.HeldCopy.{empty_copy}
+use Rattle.keeper_memory.specs.declared.copy.change.CopyChange.{CopyChange}
+use Rattle.copy_format.specs.Edits.{FitsChange, edits}
+use Rattle.copy_format.specs.Format.{AreItemsOf, Fit, Keep}
+
+-- no items keep the copy that holds nothing
+abbrev pub KeepOrNew : Items → Copy → Type 0
+KeepOrNew items c = Keep items c ⊎ ((items ≡ no_items) × (c ≡ empty_copy))
+
+-- a store that stands for the items of this copy, whose held rows stand on this side
+pub record HasCopy (stand : Items → Type 0) (side : ℕ) (c : Copy) : Type 0 where
+  pub items : Items
+  pub stands : stand items
+  pub stored : AreItemsOf side c items
+  pub is : IsCopy c
+  pub fit : Fit c
+
+-- these are the edits of the change, which is found again
+abbrev pub AreEditsOf : ℕ → Copy → CopyChange → List Edit → Type 0
+AreEditsOf side c change es = (es ≡ edits side c change) × FitsChange change c

@@ -1,0 +1,3 @@
+-- What the items of a hub's store keep, and what is told of them.
+pub mod Keeping
+pub mod Telling

@@ -1,0 +1,50 @@
+//! Changes of the copy that a store keeps.
+
+ghost use Rattle.std.specs.Prelude.{IsErr, OnErr, OnOk};
+ghost use Rattle.roster_base.specs.Faults.{CountsFailure};
+ghost use Rattle.item_maps.specs.Items.{Items};
+ghost use Rattle.keeper_memory.specs.copy.Changes.{CanChange, copy_after};
+ghost use Rattle.keeper_memory.specs.copy.Copies.{Copy};
+ghost use Rattle.copy_format.specs.Format.{Keep};
+ghost use Rattle.keeper_sqlite.specs.hub.Keeping.{HasOtherFormat, Keeps};
+ghost use Rattle.keeper_sqlite.specs.copy.Keeping.{KeepOrNew};
+
+use crate::copy::prepare::prepare;
+use crate::copy::wanted::edits_wanted;
+use crate::stored_items::StoredItems;
+use keeper_memory::CopyChange;
+use roster_base::KeeperError;
+use std::alloc::Global;
+
+// Makes a change of the copy that a store that is ready keeps.
+fn commit_ready<S: StoredItems>(
+    alloc: Global,
+    store: &mut S,
+    change: CopyChange,
+) -> Result<(), KeeperError>
+    ensures ok { (c : Copy) → Keeps Keep (S.stands_for store.old) c → CanChange change c → S.is_trusted store.new
+        → OnOk result (Keeps Keep (S.stands_for store.new) (copy_after change c)) }
+    ensures err { (c : Copy) → Keeps Keep (S.stands_for store.old) c → OnErr result (Keeps Keep (S.stands_for store.new) c) }
+    ensures cause { CountsFailure (S.fault_count store.old) (S.fault_count store.new) result }
+    ensures trust { S.is_trusted store.new → S.is_trusted store.old }
+{
+    let edits = edits_wanted(alloc, store, change)?;
+    store.commit(edits.as_slice())
+}
+
+/// Makes a change of the copy that a store keeps. One that has no items keeps the copy that holds nothing before.
+pub(crate) fn commit_to<S: StoredItems>(
+    alloc: Global,
+    store: &mut S,
+    change: CopyChange,
+) -> Result<(), KeeperError>
+    ensures ok { (c : Copy) → Keeps KeepOrNew (S.stands_for store.old) c → CanChange change c → S.is_trusted store.new
+        → OnOk result (Keeps KeepOrNew (S.stands_for store.new) (copy_after change c)) }
+    ensures err { (c : Copy) → Keeps KeepOrNew (S.stands_for store.old) c → S.is_trusted store.new → OnErr result (Keeps KeepOrNew (S.stands_for store.new) c) }
+    ensures other { (m : Items) → S.stands_for store.old m → HasOtherFormat m → S.is_trusted store.new → IsErr result × S.stands_for store.new m }
+    ensures cause { CountsFailure (S.fault_count store.old) (S.fault_count store.new) result }
+    ensures trust { S.is_trusted store.new → S.is_trusted store.old }
+{
+    prepare(alloc, store)?;
+    commit_ready(alloc, store, change)
+}

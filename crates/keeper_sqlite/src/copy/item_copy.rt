@@ -1,0 +1,103 @@
+//! A keeper of a consumer's copy over a store of items.
+
+ghost use Rattle.std.specs.Prelude.{◌≡◌, ◌<◌, ◌^◌};
+ghost use Rattle.keeper_memory.specs.copy.Copies.{Copy};
+ghost use Rattle.keeper_sqlite.specs.copy.Keeping.{KeepOrNew};
+ghost use Rattle.keeper_sqlite.specs.hub.Keeping.{Keeps};
+ghost use Rattle.keeper_sqlite.specs.hub.Telling.{Tells};
+
+use crate::copy::commit::commit_to;
+use crate::copy::reads::{entry_from, held_from, state_from};
+use crate::stored_items::StoredItems;
+use keeper_memory::{CopyChange, CopyKeeper, CopyState, OutEntry};
+use roster_base::{Items, KeeperError};
+use roster_types::row::Row;
+use roster_values::Kind;
+use std::alloc::Global;
+use std::marker::Model;
+use std::snapshot::Snapshot;
+
+/// A consumer's copy over a store of items. A clause sees the store, and the store that was handed in at first.
+#[derive(Drop)]
+pub struct ItemCopy<S: StoredItems> {
+    store: S,
+    origin: Snapshot<S>,
+}
+
+impl<S: StoredItems> Model for ItemCopy<S> {
+    ghost use Rattle.keeper_sqlite.specs.copy.Keeping.{KeepOrNew};
+    ghost use Rattle.keeper_sqlite.specs.hub.Telling.{StillKeep};
+
+    ghost Value = { S × S };
+
+    ghost view = { λ c. (c.store, c.origin.value) };
+
+    ghost invariant = { λ c. StillKeep KeepOrNew (S.stands_for c.origin.value) (S.stands_for c.store) (S.is_trusted c.store) };
+}
+
+impl<S: StoredItems> ItemCopy<S> {
+    /// The keeper of the copy that this store has; no memory is taken. A store that has no items keeps the copy that holds nothing.
+    pub fn adopt(store: S) -> ItemCopy<S>
+        ensures store { (result.0 ≡ store) × (result.1 ≡ store) }
+        ensures tells { (c : Copy) → S.is_trusted store → Keeps KeepOrNew (S.stands_for store) c
+            → Tells KeepOrNew (S.stands_for result.1) (S.stands_for result.0) (S.is_trusted result.0) c }
+    {
+        let origin = Snapshot::of(&store);
+        ItemCopy { store, origin }
+    }
+
+    /// The store, as the last call left it; no memory is taken.
+    pub fn release(self) -> S
+        ensures { result ≡ self.0 }
+    {
+        let ItemCopy { store, origin: _ } = self;
+        store
+    }
+}
+
+// The count of failures is one of its type.
+fn bounded<S: StoredItems>(store: &S)
+    ensures { S.fault_count store.now < 2 ^ 64 }
+{
+    let _ = store.faults();
+}
+
+impl<S: StoredItems> CopyKeeper for ItemCopy<S> {
+    ghost use Rattle.std.specs.Prelude.{◌≡◌};
+    ghost use Rattle.std.proofs.Common.{⊎_elim, subst, sym};
+    ghost use Rattle.copy_format.specs.Format.{Keep};
+    ghost use Rattle.keeper_memory.proofs.CopyLemmas.{empty_is};
+    ghost use Rattle.keeper_memory.specs.copy.Copies.{IsCopy};
+    ghost use Rattle.keeper_memory.specs.copy.HeldCopy.{empty_copy};
+    ghost use Rattle.item_maps.specs.Items.{no_items};
+
+    ghost stands_for = { λ keeper c. Tells KeepOrNew (S.stands_for keeper.1) (S.stands_for keeper.0) (S.is_trusted keeper.0) c };
+
+    ghost fault_count = { λ keeper. S.fault_count keeper.0 };
+
+    ghost is_copy = { λ keeper c tells. ⊎_elim (λ (kept : Keep tells.this.items c). kept.is) (λ (none : (tells.this.items ≡ no_items) × (c ≡ empty_copy)). subst IsCopy (sym none.1) empty_is) tells.this.kept };
+
+    fn state(&mut self, alloc: Global) -> Result<CopyState, KeeperError> {
+        bounded(&self.store);
+        state_from(alloc, &mut self.store)
+    }
+
+    fn held(&mut self, alloc: Global, kind: Kind) -> Result<Items<Row>, KeeperError> {
+        bounded(&self.store);
+        held_from(alloc, &mut self.store, kind)
+    }
+
+    fn entry(&mut self, alloc: Global, after: u64) -> Result<Option<OutEntry>, KeeperError> {
+        bounded(&self.store);
+        entry_from(alloc, &mut self.store, after)
+    }
+
+    fn commit(&mut self, alloc: Global, change: CopyChange) -> Result<(), KeeperError> {
+        bounded(&self.store);
+        commit_to(alloc, &mut self.store, change)
+    }
+
+    fn faults(&self) -> u64 {
+        self.store.faults()
+    }
+}

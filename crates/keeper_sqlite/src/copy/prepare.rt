@@ -1,0 +1,35 @@
+//! A store is made ready.
+
+ghost use Rattle.std.specs.Prelude.{IsErr, OnErr, OnOk};
+ghost use Rattle.roster_base.specs.Faults.{CountsFailure};
+ghost use Rattle.item_maps.specs.Items.{Items};
+ghost use Rattle.keeper_memory.specs.copy.Copies.{Copy};
+ghost use Rattle.copy_format.specs.Format.{Keep};
+ghost use Rattle.keeper_sqlite.specs.hub.Keeping.{HasOtherFormat, Keeps};
+ghost use Rattle.keeper_sqlite.specs.copy.Keeping.{KeepOrNew};
+
+use crate::stored_items::StoredItems;
+use copy_format::first_edits;
+use hub_format::{Format, format_of};
+use roster_base::KeeperError;
+use std::alloc::Global;
+
+/// A store that has no items gets those of the copy that holds nothing. One of another format fails.
+pub(crate) fn prepare<S: StoredItems>(alloc: Global, store: &mut S) -> Result<(), KeeperError>
+    ensures ok { (c : Copy) → Keeps KeepOrNew (S.stands_for store.old) c → S.is_trusted store.new
+        → OnOk result (Keeps Keep (S.stands_for store.new) c) }
+    ensures err { (c : Copy) → Keeps KeepOrNew (S.stands_for store.old) c → OnErr result (Keeps KeepOrNew (S.stands_for store.new) c) }
+    ensures other { (m : Items) → S.stands_for store.old m → HasOtherFormat m → S.is_trusted store.new → IsErr result × S.stands_for store.new m }
+    ensures cause { CountsFailure (S.fault_count store.old) (S.fault_count store.new) result }
+    ensures trust { S.is_trusted store.new → S.is_trusted store.old }
+{
+    let items = store.all_of(alloc, 0, &[], &[0])?;
+    match format_of(items.as_slice()) {
+        Format::New => {
+            let edits = first_edits(alloc)?;
+            store.commit(edits.as_slice())
+        }
+        Format::One => Ok(()),
+        Format::Other => Err(store.refuse()),
+    }
+}

@@ -1,0 +1,104 @@
+//! What a store keeps, read back.
+
+ghost use Rattle.std.specs.Prelude.{◌≡◌, IfOk, IfSome, IsErr};
+ghost use Rattle.roster_base.specs.Faults.{CountsFailure};
+ghost use Rattle.item_maps.specs.Items.{Items as Kept};
+ghost use Rattle.keeper_memory.specs.copy.Copies.{Copy, entry_after, held_list};
+ghost use Rattle.keeper_memory.specs.copy.Lists.{IsList};
+ghost use Rattle.keeper_memory.specs.copy.States.{CanBe, CanBeEntry, Shows};
+ghost use Rattle.copy_format.specs.Format.{Keep};
+ghost use Rattle.keeper_sqlite.specs.hub.Keeping.{HasOtherFormat, Keeps, Stay};
+ghost use Rattle.keeper_sqlite.specs.copy.Keeping.{KeepOrNew};
+
+use crate::copy::prepare::prepare;
+use crate::copy::stored::{stored_entry, stored_root, stored_rows, stored_stage};
+use crate::stored_items::StoredItems;
+use keeper_memory::{CopyState, OutEntry};
+use roster_base::{Items, KeeperError};
+use roster_types::row::Row;
+use roster_values::Kind;
+use std::alloc::Global;
+
+// The small part of the copy that a store that is ready keeps.
+fn ready_state<S: StoredItems>(alloc: Global, store: &mut S) -> Result<CopyState, KeeperError>
+    ensures shown { (c : Copy) → Keeps Keep (S.stands_for store.old) c → S.is_trusted store.new → IfOk result (Shows c) }
+    ensures can { IfOk result CanBe }
+    ensures same { Stay (S.stands_for store.old) (S.stands_for store.new) }
+    ensures cause { CountsFailure (S.fault_count store.old) (S.fault_count store.new) result }
+    ensures trust { S.is_trusted store.new → S.is_trusted store.old }
+{
+    let root = stored_root(alloc, store)?;
+    let stage = stored_stage(alloc, store)?;
+    Ok(CopyState {
+        run: root.run,
+        held: root.held,
+        stage,
+        last_number: root.last_number,
+    })
+}
+
+/// The small part of the copy that a store keeps.
+pub(crate) fn state_from<S: StoredItems>(
+    alloc: Global,
+    store: &mut S,
+) -> Result<CopyState, KeeperError>
+    ensures shown { (c : Copy) → Keeps KeepOrNew (S.stands_for store.old) c → S.is_trusted store.new → IfOk result (Shows c) }
+    ensures can { IfOk result CanBe }
+    ensures kept { (c : Copy) → Keeps KeepOrNew (S.stands_for store.old) c → S.is_trusted store.new → Keeps KeepOrNew (S.stands_for store.new) c }
+    ensures other { (m : Kept) → S.stands_for store.old m → HasOtherFormat m → S.is_trusted store.new → IsErr result × S.stands_for store.new m }
+    ensures cause { CountsFailure (S.fault_count store.old) (S.fault_count store.new) result }
+    ensures trust { S.is_trusted store.new → S.is_trusted store.old }
+{
+    prepare(alloc, store)?;
+    ready_state(alloc, store)
+}
+
+// The rows of a kind that a store that is ready holds.
+fn ready_rows<S: StoredItems>(
+    alloc: Global,
+    store: &mut S,
+    kind: Kind,
+) -> Result<Items<Row>, KeeperError>
+    ensures shown { (c : Copy) → Keeps Keep (S.stands_for store.old) c → S.is_trusted store.new → IfOk result (λ rows. rows ≡ held_list c kind) }
+    ensures can { IfOk result (IsList kind) }
+    ensures same { Stay (S.stands_for store.old) (S.stands_for store.new) }
+    ensures cause { CountsFailure (S.fault_count store.old) (S.fault_count store.new) result }
+    ensures trust { S.is_trusted store.new → S.is_trusted store.old }
+{
+    let root = stored_root(alloc, store)?;
+    stored_rows(alloc, store, root.side, kind)
+}
+
+/// The rows of a kind that a store holds.
+pub(crate) fn held_from<S: StoredItems>(
+    alloc: Global,
+    store: &mut S,
+    kind: Kind,
+) -> Result<Items<Row>, KeeperError>
+    ensures shown { (c : Copy) → Keeps KeepOrNew (S.stands_for store.old) c → S.is_trusted store.new → IfOk result (λ rows. rows ≡ held_list c kind) }
+    ensures can { IfOk result (IsList kind) }
+    ensures kept { (c : Copy) → Keeps KeepOrNew (S.stands_for store.old) c → S.is_trusted store.new → Keeps KeepOrNew (S.stands_for store.new) c }
+    ensures other { (m : Kept) → S.stands_for store.old m → HasOtherFormat m → S.is_trusted store.new → IsErr result × S.stands_for store.new m }
+    ensures cause { CountsFailure (S.fault_count store.old) (S.fault_count store.new) result }
+    ensures trust { S.is_trusted store.new → S.is_trusted store.old }
+{
+    prepare(alloc, store)?;
+    ready_rows(alloc, store, kind)
+}
+
+/// The entry of a store with the least number above `after`.
+pub(crate) fn entry_from<S: StoredItems>(
+    alloc: Global,
+    store: &mut S,
+    after: u64,
+) -> Result<Option<OutEntry>, KeeperError>
+    ensures shown { (c : Copy) → Keeps KeepOrNew (S.stands_for store.old) c → S.is_trusted store.new → IfOk result (λ entry. entry ≡ entry_after after c.entries) }
+    ensures can { IfOk result (λ entry. IfSome entry (CanBeEntry after)) }
+    ensures kept { (c : Copy) → Keeps KeepOrNew (S.stands_for store.old) c → S.is_trusted store.new → Keeps KeepOrNew (S.stands_for store.new) c }
+    ensures other { (m : Kept) → S.stands_for store.old m → HasOtherFormat m → S.is_trusted store.new → IsErr result × S.stands_for store.new m }
+    ensures cause { CountsFailure (S.fault_count store.old) (S.fault_count store.new) result }
+    ensures trust { S.is_trusted store.new → S.is_trusted store.old }
+{
+    prepare(alloc, store)?;
+    stored_entry(alloc, store, after)
+}

@@ -1,0 +1,154 @@
+//! What a store that is ready has of a copy.
+
+ghost use Rattle.std.specs.Prelude.{◌≡◌, ◌<◌, ◌+◌, ◌^◌, ℕ, IfOk, IfSome, option_map, slice_get};
+ghost use Rattle.roster_base.specs.Faults.{CountsFailure};
+ghost use Rattle.keeper_memory.specs.copy.Copies.{Copy, entry_after, held_list};
+ghost use Rattle.keeper_memory.specs.copy.Lists.{IsList};
+ghost use Rattle.keeper_memory.specs.copy.States.{CanBeEntry, CanBeStage, stage_of as stage_in};
+ghost use Rattle.keeper_memory.specs.declared.copy.entry.OutEntry.{OutEntry as EntryValue};
+ghost use Rattle.keeper_memory.specs.declared.copy.state.TheConstants.{LAST as last_number};
+ghost use Rattle.hub_format.specs.Pieces.{number};
+ghost use Rattle.item_maps.specs.Edits.{entry_of};
+ghost use Rattle.item_maps.specs.Items.{Items as Kept, listed};
+ghost use Rattle.copy_format.specs.Format.{IsOut, out_entry};
+ghost use Rattle.copy_format.specs.Roots.{CanBeRoot, root_in};
+ghost use Rattle.keeper_sqlite.specs.hub.Keeping.{Stay};
+ghost use Rattle.keeper_sqlite.specs.copy.Keeping.{HasCopy};
+
+use crate::stored_items::StoredItems;
+use copy_format::{CopyRoot, out_of, root_of, row_area, rows_of, stage_of};
+use item_maps::Item;
+use keeper_memory::{LAST, OutEntry, StageState};
+use roster_base::{Items, KeeperError, NoMemory};
+use roster_types::row::Row;
+use roster_values::Kind;
+use std::alloc::Global;
+
+/// The state.
+pub(crate) fn stored_root<S: StoredItems>(
+    alloc: Global,
+    store: &mut S,
+) -> Result<CopyRoot, KeeperError>
+    ensures root { (side : ℕ) (c : Copy) → HasCopy (S.stands_for store.old) side c → S.is_trusted store.new → IfOk result (λ r. r ≡ root_in side c) }
+    ensures can { IfOk result CanBeRoot }
+    ensures same { Stay (S.stands_for store.old) (S.stands_for store.new) }
+    ensures cause { CountsFailure (S.fault_count store.old) (S.fault_count store.new) result }
+    ensures trust { S.is_trusted store.new → S.is_trusted store.old }
+{
+    let items = store.all_of(alloc, 1, &[], &[0])?;
+    match root_of(items.as_slice()) {
+        Some(root) => Ok(root),
+        None => Err(store.refuse()),
+    }
+}
+
+/// The small part of the stage, where there is one.
+pub(crate) fn stored_stage<S: StoredItems>(
+    alloc: Global,
+    store: &mut S,
+) -> Result<Option<StageState>, KeeperError>
+    ensures stage { (side : ℕ) (c : Copy) → HasCopy (S.stands_for store.old) side c → S.is_trusted store.new → IfOk result (λ s. s ≡ stage_in c) }
+    ensures can { IfOk result (λ s. IfSome s CanBeStage) }
+    ensures same { Stay (S.stands_for store.old) (S.stands_for store.new) }
+    ensures cause { CountsFailure (S.fault_count store.old) (S.fault_count store.new) result }
+    ensures trust { S.is_trusted store.new → S.is_trusted store.old }
+{
+    let items = store.all_of(alloc, 2, &[], &[0])?;
+    match stage_of(alloc, items.as_slice())? {
+        Some(stage) => Ok(stage),
+        None => Err(store.refuse()),
+    }
+}
+
+/// The rows of a kind that are held.
+pub(crate) fn stored_rows<S: StoredItems>(
+    alloc: Global,
+    store: &mut S,
+    side: u8,
+    kind: Kind,
+) -> Result<Items<Row>, KeeperError>
+    ensures rows { (c : Copy) → HasCopy (S.stands_for store.old) side c → S.is_trusted store.new → IfOk result (λ rows. rows ≡ held_list c kind) }
+    ensures list { IfOk result (IsList kind) }
+    ensures same { Stay (S.stands_for store.old) (S.stands_for store.new) }
+    ensures cause { CountsFailure (S.fault_count store.old) (S.fault_count store.new) result }
+    ensures trust { S.is_trusted store.new → S.is_trusted store.old }
+{
+    let items = store.all_of(alloc, row_area(side, kind), &[], &[255])?;
+    match rows_of(alloc, kind, items.as_slice())? {
+        Some(rows) => Ok(Items::from_vec(rows)),
+        None => Err(store.refuse()),
+    }
+}
+
+// The entry of an item, if its number is above `after`.
+fn entry_in(alloc: Global, after: u64, item: &Item) -> Result<Option<OutEntry>, NoMemory>
+    ensures found { (entry : EntryValue) → IsOut entry → after < entry.number → entry_of item.now ≡ out_entry entry → IfOk result (λ o. IfSome o (λ found. found ≡ entry)) }
+    ensures can { IfOk result (λ o. IfSome o (CanBeEntry after)) }
+{
+    match out_of(alloc, item)? {
+        Some(entry) if after < entry.number => Ok(Some(entry)),
+        _ => Ok(None),
+    }
+}
+
+// The first item of an entry whose number is above `after`.
+fn item_above<S: StoredItems>(
+    alloc: Global,
+    store: &mut S,
+    after: u64,
+) -> Result<Option<Item>, KeeperError>
+    requires { after + 1 < 2 ^ 64 }
+    ensures item { (m : Kept) → S.stands_for store.old m → S.is_trusted store.new
+        → IfOk result (λ item. option_map entry_of item ≡ slice_get (listed 3 (number (after + 1)) (number (last_number + 1)) m) 0) }
+    ensures same { Stay (S.stands_for store.old) (S.stands_for store.new) }
+    ensures cause { CountsFailure (S.fault_count store.old) (S.fault_count store.new) result }
+    ensures trust { S.is_trusted store.new → S.is_trusted store.old }
+{
+    store.first_of(
+        alloc,
+        3,
+        &(after + 1).to_be_bytes(),
+        &(LAST + 1).to_be_bytes(),
+    )
+}
+
+// The entry with the least number above `after`, which is below the greatest.
+fn entry_above<S: StoredItems>(
+    alloc: Global,
+    store: &mut S,
+    after: u64,
+) -> Result<Option<OutEntry>, KeeperError>
+    requires { after + 1 < 2 ^ 64 }
+    ensures entry { (side : ℕ) (c : Copy) → HasCopy (S.stands_for store.old) side c → S.is_trusted store.new → IfOk result (λ entry. entry ≡ entry_after after c.entries) }
+    ensures can { IfOk result (λ entry. IfSome entry (CanBeEntry after)) }
+    ensures same { Stay (S.stands_for store.old) (S.stands_for store.new) }
+    ensures cause { CountsFailure (S.fault_count store.old) (S.fault_count store.new) result }
+    ensures trust { S.is_trusted store.new → S.is_trusted store.old }
+{
+    let item = match item_above(alloc, store, after)? {
+        Some(item) => item,
+        None => return Ok(None),
+    };
+    match entry_in(alloc, after, &item)? {
+        Some(entry) => Ok(Some(entry)),
+        None => Err(store.refuse()),
+    }
+}
+
+/// The entry with the least number above `after`. One item is read.
+pub(crate) fn stored_entry<S: StoredItems>(
+    alloc: Global,
+    store: &mut S,
+    after: u64,
+) -> Result<Option<OutEntry>, KeeperError>
+    ensures entry { (side : ℕ) (c : Copy) → HasCopy (S.stands_for store.old) side c → S.is_trusted store.new → IfOk result (λ entry. entry ≡ entry_after after c.entries) }
+    ensures can { IfOk result (λ entry. IfSome entry (CanBeEntry after)) }
+    ensures same { Stay (S.stands_for store.old) (S.stands_for store.new) }
+    ensures cause { CountsFailure (S.fault_count store.old) (S.fault_count store.new) result }
+    ensures trust { S.is_trusted store.new → S.is_trusted store.old }
+{
+    if after >= LAST {
+        return Ok(None);
+    }
+    entry_above(alloc, store, after)
+}

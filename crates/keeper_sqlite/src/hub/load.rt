@@ -1,0 +1,225 @@
+//! What a store keeps, read back.
+
+ghost use Rattle.std.specs.Prelude.{◌≡◌, ◌∷◌, ◌++◌, ◌+◌, ◌<◌, ◌≤◌, ◌^◌, [], ℕ, List, Option, None, Some, IfOk, IfSome, OnOk, false, length, map, true};
+ghost use Rattle.std.specs.List.{AllByRecursion};
+ghost use Rattle.std.specs.Option.{ForSome};
+ghost use Rattle.roster_base.specs.Faults.{CountsFailure};
+ghost use Rattle.item_maps.specs.Edits.{entry_of};
+ghost use Rattle.item_maps.specs.Items.{Items as Kept, listed};
+ghost use Rattle.version_core.specs.Version.{last_version};
+ghost use Rattle.version_core.specs.declared.change.Change.{Change as ChangeValue};
+ghost use Rattle.version_core.specs.declared.grant_row.GrantRow.{GrantRow as GrantValue};
+ghost use Rattle.version_core.specs.declared.hub_tables.HubTables.{HubTables as Tables};
+ghost use Rattle.version_core.specs.declared.row_change.RowChange.{RowChange as RowValue};
+ghost use Rattle.hub_format.specs.Format.{Entry, FitsChange, FitsGrant, grants_under, own_grants, own_rows, own_version, rows_under, some_grants};
+ghost use Rattle.hub_format.specs.Pieces.{IsReadBack, has_grants, number};
+ghost use Rattle.keeper_sqlite.specs.hub.Keeping.{HasTables, Stay};
+
+use crate::hub::state::of_version;
+use crate::stored_items::StoredItems;
+use hub_format::{grants_of, marks_of, rows_of, version_of};
+use item_maps::Item;
+use roster_base::{Items, KeeperError, NoMemory};
+use std::alloc::Global;
+use version_changes::are_changes;
+use version_core::change::Change;
+use version_core::grant_row::GrantRow;
+use version_core::mark::MarkRow;
+use version_core::row_change::RowChange;
+use version_core::sorted_rows::SortedRows;
+
+// The rows, if they stand in order.
+fn in_order(rows: Vec<RowChange>) -> Option<SortedRows>
+    ensures { IfSome result (λ sorted. sorted ≡ rows.items) }
+{
+    if are_changes(rows.as_slice()) {
+        Some(SortedRows::from_vec(rows))
+    } else {
+        None
+    }
+}
+
+// The rows of items whose labels have so many bytes in front of the rows' keys.
+fn rows_in(alloc: Global, skip: usize, items: &[Item]) -> Result<Option<SortedRows>, NoMemory>
+    ensures { (prefix : List ℕ) (rows : List RowValue) → length prefix ≡ skip → AllByRecursion IsReadBack rows → map entry_of items.now ≡ rows_under prefix rows
+        → IfOk result (λ o. IfSome o (λ found. found ≡ rows)) }
+{
+    match rows_of(alloc, skip, items)? {
+        Some(rows) => Ok(in_order(rows)),
+        None => Ok(None),
+    }
+}
+
+// The rows of the base.
+pub(crate) fn base_rows<S: StoredItems>(
+    alloc: Global,
+    store: &mut S,
+) -> Result<SortedRows, KeeperError>
+    ensures rows { (t : Tables) → HasTables (S.stands_for store.old) t → S.is_trusted store.new → IfOk result (λ rows. rows ≡ t.base.rows) }
+    ensures same { Stay (S.stands_for store.old) (S.stands_for store.new) }
+    ensures cause { CountsFailure (S.fault_count store.old) (S.fault_count store.new) result }
+    ensures trust { S.is_trusted store.new → S.is_trusted store.old }
+{
+    let items = store.all_of(alloc, 2, &[], &[255])?;
+    match rows_in(alloc, 0, items.as_slice())? {
+        Some(rows) => Ok(rows),
+        None => Err(store.refuse()),
+    }
+}
+
+// The grants behind a version's number.
+pub(crate) fn grants_at<S: StoredItems>(
+    alloc: Global,
+    store: &mut S,
+    version: u64,
+) -> Result<Items<GrantRow>, KeeperError>
+    requires { version + 1 < 2 ^ 64 }
+    ensures grants { (m : Kept) (grants : List GrantValue) → S.stands_for store.old m → AllByRecursion FitsGrant grants
+        → listed 5 (number version) (number (version + 1)) m ≡ grants_under version grants → S.is_trusted store.new → IfOk result (λ found. found ≡ grants) }
+    ensures same { Stay (S.stands_for store.old) (S.stands_for store.new) }
+    ensures cause { CountsFailure (S.fault_count store.old) (S.fault_count store.new) result }
+    ensures trust { S.is_trusted store.new → S.is_trusted store.old }
+{
+    let items = of_version(alloc, store, 5, version)?;
+    match grants_of(alloc, items.as_slice())? {
+        Some(grants) => Ok(Items::from_vec(grants)),
+        None => Err(store.refuse()),
+    }
+}
+
+// The marks.
+pub(crate) fn marks_in<S: StoredItems>(
+    alloc: Global,
+    store: &mut S,
+) -> Result<Items<MarkRow>, KeeperError>
+    ensures marks { (t : Tables) → HasTables (S.stands_for store.old) t → S.is_trusted store.new → IfOk result (λ marks. marks ≡ t.marks) }
+    ensures same { Stay (S.stands_for store.old) (S.stands_for store.new) }
+    ensures cause { CountsFailure (S.fault_count store.old) (S.fault_count store.new) result }
+    ensures trust { S.is_trusted store.new → S.is_trusted store.old }
+{
+    let items = store.all_of(alloc, 6, &[], &[255])?;
+    match marks_of(alloc, items.as_slice())? {
+        Some(marks) => Ok(Items::from_vec(marks)),
+        None => Err(store.refuse()),
+    }
+}
+
+// The grants of a change, where it has any of its own.
+fn own_grants_at<S: StoredItems>(
+    alloc: Global,
+    store: &mut S,
+    version: u64,
+    flag: u8,
+) -> Result<Option<Items<GrantRow>>, KeeperError>
+    requires { version + 1 < 2 ^ 64 }
+    ensures grants { (m : Kept) (grants : Option (List GrantValue)) → S.stands_for store.old m → ForSome grants (AllByRecursion FitsGrant) → flag ≡ has_grants grants
+        → listed 5 (number version) (number (version + 1)) m ≡ some_grants version grants → S.is_trusted store.new → IfOk result (λ found. found ≡ grants) }
+    ensures same { Stay (S.stands_for store.old) (S.stands_for store.new) }
+    ensures cause { CountsFailure (S.fault_count store.old) (S.fault_count store.new) result }
+    ensures trust { S.is_trusted store.new → S.is_trusted store.old }
+{
+    if flag == 0 {
+        return Ok(None);
+    }
+    let grants = grants_at(alloc, store, version)?;
+    Ok(Some(grants))
+}
+
+// The change to a version, from the items of the version itself.
+fn change_of<S: StoredItems>(
+    alloc: Global,
+    store: &mut S,
+    version: u64,
+    items: &[Item],
+) -> Result<Change, KeeperError>
+    requires { version + 1 < 2 ^ 64 }
+    ensures change { (m : Kept) (change : ChangeValue) → S.stands_for store.old m → FitsChange change → version ≡ change.version → map entry_of items.now ≡ own_version change
+        → listed 4 (number version) (number (version + 1)) m ≡ own_rows change → listed 5 (number version) (number (version + 1)) m ≡ own_grants change
+        → S.is_trusted store.new → IfOk result (λ found. found ≡ change) }
+    ensures same { Stay (S.stands_for store.old) (S.stands_for store.new) }
+    ensures cause { CountsFailure (S.fault_count store.old) (S.fault_count store.new) result }
+    ensures trust { S.is_trusted store.new → S.is_trusted store.old }
+{
+    let (moment, flag) = match version_of(items) {
+        Some(parts) => parts,
+        None => return Err(store.refuse()),
+    };
+    let laid = of_version(alloc, store, 4, version)?;
+    let rows = match rows_in(alloc, 8, laid.as_slice())? {
+        Some(rows) => rows,
+        None => return Err(store.refuse()),
+    };
+    let grants = own_grants_at(alloc, store, version, flag)?;
+    Ok(Change {
+        version,
+        moment,
+        rows,
+        grants,
+    })
+}
+
+// Whether there are no items.
+fn has_none(items: &[Item]) -> bool
+    ensures none { map entry_of items.now ≡ [] → result ≡ true }
+    ensures some { (entry : Entry) → map entry_of items.now ≡ entry ∷ [] → result ≡ false }
+{
+    match items {
+        [] => true,
+        _ => false,
+    }
+}
+
+// The change to a version, where one is stored.
+fn change_at<S: StoredItems>(
+    alloc: Global,
+    store: &mut S,
+    version: u64,
+) -> Result<Option<Change>, KeeperError>
+    requires { version + 1 < 2 ^ 64 }
+    ensures change { (m : Kept) (change : ChangeValue) → S.stands_for store.old m → FitsChange change → version ≡ change.version
+        → listed 3 (number version) (number (version + 1)) m ≡ own_version change → listed 4 (number version) (number (version + 1)) m ≡ own_rows change
+        → listed 5 (number version) (number (version + 1)) m ≡ own_grants change → S.is_trusted store.new → IfOk result (λ found. found ≡ Some change) }
+    ensures none { (m : Kept) → S.stands_for store.old m → listed 3 (number version) (number (version + 1)) m ≡ [] → S.is_trusted store.new → IfOk result (λ found. found ≡ None) }
+    ensures same { Stay (S.stands_for store.old) (S.stands_for store.new) }
+    ensures cause { CountsFailure (S.fault_count store.old) (S.fault_count store.new) result }
+    ensures trust { S.is_trusted store.new → S.is_trusted store.old }
+{
+    let items = of_version(alloc, store, 3, version)?;
+    if has_none(items.as_slice()) {
+        return Ok(None);
+    }
+    let change = change_of(alloc, store, version, items.as_slice())?;
+    Ok(Some(change))
+}
+
+fn push_change(found: &mut Vec<Change>, change: Change) -> Result<(), NoMemory>
+    ensures { OnOk result (found.new.items ≡ found.old.items ++ change ∷ []) }
+{
+    found.push(change)?;
+    Ok(())
+}
+
+// The changes behind the base, up to the first that isn't stored: no more than are kept.
+pub(crate) fn changes_in<S: StoredItems>(
+    alloc: Global,
+    store: &mut S,
+    base: u64,
+    keep: u32,
+) -> Result<Items<Change>, KeeperError>
+    requires { base ≤ last_version }
+    ensures changes { (t : Tables) → HasTables (S.stands_for store.old) t → base ≡ t.base.number → keep ≡ t.keep → S.is_trusted store.new
+        → IfOk result (λ changes. changes ≡ t.changes) }
+    ensures same { Stay (S.stands_for store.old) (S.stands_for store.new) }
+    ensures cause { CountsFailure (S.fault_count store.old) (S.fault_count store.new) result }
+    ensures trust { S.is_trusted store.new → S.is_trusted store.old }
+{
+    let mut found = Vec::new(alloc);
+    for place in 0..keep {
+        let change = match change_at(alloc, store, base + 1 + place as u64)? {
+            Some(change) => change,
+            None => return Ok(Items::from_vec(found)),
+        };
+        push_change(&mut found, change)?;
+    }
+    Ok(Items::from_vec(found))
+}

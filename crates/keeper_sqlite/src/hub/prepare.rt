@@ -1,0 +1,38 @@
+//! A store is made ready.
+
+ghost use Rattle.std.specs.Prelude.{IsErr, OnErr, OnOk};
+ghost use Rattle.roster_base.specs.Faults.{CountsFailure};
+ghost use Rattle.item_maps.specs.Items.{Items};
+ghost use Rattle.keeper_memory.specs.Kept.{KeptState};
+ghost use Rattle.hub_format.specs.Format.{Keep};
+ghost use Rattle.keeper_sqlite.specs.hub.Keeping.{HasOtherFormat, KeepOrNew, Keeps};
+
+use crate::stored_items::StoredItems;
+use hub_format::{Format, first_edits, format_of};
+use roster_base::KeeperError;
+use std::alloc::Global;
+
+/// A store that has no items gets those of version 0 alone. One of another format fails.
+pub(crate) fn prepare<S: StoredItems>(
+    alloc: Global,
+    store: &mut S,
+    keep: u32,
+) -> Result<(), KeeperError>
+    ensures ok { (state : KeptState) → Keeps (KeepOrNew keep) (S.stands_for store.old) state → S.is_trusted store.new
+        → OnOk result (Keeps Keep (S.stands_for store.new) state) }
+    ensures err { (state : KeptState) → Keeps (KeepOrNew keep) (S.stands_for store.old) state
+        → OnErr result (Keeps (KeepOrNew keep) (S.stands_for store.new) state) }
+    ensures other { (m : Items) → S.stands_for store.old m → HasOtherFormat m → S.is_trusted store.new → IsErr result × S.stands_for store.new m }
+    ensures cause { CountsFailure (S.fault_count store.old) (S.fault_count store.new) result }
+    ensures trust { S.is_trusted store.new → S.is_trusted store.old }
+{
+    let items = store.all_of(alloc, 0, &[], &[0])?;
+    match format_of(items.as_slice()) {
+        Format::New => {
+            let edits = first_edits(alloc, keep)?;
+            store.commit(edits.as_slice())
+        }
+        Format::One => Ok(()),
+        Format::Other => Err(store.refuse()),
+    }
+}

@@ -1,0 +1,79 @@
+//! The state of a store, and what stands behind a version's number.
+
+ghost use Rattle.std.specs.Prelude.{◌≡◌, ◌∷◌, [], ◌+◌, ◌<◌, ◌≤◌, ◌^◌, ℕ, IfOk, IfSome, map};
+ghost use Rattle.std.specs.Int.{w64};
+ghost use Rattle.std.specs.Int.RustNames.{FitsSigned};
+ghost use Rattle.roster_base.specs.Faults.{CountsFailure};
+ghost use Rattle.item_maps.specs.Edits.{entry_of};
+ghost use Rattle.item_maps.specs.Items.{Items, listed};
+ghost use Rattle.version_core.specs.Version.{last_version};
+ghost use Rattle.version_core.specs.declared.change.BaseVersion.{BaseVersion};
+ghost use Rattle.version_core.specs.declared.hub_tables.HubTables.{HubTables};
+ghost use Rattle.hub_format.specs.Format.{state_entry};
+ghost use Rattle.hub_format.specs.Pieces.{number};
+ghost use Rattle.keeper_sqlite.specs.hub.Keeping.{HasTables, Stay};
+
+use crate::stored_items::StoredItems;
+use hub_format::state_of;
+use item_maps::Item;
+use roster_base::KeeperError;
+use roster_texts::Moment;
+use std::alloc::Global;
+use version_changes::limits::LAST_VERSION;
+
+// The state of these items, if its base may have the number.
+fn state_in(items: &[Item]) -> Option<(u64, u64, Moment)>
+    ensures state { (keep : ℕ) (base : BaseVersion) → keep < 2 ^ 64 → base.number < 2 ^ 64 → FitsSigned w64 base.moment → map entry_of items.now ≡ state_entry keep base ∷ []
+        → IfSome result (λ s. (s.0 ≡ keep) × (s.1 ≡ base.number) × (s.2 ≡ base.moment)) }
+    ensures small { IfSome result (λ s. s.1 + 2 < 2 ^ 64) }
+    ensures low { IfSome result (λ s. s.1 ≤ last_version) }
+{
+    let (keep, base, at) = state_of(items)?;
+    if base <= LAST_VERSION {
+        Some((keep, base, at))
+    } else {
+        None
+    }
+}
+
+/// How many versions are kept beside the newest, and the number and the moment of the base.
+pub(crate) fn state_of_store<S: StoredItems>(
+    alloc: Global,
+    store: &mut S,
+) -> Result<(u64, u64, Moment), KeeperError>
+    ensures state { (t : HubTables) → HasTables (S.stands_for store.old) t → S.is_trusted store.new
+        → IfOk result (λ s. (s.0 ≡ t.keep) × (s.1 ≡ t.base.number) × (s.2 ≡ t.base.moment)) }
+    ensures small { IfOk result (λ s. s.1 + 2 < 2 ^ 64) }
+    ensures low { IfOk result (λ s. s.1 ≤ last_version) }
+    ensures same { Stay (S.stands_for store.old) (S.stands_for store.new) }
+    ensures cause { CountsFailure (S.fault_count store.old) (S.fault_count store.new) result }
+    ensures trust { S.is_trusted store.new → S.is_trusted store.old }
+{
+    let items = store.all_of(alloc, 1, &[], &[0])?;
+    match state_in(items.as_slice()) {
+        Some(state) => Ok(state),
+        None => Err(store.refuse()),
+    }
+}
+
+/// The items of an area that stand behind a version's number.
+pub(crate) fn of_version<S: StoredItems>(
+    alloc: Global,
+    store: &mut S,
+    area: u32,
+    version: u64,
+) -> Result<Vec<Item>, KeeperError>
+    requires { version + 1 < 2 ^ 64 }
+    ensures items { (m : Items) → S.stands_for store.old m → S.is_trusted store.new
+        → IfOk result (λ items. map entry_of items.items ≡ listed area (number version) (number (version + 1)) m) }
+    ensures same { Stay (S.stands_for store.old) (S.stands_for store.new) }
+    ensures cause { CountsFailure (S.fault_count store.old) (S.fault_count store.new) result }
+    ensures trust { S.is_trusted store.new → S.is_trusted store.old }
+{
+    store.all_of(
+        alloc,
+        area,
+        &version.to_be_bytes(),
+        &(version + 1).to_be_bytes(),
+    )
+}

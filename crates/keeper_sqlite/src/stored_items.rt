@@ -1,0 +1,80 @@
+//! Stores of items.
+
+ghost use Rattle.std.specs.Prelude.{◌≡◌, ℕ, IfOk, OnErr, OnOk, map, option_map, slice_get};
+ghost use Rattle.roster_base.specs.Faults.{CountsError, CountsFailure};
+ghost use Rattle.roster_base.specs.declared.keeper.KeeperError.TheVariants as keeper;
+ghost use Rattle.item_maps.specs.Edits.{after, entry_of};
+ghost use Rattle.item_maps.specs.Items.{Items, listed};
+ghost use Rattle.keeper_sqlite.specs.hub.Keeping.{Stay};
+
+use item_maps::{Edit, Item};
+use roster_base::KeeperError;
+use std::alloc::Global;
+
+/// Items that a store keeps. What the clauses say of items holds as long as the store can be trusted.
+pub trait StoredItems: Drop {
+    ghost use Rattle.std.specs.Prelude.{◌≡◌, ℕ, IfOk, OnErr, OnOk, map, option_map, slice_get};
+    ghost use Rattle.roster_base.specs.Faults.{CountsError, CountsFailure};
+    ghost use Rattle.roster_base.specs.declared.keeper.KeeperError.TheVariants as keeper;
+    ghost use Rattle.item_maps.specs.Edits.{after, entry_of};
+    ghost use Rattle.item_maps.specs.Items.{Items, listed};
+    ghost use Rattle.keeper_sqlite.specs.hub.Keeping.{Stay};
+
+    /// The items that it stands for.
+    ghost stands_for: { Self → Items → Type 0 };
+
+    /// It has given back what was written so far, and it still answers.
+    ghost is_trusted: { Self → Type 0 };
+
+    /// How many calls failed. The count stays at the end of `u64`.
+    ghost fault_count: { Self → ℕ };
+
+    /// All items of the area whose label is at least `from` and below `to`, in the order of label bytes. The items stay as they
+    /// are.
+    fn all_of(
+        &mut self,
+        alloc: Global,
+        area: u32,
+        from: &[u8],
+        to: &[u8],
+    ) -> Result<Vec<Item>, KeeperError>
+        ensures items { (m : Items) → stands_for self.old m → is_trusted self.new → IfOk result (λ items. map entry_of items.items ≡ listed area from.now to.now m) }
+        ensures same { Stay (stands_for self.old) (stands_for self.new) }
+        ensures cause { CountsFailure (fault_count self.old) (fault_count self.new) result }
+        ensures trust { is_trusted self.new → is_trusted self.old };
+
+    /// The first item of the area whose label is at least `from` and below `to`, in the order of label bytes. The items stay as they
+    /// are.
+    fn first_of(
+        &mut self,
+        alloc: Global,
+        area: u32,
+        from: &[u8],
+        to: &[u8],
+    ) -> Result<Option<Item>, KeeperError>
+        ensures item { (m : Items) → stands_for self.old m → is_trusted self.new → IfOk result (λ item. option_map entry_of item ≡ slice_get (listed area from.now to.now m) 0) }
+        ensures same { Stay (stands_for self.old) (stands_for self.new) }
+        ensures cause { CountsFailure (fault_count self.old) (fault_count self.new) result }
+        ensures trust { is_trusted self.new → is_trusted self.old };
+
+    /// Makes the edits in order, all of them or none. After an error the items are as they were.
+    fn commit(&mut self, edits: &[Edit]) -> Result<(), KeeperError>
+        ensures ok { (m : Items) → stands_for self.old m → OnOk result (stands_for self.new (after edits.now m)) }
+        ensures err { (m : Items) → stands_for self.old m → OnErr result (stands_for self.new m) }
+        ensures cause { CountsFailure (fault_count self.old) (fault_count self.new) result }
+        ensures trust { is_trusted self.new → is_trusted self.old };
+
+    /// Counts a failure that the caller met in the items: they are none that it stores. The items stay as they are.
+    fn refuse(&mut self) -> KeeperError
+        ensures same { Stay (stands_for self.old) (stands_for self.new) }
+        ensures counted { CountsError (fault_count self.old) (fault_count self.new) result }
+        ensures failed { result ≡ keeper.Failed }
+        ensures trust { is_trusted self.new → is_trusted self.old };
+
+    /// The number of calls that answered `Failed`.
+    fn faults(&self) -> u64
+        ensures { result ≡ fault_count self.now };
+
+    /// It stands for one map of items, as long as it is trusted.
+    ghost one: { (store : Self) (m n : Items) → is_trusted store → stands_for store m → stands_for store n → m ≡ n };
+}

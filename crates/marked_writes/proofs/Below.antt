@@ -1,2 +1,0 @@
--- Lemmas of crates below this one that crates above cite, which then needn't list those.
-pub use Rattle.hub_requests.proofs.PageLemmas.{page_says}

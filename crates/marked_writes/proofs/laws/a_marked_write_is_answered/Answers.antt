@@ -1,5 +1,0 @@
-use Rattle.marked_writes.proofs.AnswerLemmas.{marked_is, says_write}
-use Rattle.marked_writes.proofs.laws.a_marked_write_is_answered.Goals as goal
-
-pub returns : goal.returns
-returns c state wanted marked at reply next e said = says_write state wanted marked (marked_is wanted marked e) at reply next said

@@ -1,5 +1,0 @@
-use Rattle.std.proofs.Common.{length}
-use Rattle.page_links.proofs.target.+push_objects.Given as goal
-
-abbrev pub decreases-push_objects : goal.decreases-push_objects
-decreases-push_objects l = length l.objects.now

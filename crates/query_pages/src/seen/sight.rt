@@ -1,0 +1,165 @@
+//! What a grant sees.
+
+ghost use Rattle.std.specs.Prelude.{◌≡◌};
+ghost use Rattle.hub_spec.specs.views.Seen as spec;
+
+use crate::seen::chains::leads_up;
+use crate::seen::counted::CountedRows;
+use crate::seen::references::{is_named_by, leads_to, names_one_of, stands_where};
+use crate::seen::row_test::RowTest;
+use grant_scopes::{Grant, Schools};
+use roster_texts::Id;
+use roster_types::row::Row;
+use roster_types::rows::Rows;
+use roster_values::Kind;
+use version_core::references::Refs;
+
+// The school of the row is listed.
+#[derive(Drop)]
+struct IsAtSchool<'a> {
+    schools: &'a [Id],
+}
+
+impl<'a> RowTest for IsAtSchool<'a> {
+    ghost passes = { λ t row. spec.is_at_school t.schools.now row };
+
+    #[tactic(auto, unfolding(hub_spec::specs::views::Seen::is_at_school))]
+    fn passes(&self, row: &Row) -> bool {
+        names_one_of(row, "school", self.schools)
+    }
+}
+
+// The org is listed, or an ancestor of one that is.
+#[derive(Drop)]
+struct SeesOrg<'a, R: Refs> {
+    schools: &'a [Id],
+    known: &'a CountedRows<'a, R>,
+}
+
+impl<'a, R: Refs> RowTest for SeesOrg<'a, R> {
+    ghost passes = { λ t org. spec.sees_org t.schools.now (R.rows t.known.now.rows.now) org };
+
+    #[tactic(auto, unfolding(hub_spec::specs::views::Seen::sees_org))]
+    fn passes(&self, org: &Row) -> bool {
+        let rows = self.known.rows;
+        let turns = self.known.orgs;
+        let id = org.id();
+        self.schools
+            .iter()
+            .any(|school| leads_up(rows, id, turns, school))
+    }
+}
+
+// One of the user's orgs is listed, or an enrollment whose school is listed names the user.
+#[derive(Drop)]
+struct SeesUser<'a, R: Refs> {
+    schools: &'a [Id],
+    rows: &'a R,
+}
+
+impl<'a, R: Refs> RowTest for SeesUser<'a, R> {
+    ghost passes = { λ t user. spec.sees_user t.schools.now (R.rows t.rows.now) user };
+
+    #[tactic(auto, unfolding(hub_spec::specs::views::Seen::sees_user))]
+    fn passes(&self, user: &Row) -> bool {
+        let schools = self.schools;
+        names_one_of(user, "orgs", schools)
+            || is_named_by(
+                self.rows,
+                &IsAtSchool { schools },
+                Kind::Enrollments,
+                "user",
+                user,
+            )
+    }
+}
+
+// The class of the line item is seen.
+#[derive(Drop)]
+struct SeesLineItem<'a, R: Refs> {
+    schools: &'a [Id],
+    rows: &'a R,
+}
+
+impl<'a, R: Refs> RowTest for SeesLineItem<'a, R> {
+    ghost passes = { λ t item. spec.sees_line_item t.schools.now (R.rows t.rows.now) item };
+
+    #[tactic(auto, unfolding(hub_spec::specs::views::Seen::sees_line_item))]
+    fn passes(&self, item: &Row) -> bool {
+        let schools = self.schools;
+        leads_to(
+            self.rows,
+            &IsAtSchool { schools },
+            "class",
+            Kind::Classes,
+            item,
+        )
+    }
+}
+
+// The org of the course is seen, or a class that is seen names the course.
+#[tactic(auto, unfolding(hub_spec::specs::views::Seen::sees_course))]
+fn sees_course<R: Refs>(schools: &[Id], known: &CountedRows<'_, R>, course: &Row) -> bool
+    ensures { result ≡ spec.sees_course schools.now (R.rows known.now.rows.now) course.now }
+{
+    leads_to(
+        known.rows,
+        &SeesOrg { schools, known },
+        "org",
+        Kind::Orgs,
+        course,
+    ) || is_named_by(
+        known.rows,
+        &IsAtSchool { schools },
+        Kind::Classes,
+        "course",
+        course,
+    )
+}
+
+// What is seen of each kind under a list of schools.
+fn sees_at<R: Refs>(schools: &[Id], known: &CountedRows<'_, R>, row: &Row) -> bool
+    ensures { result ≡ spec.sees_at schools.now (R.rows known.now.rows.now) row.now.kind row.now }
+{
+    let rows = known.rows;
+    match row.kind() {
+        Kind::Orgs => SeesOrg { schools, known }.passes(row),
+        Kind::AcademicSessions | Kind::Categories => true,
+        Kind::Courses => sees_course(schools, known, row),
+        Kind::Classes | Kind::Enrollments => IsAtSchool { schools }.passes(row),
+        Kind::Users => SeesUser { schools, rows }.passes(row),
+        Kind::Demographics => {
+            stands_where(rows, &SeesUser { schools, rows }, Kind::Users, row.id())
+        }
+        Kind::LineItems => SeesLineItem { schools, rows }.passes(row),
+        Kind::Results => leads_to(
+            rows,
+            &SeesLineItem { schools, rows },
+            "lineItem",
+            Kind::LineItems,
+            row,
+        ),
+    }
+}
+
+/// Whether a grant at these schools sees the row among the others.
+#[tactic(auto, unfolding(hub_spec::specs::views::Seen::sees_row))]
+pub fn sees_row<R: Refs>(schools: &Schools, known: &CountedRows<'_, R>, row: &Row) -> bool
+    ensures { result ≡ spec.sees_row schools.now (R.rows known.now.rows.now) row.now }
+{
+    match schools {
+        Schools::All => true,
+        Schools::Listed(list) => sees_at(list.ids(), known, row),
+    }
+}
+
+/// Whether the row of a kind and id stands and the grant sees it.
+pub fn sees<R: Refs>(rows: &R, grant: &Grant, kind: Kind, id: &Id) -> bool
+    ensures { result ≡ spec.sees grant.now.schools (R.rows rows.now) kind id.now }
+{
+    let known = CountedRows::new(rows);
+    match rows.row(kind, id) {
+        Some(row) => sees_row(&grant.schools, &known, row),
+        None => false,
+    }
+}

@@ -1,0 +1,36 @@
+use Rattle.std.proofs.Common.{refl, length, ◌∙◌}
+use Rattle.rest_provider.proofs.Progressing.{begins, breaks_off, closes_at, goes_on, stops_at}
+use Rattle.rest_provider.proofs.serving.serve.Goals as goal
+
+pub serving-init : goal.serving-init
+serving-init g c = record {
+  fits = c.requires.fits;
+  fresh = c.requires.fresh;
+  progress = begins _ c.args.reader.now.kept (g.K.Clock.moment c.args.clock.now) c.requires.none_kept;
+}
+
+pub serving-preserved : goal.serving-preserved
+serving-preserved g c =
+    let (e, taken, stays, writes, sink) = c.in-Answered-false.ensures.turns in
+    record {
+      fits = c.take_turn.ensures.fits;
+      fresh = c.in-Answered-false.ensures.fresh _ refl;
+      progress = goes_on _ _ _ _ _ _ _ c.serving.invariant.progress e taken _ c.saturating_add-answered.ensures (stays ∙ c.in-Answered-false.close-test) writes sink;
+    }
+
+pub returns-in-Answered-true-clause-served : goal.returns-in-Answered-true-clause-served
+returns-in-Answered-true-clause-served g c =
+    let (e, taken, closes, writes, sink) = c.in-Answered-true.ensures.turns in
+    rw (c.saturating_add.ensures, c.kept.ensures)
+    (closes_at _ _ _ _ _ _ _ c.serving.invariant.progress e taken (closes ∙ c.in-Answered-true.close-test) writes sink)
+
+pub returns-in-SinkFailed-clause-served : goal.returns-in-SinkFailed-clause-served
+returns-in-SinkFailed-clause-served g c =
+    let (e, taken, writes, rose) = c.in-SinkFailed.ensures.turns in
+    breaks_off _ _ _ _ _ _ _ c.serving.invariant.progress e taken writes rose
+
+pub returns-in-Stopped-clause-served : goal.returns-in-Stopped-clause-served
+returns-in-Stopped-clause-served g c =
+    let progress = c.serving.invariant.progress in
+    stops_at _ _ _ _ _ _ _ progress c.in-Stopped.fault c.in-Stopped.ensures.turns _ _ c.stop.result
+    (rw c.kept-in-Stopped.ensures at (c.stop.ensures (length progress.exchanges) progress.number))

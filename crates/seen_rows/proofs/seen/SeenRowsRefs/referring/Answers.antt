@@ -1,9 +1,0 @@
-use Rattle.hub_views.proofs.ListLemmas.{ascends_kept}
-use Rattle.hub_views.specs.Seen.{sees_row}
-use Rattle.seen_rows.proofs.seen.SeenRowsRefs.referring.Goals as goal
-
-pub returns-clause-order : goal.returns-clause-order
-returns-clause-order g c =
-    let known = c.self.inside.known in
-    let rows = g.R.Rows.rows known.rows.now in
-    rw (← c.self.view_is) (ascends_kept (sees_row c.self.inside.schools.now rows) rows known.order)

@@ -1,5 +1,0 @@
-use Rattle.set_changes.proofs.Outcomes.{one_outcome}
-use Rattle.set_changes.proofs.laws.a_set_makes_one_outcome.Goals as goal
-
-pub returns : goal.returns
-returns c = λ version set at one other. one_outcome set at version one other

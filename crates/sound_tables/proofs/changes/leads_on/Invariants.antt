@@ -1,7 +1,0 @@
-use Rattle.std.proofs.Common.{drop}
-use Rattle.version_core.specs.Table.{LeadOn}
-use Rattle.sound_tables.proofs.changes.leads_on.Given as goal
-
--- all lead on where those that are left do
-abbrev pub invariant-loop-change : goal.invariant-loop-change
-invariant-loop-change l = LeadOn l.last (drop l.change-index l.changes) → LeadOn l.number l.changes

@@ -1,5 +1,0 @@
-use Rattle.std.proofs.Common.{Some, ap, sym, ◌∙◌}
-use Rattle.sound_tables.proofs.keeping.has_grant.Goals as goal
-
-pub returns-in-Some : goal.returns-in-Some
-returns-in-Some c = λ yes. sym c.in-Some.ensures ∙ ap Some (c.is_same.ensures.0 yes)

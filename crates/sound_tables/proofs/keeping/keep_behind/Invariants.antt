@@ -1,6 +1,0 @@
-use Rattle.std.proofs.Common.{drop}
-use Rattle.sound_tables.specs.Behind.{KeepBehind}
-use Rattle.sound_tables.proofs.keeping.keep_behind.Given as goal
-
-abbrev pub invariant-loop-change : goal.invariant-loop-change
-invariant-loop-change l = KeepBehind l.newest l.current (drop l.change-index l.changes) → KeepBehind l.newest l.grants l.changes

@@ -1,7 +1,0 @@
-use Rattle.std.proofs.Common.{drop}
-use Rattle.std.specs.List.{AllByRecursion}
-use Rattle.version_core.specs.Changes.{AreChanges}
-use Rattle.sound_tables.proofs.tables.see_order.Given as goal
-
-abbrev pub invariant-loop-change : goal.invariant-loop-change
-invariant-loop-change l = AllByRecursion (λ change. AreChanges change.rows) (drop l.change-index l.changes) → AllByRecursion (λ change. AreChanges change.rows) l.changes

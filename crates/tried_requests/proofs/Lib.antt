@@ -1,3 +1,0 @@
-pub mod AskLemmas
-pub mod RunLemmas
-pub mod TextLemmas

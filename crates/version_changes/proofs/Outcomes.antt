@@ -1,0 +1,166 @@
+-- What becomes of each row, what a set makes of a version, and that both are one thing.
+use Rattle.std.proofs.Common.{◌≡◌, ℕ, ℤ, ◌≤◌, List, [], ◌∷◌, inl, inr, Bool, true, false, cond, Option, Some, None, refl, sym, ap, subst, ◌∙◌, arith}
+use Rattle.std.specs.Prelude.{nat_lt}
+use Rattle.std.specs.List.{AllByRecursion}
+use Rattle.std.specs.Option.{option_and_then, option_or}
+use Rattle.std.specs.Ordering.{is_eq}
+use Rattle.std.proofs.lemmas.Bool.Decides.{nat_tests}
+use Rattle.reference_rules.proofs.KeyOrder.{and_second, key_total}
+use Rattle.roster_types.specs.Keys.{Key, count_of, look_up}
+use Rattle.roster_types.specs.Records.{Record, SameButDate}
+use Rattle.roster_types.specs.Sets.{SetRecord}
+use Rattle.roster_types.specs.declared.set_row.SetRow.{SetRow}
+use Rattle.roster_types.specs.declared.status.Status.TheVariants.{ToBeDeleted}
+use Rattle.roster_values.specs.Kinds.{all_kinds}
+use Rattle.roster_values.specs.declared.kind.Kind.{Kind}
+use Rattle.roster_values.specs.declared.kind.Kind.TheVariants.{Orgs, AcademicSessions, Courses, Classes, Users, Enrollments, Demographics, Categories, LineItems, Results}
+use Rattle.version_changes.specs.sets.Applying.{AreNewRows, Applies, Becomes, Leads, Listed, Makes, Outcome, Refuses, Unchanged, Undated, dated, is_active, is_left_out, is_own, is_whole, marked, owned_by, refusal_of, rows_in, set_key, too_many}
+use Rattle.version_changes.specs.sets.Steps.{ChangesAt, Leaves, ListedChangeAt, mark_of, stored_as}
+use Rattle.version_changes.specs.declared.sets.publish_fault.PublishFault.{PublishFault}
+use Rattle.version_changes.specs.declared.sets.publish_fault.PublishFault.TheVariants.{TooManyRows}
+use Rattle.std.proofs.lemmas.Cmp.{tied_itself}
+use Rattle.version_core.proofs.OrderLemmas.{Ascends-overlaid, look_up-overlaid, same_from_look_up}
+use Rattle.version_core.specs.Changes.{AreChanges, change_key}
+use Rattle.version_core.specs.Order.{overlaid}
+use Rattle.version_core.specs.Version.{row_limit}
+use Rattle.version_core.specs.declared.change.BaseVersion.{BaseVersion}
+use Rattle.version_core.specs.declared.row_change.RowChange.{RowChange}
+
+-- a listed row that leaves what stands
+left_as_listed : (feed : List ℕ) (at : ℤ) (b : Bool) (row : Record) (stored : RowChange) → Leaves feed b row stored → Listed feed at b row (Some stored) stored
+left_as_listed feed at true row stored same = sym same
+left_as_listed feed at false row stored same = inl (same, refl)
+
+-- one that doesn't
+new_as_listed : (feed : List ℕ) (at : ℤ) (b : Bool) (row : Record) (stored new : RowChange) → (Leaves feed b row stored → ⊥) → new ≡ owned_by feed (cond b row (dated at row)) → Listed feed at b row (Some stored) new × (Some stored ≡ Some new → ⊥)
+new_as_listed feed at true row stored new differs is = (is, λ same. let e : stored ≡ new = cc in differs (sym is ∙ sym e))
+new_as_listed feed at false row stored new differs is = (inr (differs, is), λ same. let e : stored ≡ new = cc in differs (redated (ap (λ (c : RowChange). c.row) (e ∙ is))))
+  where
+    redated : stored.row ≡ dated at row → SameButDate row stored.row
+    redated e = subst (λ (s : Record). record row { modified = s.modified } ≡ s) (sym e) refl
+
+first_as_listed : (feed : List ℕ) (at : ℤ) (b : Bool) (row : Record) (new : RowChange) → new ≡ owned_by feed (cond b row (dated at row)) → Listed feed at b row None new
+first_as_listed feed at true row new is = is
+first_as_listed feed at false row new is = is
+
+module _ (set : SetRecord) (at : ℤ) where
+  active_differs : (stored : RowChange) → is_left_out set stored ≡ true → stored ≡ marked at stored → ⊥
+  active_differs stored left same =
+      let active : is_active stored.row.status ≡ true = and_second (is_own set.feed stored.owner) _ (and_second (is_whole set.parts stored.row.kind) _ left) in
+      let gone : stored.row.status ≡ ToBeDeleted = ap (λ (c : RowChange). c.row.status) same in
+      let never : is_active ToBeDeleted ≡ true = subst (λ s. is_active s ≡ true) gone active in
+      cc
+
+  unlisted_step : (stored : RowChange) → ChangesAt set at None (Some stored) (mark_of set at None stored)
+  unlisted_step stored =
+      elim (is_left_out set stored) as (λ b. is_left_out set stored ≡ b → ChangesAt set at None (Some stored) (cond b (Some (marked at stored)) None)) [
+        | true ↦ λ left. (ap (λ b. Some (cond b (marked at stored) stored)) (sym left), λ same. active_differs stored left (let e : stored ≡ marked at stored = cc in e))
+        | false ↦ λ stays. ap (λ b. Some (cond b (marked at stored) stored)) (sym stays)
+      ] refl
+
+  -- the changes of listed rows over the marks are the changes of a set
+  pub step : (listed : Option SetRow) (stored change : Option RowChange) → ListedChangeAt set.feed at listed stored change → ChangesAt set at listed stored (option_or change (option_and_then (mark_of set at listed) stored))
+  step None None None is = refl
+  step None (Some stored) None is = unlisted_step stored
+  step None stored (Some change) is = cc
+  step (Some listed) None None is = cc
+  step (Some listed) None (Some change) is = (first_as_listed set.feed at listed.dated listed.row change (let e : change ≡ stored_as set.feed at listed = cc in e), λ same. cc)
+  step (Some listed) (Some stored) None is = left_as_listed set.feed at listed.dated listed.row stored is
+  step (Some listed) (Some stored) (Some change) is = new_as_listed set.feed at listed.dated listed.row stored change is.0 is.1
+
+  becomes_step : (listed : Option SetRow) (stored change : Option RowChange) → ChangesAt set at listed stored change → Becomes set at listed stored (option_or change stored)
+  becomes_step listed stored None is = is
+  becomes_step listed stored (Some change) is = is.0
+
+  module _ (rows changes : List RowChange) (up : AreChanges rows) (each : (k : Key) → ChangesAt set at (look_up set_key k (rows_in set)) (look_up change_key k rows) (look_up change_key k changes)) where
+    pub are_new : AreNewRows set at rows (overlaid change_key rows changes)
+    are_new = record {
+      order = Ascends-overlaid change_key rows changes up;
+      entries = λ k. subst (Becomes set at (look_up set_key k (rows_in set)) (look_up change_key k rows)) (sym (look_up-overlaid change_key k rows changes)) (becomes_step (look_up set_key k (rows_in set)) (look_up change_key k rows) (look_up change_key k changes) (each k));
+    }
+
+  differs_step : (listed : Option SetRow) (stored : Option RowChange) (change : RowChange) → ChangesAt set at listed stored (Some change) → stored ≡ Some change → ⊥
+  differs_step listed stored change is = is.1
+
+  -- rows that change differ
+  pub differ : (rows changes : List RowChange) → ((k : Key) → ChangesAt set at (look_up set_key k (rows_in set)) (look_up change_key k rows) (look_up change_key k changes)) → (changes ≡ [] → ⊥) → rows ≡ overlaid change_key rows changes → ⊥
+  differ rows [] each some same = some refl
+  differ rows (change ∷ changes) each some same =
+      let k = change_key change in
+      let here : look_up change_key k (change ∷ changes) ≡ Some change = ap (λ o. cond (is_eq o) (Some change) (look_up change_key k changes)) (tied_itself key_total k) in
+      let stored : look_up change_key k rows ≡ Some change = ap (look_up change_key k) same ∙ look_up-overlaid change_key k rows (change ∷ changes) ∙ ap (λ (o : Option RowChange). option_or o (look_up change_key k rows)) here in
+      differs_step (look_up set_key k (rows_in set)) (look_up change_key k rows) change (subst (ChangesAt set at (look_up set_key k (rows_in set)) (look_up change_key k rows)) here (each k)) stored
+
+  -- what becomes of a row is one thing
+  one_undated : (row : Record) (stored : Option RowChange) (new other : RowChange) → Undated set.feed at row stored new → Undated set.feed at row stored other → new ≡ other
+  one_undated row None new other is is' = is ∙ sym is'
+  one_undated row (Some stored) new other (inl is) (inl is') = is.1 ∙ sym is'.1
+  one_undated row (Some stored) new other (inl is) (inr is') = absurd (is'.0 is.0)
+  one_undated row (Some stored) new other (inr is) (inl is') = absurd (is.0 is'.0)
+  one_undated row (Some stored) new other (inr is) (inr is') = is.1 ∙ sym is'.1
+
+  one_listed : (b : Bool) (row : Record) (stored : Option RowChange) (new other : RowChange) → Listed set.feed at b row stored new → Listed set.feed at b row stored other → new ≡ other
+  one_listed true row stored new other is is' = is ∙ sym is'
+  one_listed false row stored new other is is' = one_undated row stored new other is is'
+
+  one_becomes : (listed : Option SetRow) (stored new other : Option RowChange) → Becomes set at listed stored new → Becomes set at listed stored other → new ≡ other
+  one_becomes None stored new other is is' = is ∙ sym is'
+  one_becomes (Some listed) stored (Some new) (Some other) is is' = ap (λ x. Some x) (one_listed listed.dated listed.row stored new other is is')
+  one_becomes (Some listed) stored None other is is' = absurd is
+  one_becomes (Some listed) stored (Some new) None is is' = absurd is'
+
+  one_rows : (rows new other : List RowChange) → AreNewRows set at rows new → AreNewRows set at rows other → new ≡ other
+  one_rows rows new other are are' =
+      same_from_look_up change_key new other are.order are'.order (λ k. one_becomes (look_up set_key k (rows_in set)) (look_up change_key k rows) (look_up change_key k new) (look_up change_key k other) (are.entries k) (are'.entries k))
+
+  module _ (version : BaseVersion) (new : List RowChange) where
+    refused : (fault : PublishFault) → refusal_of set version.rows new ≡ None → refusal_of set version.rows new ≡ Some fault → ⊥
+    refused fault none some = cc
+
+    one_made : (one other : Outcome) → Makes version set at new one → Makes version set at new other → one ≡ other
+    one_made (Refuses f) (Refuses g) (inl is) (inl is') = let same : f ≡ g = cc in ap Refuses same
+    one_made (Refuses f) (Refuses g) (inl is) (inr is') = absurd (refused f is'.0.passes is)
+    one_made (Refuses f) (Refuses g) (inr is) (inl is') = absurd (refused g is.0.passes is')
+    one_made (Refuses f) (Refuses g) (inr is) (inr is') = ap Refuses (is.2 ∙ sym is'.2)
+    one_made (Refuses f) Unchanged (inl is) is' = absurd (refused f is'.0 is)
+    one_made (Refuses f) Unchanged (inr is) is' = absurd (is.0.differ is'.1)
+    one_made (Refuses f) (Leads next) (inl is) is' = absurd (refused f is'.0.passes is)
+    one_made (Refuses f) (Leads next) (inr is) is' = let e = is.1 in let lt = is'.1 in absurd (omega arith)
+    one_made Unchanged (Refuses f) is (inl is') = absurd (refused f is.0 is')
+    one_made Unchanged (Refuses f) is (inr is') = absurd (is'.0.differ is.1)
+    one_made Unchanged Unchanged is is' = refl
+    one_made Unchanged (Leads next) is is' = absurd (is'.0.differ is.1)
+    one_made (Leads next) (Refuses f) is (inl is') = absurd (refused f is.0.passes is')
+    one_made (Leads next) (Refuses f) is (inr is') = let e = is'.1 in let lt = is.1 in absurd (omega arith)
+    one_made (Leads next) Unchanged is is' = absurd (is.0.differ is'.1)
+    one_made (Leads next) (Leads other) is is' = ap Leads (is.2 ∙ sym is'.2)
+
+  pub one_outcome : (version : BaseVersion) (one other : Outcome) → Applies version set at one → Applies version set at other → one ≡ other
+  one_outcome version one other is is' =
+      let same : is.0 ≡ is'.0 = one_rows version.rows is.0 is'.0 is.1 is'.1 in
+      one_made version is'.0 one other (subst (λ new. Makes version set at new one) same is.2) is'.2
+
+-- no kind has too many rows where none is told
+few_among : (rows : List Record) (kinds : List Kind) → too_many rows kinds ≡ None → AllByRecursion (λ kind. count_of kind rows ≤ row_limit) kinds
+few_among rows [] none = tt
+few_among rows (kind ∷ kinds) none =
+    elim (nat_lt row_limit (count_of kind rows)) as (λ b. nat_lt row_limit (count_of kind rows) ≡ b → cond b (Some (TooManyRows kind (count_of kind rows))) (too_many rows kinds) ≡ None → AllByRecursion (λ kind. count_of kind rows ≤ row_limit) (kind ∷ kinds)) [
+      | true ↦ λ _ some. cc
+      | false ↦ λ few rest. (grind (arith, nat_tests), few_among rows kinds rest)
+    ] refl none
+
+pub few : (rows : List Record) → too_many rows all_kinds ≡ None → (kind : Kind) → count_of kind rows ≤ row_limit
+few rows none kind =
+    let all = few_among rows all_kinds none in
+    elim kind as (λ kind. count_of kind rows ≤ row_limit) [
+      | Orgs ↦ all.0
+      | AcademicSessions ↦ all.1.0
+      | Courses ↦ all.1.1.0
+      | Classes ↦ all.1.1.1.0
+      | Users ↦ all.1.1.1.1.0
+      | Enrollments ↦ all.1.1.1.1.1.0
+      | Demographics ↦ all.1.1.1.1.1.1.0
+      | Categories ↦ all.1.1.1.1.1.1.1.0
+      | LineItems ↦ all.1.1.1.1.1.1.1.1.0
+      | Results ↦ all.1.1.1.1.1.1.1.1.1.0
+    ]
