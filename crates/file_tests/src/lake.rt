@@ -13,103 +13,10 @@ use roster_types::set_row::SetRow;
 use roster_values::{Kind, Mode};
 use std::alloc::Global;
 use std::test::Fail;
+use test_lake::file;
 
-// Each file's name and its text. `resources.csv` is passed over.
-const LAKE: &[(&str, &str)] = &[
-    (
-        "manifest.csv",
-        "propertyName,value\n\
-         manifest.version,1.0\n\
-         oneroster.version,1.1\n\
-         file.orgs,bulk\n\
-         file.academicSessions,bulk\n\
-         file.courses,bulk\n\
-         file.classes,bulk\n\
-         file.users,bulk\n\
-         file.enrollments,delta\n\
-         file.demographics,bulk\n\
-         file.categories,bulk\n\
-         file.lineItems,bulk\n\
-         file.results,bulk\n\
-         file.resources,absent\n\
-         file.classResources,absent\n\
-         file.courseResources,absent\n\
-         source.systemName,Lake SIS\n\
-         source.systemCode,LSIS\n",
-    ),
-    (
-        "orgs.csv",
-        "sourcedId,status,dateLastModified,name,type,identifier,parentSourcedId\n\
-         d1,,,\"Lake District, Unified\",district,LDU,\n\
-         s1,,,East High,school,E-1,d1\n\
-         s2,,,West High,school,,d1\n",
-    ),
-    (
-        "academicSessions.csv",
-        "sourcedId,status,dateLastModified,title,type,startDate,endDate,parentSourcedId,schoolYear\n\
-         y25,,,2024-25,schoolYear,2024-08-01,2025-06-30,,2025\n\
-         t1,,,Fall,term,2024-08-01,2024-12-20,y25,2025\n\
-         g1,,,Quarter 1,gradingPeriod,2024-08-01,2024-10-11,t1,2025\n",
-    ),
-    (
-        "courses.csv",
-        "sourcedId,status,dateLastModified,schoolYearSourcedId,title,courseCode,grades,orgSourcedId,subjects,subjectCodes\n\
-         alg,,,y25,Algebra I,ALG1,\"09,10\",d1,Mathematics,\n",
-    ),
-    (
-        "classes.csv",
-        "sourcedId,status,dateLastModified,title,grades,courseSourcedId,classCode,classType,location,schoolSourcedId,termSourcedIds,subjects,subjectCodes,periods\n\
-         k1,,,Algebra I A,\"09,10\",alg,A,scheduled,Room 4,s1,t1,,,\"1,3\"\n\
-         k2,,,Algebra I B,09,alg,B,scheduled,,s2,t1,,,2\n",
-    ),
-    (
-        "users.csv",
-        "sourcedId,status,dateLastModified,enabledUser,orgSourcedIds,role,username,userIds,givenName,familyName,middleName,identifier,email,sms,phone,agentSourcedIds,grades,password,metadata.locker\n\
-         u1,,,true,s1,student,aoak,\"{LDAP:aoak},{SIS:77}\",Ann,Oak,,,,,,u4,09,secret,12\n\
-         u2,,,true,\"s1,s2\",student,boak,,Ben,Oak,,,,,,,10,,\n\
-         u3,,,true,s2,teacher,cdow,,Cy,Dow,,,,,,,,,\n\
-         u4,,,true,s1,guardian,doak,,Dee,Oak,,,,,,u1,,,\n",
-    ),
-    (
-        "enrollments.csv",
-        "sourcedId,status,dateLastModified,classSourcedId,schoolSourcedId,userSourcedId,role,primary,beginDate,endDate\n\
-         e1,active,2024-07-20T08:00:00.000Z,k1,s1,u1,student,,2024-08-12,\n\
-         e2,active,2024-07-20T08:00:00.000Z,k2,s2,u2,student,,,\n\
-         e3,active,2024-07-20T08:00:00.000Z,k2,s2,u3,teacher,true,,\n",
-    ),
-    (
-        "demographics.csv",
-        "sourcedId,status,dateLastModified,birthDate,sex\n\
-         u1,,,2009-03-04,female\n",
-    ),
-    (
-        "categories.csv",
-        "sourcedId,status,dateLastModified,title\n\
-         hw,,,Homework\n",
-    ),
-    (
-        "lineItems.csv",
-        "sourcedId,status,dateLastModified,title,description,assignDate,dueDate,classSourcedId,categorySourcedId,gradingPeriodSourcedId,resultValueMin,resultValueMax\n\
-         li1,,,Set 1,,2024-08-15,2024-08-22,k1,hw,g1,0,100\n",
-    ),
-    (
-        "results.csv",
-        "sourcedId,status,dateLastModified,lineItemSourcedId,studentSourcedId,scoreStatus,score,scoreDate,comment\n\
-         r1,,,li1,u1,fully graded,78.0,2024-08-23,\n",
-    ),
-    (
-        "resources.csv",
-        "no,file\n\
-         that is read\n",
-    ),
-];
-
-// A file of the folder `lake`.
-fn file(alloc: Global, name: &str, text: &str) -> Result<(String, String, Vec<u8>), NoMemory> {
-    let dir = String::from_str(alloc, "lake")?;
-    let name = String::from_str(alloc, name)?;
-    Ok((dir, name, text.as_bytes().to_vec(alloc)?))
-}
+// A file beside them that is passed over.
+const RESOURCES: &str = "no,file\nthat is read\n";
 
 // The files of `lake`, one of which has another text in place of one of its texts; where that is empty, the file is taken away.
 fn lake(
@@ -120,7 +27,7 @@ fn lake(
     failing: Vec<u64>,
 ) -> Result<MemFolder, NoMemory> {
     let mut files = Vec::new(alloc);
-    for (name, text) in LAKE {
+    for (name, text) in test_lake::files() {
         let is_changed = *name == changed;
         if is_changed && old.is_empty() {
             continue;
@@ -130,8 +37,9 @@ fn lake(
         } else {
             String::from_str(alloc, text)?
         };
-        files.push(file(alloc, name, text.as_str())?)?;
+        files.push(file(alloc, "lake", name, text.as_str())?)?;
     }
+    files.push(file(alloc, "lake", "resources.csv", RESOURCES)?)?;
     Ok(MemFolder::new(files, failing))
 }
 
@@ -261,11 +169,12 @@ fn orgs_alone(alloc: Global, text: Option<&str>) -> Result<MemFolder, NoMemory> 
     let mut files = Vec::new(alloc);
     files.push(file(
         alloc,
+        "lake",
         "manifest.csv",
         "propertyName,value\nmanifest.version,1.0\noneroster.version,1.1\nfile.orgs,bulk\n",
     )?)?;
     if let Some(text) = text {
-        files.push(file(alloc, "orgs.csv", text)?)?;
+        files.push(file(alloc, "lake", "orgs.csv", text)?)?;
     }
     Ok(MemFolder::new(files, Vec::new(alloc)))
 }

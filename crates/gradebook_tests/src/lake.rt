@@ -1,14 +1,13 @@
 //! A district of two schools with a class each, and the grants of two callers.
 
-use csv_sets::read_set;
 use grant_files::read_grants;
 use grant_scopes::GrantList;
-use outside_ports::MemFolder;
-use roster_texts::{Moment, Name};
+use roster_texts::Moment;
 use roster_types::set::RosterSet;
 use std::alloc::Global;
 use std::process::Abort;
 use std::test::Fail;
+use test_lake::set_of;
 
 static FILES: [(&str, &str); 8] = [
     (
@@ -55,30 +54,9 @@ li1,,,Set 1,,2024-08-15,2024-08-22,k1,hw,g1,0,100\nli2,,,Set 2,,2024-08-15,2024-
 static GRANTS: &str =
     "caller,token,scopes,schools\neast,tok-e,gradebook.createput gradebook.delete,s1\nwest,tok-w,gradebook.createput gradebook.delete,s2\n";
 
-fn file(alloc: Global, name: &str, text: &str) -> Result<(String, String, Vec<u8>), Fail> {
-    let dir = String::from_str(alloc, "lake")?;
-    let name = String::from_str(alloc, name)?;
-    Ok((dir, name, text.as_bytes().to_vec(alloc)?))
-}
-
-fn folder(alloc: Global) -> Result<MemFolder, Fail> {
-    let mut files = Vec::new(alloc);
-    for (name, text) in &FILES {
-        files.push(file(alloc, name, text)?)?;
-    }
-    Ok(MemFolder::new(files, Vec::new(alloc)))
-}
-
 /// The set of the feed.
-pub fn set(rt: &impl Abort, alloc: Global) -> Result<RosterSet, Fail> {
-    let Some(feed) = Name::read(alloc, "sis")? else {
-        panic!(rt; "no name");
-    };
-    let mut folder = folder(alloc)?;
-    match read_set(alloc, &mut folder, "lake", &feed) {
-        Ok(set) => Ok(set),
-        Err(_) => panic!(rt; "no set"),
-    }
+pub fn set(alloc: Global) -> Result<RosterSet, Fail> {
+    set_of(alloc, &FILES)
 }
 
 /// What the two callers are to have.

@@ -102,7 +102,7 @@ fn fill<H: HubKeeper>(
     requires { KeeperFits (H.stands_for keeper.old) hub.old }
     ensures { KeeperFits (H.stands_for keeper.new) hub.new }
 {
-    let set = set(rt, alloc)?;
+    let set = set(alloc)?;
     let list = grants(rt, alloc)?;
     let published = hub.publish(alloc, keeper, set, moment(rt, 0));
     drop(published);

@@ -1,6 +1,5 @@
 //! Sets that are published, and sets that are refused: whole folders in, statuses and exact lines out.
 
-use crate::lake::{LAKE, MANIFEST};
 use crate::outside::{Files, assert_run, push_file};
 use std::alloc::Global;
 use std::test::Fail;
@@ -15,10 +14,8 @@ const SOME_ORGS: &str =
 
 /// Adds the files of the example district in `lake`.
 pub fn push_lake(alloc: Global, files: &mut Files) -> Result<(), Fail> {
-    push_file(alloc, files, "lake", "manifest.csv", MANIFEST)?;
-    for (kind, text, _) in &LAKE {
-        let name = format!(in alloc; "{kind}.csv")?;
-        push_file(alloc, files, "lake", name.as_str(), text)?;
+    for (name, text) in test_lake::files() {
+        push_file(alloc, files, "lake", name, text)?;
     }
     Ok(())
 }

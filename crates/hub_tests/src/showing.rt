@@ -1,11 +1,12 @@
 //! The command `show`, over files of each kind and over faults of the outside.
 
-use crate::lake::LAKE;
+use crate::lake::SHOWN;
 use crate::outside::{Files, assert_run, push_file, run_line};
 use outside_ports::{MemFolder, MemSink};
 use std::alloc::Global;
 use std::process::Abort;
 use std::test::Fail;
+use test_lake::text_of;
 
 const DISTRICT: &str =
     "\u{feff}name,sourcedId,type,parentSourcedId,status,dateLastModified,identifier\n\
@@ -98,24 +99,19 @@ fn orgs_are_shown_in_order_or_refused(rt: HostRuntime) -> Result<(), Fail> {
     Ok(())
 }
 
-fn assert_shown(
-    rt: &impl Abort,
-    alloc: Global,
-    kind: &str,
-    text: &str,
-    want: &str,
-) -> Result<(), Fail> {
+fn assert_shown(rt: &impl Abort, alloc: Global, kind: &str, want: &str) -> Result<(), Fail> {
     let line = format!(in alloc; "show {kind}")?;
     let name = format!(in alloc; "{kind}.csv")?;
     let want = format!(in alloc; "{want}\n")?;
+    let text = text_of(name.as_str()).unwrap_or("");
     let files = one_file(alloc, name.as_str(), text)?;
     assert_run(rt, alloc, line.as_str(), files, (0, want.as_str()))
 }
 
 #[test]
 fn each_kind_is_shown(rt: HostRuntime) -> Result<(), Fail> {
-    for (kind, text, want) in &LAKE {
-        assert_shown(&rt, rt.alloc(), kind, text, want)?;
+    for (kind, want) in &SHOWN {
+        assert_shown(&rt, rt.alloc(), kind, want)?;
     }
     Ok(())
 }

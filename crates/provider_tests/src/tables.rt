@@ -5,18 +5,17 @@ ghost use Rattle.hub_core.specs.Standing.{KeeperFits};
 ghost use Rattle.version_changes.specs.sets.Applying.{LeadsOn};
 ghost use Rattle.version_core.specs.Version.{newest_of};
 
-use csv_sets::read_set;
 use grant_files::read_grants;
 use grant_scopes::GrantList;
 use hub_core::Hub;
 use keeper_memory::HubKeeper;
-use outside_ports::MemFolder;
 use roster_base::Refusal;
-use roster_texts::{Moment, Name};
+use roster_texts::Moment;
 use roster_types::set::RosterSet;
 use std::alloc::Global;
 use std::process::Abort;
 use std::test::Fail;
+use test_lake::set_of;
 use version_changes::{grants_change, set_change};
 use version_core::change::Change;
 use version_core::table::Table;
@@ -39,30 +38,9 @@ d1,,,Lake,district,,\ns1,,,East,school,,d1\ns2,,,West,school,,d1\n",
 static GRANTS: &str =
     "caller,token,scopes,schools\neast,tok-e,roster-core.readonly,s1\nall,tok-a,roster.readonly,*\ngrades,tok-g,gradebook.createput gradebook.delete,*\n";
 
-fn file(alloc: Global, name: &str, text: &str) -> Result<(String, String, Vec<u8>), Fail> {
-    let dir = String::from_str(alloc, "lake")?;
-    let name = String::from_str(alloc, name)?;
-    Ok((dir, name, text.as_bytes().to_vec(alloc)?))
-}
-
-fn folder(alloc: Global) -> Result<MemFolder, Fail> {
-    let mut files = Vec::new(alloc);
-    for (name, text) in &FILES {
-        files.push(file(alloc, name, text)?)?;
-    }
-    Ok(MemFolder::new(files, Vec::new(alloc)))
-}
-
 /// The set of the feed.
-pub fn set(rt: &impl Abort, alloc: Global) -> Result<RosterSet, Fail> {
-    let Some(feed) = Name::read(alloc, "sis")? else {
-        panic!(rt; "no name");
-    };
-    let mut folder = folder(alloc)?;
-    match read_set(alloc, &mut folder, "lake", &feed) {
-        Ok(set) => Ok(set),
-        Err(_) => panic!(rt; "no set"),
-    }
+pub fn set(alloc: Global) -> Result<RosterSet, Fail> {
+    set_of(alloc, &FILES)
 }
 
 /// The moment of each call, in milliseconds.
@@ -118,7 +96,7 @@ pub fn grants(rt: &impl Abort, alloc: Global) -> Result<GrantList, Fail> {
 }
 
 fn fill_table(rt: &impl Abort, alloc: Global, table: &mut Table) -> Result<(), Fail> {
-    publish(rt, alloc, table, set(rt, alloc)?)?;
+    publish(rt, alloc, table, set(alloc)?)?;
     grant(rt, alloc, table, &grants(rt, alloc)?)
 }
 
@@ -145,7 +123,7 @@ fn fill<H: HubKeeper>(
     ensures { KeeperFits (H.stands_for keeper.new) hub.new }
 {
     let list = grants(rt, alloc)?;
-    let set = set(rt, alloc)?;
+    let set = set(alloc)?;
     let published = hub.publish(alloc, keeper, set, moment(rt));
     drop(published);
     let granted = hub.set_grants(alloc, keeper, &list, moment(rt));
