@@ -7,12 +7,12 @@ ghost use Rattle.hub_spec.specs.rules.Growth.{Grew};
 ghost use Rattle.outside_ports.specs.declared.failed.IoError.TheVariants as io_error;
 ghost use Rattle.status_info.specs.declared.request.Request.{Request as Asked};
 ghost use Rattle.sync_world.specs.Links.{told_world};
-ghost use Rattle.sync_world.specs.Own.{IsUnreadable};
 
 use crate::own_text::own_text;
 use crate::reading::request_of;
 use crate::world::World;
 use outside_ports::IoError;
+use roster_base::NoMemory;
 use roster_texts::Moment;
 use status_info::Request;
 use std::alloc::Global;
@@ -30,12 +30,11 @@ fn answered(
     world: &mut World,
     request: &Request,
     at: Moment,
-) -> Result<Vec<u8>, IoError>
+) -> Result<Vec<u8>, NoMemory>
     requires { CanSend request.now }
     ensures grew { Grew world.old.state world.new.state }
     ensures counts { world.old.faults ≤ world.new.faults }
     ensures own { (xs ys : List Asked) → IfOk result (λ text. IsOwn (told_world xs world.old) (told_world ys world.new) request.now text.items) }
-    ensures failed { result ≡ Err io_error.Failed → IsUnreadable request.now world.old.state world.new.state }
 {
     // Read for what it keeps.
     let _ = world.faults();
@@ -59,20 +58,16 @@ fn delivered(
     ensures own { (xs ys : List Asked) → IfOk result (λ text. IsOwn (told_world xs world.old) (told_world ys world.new) request.now text.items) }
     ensures request { IsTrue losses.request → (result ≡ Err io_error.Failed) × (world.new ≡ world.old) }
     ensures reply { IsTrue losses.reply → IsErr result }
-    ensures failed { result ≡ Err io_error.Failed → IsTrue losses.request ⊎ (IsTrue losses.reply ⊎ IsUnreadable request.now world.old.state world.new.state) }
+    ensures failed { result ≡ Err io_error.Failed → IsTrue losses.request ⊎ IsTrue losses.reply }
 {
     if losses.request {
         return Err(IoError::Failed);
     }
-    match answered(alloc, world, request, at) {
-        Err(error) => Err(error),
-        Ok(text) => {
-            if losses.reply {
-                return Err(IoError::Failed);
-            }
-            Ok(text)
-        }
+    let text = answered(alloc, world, request, at)?;
+    if losses.reply {
+        return Err(IoError::Failed);
     }
+    Ok(text)
 }
 
 // Adds a request where there is room for it.
@@ -101,7 +96,7 @@ pub fn deliver(
     ensures own { (q : Asked) → IsTextOf q text.now → (xs ys : List Asked) → IfOk result (λ reply. IsOwn (told_world xs world.old) (told_world ys world.new) q reply.items) }
     ensures request { IsTrue losses.request → IsErr result × (world.new ≡ world.old) }
     ensures reply { IsTrue losses.reply → IsErr result }
-    ensures failed { (q : Asked) → IsTextOf q text.now → result ≡ Err io_error.Failed → IsTrue losses.request ⊎ (IsTrue losses.reply ⊎ IsUnreadable q world.old.state world.new.state) }
+    ensures failed { result ≡ Err io_error.Failed → IsTrue losses.request ⊎ IsTrue losses.reply }
 {
     let request = request_of(alloc, text)?;
     sent.reserve(1)?;

@@ -4,7 +4,6 @@
 mod delivery;
 mod gone;
 mod own_text;
-mod readable;
 mod reading;
 mod rows;
 pub mod sending;

@@ -10,7 +10,6 @@ ghost use Rattle.outside_ports.specs.declared.failed.IoError.TheVariants as io_e
 ghost use Rattle.roster_base.specs.Faults.{Rose};
 ghost use Rattle.status_info.specs.declared.request.Request.{Request as Asked};
 ghost use Rattle.sync_world.specs.Links.{fresh_link, told_by};
-ghost use Rattle.sync_world.specs.Own.{IsUnreadable};
 ghost use Rattle.sync_world.specs.Worlds.{all_of};
 
 use crate::delivery::{Losses, deliver};
@@ -158,11 +157,10 @@ impl Link for WorldLink {
         ensures told { (q : Asked) → IsTextOf q request.now → (after : Told) → (after ≡ told_by self.new) × IsHub after.hub
             → (before : Told) × ((before ≡ told_by self.old) × IsHub before.hub)
             × Exchanged q result (Rose self.old.faults self.new.faults) self.new.kept before after }
-        // It fails where it is listed, and else only where the hub's reply is none that is read back; and where it doesn't fail it counts nothing.
+        // It fails exactly where it is listed, but for want of memory; and where it doesn't fail it counts nothing.
         ensures lost_request { IsTrue (is_among (one_more self.old.asked) self.old.lost_requests) → IsErr result × (self.new.hub ≡ self.old.hub) }
         ensures lost_reply { IsTrue (is_among (one_more self.old.asked) self.old.lost_replies) → IsErr result }
-        ensures exact { (q : Asked) → IsTextOf q request.now → result ≡ Err io_error.Failed
-            → IsTrue (is_among (one_more self.old.asked) self.old.lost_requests) ⊎ (IsTrue (is_among (one_more self.old.asked) self.old.lost_replies) ⊎ IsUnreadable q self.old.hub self.new.hub) }
+        ensures exact { result ≡ Err io_error.Failed → IsTrue (is_among (one_more self.old.asked) self.old.lost_requests) ⊎ IsTrue (is_among (one_more self.old.asked) self.old.lost_replies) }
         ensures quiet { OnOk result (self.new.faults ≡ self.old.faults) }
     {
         let _ = self.world.faults();

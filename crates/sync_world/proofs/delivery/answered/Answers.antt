@@ -13,8 +13,3 @@ pub returns-clause-own : goal.returns-clause-own
 returns-clause-own c xs ys =
     let (failed, counts, step) = c.take-reply.ensures in
     if_ok_each _ _ c.own_text-text.result (λ text own. is_own c.args.request.now c.args.at c.take-reply.result text.items c.args.world.now c.take-reply.new.self failed xs ys c.requires c.faults.ensures.hub own step counts) c.own_text-text.ensures.ok
-
-pub returns-clause-failed : goal.returns-clause-failed
-returns-clause-failed c fails =
-    let (failed, counts, step) = c.take-reply.ensures in
-    record { reply = c.take-reply.result; at = c.args.at; failed = failed; step = step; none = c.own_text-text.ensures.failed fails }

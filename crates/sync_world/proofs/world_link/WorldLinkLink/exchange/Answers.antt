@@ -36,8 +36,8 @@ returns-in-Err-NoMemory-clause-told c = rw (← c.self.view_is) (λ q is after t
     ))
 
 pub returns-in-Err-Failed-clause-exact : goal.returns-in-Err-Failed-clause-exact
-returns-in-Err-Failed-clause-exact c q is e =
-    elim (c.in-Err-Failed.ensures.failed q is (ap Err c.in-Err-Failed.field-0-is)) [
+returns-in-Err-Failed-clause-exact c e =
+    elim (c.in-Err-Failed.ensures.failed (ap Err c.in-Err-Failed.field-0-is)) [
       | inl lost ↦ inl (subst IsTrue c.losses-losses.ensures.request lost)
-      | inr other ↦ inr (elim other [ inl lost ↦ inl (subst IsTrue c.losses-losses.ensures.reply lost) | inr none ↦ inr (rw (← c.self.view_is) none) ])
+      | inr lost ↦ inr (subst IsTrue c.losses-losses.ensures.reply lost)
     ]
