@@ -3,7 +3,7 @@ use Rattle.std.proofs.Common.{◌≡◌, ℕ, ℤ, ◌+◌, ◌-◌, ◌≤◌, 
 use Rattle.std.proofs.lemmas.Bool.Decides.{nat_tests}
 use Rattle.std.specs.List.{AllByRecursion}
 use Rattle.std.specs.Option.{ForSome}
-use Rattle.hub_spec.proofs.Following.{marked_is_hub, next_is_hub}
+use Rattle.hub_spec.proofs.Following.{granted_of, hub_of, marked_granted, next_granted, next_is_hub}
 use Rattle.hub_spec.proofs.Growing.{Enters, enters, free_of_judged}
 use Rattle.hub_spec.proofs.Holding.{judged_holds, newest_holds, path_id, set_holds}
 use Rattle.hub_spec.proofs.Judging.{judged_led}
@@ -20,7 +20,8 @@ use Rattle.hub_spec.specs.rules.Checks.{Entry, entry_of}
 use Rattle.hub_spec.specs.rules.Marked.{same_write}
 use Rattle.row_json.specs.Puts.{put_of}
 use Rattle.hub_spec.specs.rules.Runs.{Acts, ActedOrNot, Answer, Command, Does, Fails, Publish, Reopen, Runs, SetGrants, Step, Steps, Take, Wants, WantsMemory, end_of, state_with}
-use Rattle.hub_spec.specs.rules.States.{AreCommands, HoldsRows, IsCommand, IsHub, ListsRows}
+use Rattle.hub_spec.specs.rules.States.{AreCommands, HoldsRows, IsCommand, IsGranted, IsHub, ListsRows}
+use Rattle.version_core.proofs.VersionLemmas.{AllByRecursion-push}
 use Rattle.version_changes.proofs.Granted.{grants_next}
 use Rattle.version_changes.specs.grants.Granting.{GrantsMake}
 use Rattle.version_changes.specs.grants.Next.{IsNext}
@@ -159,40 +160,57 @@ module _ (state : HubState) (by : GrantRow) (number : Option ℕ) (write : Write
     free = free_of_judged state by number write at verdict judged n outcome is e;
   }
 
--- ---- each step
+-- ---- what a verdict leads to, whatever the versions hold
 
-module _ (state : HubState) (hub : IsHub state) (by : GrantRow) (number : Option ℕ) (write : Write) (at : ℤ) (moment : IsMoment at) (good : write.delete ≡ false → is_id write.id ≡ true) (verdict : Verdict) (judged : Judges state by number write at verdict) where
+module _ (state : HubState) (granted : IsGranted state) (by : GrantRow) (number : Option ℕ) (write : Write) (at : ℤ) (verdict : Verdict) (judged : Judges state by number write at verdict) where
   marks_kept : (newest : ℕ) → newest_number state ≤ newest → AreMarks newest (with_kept (kept_mark by.caller number write newest (outcome_of write verdict)) state.marks)
-  unfolding Judges
   marks_kept newest later = kept number (outcome_of write verdict) refl refl
     where
       old : AreMarks newest state.marks
-      old = AreMarks-later (newest_number state) newest state.marks later hub.state.marks
+      old = AreMarks-later (newest_number state) newest state.marks later granted.state.marks
 
       kept : (n o : Option ℕ) → number ≡ n → outcome_of write verdict ≡ o → AreMarks newest (with_kept (kept_mark by.caller n write newest o) state.marks)
       kept None o is e = old
       kept (Some n) None is e = old
       kept (Some n) (Some o) is e = AreMarks-with_mark newest state.marks _ old (may_hold state by number write at verdict judged newest n o is e)
 
-  verdict_keeps : IsHub (state_after state by.caller number write verdict)
+  pub verdict_granted : IsGranted (state_after state by.caller number write verdict)
   unfolding state_after Judges
-  verdict_keeps = by_verdict verdict refl
+  verdict_granted = by_verdict verdict refl
     where
       plain : AreMarks (newest_number state) (with_kept (kept_mark by.caller number write (newest_number state) (outcome_of write verdict)) state.marks)
       plain = marks_kept (newest_number state) (omega arith)
 
-      by_verdict : (v : Verdict) → verdict ≡ v → IsHub (record state { published = published_after state.published v; marks = with_kept (kept_mark by.caller number write (newest_after state v) (outcome_of write v)) state.marks })
+      by_verdict : (v : Verdict) → verdict ≡ v → IsGranted (record state { published = published_after state.published v; marks = with_kept (kept_mark by.caller number write (newest_after state v) (outcome_of write v)) state.marks })
       by_verdict (Leads next) is =
           let newest = length (state.published ++ next ∷ []) - 1 in
           let more : newest ≡ length state.published = let e = length-append state.published (next ∷ []) in omega arith in
           let judged_so = subst (λ v. Judged (held_mark state by.caller number) (newest_in state) by write at v) is judged in
-          let led = judged_led (newest_in state) (newest_is state hub.state) at by write next (held_mark state by.caller number) judged_so in
-          let holds = judged_holds (newest_in state) (newest_holds state.published hub.rows) by write at moment next good (held_mark state by.caller number) judged_so in
+          let led = judged_led (newest_in state) (newest_is state granted.state) at by write next (held_mark state by.caller number) judged_so in
           let marks = subst (λ v. AreMarks newest (with_kept (kept_mark by.caller number write newest (outcome_of write v)) state.marks)) is (marks_kept newest (let e = more in omega arith)) in
-          next_is_hub state hub next led holds _ (subst (λ n. AreMarks n (with_kept (kept_mark by.caller number write newest (outcome_of write (Leads next))) state.marks)) more marks)
-      by_verdict Same is = marked_is_hub state hub _ (subst (λ v. AreMarks (newest_number state) (with_kept (kept_mark by.caller number write (newest_number state) (outcome_of write v)) state.marks)) is plain)
-      by_verdict (Repeat k) is = marked_is_hub state hub _ (subst (λ v. AreMarks (newest_number state) (with_kept (kept_mark by.caller number write (newest_number state) (outcome_of write v)) state.marks)) is plain)
-      by_verdict (Refused n) is = marked_is_hub state hub _ (subst (λ v. AreMarks (newest_number state) (with_kept (kept_mark by.caller number write (newest_number state) (outcome_of write v)) state.marks)) is plain)
+          next_granted state granted next led _ (subst (λ n. AreMarks n (with_kept (kept_mark by.caller number write newest (outcome_of write (Leads next))) state.marks)) more marks)
+      by_verdict Same is = marked_granted state granted _ (subst (λ v. AreMarks (newest_number state) (with_kept (kept_mark by.caller number write (newest_number state) (outcome_of write v)) state.marks)) is plain)
+      by_verdict (Repeat k) is = marked_granted state granted _ (subst (λ v. AreMarks (newest_number state) (with_kept (kept_mark by.caller number write (newest_number state) (outcome_of write v)) state.marks)) is plain)
+      by_verdict (Refused n) is = marked_granted state granted _ (subst (λ v. AreMarks (newest_number state) (with_kept (kept_mark by.caller number write (newest_number state) (outcome_of write v)) state.marks)) is plain)
+
+-- ---- and where they hold rows
+
+module _ (state : HubState) (hub : IsHub state) (by : GrantRow) (number : Option ℕ) (write : Write) (at : ℤ) (moment : IsMoment at) (good : write.delete ≡ false → is_id write.id ≡ true) (verdict : Verdict) (judged : Judges state by number write at verdict) where
+  verdict_rows : (v : Verdict) → verdict ≡ v → AllByRecursion HoldsRows (published_after state.published v)
+  unfolding Judges
+  verdict_rows (Leads next) is =
+      let judged_so = subst (λ v. Judged (held_mark state by.caller number) (newest_in state) by write at v) is judged in
+      AllByRecursion-push HoldsRows state.published next hub.rows
+      (judged_holds (newest_in state) (newest_holds state.published hub.rows) by write at moment next good (held_mark state by.caller number) judged_so)
+  verdict_rows Same is = hub.rows
+  verdict_rows (Repeat k) is = hub.rows
+  verdict_rows (Refused n) is = hub.rows
+
+  verdict_keeps : IsHub (state_after state by.caller number write verdict)
+  unfolding state_after
+  verdict_keeps = hub_of _ (verdict_granted state (granted_of state hub) by number write at verdict judged) (verdict_rows verdict refl)
+
+-- ---- each step
 
 same_hub : (before after : HubState) → IsHub before → after ≡ before → IsHub after
 same_hub before after hub same = subst IsHub (sym same) hub

@@ -7,6 +7,7 @@ pub mod OnceLemmas
 pub mod Being
 pub mod Cutting
 pub mod Following
+pub mod GrantKeeping
 pub mod Growing
 pub mod Holding
 pub mod Isolating

@@ -19,7 +19,12 @@ use Rattle.version_core.specs.declared.change.BaseVersion.{BaseVersion}
 abbrev pub HoldsRows : BaseVersion → Type 0
 HoldsRows version = AllByRecursion (λ change. IsRow change.row) version.rows
 
--- a state in which each caller has kept its grant since the version that the grant names, and all versions hold rows
+-- a state in which each caller has kept its grant since the version that the grant names; nothing is said of what its versions hold
+pub record IsGranted (hub : HubState) : Type 0 where
+  pub state : IsHubState hub
+  pub grants : KeepGrants hub.published
+
+-- and one whose versions all hold rows
 pub record IsHub (hub : HubState) : Type 0 where
   pub state : IsHubState hub
   pub grants : KeepGrants hub.published
