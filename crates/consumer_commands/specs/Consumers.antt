@@ -1,5 +1,5 @@
 -- What a run of the program does to a consumer's copy and to the link to its hub.
-use Rattle.std.specs.Prelude.{ℕ, List}
+use Rattle.std.specs.Prelude.{◌≡◌, ℕ, List}
 use Rattle.keeper_memory.specs.copy.Copies.{Copy}
 use Rattle.exchange_link.specs.Exchanges.{Told}
 
@@ -40,3 +40,14 @@ link_run told tells asked_before asked_now missed kept faults_before faults_now 
   faults_now = faults_now;
   same = same;
 }
+
+-- ---- between two states
+
+-- of a keeper, by the copies for which it stands and its count of faults
+abbrev pub copy_between : {K : Type 0} → (K → Copy → Type 0) → (K → ℕ) → K → K → CopyRun
+copy_between stands_for fault_count old new = copy_run (stands_for old) (stands_for new) (fault_count old) (fault_count new) (new ≡ old)
+
+-- of a link, by what it tells, its counts and what it keeps
+abbrev pub link_between : {L : Type 0} → (L → Told → Type 0) → (L → ℕ) → (L → ℕ) → (L → List ℕ) → (L → ℕ) → L → L → LinkRun
+link_between tells asked missed kept fault_count old new =
+    link_run (tells old) (tells new) (asked old) (asked new) (missed new) (kept new) (fault_count old) (fault_count new) (new ≡ old)

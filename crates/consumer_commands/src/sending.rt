@@ -2,7 +2,7 @@
 
 ghost use Rattle.std.specs.Prelude.{◌≡◌};
 ghost use Rattle.keeper_memory.specs.copy.Copies.{IsOutWrite};
-ghost use Rattle.consumer_commands.specs.Consumers.{copy_run, link_run};
+ghost use Rattle.consumer_commands.specs.Consumers.{copy_between, link_between};
 ghost use Rattle.consumer_commands.specs.Sends.{IsEnterOf, IsSendOf};
 
 use crate::task::SendTask;
@@ -19,7 +19,7 @@ pub fn enter_write<C: CopyKeeper>(
     copy: &mut C,
 ) -> Result<u64, EnterError>
     requires { IsOutWrite write }
-    ensures { IsEnterOf write result (copy_run (C.stands_for copy.old) (C.stands_for copy.new) (C.fault_count copy.old) (C.fault_count copy.new) (copy.new ≡ copy.old)) }
+    ensures { IsEnterOf write result (copy_between C.stands_for C.fault_count copy.old copy.new) }
 {
     enter(alloc, copy, write)
 }
@@ -32,8 +32,8 @@ pub fn send_writes<C: CopyKeeper, L: Link>(
     link: &mut L,
 ) -> SendAnswer
     ensures { IsSendOf task.now result
-        (copy_run (C.stands_for copy.old) (C.stands_for copy.new) (C.fault_count copy.old) (C.fault_count copy.new) (copy.new ≡ copy.old))
-        (link_run (L.tells link.old) (L.tells link.new) (L.asked link.old) (L.asked link.new) (L.missed link.new) (L.kept link.new) (L.fault_count link.old) (L.fault_count link.new) (link.new ≡ link.old)) }
+        (copy_between C.stands_for C.fault_count copy.old copy.new)
+        (link_between L.tells L.asked L.missed L.kept L.fault_count link.old link.new) }
 {
     send(alloc, copy, link, task.token(), task.tries())
 }

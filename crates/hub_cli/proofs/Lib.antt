@@ -1,5 +1,5 @@
 mod Asking
-mod Ending
+pub mod Ending
 mod Entering
 mod FeedWords
 mod Granting
@@ -7,4 +7,4 @@ mod Leading
 mod OptionWords
 mod Publishing
 mod Showing
-mod Telling
+pub mod Telling

@@ -1,6 +1,6 @@
 -- What `sync` and `list` answer.
 use Rattle.std.specs.Prelude.{◌≡◌, ◌⊎◌, ℕ, List, []}
-pub use Rattle.consumer_commands.specs.Consumers.{CopyRun, LinkRun, copy_run, link_run}
+pub use Rattle.consumer_commands.specs.Consumers.{CopyRun, LinkRun, copy_between, copy_run, link_between, link_run}
 use Rattle.consumer_commands.specs.Held.{IsHeldText}
 pub use Rattle.consumer_commands.specs.Syncs.{IsSyncOf}
 pub use Rattle.consumer_commands.specs.Tasks.{Task}

@@ -73,9 +73,17 @@ pub record LeadsFrom (old new : KeptState → Type 0) (leads : KeptState → Kep
   pub some : leads before after
   pub told : (now : KeptState) → new now → (stood : KeptState) × old stood × leads stood now
 
+-- between two states of a keeper
+abbrev pub LeadsBetween : {H : Type 0} → (H → KeptState → Type 0) → H → H → (KeptState → KeptState → Type 0) → Type 0
+LeadsBetween stands_for old new leads = LeadsFrom (stands_for old) (stands_for new) leads
+
 -- what is written, with its status: the text of an answer of which this is so, or where the sink failed a front of such a text
 abbrev pub Writes : ℕ → Option (List ℕ) → Option (List ℕ) → ℕ → ℕ → (Answer → Type 0) → Type 0
 Writes status old new before now is =
     (answer : Answer) × is answer
     × (((status ≢ 1) × (status ≡ status_of answer.end) × Appends old new (text_of answer) × (now ≡ before))
     ⊎ ((status ≡ 1) × Rose before now × AppendsPart old new (text_of answer)))
+
+-- between two states of a sink
+abbrev pub WritesBetween : {O : Type 0} → (O → Option (List ℕ)) → (O → ℕ) → O → O → ℕ → (Answer → Type 0) → Type 0
+WritesBetween written faults old new status is = Writes status (written old) (written new) (faults old) (faults new) is

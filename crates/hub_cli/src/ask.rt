@@ -5,8 +5,8 @@ ghost use Rattle.hub_core.specs.Standing.{KeeperFits};
 ghost use Rattle.keeper_memory.specs.Kept.{IsKept};
 ghost use Rattle.hub_cli.specs.AskAnswers.{AsksBytes, IsAskAnswer, IsRefusedFile, ReadsBytes, ask_end, closed_end};
 ghost use Rattle.hub_cli.specs.Answers.{IsPrinted};
-ghost use Rattle.hub_cli.specs.Outside.{faults_of, outside_of};
-ghost use Rattle.hub_cli.specs.Runs.{LeadsFrom, Writes};
+ghost use Rattle.hub_cli.specs.Outside.{faults_between, outside_between};
+ghost use Rattle.hub_cli.specs.Runs.{LeadsBetween, WritesBetween};
 ghost use Rattle.hub_cli.specs.declared.answer.End.{End as EndValue};
 
 use crate::answer::{Answer, End};
@@ -34,7 +34,7 @@ fn refused_file(alloc: Global, file: &Text, is_there: bool) -> End
 
 // The bytes of a file in the root folder, or the end that it brings.
 fn bytes_of<F: Folder>(alloc: Global, file: &Text, folder: &mut F) -> Result<Bytes, End>
-    ensures { ReadsBytes (F.files folder.old) (faults_of (F.faults folder.old) (F.faults folder.new)) file.now result }
+    ensures { ReadsBytes (F.files folder.old) (faults_between F.faults folder.old folder.new) file.now result }
 {
     match folder.read(alloc, "", file.as_str(), LARGEST as u64) {
         Ok(FileRead::Bytes(bytes)) => Ok(bytes),
@@ -76,7 +76,7 @@ fn closed_end(requests: u64, is_whole: bool) -> End
 
 // Writes the end of a stream, where the sink didn't fail.
 fn print_end<O: Sink>(alloc: Global, end: Option<End>, out: &mut O) -> u8
-    ensures done { (ended : EndValue) → end ≡ Some ended → Writes result (O.written out.old) (O.written out.new) (O.faults out.old) (O.faults out.new) (IsPrinted (record { done = []; end = ended })) }
+    ensures done { (ended : EndValue) → end ≡ Some ended → WritesBetween O.written O.faults out.old out.new result (IsPrinted (record { done = []; end = ended })) }
     ensures none { end ≡ None → (result ≡ 1) × (out.new ≡ out.old) }
 {
     match end {
@@ -98,7 +98,8 @@ fn ask_bytes<H: HubKeeper, K: Clock, O: Sink>(
     requires fits { KeeperFits (H.stands_for keeper.old) hub }
     requires settled { hub.is_open ≡ false }
     requires kept { IsKept hub.kept }
-    ensures { Writes result (O.written out.old) (O.written out.new) (O.faults out.old) (O.faults out.new) (λ a. LeadsFrom (H.stands_for keeper.old) (H.stands_for keeper.new) (AsksBytes (K.moment clock.now) (faults_of (H.fault_count keeper.old) (H.fault_count keeper.new)) bytes a.done a.end)) }
+    ensures { WritesBetween O.written O.faults out.old out.new result
+        (λ a. LeadsBetween H.stands_for keeper.old keeper.new (AsksBytes (K.moment clock.now) (faults_between H.fault_count keeper.old keeper.new) bytes a.done a.end)) }
 {
     let mut source = HeldSource::new(alloc, bytes.into_vec());
     let end = serve_stream(alloc, router, &mut hub, keeper, &mut source, out, clock);
@@ -120,7 +121,8 @@ fn ask_opened<H: HubKeeper, K: Clock, O: Sink>(
     requires fits { KeeperFits (H.stands_for keeper.old) hub }
     requires settled { hub.is_open ≡ false }
     requires kept { IsKept hub.kept }
-    ensures { Writes result (O.written out.old) (O.written out.new) (O.faults out.old) (O.faults out.new) (λ a. LeadsFrom (H.stands_for keeper.old) (H.stands_for keeper.new) (AsksBytes (K.moment clock.now) (faults_of (H.fault_count keeper.old) (H.fault_count keeper.new)) bytes a.done a.end)) }
+    ensures { WritesBetween O.written O.faults out.old out.new result
+        (λ a. LeadsBetween H.stands_for keeper.old keeper.new (AsksBytes (K.moment clock.now) (faults_between H.fault_count keeper.old keeper.new) bytes a.done a.end)) }
 {
     match PathRouter::new(alloc) {
         Ok(router) => ask_bytes(alloc, &router, hub, bytes, keeper, clock, out),
@@ -145,7 +147,9 @@ fn ask_into<F: Folder, H: HubKeeper, K: Clock, O: Sink>(
     requires fits { KeeperFits (H.stands_for keeper.old) hub }
     requires settled { hub.is_open ≡ false }
     requires kept { IsKept hub.kept }
-    ensures { Writes result (O.written out.old) (O.written out.new) (O.faults out.old) (O.faults out.new) (λ a. LeadsFrom (H.stands_for keeper.old) (H.stands_for keeper.new) (IsAskAnswer (outside_of (F.files folder.old) (K.moment clock.now) (faults_of (F.faults folder.old) (F.faults folder.new)) (faults_of (H.fault_count keeper.old) (H.fault_count keeper.new))) file.now a.done a.end)) }
+    ensures { WritesBetween O.written O.faults out.old out.new result
+        (λ a. LeadsBetween H.stands_for keeper.old keeper.new (IsAskAnswer
+        (outside_between F.files F.faults folder.old folder.new (K.moment clock.now) (faults_between H.fault_count keeper.old keeper.new)) file.now a.done a.end)) }
 {
     match bytes_of(alloc, file, folder) {
         Ok(bytes) => ask_opened(alloc, hub, bytes, keeper, clock, out),
@@ -165,7 +169,9 @@ pub fn ask<F: Folder, H: HubKeeper, K: Clock, O: Sink>(
     clock: &K,
     out: &mut O,
 ) -> u8
-    ensures { Writes result (O.written out.old) (O.written out.new) (O.faults out.old) (O.faults out.new) (λ a. LeadsFrom (H.stands_for keeper.old) (H.stands_for keeper.new) (IsAskAnswer (outside_of (F.files folder.old) (K.moment clock.now) (faults_of (F.faults folder.old) (F.faults folder.new)) (faults_of (H.fault_count keeper.old) (H.fault_count keeper.new))) file.now a.done a.end)) }
+    ensures { WritesBetween O.written O.faults out.old out.new result
+        (λ a. LeadsBetween H.stands_for keeper.old keeper.new (IsAskAnswer
+        (outside_between F.files F.faults folder.old folder.new (K.moment clock.now) (faults_between H.fault_count keeper.old keeper.new)) file.now a.done a.end)) }
 {
     match Hub::open(alloc, keeper) {
         Ok(hub) => ask_into(alloc, hub, file, folder, keeper, clock, out),

@@ -1,11 +1,11 @@
 //! The command `enter`.
 
 ghost use Rattle.std.specs.Prelude.{◌≡◌, ◌≤◌, IfOk, length};
-ghost use Rattle.consumer_commands.specs.Consumers.{copy_run};
+ghost use Rattle.consumer_commands.specs.Consumers.{copy_between};
 ghost use Rattle.keeper_memory.specs.copy.Copies.{IsOutWrite, max_body};
 ghost use Rattle.outside_ports.specs.Files.{IsWithin};
 ghost use Rattle.row_json.specs.Puts.{put_of};
-ghost use Rattle.hub_cli.specs.Outside.{Faults, faults_of, outside_of};
+ghost use Rattle.hub_cli.specs.Outside.{Faults, outside_between};
 ghost use Rattle.hub_cli.specs.OutboxAnswers.{GivesWrite, IsEnterAnswer, IsEntered, ReadsWrite, delete_write, or_bad_row, put_in, put_write};
 ghost use Rattle.hub_cli.specs.declared.words.EnterTask.TheVariants.{Put};
 
@@ -121,7 +121,8 @@ fn put_of_file<F: Folder, K: Clock>(
     folder: &mut F,
     clock: &K,
 ) -> Result<Write, End>
-    ensures reads { (keeper : Faults) → ReadsWrite (outside_of (F.files folder.old) (K.moment clock.now) (faults_of (F.faults folder.old) (F.faults folder.new)) keeper) (Put object.now file.now) result }
+    ensures reads { (keeper : Faults) → ReadsWrite
+        (outside_between F.files F.faults folder.old folder.new (K.moment clock.now) keeper) (Put object.now file.now) result }
     ensures can { IfOk result IsOutWrite }
 {
     match folder.read(alloc, "", file.as_str(), LARGEST_BODY) {
@@ -138,7 +139,7 @@ fn write_of<F: Folder, K: Clock>(
     folder: &mut F,
     clock: &K,
 ) -> Result<Write, End>
-    ensures reads { (keeper : Faults) → ReadsWrite (outside_of (F.files folder.old) (K.moment clock.now) (faults_of (F.faults folder.old) (F.faults folder.new)) keeper) task.now result }
+    ensures reads { (keeper : Faults) → ReadsWrite (outside_between F.files F.faults folder.old folder.new (K.moment clock.now) keeper) task.now result }
     ensures can { IfOk result IsOutWrite }
 {
     match task {
@@ -172,8 +173,8 @@ pub fn enter<F: Folder, C: CopyKeeper, K: Clock>(
     copy: &mut C,
     clock: &K,
 ) -> Answer
-    ensures { (keeper : Faults) → IsEnterAnswer task.now (outside_of (F.files folder.old) (K.moment clock.now) (faults_of (F.faults folder.old) (F.faults folder.new)) keeper)
-        (copy_run (C.stands_for copy.old) (C.stands_for copy.new) (C.fault_count copy.old) (C.fault_count copy.new) (copy.new ≡ copy.old)) result }
+    ensures { (keeper : Faults) → IsEnterAnswer task.now (outside_between F.files F.faults folder.old folder.new (K.moment clock.now) keeper)
+        (copy_between C.stands_for C.fault_count copy.old copy.new) result }
 {
     match write_of(alloc, task, folder, clock) {
         Ok(write) => told(alloc, enter_write(alloc, write, copy)),

@@ -4,8 +4,8 @@ ghost use Rattle.std.specs.Prelude.{◌≡◌, ℕ, List, Ok, false};
 ghost use Rattle.hub_core.specs.Standing.{IsStanding, KeeperFits};
 ghost use Rattle.keeper_memory.specs.Kept.{IsKept, KeptState};
 ghost use Rattle.hub_cli.specs.GrantAnswers.{GivesGrants, GrantsFile, IsGrantAnswer, IsTold, ReadsGrants};
-ghost use Rattle.hub_cli.specs.Outside.{faults_of, outside_of};
-ghost use Rattle.hub_cli.specs.Runs.{LeadsFrom};
+ghost use Rattle.hub_cli.specs.Outside.{faults_between, outside_between};
+ghost use Rattle.hub_cli.specs.Runs.{LeadsBetween};
 
 use crate::answer::{Answer, End};
 use crate::publish::{end_of_error, told_line};
@@ -63,7 +63,7 @@ fn grants_in(alloc: Global, file: &Text, read: FileRead) -> Result<GrantList, En
 
 // The grants of a file in the root folder, or the end that it brings.
 fn grants_of<F: Folder>(alloc: Global, file: &Text, folder: &mut F) -> Result<GrantList, End>
-    ensures { ReadsGrants (F.files folder.old) (faults_of (F.faults folder.old) (F.faults folder.new)) file.now result }
+    ensures { ReadsGrants (F.files folder.old) (faults_between F.faults folder.old folder.new) file.now result }
 {
     match folder.read(alloc, "", file.as_str(), LARGEST as u64) {
         Ok(read) => grants_in(alloc, file, read),
@@ -84,7 +84,8 @@ fn set_grants<F: Folder, H: HubKeeper, K: Clock>(
     requires { KeeperFits (H.stands_for keeper.old) hub.old }
     ensures fits { KeeperFits (H.stands_for keeper.new) hub.new }
     ensures told { (after : KeptState) → IsStanding hub.new after → (before : KeptState) × IsStanding hub.old before × (H.stands_for keeper.new after → H.stands_for keeper.old before)
-        × GrantsFile (outside_of (F.files folder.old) (K.moment clock.now) (faults_of (F.faults folder.old) (F.faults folder.new)) (faults_of (H.fault_count keeper.old) (H.fault_count keeper.new))) file.now result before after }
+        × GrantsFile
+        (outside_between F.files F.faults folder.old folder.new (K.moment clock.now) (faults_between H.fault_count keeper.old keeper.new)) file.now result before after }
 {
     let list = grants_of(alloc, file, folder)?;
     let answer = hub.set_grants(alloc, keeper, &list, moment_of(clock));
@@ -130,7 +131,8 @@ fn grant_into<F: Folder, H: HubKeeper, K: Clock>(
     requires fits { KeeperFits (H.stands_for keeper.old) hub }
     requires settled { hub.is_open ≡ false }
     requires kept { IsKept hub.kept }
-    ensures { LeadsFrom (H.stands_for keeper.old) (H.stands_for keeper.new) (IsGrantAnswer (outside_of (F.files folder.old) (K.moment clock.now) (faults_of (F.faults folder.old) (F.faults folder.new)) (faults_of (H.fault_count keeper.old) (H.fault_count keeper.new))) file.now result.done result.end) }
+    ensures { LeadsBetween H.stands_for keeper.old keeper.new (IsGrantAnswer
+        (outside_between F.files F.faults folder.old folder.new (K.moment clock.now) (faults_between H.fault_count keeper.old keeper.new)) file.now result.done result.end) }
 {
     let answer = set_grants(alloc, &mut hub, keeper, file, folder, clock);
     drop(hub);
@@ -145,7 +147,8 @@ pub fn grant<F: Folder, H: HubKeeper, K: Clock>(
     keeper: &mut H,
     clock: &K,
 ) -> Answer
-    ensures { LeadsFrom (H.stands_for keeper.old) (H.stands_for keeper.new) (IsGrantAnswer (outside_of (F.files folder.old) (K.moment clock.now) (faults_of (F.faults folder.old) (F.faults folder.new)) (faults_of (H.fault_count keeper.old) (H.fault_count keeper.new))) file.now result.done result.end) }
+    ensures { LeadsBetween H.stands_for keeper.old keeper.new (IsGrantAnswer
+        (outside_between F.files F.faults folder.old folder.new (K.moment clock.now) (faults_between H.fault_count keeper.old keeper.new)) file.now result.done result.end) }
 {
     match Hub::open(alloc, keeper) {
         Ok(hub) => grant_into(alloc, hub, file, folder, keeper, clock),

@@ -19,8 +19,8 @@ pub mod words;
 
 pub use answer::{Answer, End};
 pub use printing::print;
-pub use run::run_hub;
+pub use run::{run_hub, run_spelled};
 pub use words::{
-    Command, EnterTask, Feed, OptionWord, Options, Parsed, WordError, keep_of, peer_of, root_of,
-    split_words, store_of,
+    Command, EnterTask, Feed, OptionWord, Options, Parsed, Spelled, WordError, keep_of, peer_of,
+    read_words, root_of, split_words, store_of,
 };

@@ -1,7 +1,7 @@
 //! The command `list`.
 
 ghost use Rattle.std.specs.Prelude.{◌≡◌};
-ghost use Rattle.consumer_commands.specs.Consumers.{copy_run};
+ghost use Rattle.consumer_commands.specs.Consumers.{copy_between};
 ghost use Rattle.hub_cli.specs.ConsumerAnswers.{IsListAnswer};
 
 use crate::answer::{Answer, End};
@@ -13,7 +13,7 @@ use std::alloc::Global;
 
 /// Prints the rows of a kind that a copy holds.
 pub fn list<C: CopyKeeper>(alloc: Global, kind: Kind, copy: &mut C) -> Answer
-    ensures { IsListAnswer kind (copy_run (C.stands_for copy.old) (C.stands_for copy.new) (C.fault_count copy.old) (C.fault_count copy.new) (copy.new ≡ copy.old)) result }
+    ensures { IsListAnswer kind (copy_between C.stands_for C.fault_count copy.old copy.new) result }
 {
     match held_text(alloc, copy, kind) {
         Ok(text) => Answer {

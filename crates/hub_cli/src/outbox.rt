@@ -1,7 +1,7 @@
 //! The command `outbox`.
 
 ghost use Rattle.std.specs.Prelude.{◌≡◌};
-ghost use Rattle.consumer_commands.specs.Consumers.{copy_run};
+ghost use Rattle.consumer_commands.specs.Consumers.{copy_between};
 ghost use Rattle.hub_cli.specs.OutboxAnswers.{IsOutboxAnswer};
 
 use crate::answer::{Answer, End};
@@ -12,7 +12,7 @@ use std::alloc::Global;
 
 /// Prints the entries of the outbox.
 pub fn outbox<C: CopyKeeper>(alloc: Global, copy: &mut C) -> Answer
-    ensures { IsOutboxAnswer (copy_run (C.stands_for copy.old) (C.stands_for copy.new) (C.fault_count copy.old) (C.fault_count copy.new) (copy.new ≡ copy.old)) result }
+    ensures { IsOutboxAnswer (copy_between C.stands_for C.fault_count copy.old copy.new) result }
 {
     match outbox_text(alloc, copy) {
         Ok(text) => Answer {

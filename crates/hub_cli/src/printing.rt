@@ -5,7 +5,7 @@ ghost use Rattle.std.specs.Io.KnownBytes.{Appends};
 ghost use Rattle.outside_ports.specs.Written.{AppendsPart};
 ghost use Rattle.roster_base.specs.Faults.{Rose};
 ghost use Rattle.hub_cli.specs.Answers.{IsPrinted};
-ghost use Rattle.hub_cli.specs.Runs.{Writes};
+ghost use Rattle.hub_cli.specs.Runs.{WritesBetween};
 
 use crate::answer::Answer;
 use crate::lines::NO_MEMORY;
@@ -45,7 +45,7 @@ fn print_both<O: Sink>(out: &mut O, status: u8, first: &str, second: &str) -> u8
 
 // Writes what a command answers, or what it did and the line for want of memory.
 fn print_answer<O: Sink>(alloc: Global, answer: &Answer, out: &mut O) -> u8
-    ensures { Writes result (O.written out.old) (O.written out.new) (O.faults out.old) (O.faults out.new) (IsPrinted answer.now) }
+    ensures { WritesBetween O.written O.faults out.old out.new result (IsPrinted answer.now) }
 {
     let done = answer.done.as_str();
     match answer.end.lines(alloc) {
@@ -56,7 +56,7 @@ fn print_answer<O: Sink>(alloc: Global, answer: &Answer, out: &mut O) -> u8
 
 /// Writes what a command answers, or what it did and the line for want of memory, and gives the status.
 pub fn tell<O: Sink>(alloc: Global, answer: Answer, out: &mut O) -> u8
-    ensures { Writes result (O.written out.old) (O.written out.new) (O.faults out.old) (O.faults out.new) (IsPrinted answer) }
+    ensures { WritesBetween O.written O.faults out.old out.new result (IsPrinted answer) }
 {
     let status = print_answer(alloc, &answer, out);
     drop(answer);

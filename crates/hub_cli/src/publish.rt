@@ -3,9 +3,9 @@
 ghost use Rattle.std.specs.Prelude.{◌≡◌, ◌++◌, ℕ, List, IfOk, OnErr, OnOk, false, string_bytes};
 ghost use Rattle.hub_core.specs.Standing.{IsStanding, KeeperFits};
 ghost use Rattle.keeper_memory.specs.Kept.{IsKept, KeptState};
-ghost use Rattle.hub_cli.specs.Outside.{faults_of, outside_of};
+ghost use Rattle.hub_cli.specs.Outside.{faults_between, outside_between};
 ghost use Rattle.hub_cli.specs.Publishes.{IsRunOf, told_text};
-ghost use Rattle.hub_cli.specs.Runs.{IsPublishAnswer, LeadsFrom};
+ghost use Rattle.hub_cli.specs.Runs.{IsPublishAnswer, LeadsBetween};
 ghost use Rattle.hub_cli.specs.Steps.{PublishesFeed, ReadsSet, end_of, end_of_error};
 
 use crate::answer::{Answer, End};
@@ -44,7 +44,7 @@ pub fn end_of_error(error: HubError) -> End
 
 // The set of a feed, or the end that it brings.
 fn set_of<F: Folder>(alloc: Global, feed: &Feed, folder: &mut F) -> Result<RosterSet, End>
-    ensures set { ReadsSet (F.files folder.old) (faults_of (F.faults folder.old) (F.faults folder.new)) feed.now result }
+    ensures set { ReadsSet (F.files folder.old) (faults_between F.faults folder.old folder.new) feed.now result }
     ensures files { F.files folder.new ≡ F.files folder.old }
 {
     match read_set(alloc, folder, feed.dir.as_str(), &feed.name) {
@@ -86,7 +86,8 @@ fn publish_feed<F: Folder, H: HubKeeper, K: Clock>(
     requires { KeeperFits (H.stands_for keeper.old) hub.old }
     ensures fits { KeeperFits (H.stands_for keeper.new) hub.new }
     ensures told { (after : KeptState) → IsStanding hub.new after → (before : KeptState) × IsStanding hub.old before × (H.stands_for keeper.new after → H.stands_for keeper.old before)
-        × PublishesFeed (outside_of (F.files folder.old) (K.moment clock.now) (faults_of (F.faults folder.old) (F.faults folder.new)) (faults_of (H.fault_count keeper.old) (H.fault_count keeper.new))) feed.now result before after }
+        × PublishesFeed
+        (outside_between F.files F.faults folder.old folder.new (K.moment clock.now) (faults_between H.fault_count keeper.old keeper.new)) feed.now result before after }
     ensures files { F.files folder.new ≡ F.files folder.old }
 {
     let set = set_of(alloc, feed, folder)?;
@@ -111,7 +112,8 @@ fn publish_feeds<F: Folder, H: HubKeeper, K: Clock>(
     ensures fits { KeeperFits (H.stands_for keeper.new) hub.new }
     ensures run { (more : List ℕ) × (string_bytes done.new ≡ string_bytes done.old ++ more)
         × ((after : KeptState) → IsStanding hub.new after → (before : KeptState) × IsStanding hub.old before × (H.stands_for keeper.new after → H.stands_for keeper.old before)
-        × IsRunOf (outside_of (F.files folder.old) (K.moment clock.now) (faults_of (F.faults folder.old) (F.faults folder.new)) (faults_of (H.fault_count keeper.old) (H.fault_count keeper.new))) feeds.now more result before after) }
+        × IsRunOf
+        (outside_between F.files F.faults folder.old folder.new (K.moment clock.now) (faults_between H.fault_count keeper.old keeper.new)) feeds.now more result before after) }
 {
     for feed in feeds {
         let answer = match publish_feed(alloc, hub, keeper, feed, folder, clock) {
@@ -137,7 +139,8 @@ fn publish_into<F: Folder, H: HubKeeper, K: Clock>(
     requires fits { KeeperFits (H.stands_for keeper.old) hub }
     requires settled { hub.is_open ≡ false }
     requires kept { IsKept hub.kept }
-    ensures { LeadsFrom (H.stands_for keeper.old) (H.stands_for keeper.new) (IsRunOf (outside_of (F.files folder.old) (K.moment clock.now) (faults_of (F.faults folder.old) (F.faults folder.new)) (faults_of (H.fault_count keeper.old) (H.fault_count keeper.new))) feeds.now result.done result.end) }
+    ensures { LeadsBetween H.stands_for keeper.old keeper.new (IsRunOf
+        (outside_between F.files F.faults folder.old folder.new (K.moment clock.now) (faults_between H.fault_count keeper.old keeper.new)) feeds.now result.done result.end) }
 {
     let mut done = String::new(alloc);
     let end = publish_feeds(alloc, &mut hub, keeper, feeds, folder, clock, &mut done);
@@ -156,7 +159,8 @@ pub fn publish<F: Folder, H: HubKeeper, K: Clock>(
     keeper: &mut H,
     clock: &K,
 ) -> Answer
-    ensures { LeadsFrom (H.stands_for keeper.old) (H.stands_for keeper.new) (IsPublishAnswer (outside_of (F.files folder.old) (K.moment clock.now) (faults_of (F.faults folder.old) (F.faults folder.new)) (faults_of (H.fault_count keeper.old) (H.fault_count keeper.new))) feeds.now result) }
+    ensures { LeadsBetween H.stands_for keeper.old keeper.new (IsPublishAnswer
+        (outside_between F.files F.faults folder.old folder.new (K.moment clock.now) (faults_between H.fault_count keeper.old keeper.new)) feeds.now result) }
 {
     match Hub::open(alloc, keeper) {
         Ok(hub) => publish_into(alloc, hub, feeds.as_slice(), folder, keeper, clock),

@@ -2,7 +2,7 @@
 
 ghost use Rattle.std.specs.Prelude.{◌≡◌, ◌≢◌, IsErr, Ok, Some, map, string_bytes};
 ghost use Rattle.std.specs.Io.KnownBytes.{Appends};
-ghost use Rattle.consumer_commands.specs.Consumers.{copy_run, link_run};
+ghost use Rattle.consumer_commands.specs.Consumers.{copy_between, link_between};
 ghost use Rattle.consumer_commands.specs.SyncLines.{sync_status, sync_text};
 ghost use Rattle.consumer_commands.specs.Syncs.{IsSyncOf};
 ghost use Rattle.consumer_commands.specs.Tasks.{Task};
@@ -10,8 +10,8 @@ ghost use Rattle.exchange_link.specs.declared.answer.SyncAnswer.{SyncAnswer as S
 ghost use Rattle.outside_ports.specs.Written.{AppendsPart};
 ghost use Rattle.roster_base.specs.Faults.{Rose};
 ghost use Rattle.hub_cli.specs.Answers.{status_of, text_of};
-ghost use Rattle.hub_cli.specs.Outside.{Faults, faults_of, outside_of};
-ghost use Rattle.hub_cli.specs.Runs.{IsAnswer, IsShowAnswer, LeadsFrom, Writes};
+ghost use Rattle.hub_cli.specs.Outside.{Faults, faults_between, outside_between};
+ghost use Rattle.hub_cli.specs.Runs.{IsAnswer, IsShowAnswer, LeadsBetween, WritesBetween};
 ghost use Rattle.hub_cli.specs.Words.{command_in, split};
 ghost use Rattle.hub_cli.specs.declared.answer.Answer.{Answer as AnswerValue};
 ghost use Rattle.hub_cli.specs.declared.words.Command.TheVariants.{Sync};
@@ -27,17 +27,17 @@ use crate::publish::publish;
 use crate::send::send;
 use crate::show::show;
 use crate::sync::sync;
-use crate::words::{Command, Parsed, split_words};
+use crate::words::{Command, Parsed, Spelled, read_words};
 use exchange_link::Link;
 use keeper_memory::{CopyKeeper, HubKeeper};
 use outside_ports::{Clock, Folder, Sink};
-use roster_base::{NoMemory, Refusal};
+use roster_base::NoMemory;
 use roster_values::Kind;
 use std::alloc::Global;
 
 // The answer of `show`.
 fn shown<F: Folder, K: Clock>(alloc: Global, kind: Kind, folder: &mut F, clock: &K) -> Answer
-    ensures { (keeper : Faults) → IsShowAnswer kind (outside_of (F.files folder.old) (K.moment clock.now) (faults_of (F.faults folder.old) (F.faults folder.new)) keeper) result }
+    ensures { (keeper : Faults) → IsShowAnswer kind (outside_between F.files F.faults folder.old folder.new (K.moment clock.now) keeper) result }
 {
     match show(alloc, kind, folder, clock) {
         Ok(answer) => answer,
@@ -56,10 +56,10 @@ fn run_command<F: Folder, H: HubKeeper, C: CopyKeeper, L: Link, K: Clock, O: Sin
     clock: &K,
     out: &mut O,
 ) -> u8
-    ensures { Writes result (O.written out.old) (O.written out.new) (O.faults out.old) (O.faults out.new) (λ a. LeadsFrom (H.stands_for keeper.old) (H.stands_for keeper.new) (IsAnswer (Ok parsed.now)
-        (outside_of (F.files folder.old) (K.moment clock.now) (faults_of (F.faults folder.old) (F.faults folder.new)) (faults_of (H.fault_count keeper.old) (H.fault_count keeper.new)))
-        (copy_run (C.stands_for copy.old) (C.stands_for copy.new) (C.fault_count copy.old) (C.fault_count copy.new) (copy.new ≡ copy.old))
-        (link_run (L.tells link.old) (L.tells link.new) (L.asked link.old) (L.asked link.new) (L.missed link.new) (L.kept link.new) (L.fault_count link.old) (L.fault_count link.new) (link.new ≡ link.old))
+    ensures { WritesBetween O.written O.faults out.old out.new result (λ a. LeadsBetween H.stands_for keeper.old keeper.new (IsAnswer (Ok parsed.now)
+        (outside_between F.files F.faults folder.old folder.new (K.moment clock.now) (faults_between H.fault_count keeper.old keeper.new))
+        (copy_between C.stands_for C.fault_count copy.old copy.new)
+        (link_between L.tells L.asked L.missed L.kept L.fault_count link.old link.new)
         a)) }
 {
     match &parsed.command {
@@ -77,6 +77,33 @@ fn run_command<F: Folder, H: HubKeeper, C: CopyKeeper, L: Link, K: Clock, O: Sin
     }
 }
 
+/// Runs what words spell, as `run_hub` does.
+pub fn run_spelled<F: Folder, H: HubKeeper, C: CopyKeeper, L: Link, K: Clock, O: Sink>(
+    alloc: Global,
+    spelled: &Spelled,
+    folder: &mut F,
+    keeper: &mut H,
+    copy: &mut C,
+    link: &mut L,
+    clock: &K,
+    out: &mut O,
+) -> u8
+    ensures { WritesBetween O.written O.faults out.old out.new result (λ a. LeadsBetween H.stands_for keeper.old keeper.new (IsAnswer spelled.now
+        (outside_between F.files F.faults folder.old folder.new (K.moment clock.now) (faults_between H.fault_count keeper.old keeper.new))
+        (copy_between C.stands_for C.fault_count copy.old copy.new)
+        (link_between L.tells L.asked L.missed L.kept L.fault_count link.old link.new)
+        a)) }
+{
+    match spelled {
+        Ok(parsed) => run_command(alloc, parsed, folder, keeper, copy, link, clock, out),
+        Err(place) => tell(
+            alloc,
+            Answer::nothing_done(alloc, End::BadWord(*place)),
+            out,
+        ),
+    }
+}
+
 // Runs what any words spell.
 fn run_words<F: Folder, H: HubKeeper, C: CopyKeeper, L: Link, K: Clock, O: Sink>(
     alloc: Global,
@@ -88,22 +115,20 @@ fn run_words<F: Folder, H: HubKeeper, C: CopyKeeper, L: Link, K: Clock, O: Sink>
     clock: &K,
     out: &mut O,
 ) -> u8
-    ensures { Writes result (O.written out.old) (O.written out.new) (O.faults out.old) (O.faults out.new) (λ a. LeadsFrom (H.stands_for keeper.old) (H.stands_for keeper.new) (IsAnswer (split (map string_bytes words.now))
-        (outside_of (F.files folder.old) (K.moment clock.now) (faults_of (F.faults folder.old) (F.faults folder.new)) (faults_of (H.fault_count keeper.old) (H.fault_count keeper.new)))
-        (copy_run (C.stands_for copy.old) (C.stands_for copy.new) (C.fault_count copy.old) (C.fault_count copy.new) (copy.new ≡ copy.old))
-        (link_run (L.tells link.old) (L.tells link.new) (L.asked link.old) (L.asked link.new) (L.missed link.new) (L.kept link.new) (L.fault_count link.old) (L.fault_count link.new) (link.new ≡ link.old))
+    ensures { WritesBetween O.written O.faults out.old out.new result
+        (λ a. LeadsBetween H.stands_for keeper.old keeper.new (IsAnswer (split (map string_bytes words.now))
+        (outside_between F.files F.faults folder.old folder.new (K.moment clock.now) (faults_between H.fault_count keeper.old keeper.new))
+        (copy_between C.stands_for C.fault_count copy.old copy.new)
+        (link_between L.tells L.asked L.missed L.kept L.fault_count link.old link.new)
         a)) }
 {
-    match split_words(alloc, words) {
-        Ok(parsed) => {
-            let status = run_command(alloc, &parsed, folder, keeper, copy, link, clock, out);
-            drop(parsed);
+    match read_words(alloc, words) {
+        Ok(spelled) => {
+            let status = run_spelled(alloc, &spelled, folder, keeper, copy, link, clock, out);
+            drop(spelled);
             status
         }
-        Err(Refusal::Fault(place)) => {
-            tell(alloc, Answer::nothing_done(alloc, End::BadWord(place)), out)
-        }
-        Err(Refusal::NoMemory) => { tell(alloc, Answer::nothing_done(alloc, End::NoMemory), out) }
+        Err(NoMemory) => tell(alloc, Answer::nothing_done(alloc, End::NoMemory), out),
     }
 }
 
@@ -132,22 +157,22 @@ pub fn run_hub<F: Folder, H: HubKeeper, C: CopyKeeper, L: Link, K: Clock, O: Sin
 ) -> u8
     // What is written is the text of an answer to the words, and nothing else. The answer leads from a state of the hub to another; where
     // the keeper tells, from one for which it stood to the one for which it stands.
-    ensures done { result ≢ 1 → (a : AnswerValue) × LeadsFrom (H.stands_for keeper.old) (H.stands_for keeper.new) (IsAnswer (split (map string_bytes words.now))
-        (outside_of (F.files folder.old) (K.moment clock.now) (faults_of (F.faults folder.old) (F.faults folder.new)) (faults_of (H.fault_count keeper.old) (H.fault_count keeper.new)))
-        (copy_run (C.stands_for copy.old) (C.stands_for copy.new) (C.fault_count copy.old) (C.fault_count copy.new) (copy.new ≡ copy.old))
-        (link_run (L.tells link.old) (L.tells link.new) (L.asked link.old) (L.asked link.new) (L.missed link.new) (L.kept link.new) (L.fault_count link.old) (L.fault_count link.new) (link.new ≡ link.old))
+    ensures done { result ≢ 1 → (a : AnswerValue) × LeadsBetween H.stands_for keeper.old keeper.new (IsAnswer (split (map string_bytes words.now))
+        (outside_between F.files F.faults folder.old folder.new (K.moment clock.now) (faults_between H.fault_count keeper.old keeper.new))
+        (copy_between C.stands_for C.fault_count copy.old copy.new)
+        (link_between L.tells L.asked L.missed L.kept L.fault_count link.old link.new)
         a) × (result ≡ status_of a.end) × Appends (O.written out.old) (O.written out.new) (text_of a) }
     // Where the sink failed, a front of such a text is written.
-    ensures part { result ≡ 1 → (a : AnswerValue) × LeadsFrom (H.stands_for keeper.old) (H.stands_for keeper.new) (IsAnswer (split (map string_bytes words.now))
-        (outside_of (F.files folder.old) (K.moment clock.now) (faults_of (F.faults folder.old) (F.faults folder.new)) (faults_of (H.fault_count keeper.old) (H.fault_count keeper.new)))
-        (copy_run (C.stands_for copy.old) (C.stands_for copy.new) (C.fault_count copy.old) (C.fault_count copy.new) (copy.new ≡ copy.old))
-        (link_run (L.tells link.old) (L.tells link.new) (L.asked link.old) (L.asked link.new) (L.missed link.new) (L.kept link.new) (L.fault_count link.old) (L.fault_count link.new) (link.new ≡ link.old))
+    ensures part { result ≡ 1 → (a : AnswerValue) × LeadsBetween H.stands_for keeper.old keeper.new (IsAnswer (split (map string_bytes words.now))
+        (outside_between F.files F.faults folder.old folder.new (K.moment clock.now) (faults_between H.fault_count keeper.old keeper.new))
+        (copy_between C.stands_for C.fault_count copy.old copy.new)
+        (link_between L.tells L.asked L.missed L.kept L.fault_count link.old link.new)
         a) × AppendsPart (O.written out.old) (O.written out.new) (text_of a) }
     // Where the words spell `sync`, and neither the sink failed nor memory ran out, line and status are those of a synchronisation, of which
     // all holds that is promised of one.
     ensures synchronised { (task : Task) → command_in (split (map string_bytes words.now)) ≡ Some (Sync task) → result ≢ 1 → result ≢ 17 → (a : SyncAnswerValue) × IsSyncOf task a
-        (copy_run (C.stands_for copy.old) (C.stands_for copy.new) (C.fault_count copy.old) (C.fault_count copy.new) (copy.new ≡ copy.old))
-        (link_run (L.tells link.old) (L.tells link.new) (L.asked link.old) (L.asked link.new) (L.missed link.new) (L.kept link.new) (L.fault_count link.old) (L.fault_count link.new) (link.new ≡ link.old))
+        (copy_between C.stands_for C.fault_count copy.old copy.new)
+        (link_between L.tells L.asked L.missed L.kept L.fault_count link.old link.new)
         × (result ≡ sync_status a) × Appends (O.written out.old) (O.written out.new) (sync_text a) }
     ensures words_are_bad { result ≡ 2 → IsErr (split (map string_bytes words.now)) }
     ensures bad_words { IsErr (split (map string_bytes words.now)) → result ≢ 1 → result ≢ 17 → result ≡ 2 }

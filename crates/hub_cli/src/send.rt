@@ -1,7 +1,7 @@
 //! The command `send`.
 
 ghost use Rattle.std.specs.Prelude.{◌≡◌};
-ghost use Rattle.consumer_commands.specs.Consumers.{copy_run, link_run};
+ghost use Rattle.consumer_commands.specs.Consumers.{copy_between, link_between};
 ghost use Rattle.hub_cli.specs.OutboxAnswers.{IsSendAnswer};
 
 use crate::answer::{Answer, End};
@@ -18,8 +18,8 @@ pub fn send<C: CopyKeeper, L: Link>(
     link: &mut L,
 ) -> Answer
     ensures { IsSendAnswer task.now
-        (copy_run (C.stands_for copy.old) (C.stands_for copy.new) (C.fault_count copy.old) (C.fault_count copy.new) (copy.new ≡ copy.old))
-        (link_run (L.tells link.old) (L.tells link.new) (L.asked link.old) (L.asked link.new) (L.missed link.new) (L.kept link.new) (L.fault_count link.old) (L.fault_count link.new) (link.new ≡ link.old))
+        (copy_between C.stands_for C.fault_count copy.old copy.new)
+        (link_between L.tells L.asked L.missed L.kept L.fault_count link.old link.new)
         result }
 {
     let answer = send_writes(alloc, task, copy, link);

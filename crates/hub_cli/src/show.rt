@@ -2,7 +2,7 @@
 
 ghost use Rattle.std.specs.Prelude.{◌≡◌, [], IfOk, map, string_bytes};
 ghost use Rattle.csv_sets.specs.Files as files;
-ghost use Rattle.hub_cli.specs.Outside.{Faults, faults_of, outside_of};
+ghost use Rattle.hub_cli.specs.Outside.{Faults, outside_between};
 ghost use Rattle.hub_cli.specs.Reads.{IsAnswerTo};
 ghost use Rattle.hub_cli.specs.Runs.{IsShowAnswer};
 ghost use Rattle.hub_cli.specs.Shows.{answer_of_rows, dated_row, shown_text};
@@ -96,7 +96,7 @@ pub fn show<F: Folder, K: Clock>(
     folder: &mut F,
     clock: &K,
 ) -> Result<Answer, NoMemory>
-    ensures { IfOk result (λ a. (keeper : Faults) → IsShowAnswer kind (outside_of (F.files folder.old) (K.moment clock.now) (faults_of (F.faults folder.old) (F.faults folder.new)) keeper) a) }
+    ensures { IfOk result (λ a. (keeper : Faults) → IsShowAnswer kind (outside_between F.files F.faults folder.old folder.new (K.moment clock.now) keeper) a) }
 {
     let at = moment_of(clock);
     match folder.read(alloc, "", kind.file_name(), LARGEST as u64) {

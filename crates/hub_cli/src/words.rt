@@ -1,9 +1,10 @@
 //! The words of the command line.
 
 ghost use Rattle.std.specs.Prelude.{◌≡◌, ◌+◌, ◌<◌, ◌≤◌, ◌^◌, ℕ, IfOk, IfSome, List, Ok, length, map, string_bytes};
+ghost use Rattle.std.specs.Option.{option_copied};
 ghost use Rattle.keeper_memory.specs.copy.Copies.{IsGradebook};
 ghost use Rattle.roster_base.specs.Reading.{Gives};
-ghost use Rattle.hub_cli.specs.Words.{command_words, delete_id_words, delete_words, ended, enter_words, feed_in, feed_of, feed_words, file_words, gradebook_kind, is_file_word, keep_in, kind_words, largest_keep, limit_words, no_options, number_in, number_to, option_of, option_words, peer_in, publish_words, put_id_words, put_words, root_in, send_tries_words, send_words, set_option, split, store_in, sync_words, tries_words, with_folder, with_keep, with_options, with_peer, with_store};
+ghost use Rattle.hub_cli.specs.Words as spec;
 ghost use Rattle.hub_cli.specs.declared.words.Command.{Command as CommandValue};
 ghost use Rattle.hub_cli.specs.declared.words.Command.TheVariants.{Ask, Grant, ListHeld, Show};
 
@@ -104,7 +105,7 @@ const LARGEST_TRIES: u32 = 100;
 pub type WordError = Refusal<usize>;
 
 fn end(place: usize, command: Command, words: &[String]) -> Result<Command, WordError>
-    ensures { Gives (λ c. c) result (ended place command (map string_bytes words.now)) }
+    ensures { Gives (λ c. c) result (spec.ended place command (map string_bytes words.now)) }
 {
     if words.is_empty() {
         Ok(command)
@@ -115,7 +116,7 @@ fn end(place: usize, command: Command, words: &[String]) -> Result<Command, Word
 
 fn show(place: usize, words: &[String]) -> Result<Command, WordError>
     requires { place + length words.now < 2 ^ 63 }
-    ensures { Gives (λ c. c) result (kind_words place Show (map string_bytes words.now)) }
+    ensures { Gives (λ c. c) result (spec.kind_words place Show (map string_bytes words.now)) }
 {
     let Some((word, words)) = words.split_first() else {
         return Err(Refusal::Fault(place));
@@ -128,7 +129,7 @@ fn show(place: usize, words: &[String]) -> Result<Command, WordError>
 
 fn list(place: usize, words: &[String]) -> Result<Command, WordError>
     requires { place + length words.now < 2 ^ 63 }
-    ensures { Gives (λ c. c) result (kind_words place ListHeld (map string_bytes words.now)) }
+    ensures { Gives (λ c. c) result (spec.kind_words place ListHeld (map string_bytes words.now)) }
 {
     let Some((word, words)) = words.split_first() else {
         return Err(Refusal::Fault(place));
@@ -141,14 +142,14 @@ fn list(place: usize, words: &[String]) -> Result<Command, WordError>
 
 // Whether a word may name a file or a folder.
 fn is_file_word(word: &str) -> bool
-    ensures { result ≡ is_file_word word.now }
+    ensures { result ≡ spec.is_file_word word.now }
 {
     Name::is_good(word) && !word.starts_with('.')
 }
 
 // A feed with this name and folder, if they are words for them.
 fn feed_in(alloc: Global, name: &str, dir: &str) -> Result<Option<Feed>, NoMemory>
-    ensures { IfOk result (λ o. o ≡ feed_in name.now dir.now) }
+    ensures { IfOk result (λ o. o ≡ spec.feed_in name.now dir.now) }
 {
     if !is_file_word(dir) {
         return Ok(None);
@@ -165,7 +166,7 @@ fn feed_in(alloc: Global, name: &str, dir: &str) -> Result<Option<Feed>, NoMemor
 // The feed that a word names with its folder.
 #[tactic(auto, unfolding(crate::specs::Words::feed_of))]
 fn feed_of(alloc: Global, word: &str) -> Result<Option<Feed>, NoMemory>
-    ensures { IfOk result (λ o. o ≡ feed_of word.now) }
+    ensures { IfOk result (λ o. o ≡ spec.feed_of word.now) }
 {
     match word.split_once('=') {
         Some((name, dir)) => feed_in(alloc, name, dir),
@@ -176,7 +177,7 @@ fn feed_of(alloc: Global, word: &str) -> Result<Option<Feed>, NoMemory>
 // The feed that each word names.
 fn feeds_at(alloc: Global, place: usize, words: &[String]) -> Result<Vec<Feed>, WordError>
     requires { place + length words.now < 2 ^ 63 }
-    ensures { Gives (λ v. v.items) result (feed_words place (map string_bytes words.now)) }
+    ensures { Gives (λ v. v.items) result (spec.feed_words place (map string_bytes words.now)) }
 {
     let mut feeds = Vec::new(alloc);
     for i in 0..words.len() {
@@ -190,7 +191,7 @@ fn feeds_at(alloc: Global, place: usize, words: &[String]) -> Result<Vec<Feed>, 
 
 fn publish(alloc: Global, place: usize, words: &[String]) -> Result<Command, WordError>
     requires { place + length words.now < 2 ^ 63 }
-    ensures { Gives (λ c. c) result (publish_words place (map string_bytes words.now)) }
+    ensures { Gives (λ c. c) result (spec.publish_words place (map string_bytes words.now)) }
 {
     if words.is_empty() {
         return Err(Refusal::Fault(place));
@@ -202,7 +203,7 @@ fn publish(alloc: Global, place: usize, words: &[String]) -> Result<Command, Wor
 // The file that the last word names.
 fn file_at(alloc: Global, place: usize, words: &[String]) -> Result<Text, WordError>
     requires { place + length words.now < 2 ^ 63 }
-    ensures { (command : List ℕ → CommandValue) → Gives command result (file_words place command (map string_bytes words.now)) }
+    ensures { (command : List ℕ → CommandValue) → Gives command result (spec.file_words place command (map string_bytes words.now)) }
 {
     let Some((word, words)) = words.split_first() else {
         return Err(Refusal::Fault(place));
@@ -218,7 +219,7 @@ fn file_at(alloc: Global, place: usize, words: &[String]) -> Result<Text, WordEr
 
 fn grant(alloc: Global, place: usize, words: &[String]) -> Result<Command, WordError>
     requires { place + length words.now < 2 ^ 63 }
-    ensures { Gives (λ c. c) result (file_words place Grant (map string_bytes words.now)) }
+    ensures { Gives (λ c. c) result (spec.file_words place Grant (map string_bytes words.now)) }
 {
     let file = file_at(alloc, place, words)?;
     Ok(Command::Grant { file })
@@ -226,7 +227,7 @@ fn grant(alloc: Global, place: usize, words: &[String]) -> Result<Command, WordE
 
 fn ask(alloc: Global, place: usize, words: &[String]) -> Result<Command, WordError>
     requires { place + length words.now < 2 ^ 63 }
-    ensures { Gives (λ c. c) result (file_words place Ask (map string_bytes words.now)) }
+    ensures { Gives (λ c. c) result (spec.file_words place Ask (map string_bytes words.now)) }
 {
     let file = file_at(alloc, place, words)?;
     Ok(Command::Ask { file })
@@ -235,7 +236,7 @@ fn ask(alloc: Global, place: usize, words: &[String]) -> Result<Command, WordErr
 // The number that a word writes, without a zero in front.
 #[tactic(auto, unfolding(crate::specs::Words::number_in))]
 fn number_in(word: &str) -> Option<u64>
-    ensures { result ≡ number_in word.now }
+    ensures { result ≡ spec.number_in word.now }
 {
     let digits = word.as_bytes();
     match digits.first() {
@@ -247,7 +248,7 @@ fn number_in(word: &str) -> Option<u64>
 
 // The number from 1 to the most that a word writes.
 fn number_to(most: u32, word: &str) -> Option<u32>
-    ensures value { result ≡ number_to most word.now }
+    ensures value { result ≡ spec.number_to most word.now }
     ensures some { IfSome result (λ n. 0 < n) }
     ensures few { IfSome result (λ n. n ≤ most) }
 {
@@ -261,7 +262,7 @@ fn tries_at(place: usize, token: Token, limit: u32, words: &[String]) -> Result<
     requires place { place + length words.now < 2 ^ 63 }
     requires some { 0 < limit }
     requires few { limit ≤ LARGEST_LIMIT }
-    ensures { Gives (λ c. c) result (tries_words place token limit (map string_bytes words.now)) }
+    ensures { Gives (λ c. c) result (spec.tries_words place token limit (map string_bytes words.now)) }
 {
     let Some((word, words)) = words.split_first() else {
         return Err(Refusal::Fault(place));
@@ -275,7 +276,7 @@ fn tries_at(place: usize, token: Token, limit: u32, words: &[String]) -> Result<
 
 fn limit_at(place: usize, token: Token, words: &[String]) -> Result<Command, WordError>
     requires { place + length words.now < 2 ^ 63 }
-    ensures { Gives (λ c. c) result (limit_words place token (map string_bytes words.now)) }
+    ensures { Gives (λ c. c) result (spec.limit_words place token (map string_bytes words.now)) }
 {
     let Some((word, words)) = words.split_first() else {
         return Err(Refusal::Fault(place));
@@ -288,7 +289,7 @@ fn limit_at(place: usize, token: Token, words: &[String]) -> Result<Command, Wor
 
 fn sync(alloc: Global, place: usize, words: &[String]) -> Result<Command, WordError>
     requires { place + length words.now < 2 ^ 63 }
-    ensures { Gives (λ c. c) result (sync_words place (map string_bytes words.now)) }
+    ensures { Gives (λ c. c) result (spec.sync_words place (map string_bytes words.now)) }
 {
     let Some((word, words)) = words.split_first() else {
         return Err(Refusal::Fault(place));
@@ -301,7 +302,7 @@ fn sync(alloc: Global, place: usize, words: &[String]) -> Result<Command, WordEr
 
 // The kind of the gradebook that a word names.
 fn gradebook_kind(word: &str) -> Option<Kind>
-    ensures value { result ≡ gradebook_kind word.now }
+    ensures value { result ≡ spec.gradebook_kind word.now }
     ensures writes { IfSome result IsGradebook }
 {
     match Kind::read(word) {
@@ -313,7 +314,7 @@ fn gradebook_kind(word: &str) -> Option<Kind>
 fn put_id(alloc: Global, place: usize, kind: Kind, words: &[String]) -> Result<Command, WordError>
     requires place { place + length words.now < 2 ^ 63 }
     requires writes { IsGradebook kind }
-    ensures { Gives (λ c. c) result (put_id_words place kind (map string_bytes words.now)) }
+    ensures { Gives (λ c. c) result (spec.put_id_words place kind (map string_bytes words.now)) }
 {
     let Some((word, words)) = words.split_first() else {
         return Err(Refusal::Fault(place));
@@ -330,7 +331,7 @@ fn put_id(alloc: Global, place: usize, kind: Kind, words: &[String]) -> Result<C
 
 fn put(alloc: Global, place: usize, words: &[String]) -> Result<Command, WordError>
     requires { place + length words.now < 2 ^ 63 }
-    ensures { Gives (λ c. c) result (put_words place (map string_bytes words.now)) }
+    ensures { Gives (λ c. c) result (spec.put_words place (map string_bytes words.now)) }
 {
     let Some((word, words)) = words.split_first() else {
         return Err(Refusal::Fault(place));
@@ -349,7 +350,7 @@ fn delete_id(
 ) -> Result<Command, WordError>
     requires place { place + length words.now < 2 ^ 63 }
     requires writes { IsGradebook kind }
-    ensures { Gives (λ c. c) result (delete_id_words place kind (map string_bytes words.now)) }
+    ensures { Gives (λ c. c) result (spec.delete_id_words place kind (map string_bytes words.now)) }
 {
     let Some((word, words)) = words.split_first() else {
         return Err(Refusal::Fault(place));
@@ -364,7 +365,7 @@ fn delete_id(
 
 fn delete(alloc: Global, place: usize, words: &[String]) -> Result<Command, WordError>
     requires { place + length words.now < 2 ^ 63 }
-    ensures { Gives (λ c. c) result (delete_words place (map string_bytes words.now)) }
+    ensures { Gives (λ c. c) result (spec.delete_words place (map string_bytes words.now)) }
 {
     let Some((word, words)) = words.split_first() else {
         return Err(Refusal::Fault(place));
@@ -377,7 +378,7 @@ fn delete(alloc: Global, place: usize, words: &[String]) -> Result<Command, Word
 
 fn enter(alloc: Global, place: usize, words: &[String]) -> Result<Command, WordError>
     requires { place + length words.now < 2 ^ 63 }
-    ensures { Gives (λ c. c) result (enter_words place (map string_bytes words.now)) }
+    ensures { Gives (λ c. c) result (spec.enter_words place (map string_bytes words.now)) }
 {
     match words.split_first() {
         Some((word, words)) if word.as_str() == "put" => put(alloc, place + 1, words),
@@ -388,7 +389,7 @@ fn enter(alloc: Global, place: usize, words: &[String]) -> Result<Command, WordE
 
 fn send_tries(place: usize, token: Token, words: &[String]) -> Result<Command, WordError>
     requires { place + length words.now < 2 ^ 63 }
-    ensures { Gives (λ c. c) result (send_tries_words place token (map string_bytes words.now)) }
+    ensures { Gives (λ c. c) result (spec.send_tries_words place token (map string_bytes words.now)) }
 {
     let Some((word, words)) = words.split_first() else {
         return Err(Refusal::Fault(place));
@@ -402,7 +403,7 @@ fn send_tries(place: usize, token: Token, words: &[String]) -> Result<Command, W
 
 fn send(alloc: Global, place: usize, words: &[String]) -> Result<Command, WordError>
     requires { place + length words.now < 2 ^ 63 }
-    ensures { Gives (λ c. c) result (send_words place (map string_bytes words.now)) }
+    ensures { Gives (λ c. c) result (spec.send_words place (map string_bytes words.now)) }
 {
     let Some((word, words)) = words.split_first() else {
         return Err(Refusal::Fault(place));
@@ -416,7 +417,7 @@ fn send(alloc: Global, place: usize, words: &[String]) -> Result<Command, WordEr
 // The command of the words from a place on.
 fn command_at(alloc: Global, place: usize, words: &[String]) -> Result<Command, WordError>
     requires { place + length words.now < 2 ^ 63 }
-    ensures { Gives (λ c. c) result (command_words place (map string_bytes words.now)) }
+    ensures { Gives (λ c. c) result (spec.command_words place (map string_bytes words.now)) }
 {
     match words.split_first() {
         Some((word, words)) if word.as_str() == "show" => show(place + 1, words),
@@ -442,7 +443,7 @@ fn with_command(
     words: &[String],
 ) -> Result<Parsed, WordError>
     requires { place + length words.now < 2 ^ 63 }
-    ensures { Gives (λ p. p) result (with_options options (command_words place (map string_bytes words.now))) }
+    ensures { Gives (λ p. p) result (spec.with_options options (spec.command_words place (map string_bytes words.now))) }
 {
     let command = command_at(alloc, place, words)?;
     let Options {
@@ -463,7 +464,7 @@ fn with_command(
 // The option that a word names, if it isn't given yet.
 #[tactic(auto, unfolding(crate::specs::Words::option_of))]
 fn option_of(options: &Options, word: &str) -> Option<OptionWord>
-    ensures { result ≡ option_of options.now word.now }
+    ensures { result ≡ spec.option_of options.now word.now }
 {
     if word == "--folder" && options.folder.is_none() {
         return Some(OptionWord::Folder);
@@ -487,7 +488,7 @@ fn with_folder(
     options: Options,
     value: &str,
 ) -> Result<Options, WordError>
-    ensures { Gives (λ o. o) result (with_folder place options value.now) }
+    ensures { Gives (λ o. o) result (spec.with_folder place options value.now) }
 {
     if value.is_empty() {
         return Err(Refusal::Fault(place));
@@ -503,7 +504,7 @@ fn with_store(
     options: Options,
     value: &str,
 ) -> Result<Options, WordError>
-    ensures { Gives (λ o. o) result (with_store place options value.now) }
+    ensures { Gives (λ o. o) result (spec.with_store place options value.now) }
 {
     if value.is_empty() {
         return Err(Refusal::Fault(place));
@@ -519,7 +520,7 @@ fn with_peer(
     options: Options,
     value: &str,
 ) -> Result<Options, WordError>
-    ensures { Gives (λ o. o) result (with_peer place options value.now) }
+    ensures { Gives (λ o. o) result (spec.with_peer place options value.now) }
 {
     if value.is_empty() {
         return Err(Refusal::Fault(place));
@@ -530,7 +531,7 @@ fn with_peer(
 
 // The options with as many versions to keep as a word says.
 fn with_keep(place: usize, options: Options, value: &str) -> Result<Options, WordError>
-    ensures { Gives (λ o. o) result (with_keep place options (number_to largest_keep value.now)) }
+    ensures { Gives (λ o. o) result (spec.with_keep place options (spec.number_to spec.largest_keep value.now)) }
 {
     match number_to(LARGEST_KEEP, value) {
         Some(keep) => Ok(Options {
@@ -549,7 +550,7 @@ fn set_option(
     option: OptionWord,
     value: &str,
 ) -> Result<Options, WordError>
-    ensures { Gives (λ o. o) result (set_option place options option value.now) }
+    ensures { Gives (λ o. o) result (spec.set_option place options option value.now) }
 {
     match option {
         OptionWord::Folder => with_folder(alloc, place, options, value),
@@ -567,7 +568,7 @@ fn options_at(
     words: &[String],
 ) -> Result<Parsed, WordError>
     requires { place + length words.now < 2 ^ 63 }
-    ensures { Gives (λ p. p) result (option_words place options (map string_bytes words.now)) }
+    ensures { Gives (λ p. p) result (spec.option_words place options (map string_bytes words.now)) }
 {
     let Some((word, behind)) = words.split_first() else {
         return Err(Refusal::Fault(place));
@@ -584,7 +585,7 @@ fn options_at(
 
 /// The options and the command that words spell.
 pub fn split_words(alloc: Global, words: &[String]) -> Result<Parsed, WordError>
-    ensures { Gives (λ p. p) result (split (map string_bytes words.now)) }
+    ensures { Gives (λ p. p) result (spec.split (map string_bytes words.now)) }
 {
     let none = Options {
         folder: None,
@@ -595,101 +596,60 @@ pub fn split_words(alloc: Global, words: &[String]) -> Result<Parsed, WordError>
     options_at(alloc, 0, none, words)
 }
 
-// The folder of parsed words, and nothing where they name none.
-fn folder_in(alloc: Global, parsed: Parsed) -> String
-    ensures { string_bytes result ≡ root_in (Ok parsed) }
+/// What words spell: the options and the command, or the place, from 0, of the first word that no command continues.
+pub type Spelled = Result<Parsed, usize>;
+
+/// Reads what words spell.
+pub fn read_words(alloc: Global, words: &[String]) -> Result<Spelled, NoMemory>
+    ensures { IfOk result (λ s. s ≡ spec.split (map string_bytes words.now)) }
 {
-    let Parsed {
-        folder,
-        store,
-        peer,
-        command,
-        ..
-    } = parsed;
-    drop(store);
-    drop(peer);
-    drop(command);
-    match folder {
-        Some(folder) => folder.into_string(),
-        None => String::new(alloc),
+    match split_words(alloc, words) {
+        Ok(parsed) => Ok(Ok(parsed)),
+        Err(Refusal::Fault(place)) => Ok(Err(place)),
+        Err(Refusal::NoMemory) => Err(NoMemory),
     }
 }
 
 /// The root folder, in which a command finds its files: the one that the words name, and else the working folder, whose name
 /// is empty.
-pub fn root_of(alloc: Global, words: &[String]) -> Result<String, NoMemory>
-    ensures { IfOk result (λ r. string_bytes r ≡ root_in (split (map string_bytes words.now))) }
+pub fn root_of(spelled: &Spelled) -> &str
+    ensures { result.now ≡ spec.root_in spelled.now }
 {
-    match split_words(alloc, words) {
-        Ok(parsed) => Ok(folder_in(alloc, parsed)),
-        Err(Refusal::Fault(_)) => Ok(String::new(alloc)),
-        Err(Refusal::NoMemory) => Err(NoMemory),
+    match spelled {
+        Ok(parsed) => match &parsed.folder {
+            Some(folder) => folder.as_str(),
+            None => "",
+        },
+        Err(_) => "",
     }
 }
 
 /// How many versions a new keeper keeps beside the newest: as many as the words say, and else 10,000.
-pub fn keep_of(alloc: Global, words: &[String]) -> Result<u32, NoMemory>
-    ensures { IfOk result (λ n. n ≡ keep_in (split (map string_bytes words.now))) }
+pub fn keep_of(spelled: &Spelled) -> u32
+    ensures { result ≡ spec.keep_in spelled.now }
 {
-    match split_words(alloc, words) {
-        Ok(parsed) => Ok(parsed.keep.unwrap_or(USUAL_KEEP)),
-        Err(Refusal::Fault(_)) => Ok(USUAL_KEEP),
-        Err(Refusal::NoMemory) => Err(NoMemory),
+    match spelled {
+        Ok(parsed) => parsed.keep.unwrap_or(USUAL_KEEP),
+        Err(_) => USUAL_KEEP,
     }
 }
 
-// The folder of the store that parsed words name.
-fn store_folder(parsed: Parsed) -> Option<Text>
-    ensures { result ≡ store_in (Ok parsed) }
+/// The folder of the store, where the words name one.
+pub fn store_of(spelled: &Spelled) -> Option<&Text>
+    ensures { option_copied result ≡ spec.store_in spelled.now }
 {
-    let Parsed {
-        folder,
-        store,
-        peer,
-        command,
-        ..
-    } = parsed;
-    drop(folder);
-    drop(peer);
-    drop(command);
-    store
-}
-
-/// The folder of the hub's store, where the words name one.
-pub fn store_of(alloc: Global, words: &[String]) -> Result<Option<Text>, NoMemory>
-    ensures { IfOk result (λ s. s ≡ store_in (split (map string_bytes words.now))) }
-{
-    match split_words(alloc, words) {
-        Ok(parsed) => Ok(store_folder(parsed)),
-        Err(Refusal::Fault(_)) => Ok(None),
-        Err(Refusal::NoMemory) => Err(NoMemory),
+    match spelled {
+        Ok(parsed) => parsed.store.as_ref(),
+        Err(_) => None,
     }
-}
-
-// The address that parsed words name.
-fn peer_address(parsed: Parsed) -> Option<Text>
-    ensures { result ≡ peer_in (Ok parsed) }
-{
-    let Parsed {
-        folder,
-        store,
-        peer,
-        command,
-        ..
-    } = parsed;
-    drop(folder);
-    drop(store);
-    drop(command);
-    peer
 }
 
 /// The address of the hub that is copied, where the words name one.
-pub fn peer_of(alloc: Global, words: &[String]) -> Result<Option<Text>, NoMemory>
-    ensures { IfOk result (λ p. p ≡ peer_in (split (map string_bytes words.now))) }
+pub fn peer_of(spelled: &Spelled) -> Option<&Text>
+    ensures { option_copied result ≡ spec.peer_in spelled.now }
 {
-    match split_words(alloc, words) {
-        Ok(parsed) => Ok(peer_address(parsed)),
-        Err(Refusal::Fault(_)) => Ok(None),
-        Err(Refusal::NoMemory) => Err(NoMemory),
+    match spelled {
+        Ok(parsed) => parsed.peer.as_ref(),
+        Err(_) => None,
     }
 }

@@ -1,7 +1,7 @@
 //! Words that are no command, and the folder that words name.
 
 use crate::outside::assert_run;
-use hub_cli::{keep_of, root_of};
+use hub_cli::{keep_of, read_words, root_of};
 use std::alloc::Global;
 use std::test::Fail;
 
@@ -118,10 +118,9 @@ fn options_of(alloc: Global, words: &[&str]) -> Result<(String, u32), Fail> {
     for word in words {
         owned.push(String::from_str(alloc, word)?)?;
     }
-    Ok((
-        root_of(alloc, owned.as_slice())?,
-        keep_of(alloc, owned.as_slice())?,
-    ))
+    let spelled = read_words(alloc, owned.as_slice())?;
+    let root = String::from_str(alloc, root_of(&spelled))?;
+    Ok((root, keep_of(&spelled)))
 }
 
 #[test]

@@ -20,11 +20,12 @@ use Rattle.version_core.proofs.MarkLemmas.{no_marks}
 use Rattle.outside_ports.specs.Written.{AppendsPart}
 use Rattle.roster_base.specs.Faults.{Rose}
 use Rattle.roster_values.specs.declared.kind.Kind.{Kind}
-use Rattle.hub_cli.specs.Answers.{text_of}
+use Rattle.hub_cli.proofs.Telling.{told_count, told_done, told_part}
+use Rattle.hub_cli.specs.Answers.{status_of, text_of}
 use Rattle.hub_cli.specs.ConsumerAnswers.{CopyStays, IsListAnswer}
 use Rattle.hub_cli.specs.OutboxAnswers.{IsOutboxAnswer}
 use Rattle.hub_cli.specs.Outside.{Faults, Outside, faults_of, outside_of}
-use Rattle.hub_cli.specs.Runs.{ConsumerRests, IsAnswer, IsCommandAnswer, LeadsFrom}
+use Rattle.hub_cli.specs.Runs.{ConsumerRests, IsAnswer, IsCommandAnswer, LeadsFrom, Writes}
 use Rattle.hub_cli.specs.Words.{keep_in, store_in}
 use Rattle.hub_cli.specs.declared.answer.Answer.{Answer}
 use Rattle.hub_cli.specs.declared.answer.End.TheVariants as ends
@@ -300,6 +301,19 @@ runs-wanting parsed status old new before now done fault = record {
   bad_words = λ bad not_one not_seventeen. absurd (not_seventeen (done not_one).0);
   sink_failed = λ e. (fault e).0;
   sink_stood = λ e. (done e).2;
+}
+
+-- what is written of answers, as a whole run
+pub runs-written : (is more : Answer → Type 0) (parsed : Result Parsed ℕ) (status : ℕ) (old new : Option (List ℕ)) (before now : ℕ)
+    → ((a : Answer) → is a → more a) → ((a : Answer) → is a → status_of a.end ≡ 2 → IsErr parsed) → ((a : Answer) → is a → IsErr parsed → status_of a.end ≢ 17 → status_of a.end ≡ 2)
+    → Writes status old new before now is → Runs more parsed status old new before now
+runs-written is more parsed status old new before now f words bad written = record {
+  done = λ one. let (a, so, same, told) = told_done status old new before now is written one in (a, f a so, same, told);
+  part = λ one. let (a, so, told) = told_part status old new before now is written one in (a, f a so, told);
+  words_are_bad = λ two. let (a, so, same, told) = told_done status old new before now is written (λ one. omega (arith, one, two)) in words a so (sym same ∙ two);
+  bad_words = λ err one memory. let (a, so, same, told) = told_done status old new before now is written one in same ∙ bad a so err (λ e. memory (same ∙ e));
+  sink_failed = (told_count status old new before now is written).0;
+  sink_stood = (told_count status old new before now is written).1;
 }
 
 -- a run whose answers are said otherwise

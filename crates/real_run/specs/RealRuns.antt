@@ -95,3 +95,7 @@ pub record Runs (is : Answer → Type 0) (parsed : Result Parsed ℕ) (status : 
   pub bad_words : IsErr parsed → status ≢ 1 → status ≢ 17 → status ≡ 2
   pub sink_failed : status ≡ 1 → Rose faults_before faults_now
   pub sink_stood : status ≢ 1 → faults_now ≡ faults_before
+
+-- between two states of a sink
+abbrev pub RunsBetween : {O : Type 0} → (O → Option (List ℕ)) → (O → ℕ) → O → O → ℕ → Result Parsed ℕ → (Answer → Type 0) → Type 0
+RunsBetween written faults old new status parsed is = Runs is parsed status (written old) (written new) (faults old) (faults new)

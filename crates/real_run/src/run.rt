@@ -1,90 +1,95 @@
 //! Runs over the real folder, clock and store.
 
-ghost use Rattle.std.specs.Prelude.{◌≡◌, ◌≢◌, IfOk, IsErr, IsSome, None, map, string_bytes};
-ghost use Rattle.hub_cli.specs.ConsumerAnswers.{copy_run, link_run};
+ghost use Rattle.std.specs.Prelude.{◌≡◌, ◌≢◌, IsErr, IsSome, None, map, string_bytes};
+ghost use Rattle.consumer_commands.specs.Consumers.{copy_between, link_between};
+ghost use Rattle.hub_cli.specs.Words.{split, store_in};
+ghost use Rattle.real_run.specs.RealRuns.{AnswersFrom, AnswersOver, IsRealAnswer, RunsBetween, Tells, TellsPart};
 ghost use Rattle.roster_base.specs.Faults.{Rose};
-ghost use Rattle.hub_cli.specs.Words.{keep_in, split, store_in};
-ghost use Rattle.real_run.specs.RealRuns.{AnswersFrom, AnswersOver, IsRealAnswer, Runs, Tells, TellsPart};
 
 use crate::store::{COPY_FILE, HUB_FILE, OpenStore, open_store};
 use exchange_link::{Link, NoLink, SocketLink};
 use hub_cli::lines::NO_MEMORY;
-use hub_cli::{Command, keep_of, peer_of, print, root_of, run_hub, split_words, store_of};
+use hub_cli::{
+    Command, Spelled, keep_of, peer_of, print, read_words, root_of, run_spelled, store_of,
+};
 use keeper_memory::{CopyKeeper, HubKeeper, MemCopy, MemHub};
 use keeper_sqlite::{ClosedStore, ItemCopy, ItemHub, SqlItems};
 use outside_ports::{DirFolder, Sink, SystemClock};
-use roster_base::{NoMemory, Refusal, Text};
+use roster_base::NoMemory;
 use sqlite::{Connection, FileStore};
 use sqlite_disk::Disk;
 use std::alloc::Global;
 use std::mem::forget;
 
-// Where a run finds its files, and the hub that it copies.
+// The system that a run works with, the folder of its files, and the address of the hub that it copies.
 #[derive(Drop)]
-struct Surroundings {
-    root: String,
-    peer: Option<Text>,
-}
-
-// What a store keeps: a hub, of which a new one keeps so many versions beside the newest, or a consumer's copy.
-#[derive(Clone, Copy)]
-enum Kept {
-    Hub { keep: u32 },
-    Copy,
-}
-
-// The file in the folder of a store.
-fn file_of(kept: Kept) -> &'static str {
-    match kept {
-        Kept::Hub { .. } => HUB_FILE,
-        Kept::Copy => COPY_FILE,
-    }
-}
-
-// Runs the words over keepers and a link, over the real folder and clock.
-fn run_between<H: HubKeeper, C: CopyKeeper, L: Link, O: Sink>(
+struct System {
     rt: HostRuntime,
     alloc: Global,
-    words: &[String],
     root: String,
+    peer: Option<String>,
+}
+
+// The system as words say it.
+fn system_of(rt: HostRuntime, alloc: Global, spelled: &Spelled) -> Result<System, NoMemory> {
+    let root = String::from_str(alloc, root_of(spelled))?;
+    let peer = match peer_of(spelled) {
+        Some(address) => Some(String::from_str(alloc, address.as_str())?),
+        None => None,
+    };
+    Ok(System {
+        rt,
+        alloc,
+        root,
+        peer,
+    })
+}
+
+// Runs words over keepers and a link, over the real folder and clock.
+fn run_between<H: HubKeeper, C: CopyKeeper, L: Link, O: Sink>(
+    system: System,
+    spelled: &Spelled,
     keeper: &mut H,
     copy: &mut C,
     link: &mut L,
     out: &mut O,
 ) -> u8
-    ensures { Runs (AnswersOver (H.stands_for keeper.old) (H.stands_for keeper.new)
-        (copy_run (C.stands_for copy.old) (C.stands_for copy.new) (C.fault_count copy.old) (C.fault_count copy.new) (copy.new ≡ copy.old))
-        (link_run (L.tells link.old) (L.tells link.new) (L.asked link.old) (L.asked link.new) (L.missed link.new) (L.kept link.new) (L.fault_count link.old) (L.fault_count link.new) (link.new ≡ link.old))
-        (split (map string_bytes words.now))) (split (map string_bytes words.now)) result (O.written out.old) (O.written out.new) (O.faults out.old) (O.faults out.new) }
+    ensures { RunsBetween O.written O.faults out.old out.new result spelled.now (AnswersOver (H.stands_for keeper.old) (H.stands_for keeper.new)
+        (copy_between C.stands_for C.fault_count copy.old copy.new)
+        (link_between L.tells L.asked L.missed L.kept L.fault_count link.old link.new)
+        spelled.now) }
 {
+    let System {
+        rt,
+        alloc,
+        root,
+        peer,
+    } = system;
+    drop(peer);
     let mut folder = DirFolder::new(rt, root);
     let clock = SystemClock::new(rt);
-    run_hub(alloc, words, &mut folder, keeper, copy, link, &clock, out)
+    run_spelled(alloc, spelled, &mut folder, keeper, copy, link, &clock, out)
 }
 
-// Runs the words over keepers, and over what surrounds the run: over a link to no hub, where the words name none.
+// Runs words over keepers, and over a link to no hub where the words name none.
 fn run_over<H: HubKeeper, C: CopyKeeper, O: Sink>(
-    rt: HostRuntime,
-    alloc: Global,
-    words: &[String],
-    around: Surroundings,
+    mut system: System,
+    spelled: &Spelled,
     keeper: &mut H,
     copy: &mut C,
     out: &mut O,
 ) -> u8
-    ensures { Runs (AnswersFrom (H.stands_for keeper.old) (H.stands_for keeper.new)
-        (copy_run (C.stands_for copy.old) (C.stands_for copy.new) (C.fault_count copy.old) (C.fault_count copy.new) (copy.new ≡ copy.old))
-        (split (map string_bytes words.now))) (split (map string_bytes words.now)) result (O.written out.old) (O.written out.new) (O.faults out.old) (O.faults out.new) }
+    ensures { RunsBetween O.written O.faults out.old out.new result spelled.now (AnswersFrom (H.stands_for keeper.old) (H.stands_for keeper.new)
+        (copy_between C.stands_for C.fault_count copy.old copy.new) spelled.now) }
 {
-    let Surroundings { root, peer } = around;
-    match peer {
+    match system.peer.take() {
         None => {
             let mut link = NoLink::new();
-            run_between(rt, alloc, words, root, keeper, copy, &mut link, out)
+            run_between(system, spelled, keeper, copy, &mut link, out)
         }
         Some(address) => {
-            let mut link = SocketLink::to(alloc, rt, address.into_string());
-            let status = run_between(rt, alloc, words, root, keeper, copy, &mut link, out);
+            let mut link = SocketLink::to(system.alloc, system.rt, address);
+            let status = run_between(system, spelled, keeper, copy, &mut link, out);
             drop(link);
             status
         }
@@ -92,21 +97,13 @@ fn run_over<H: HubKeeper, C: CopyKeeper, O: Sink>(
 }
 
 // Runs words that name no store over a hub and a copy in memory.
-fn run_in_memory<O: Sink>(
-    rt: HostRuntime,
-    alloc: Global,
-    words: &[String],
-    around: Surroundings,
-    keep: u32,
-    out: &mut O,
-) -> u8
-    requires keep { keep ≡ keep_in (split (map string_bytes words.now)) }
-    requires store { store_in (split (map string_bytes words.now)) ≡ None }
-    ensures { Runs (IsRealAnswer (split (map string_bytes words.now))) (split (map string_bytes words.now)) result (O.written out.old) (O.written out.new) (O.faults out.old) (O.faults out.new) }
+fn run_in_memory<O: Sink>(system: System, spelled: &Spelled, out: &mut O) -> u8
+    requires { store_in spelled.now ≡ None }
+    ensures { RunsBetween O.written O.faults out.old out.new result spelled.now (IsRealAnswer spelled.now) }
 {
-    let mut keeper = MemHub::new(alloc, keep);
-    let mut copy = MemCopy::new(alloc);
-    let status = run_over(rt, alloc, words, around, &mut keeper, &mut copy, out);
+    let mut keeper = MemHub::new(system.alloc, keep_of(spelled));
+    let mut copy = MemCopy::new(system.alloc);
+    let status = run_over(system, spelled, &mut keeper, &mut copy, out);
     // The process ends with its run, and its memory with it: a roster isn't gone through once more to be let go row by row.
     forget(keeper);
     forget(copy);
@@ -115,280 +112,147 @@ fn run_in_memory<O: Sink>(
 
 // Runs a command of the hub over its keeper. It needs no copy.
 fn run_with_hub<H: HubKeeper, O: Sink>(
-    rt: HostRuntime,
-    alloc: Global,
-    words: &[String],
-    around: Surroundings,
+    system: System,
+    spelled: &Spelled,
     keeper: &mut H,
     out: &mut O,
 ) -> u8
-    requires { IsSome (store_in (split (map string_bytes words.now))) }
-    ensures { Runs (IsRealAnswer (split (map string_bytes words.now))) (split (map string_bytes words.now)) result (O.written out.old) (O.written out.new) (O.faults out.old) (O.faults out.new) }
+    requires { IsSome (store_in spelled.now) }
+    ensures { RunsBetween O.written O.faults out.old out.new result spelled.now (IsRealAnswer spelled.now) }
 {
-    let mut copy = MemCopy::new(alloc);
-    let status = run_over(rt, alloc, words, around, keeper, &mut copy, out);
+    let mut copy = MemCopy::new(system.alloc);
+    let status = run_over(system, spelled, keeper, &mut copy, out);
     drop(copy);
     status
 }
 
 // Runs a command of the consumer over the keeper of its copy. It needs no hub of its own.
 fn run_with_copy<C: CopyKeeper, O: Sink>(
-    rt: HostRuntime,
-    alloc: Global,
-    words: &[String],
-    around: Surroundings,
+    system: System,
+    spelled: &Spelled,
     copy: &mut C,
     out: &mut O,
 ) -> u8
-    requires { IsSome (store_in (split (map string_bytes words.now))) }
-    ensures { Runs (IsRealAnswer (split (map string_bytes words.now))) (split (map string_bytes words.now)) result (O.written out.old) (O.written out.new) (O.faults out.old) (O.faults out.new) }
+    requires { IsSome (store_in spelled.now) }
+    ensures { RunsBetween O.written O.faults out.old out.new result spelled.now (IsRealAnswer spelled.now) }
 {
-    let mut keeper = MemHub::new(alloc, 0);
-    let status = run_over(rt, alloc, words, around, &mut keeper, copy, out);
+    let mut keeper = MemHub::new(system.alloc, 0);
+    let status = run_over(system, spelled, &mut keeper, copy, out);
     drop(keeper);
     status
 }
 
-// Runs words over the hub that an open store keeps, and closes the store. This goes over any store and any disk: a proof over the files
-// of the system takes long for each call that names their types.
-fn run_over_hub<S: OpenStore, O: Sink>(
-    rt: HostRuntime,
-    alloc: Global,
-    words: &[String],
-    around: Surroundings,
-    keep: u32,
-    items: S,
-    out: &mut O,
-) -> u8
-    requires { IsSome (store_in (split (map string_bytes words.now))) }
-    ensures { Runs (IsRealAnswer (split (map string_bytes words.now))) (split (map string_bytes words.now)) result (O.written out.old) (O.written out.new) (O.faults out.old) (O.faults out.new) }
-{
-    let mut keeper = ItemHub::adopt(items, keep);
-    let status = run_with_hub(rt, alloc, words, around, &mut keeper, out);
-    keeper.release().close();
-    status
-}
-
-// Runs words over the copy that an open store keeps, and closes the store.
-fn run_over_copy<S: OpenStore, O: Sink>(
-    rt: HostRuntime,
-    alloc: Global,
-    words: &[String],
-    around: Surroundings,
-    items: S,
-    out: &mut O,
-) -> u8
-    requires { IsSome (store_in (split (map string_bytes words.now))) }
-    ensures { Runs (IsRealAnswer (split (map string_bytes words.now))) (split (map string_bytes words.now)) result (O.written out.old) (O.written out.new) (O.faults out.old) (O.faults out.new) }
-{
-    let mut copy = ItemCopy::adopt(items);
-    let status = run_with_copy(rt, alloc, words, around, &mut copy, out);
-    copy.release().close();
-    status
-}
-
-// Runs words over what an open store keeps, and closes the store.
+// Runs words over what an open store keeps, and closes the store. This goes over any store: a proof over the files of the system takes
+// long for each call that names their types.
 fn run_over_items<S: OpenStore, O: Sink>(
-    rt: HostRuntime,
-    alloc: Global,
-    words: &[String],
-    around: Surroundings,
-    kept: Kept,
+    system: System,
+    spelled: &Spelled,
     items: S,
     out: &mut O,
 ) -> u8
-    requires { IsSome (store_in (split (map string_bytes words.now))) }
-    ensures { Runs (IsRealAnswer (split (map string_bytes words.now))) (split (map string_bytes words.now)) result (O.written out.old) (O.written out.new) (O.faults out.old) (O.faults out.new) }
+    requires { IsSome (store_in spelled.now) }
+    ensures { RunsBetween O.written O.faults out.old out.new result spelled.now (IsRealAnswer spelled.now) }
 {
-    match kept {
-        Kept::Hub { keep } => run_over_hub(rt, alloc, words, around, keep, items, out),
-        Kept::Copy => run_over_copy(rt, alloc, words, around, items, out),
+    if is_of_consumer(spelled) {
+        let mut copy = ItemCopy::adopt(items);
+        let status = run_with_copy(system, spelled, &mut copy, out);
+        copy.release().close();
+        status
+    } else {
+        let mut keeper = ItemHub::adopt(items, keep_of(spelled));
+        let status = run_with_hub(system, spelled, &mut keeper, out);
+        keeper.release().close();
+        status
     }
 }
 
 // Runs words over what a database keeps, and closes the database.
 fn run_connected<D: Disk + Drop, O: Sink>(
-    rt: HostRuntime,
-    alloc: Global,
-    words: &[String],
-    around: Surroundings,
-    kept: Kept,
+    system: System,
+    spelled: &Spelled,
     connection: Connection<FileStore<D>>,
     out: &mut O,
 ) -> u8
-    requires { IsSome (store_in (split (map string_bytes words.now))) }
-    ensures { Runs (IsRealAnswer (split (map string_bytes words.now))) (split (map string_bytes words.now)) result (O.written out.old) (O.written out.new) (O.faults out.old) (O.faults out.new) }
+    requires { IsSome (store_in spelled.now) }
+    ensures { RunsBetween O.written O.faults out.old out.new result spelled.now (IsRealAnswer spelled.now) }
 {
-    let items = SqlItems::adopt(connection);
-    run_over_items(rt, alloc, words, around, kept, items, out)
+    run_over_items(system, spelled, SqlItems::adopt(connection), out)
 }
 
-// Runs words over a hub whose store couldn't be opened.
-fn run_closed_hub<O: Sink>(
-    rt: HostRuntime,
-    alloc: Global,
-    words: &[String],
-    around: Surroundings,
-    out: &mut O,
-) -> u8
-    requires { IsSome (store_in (split (map string_bytes words.now))) }
-    ensures { Runs (IsRealAnswer (split (map string_bytes words.now))) (split (map string_bytes words.now)) result (O.written out.old) (O.written out.new) (O.faults out.old) (O.faults out.new) }
+// Runs words over a store that couldn't be opened.
+fn run_closed<O: Sink>(system: System, spelled: &Spelled, out: &mut O) -> u8
+    requires { IsSome (store_in spelled.now) }
+    ensures { RunsBetween O.written O.faults out.old out.new result spelled.now (IsRealAnswer spelled.now) }
 {
-    let mut keeper = ClosedStore::new();
-    run_with_hub(rt, alloc, words, around, &mut keeper, out)
-}
-
-// Runs words over a copy whose store couldn't be opened.
-fn run_closed_copy<O: Sink>(
-    rt: HostRuntime,
-    alloc: Global,
-    words: &[String],
-    around: Surroundings,
-    out: &mut O,
-) -> u8
-    requires { IsSome (store_in (split (map string_bytes words.now))) }
-    ensures { Runs (IsRealAnswer (split (map string_bytes words.now))) (split (map string_bytes words.now)) result (O.written out.old) (O.written out.new) (O.faults out.old) (O.faults out.new) }
-{
-    let mut copy = ClosedStore::new();
-    run_with_copy(rt, alloc, words, around, &mut copy, out)
-}
-
-// Runs words over what a store keeps that couldn't be opened.
-fn run_closed<O: Sink>(
-    rt: HostRuntime,
-    alloc: Global,
-    words: &[String],
-    around: Surroundings,
-    kept: Kept,
-    out: &mut O,
-) -> u8
-    requires { IsSome (store_in (split (map string_bytes words.now))) }
-    ensures { Runs (IsRealAnswer (split (map string_bytes words.now))) (split (map string_bytes words.now)) result (O.written out.old) (O.written out.new) (O.faults out.old) (O.faults out.new) }
-{
-    match kept {
-        Kept::Hub { .. } => run_closed_hub(rt, alloc, words, around, out),
-        Kept::Copy => run_closed_copy(rt, alloc, words, around, out),
+    let mut closed = ClosedStore::new();
+    if is_of_consumer(spelled) {
+        run_with_copy(system, spelled, &mut closed, out)
+    } else {
+        run_with_hub(system, spelled, &mut closed, out)
     }
 }
 
 // Runs words over what a store keeps in a folder.
-fn run_stored<O: Sink>(
-    rt: HostRuntime,
-    alloc: Global,
-    words: &[String],
-    around: Surroundings,
-    kept: Kept,
-    folder: &str,
-    out: &mut O,
-) -> u8
-    requires { IsSome (store_in (split (map string_bytes words.now))) }
-    ensures { Runs (IsRealAnswer (split (map string_bytes words.now))) (split (map string_bytes words.now)) result (O.written out.old) (O.written out.new) (O.faults out.old) (O.faults out.new) }
+fn run_stored<O: Sink>(system: System, spelled: &Spelled, folder: &str, out: &mut O) -> u8
+    requires { IsSome (store_in spelled.now) }
+    ensures { RunsBetween O.written O.faults out.old out.new result spelled.now (IsRealAnswer spelled.now) }
 {
-    match open_store(rt, alloc, folder, file_of(kept)) {
-        Ok(Some(connection)) => run_connected(rt, alloc, words, around, kept, connection, out),
-        Ok(None) => run_closed(rt, alloc, words, around, kept, out),
-        Err(NoMemory) => print(out, 17, NO_MEMORY),
-    }
-}
-
-// What the words say of where they are run: what surrounds them, how many versions a new keeper keeps, the folder of the store, and
-// whether a consumer's copy is kept there or a hub.
-#[derive(Drop)]
-struct Setting {
-    around: Surroundings,
-    keep: u32,
-    store: Option<Text>,
-    is_consumer: bool,
-}
-
-fn surroundings_of(alloc: Global, words: &[String]) -> Result<Surroundings, NoMemory> {
-    let root = root_of(alloc, words)?;
-    let peer = peer_of(alloc, words)?;
-    Ok(Surroundings { root, peer })
-}
-
-// Whether a command is the consumer's.
-fn is_of_consumer(command: &Command) -> bool {
-    match command {
-        Command::Sync { .. }
-        | Command::Enter { .. }
-        | Command::Send { .. }
-        | Command::Outbox
-        | Command::ListHeld { .. } => true,
-        Command::Show { .. }
-        | Command::Publish { .. }
-        | Command::Grant { .. }
-        | Command::Ask { .. } => false,
-    }
-}
-
-// Whether the words spell a command of the consumer.
-fn is_consumer(alloc: Global, words: &[String]) -> Result<bool, NoMemory> {
-    match split_words(alloc, words) {
-        Ok(parsed) => Ok(is_of_consumer(&parsed.command)),
-        Err(Refusal::Fault(_)) => Ok(false),
-        Err(Refusal::NoMemory) => Err(NoMemory),
-    }
-}
-
-fn setting_of(alloc: Global, words: &[String]) -> Result<Setting, NoMemory>
-    ensures keep { IfOk result (λ s. s.keep ≡ keep_in (split (map string_bytes words.now))) }
-    ensures store { IfOk result (λ s. s.store ≡ store_in (split (map string_bytes words.now))) }
-{
-    let keep = keep_of(alloc, words)?;
-    let is_consumer = is_consumer(alloc, words)?;
-    let around = surroundings_of(alloc, words)?;
-    let store = store_of(alloc, words)?;
-    Ok(Setting {
-        around,
-        keep,
-        store,
-        is_consumer,
-    })
-}
-
-// What the store keeps of a setting.
-fn kept_in(keep: u32, is_consumer: bool) -> Kept {
-    if is_consumer {
-        Kept::Copy
+    let file = if is_of_consumer(spelled) {
+        COPY_FILE
     } else {
-        Kept::Hub { keep }
-    }
-}
-
-// Runs words in the setting that they say.
-fn run_in<O: Sink>(
-    rt: HostRuntime,
-    alloc: Global,
-    words: &[String],
-    setting: Setting,
-    out: &mut O,
-) -> u8
-    requires keep { setting.keep ≡ keep_in (split (map string_bytes words.now)) }
-    requires store { setting.store ≡ store_in (split (map string_bytes words.now)) }
-    ensures { Runs (IsRealAnswer (split (map string_bytes words.now))) (split (map string_bytes words.now)) result (O.written out.old) (O.written out.new) (O.faults out.old) (O.faults out.new) }
-{
-    let Setting {
-        around,
-        keep,
-        store,
-        is_consumer,
-    } = setting;
-    match store {
-        None => run_in_memory(rt, alloc, words, around, keep, out),
-        Some(folder) => {
-            let kept = kept_in(keep, is_consumer);
-            run_stored(rt, alloc, words, around, kept, folder.as_str(), out)
+        HUB_FILE
+    };
+    match open_store(system.rt, system.alloc, folder, file) {
+        Ok(Some(connection)) => run_connected(system, spelled, connection, out),
+        Ok(None) => run_closed(system, spelled, out),
+        Err(NoMemory) => {
+            drop(system);
+            print(out, 17, NO_MEMORY)
         }
     }
 }
 
-// Runs words, unless memory runs out before a keeper is there.
-fn run_set<O: Sink>(rt: HostRuntime, alloc: Global, words: &[String], out: &mut O) -> u8
-    ensures { Runs (IsRealAnswer (split (map string_bytes words.now))) (split (map string_bytes words.now)) result (O.written out.old) (O.written out.new) (O.faults out.old) (O.faults out.new) }
+// Whether words spell a command of the consumer.
+fn is_of_consumer(spelled: &Spelled) -> bool {
+    match spelled {
+        Ok(parsed) => match &parsed.command {
+            Command::Sync { .. }
+            | Command::Enter { .. }
+            | Command::Send { .. }
+            | Command::Outbox
+            | Command::ListHeld { .. } => true,
+            Command::Show { .. }
+            | Command::Publish { .. }
+            | Command::Grant { .. }
+            | Command::Ask { .. } => false,
+        },
+        Err(_) => false,
+    }
+}
+
+// Runs what words spell, unless memory runs out before a keeper is there.
+fn run_set<O: Sink>(rt: HostRuntime, alloc: Global, spelled: &Spelled, out: &mut O) -> u8
+    ensures { RunsBetween O.written O.faults out.old out.new result spelled.now (IsRealAnswer spelled.now) }
 {
-    match setting_of(alloc, words) {
-        Ok(setting) => run_in(rt, alloc, words, setting, out),
+    match system_of(rt, alloc, spelled) {
+        Ok(system) => match store_of(spelled) {
+            None => run_in_memory(system, spelled, out),
+            Some(folder) => run_stored(system, spelled, folder.as_str(), out),
+        },
+        Err(NoMemory) => print(out, 17, NO_MEMORY),
+    }
+}
+
+// Runs any words.
+fn run_words<O: Sink>(rt: HostRuntime, alloc: Global, words: &[String], out: &mut O) -> u8
+    ensures { RunsBetween O.written O.faults out.old out.new result (split (map string_bytes words.now)) (IsRealAnswer (split (map string_bytes words.now))) }
+{
+    match read_words(alloc, words) {
+        Ok(spelled) => {
+            let status = run_set(rt, alloc, &spelled, out);
+            drop(spelled);
+            status
+        }
         Err(NoMemory) => print(out, 17, NO_MEMORY),
     }
 }
@@ -410,5 +274,5 @@ pub fn run_real<O: Sink>(rt: HostRuntime, alloc: Global, words: &[String], out: 
     ensures sink_failed { result ≡ 1 → Rose (O.faults out.old) (O.faults out.new) }
     ensures sink_stood { result ≢ 1 → O.faults out.new ≡ O.faults out.old }
 {
-    run_set(rt, alloc, words, out)
+    run_words(rt, alloc, words, out)
 }

@@ -1,0 +1,17 @@
+use Rattle.std.proofs.Common.{◌≡◌, refl}
+use Rattle.consumer_commands.specs.Consumers.{copy_between, link_between}
+use Rattle.hub_cli.proofs.Ending.{leads-bad-words}
+use Rattle.hub_cli.proofs.Telling.{writes_as}
+use Rattle.hub_cli.specs.Outside.{faults_between, outside_between}
+use Rattle.hub_cli.proofs.run.run_spelled.Goals as goal
+
+pub returns-in-Err : goal.returns-in-Err
+returns-in-Err g c =
+    rw c.in-Err.is
+    (writes_as _ _ _ _ _ _ _
+    (λ a printed. leads-bad-words
+    (outside_between g.F.Folder.files g.F.Folder.faults c.args.folder.now c.args.folder.now (g.K.Clock.moment c.args.clock.now) (faults_between g.H.HubKeeper.fault_count c.args.keeper.now c.args.keeper.now))
+    (copy_between g.C.CopyKeeper.stands_for g.C.CopyKeeper.fault_count c.args.copy.now c.args.copy.now)
+    (link_between g.L.Link.tells g.L.Link.asked g.L.Link.missed g.L.Link.kept g.L.Link.fault_count c.args.link.now c.args.link.now)
+    (g.H.HubKeeper.stands_for c.args.keeper.now) c.in-Err.place.now (refl, refl) (record { folder = refl; keeper = refl }) a (rw c.nothing_done.ensures at printed))
+    c.tell.ensures)
