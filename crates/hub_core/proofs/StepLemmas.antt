@@ -1,5 +1,5 @@
 -- What is due and what is published.
-use Rattle.std.proofs.Common.{◌≡◌, ℕ, ℤ, ◌≤◌, ◌⊎◌, true, List, [], ◌∷◌, Option, None, Some, Result, Ok, Err, bytes_eq, arith, inl, inr, refl, sym, ap, subst}
+use Rattle.std.proofs.Common.{◌≡◌, ℕ, ℤ, ◌≤◌, ◌⊎◌, false, true, List, [], ◌∷◌, Option, None, Some, Result, Ok, Err, bytes_eq, arith, inl, inr, refl, sym, ap, subst}
 use Rattle.std.specs.List.{AllByRecursion}
 use Rattle.std.specs.Prelude.{IfOk, is_ok}
 use Rattle.std.specs.Option.{ForSome}
@@ -21,13 +21,16 @@ use Rattle.version_changes.specs.sets.Applying.{Answers, Applies, LeadsOn, Leads
 use Rattle.version_changes.specs.declared.sets.publish_fault.PublishFault.{PublishFault}
 use Rattle.version_core.proofs.TableLemmas.{last_number}
 use Rattle.keeper_memory.proofs.KeptLemmas.{newest_after, versions_are}
-use Rattle.keeper_memory.specs.Commits.{CanFollow, CanLead}
+use Rattle.keeper_memory.specs.Commits.{CanCommit, CanFollow, CanLead}
 use Rattle.keeper_memory.specs.Kept.{AreHubVersions, IsKept, KeptState, newest_kept, oldest_kept}
 use Rattle.keeper_memory.specs.declared.hub_commit.HubCommit.{HubCommit}
 use Rattle.roster_types.specs.Sets.{SetRecord}
 use Rattle.version_changes.specs.sets.Steps.{IsSound, led_to}
 use Rattle.hub_core.specs.Made.{Adopts, after_change}
-use Rattle.hub_core.specs.Steps.{Installs, MakesNext}
+use Rattle.hub_core.specs.Standing.{HeldHub, IsStanding}
+use Rattle.hub_core.specs.Steps.{CountsFault, Installs, MakesNext}
+use Rattle.hub_core.specs.Works.{Did, Handed, IsMade, IsUnmade, Works}
+use Rattle.hub_core.proofs.HubLemmas.{settled}
 use Rattle.hub_core.specs.declared.hub_error.HubError.{HubError}
 use Rattle.hub_core.specs.declared.hub_error.HubError.TheVariants as error
 use Rattle.hub_core.specs.declared.published.Published.{Published}
@@ -121,3 +124,62 @@ sound_after (Ok (Some change)) (Ok (published.New version)) before after sound a
     subst (λ (k : KeptState). IsSound (newest_kept k.versions)) (sym adopts.0) (subst IsSound (sym (newest_after before.keep before.versions (after_change before change))) sound)
 sound_after (Ok (Some change)) (Ok (published.Same version)) before after sound adopts ok = absurd adopts
 sound_after (Ok (Some change)) (Err e) before after sound adopts ok = cc ok
+
+-- what a call did of a hub that has no commit left open
+module _ (asks : BaseVersion → Outcome → Type 0) (before after : HeldHub) (count count' : ℕ) (closed : before.is_open ≡ false) where
+  asked : (result : Result Published HubError) → ((kept : KeptState) → IsStanding after kept → (stood : KeptState) × IsStanding before stood × MakesNext asks result stood kept) → MakesNext asks result before.kept after.kept
+  asked result told = let (stood, standing, makes) = told after.kept (inl refl) in subst (λ (k : KeptState). MakesNext asks result k after.kept) (settled before closed stood standing) makes
+
+  pub did : (result : Result Published HubError) → ((kept : KeptState) → IsStanding after kept → (stood : KeptState) × IsStanding before stood × MakesNext asks result stood kept)
+      → Works result before after → CountsFault count count' result → Did (MakesNext asks) (Err error.Keeper) result before after count count'
+  did (Ok x) told works counts = inl (record { made = works; stays = counts; asked = asked (Ok x) told })
+  did (Err error.Keeper) told works counts = inr (record { left = works; rose = counts; told = refl })
+  did (Err error.NoMemory) told works counts = inl (record { made = inl works; stays = counts; asked = asked (Err error.NoMemory) told })
+  did (Err (error.Refused fault)) told works counts = inl (record { made = inl works; stays = counts; asked = asked (Err (error.Refused fault)) told })
+
+-- a hub that stays as it is has made nothing
+pub unmade : (hub : HeldHub) → hub.is_open ≡ false → IsUnmade hub hub
+unmade hub settled = record { kept = refl; settled = settled; keeps = refl; last = inl refl }
+
+-- a commit that was to be handed over is what a call made, if anything
+pub handed_works : {T : Type 0} (commit : HubCommit) (result : Result T HubError) (before after : HeldHub) → CanCommit before.kept commit → Handed commit result before after → Works result before after
+handed_works commit (Ok x) before after can is = inr (record { commit = commit; can = can; is = is })
+handed_works commit (Err error.Keeper) before after can is = record { commit = commit; can = can; is = is }
+handed_works commit (Err error.NoMemory) before after can is = is
+handed_works commit (Err (error.Refused fault)) before after can is = absurd is
+
+-- whatever the answer would have been of
+pub works_error : (S T : Type 0) (e : HubError) (before after : HeldHub) → Works {T = S} (Err e) before after → Works {T = T} (Err e) before after
+works_error S T error.Keeper before after works = works
+works_error S T error.NoMemory before after works = works
+works_error S T (error.Refused fault) before after works = works
+
+-- a change alone is a commit
+pub can_change : (kept : KeptState) (change : Change) → CanLead kept.versions change → CanCommit kept (commit_of change)
+can_change kept change lead = record {
+  some = inl refl;
+  change = λ other some. let same : change ≡ other = cc in subst (CanLead kept.versions) same lead;
+  mark = λ mark some. absurd (cc);
+}
+
+-- ---- what is read off what a call did
+
+made_keeps : (before after : HeldHub) → IsUnmade before after ⊎ IsMade before after → after.keeps ≡ before.keeps
+made_keeps before after (inl unmade) = unmade.keeps
+made_keeps before after (inr made) = ap (λ (h : HeldHub). h.keeps) made.is
+
+-- whether commits are kept stays
+pub works_keeps : {T : Type 0} (result : Result T HubError) (before after : HeldHub) → Works result before after → after.keeps ≡ before.keeps
+works_keeps (Ok x) before after works = made_keeps before after works
+works_keeps (Err error.Keeper) before after works = ap (λ (h : HeldHub). h.keeps) works.is
+works_keeps (Err error.NoMemory) before after works = works.keeps
+works_keeps (Err (error.Refused fault)) before after works = works.keeps
+
+pub made_settled : (before after : HeldHub) → IsUnmade before after ⊎ IsMade before after → after.is_open ≡ false
+made_settled before after (inl unmade) = unmade.settled
+made_settled before after (inr made) = ap (λ (h : HeldHub). h.is_open) made.is
+
+module _ {A : Type 0} (asks : A → KeptState → KeptState → Type 0) where
+  pub did_keeps : (failed answer : A) (before after : HeldHub) (count count' : ℕ) → Did asks failed answer before after count count' → after.keeps ≡ before.keeps
+  did_keeps failed answer before after count count' (inl done) = made_keeps before after done.made
+  did_keeps failed answer before after count count' (inr fault) = ap (λ (h : HeldHub). h.keeps) fault.left.is

@@ -14,7 +14,7 @@ abbrev pub kept_in : Versions → List MarkRow → KeptState
 kept_in table marks = record { keep = table.keep; versions = table.versions; marks = marks }
 
 abbrev pub held_of : Inside → HeldHub
-held_of hub = record { kept = kept_in hub.table hub.marks.marks; last = hub.last; is_open = hub.is_open }
+held_of hub = record { kept = kept_in hub.table hub.marks.marks; last = hub.last; is_open = hub.is_open; keeps = hub.keeps }
 
 -- a commit that was handed to the keeper, and may be made of this state
 pub record MayBeMade (kept : KeptState) (handed : Option HubCommit) : Type 0 where

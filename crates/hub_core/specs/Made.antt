@@ -25,6 +25,11 @@ has_change_or kept None None = false
 abbrev pub has_commit : KeptState → HubCommit → Bool
 has_commit kept commit = has_change_or kept commit.change commit.mark
 
+-- the last commit, where it was made
+abbrev pub made_last : KeptState → Option HubCommit → Option HubCommit
+made_last kept None = None
+made_last kept (Some commit) = if has_commit kept commit then Some commit else None
+
 -- a state with a commit that was made
 abbrev pub taken_in : Bool → KeptState → HubCommit → KeptState
 taken_in made kept commit = if made then with_commit kept commit else kept

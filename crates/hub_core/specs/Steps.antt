@@ -1,5 +1,5 @@
 -- What the calls of a hub answer, and where they lead.
-use Rattle.std.specs.Prelude.{◌≡◌, ◌⊎◌, ⊤, ℕ, ◌+◌, ◌-◌, ◌^◌, min, Bool, false, true, Option, None, Some, Result, Ok, Err}
+use Rattle.std.specs.Prelude.{◌≡◌, ◌⊎◌, ⊤, ℕ, ◌+◌, ◌-◌, ◌^◌, min, Bool, false, true, Result, Ok, Err}
 use Rattle.keeper_memory.specs.Commits.{followed_by, with_commit}
 use Rattle.keeper_memory.specs.Kept.{KeptState, newest_kept}
 use Rattle.keeper_memory.specs.declared.hub_commit.HubCommit.{HubCommit}
@@ -35,13 +35,6 @@ Installs commit (Ok x) before after = after ≡ with_commit before commit
 Installs commit (Err error.Keeper) before after = (after ≡ before) ⊎ (after ≡ with_commit before commit)
 Installs commit (Err error.NoMemory) before after = after ≡ before
 Installs commit (Err (error.Refused fault)) before after = ⊥
-
--- a commit is kept where it is left open, and none is where it is made
-abbrev pub IsLast : {T : Type 0} → HubCommit → Result T HubError → Option HubCommit → Type 0
-IsLast commit (Ok x) last = last ≡ None
-IsLast commit (Err error.Keeper) last = last ≡ Some commit
-IsLast commit (Err error.NoMemory) last = ⊤
-IsLast commit (Err (error.Refused fault)) last = ⊤
 
 -- a version that is asked for stands
 pub record Adds (asks : Outcome → Type 0) (before after : KeptState) (next : BaseVersion) : Type 0 where

@@ -1,6 +1,6 @@
 //! The hub.
 
-ghost use Rattle.std.specs.Prelude.{◌≡◌, IfOk, None, Ok, OnErr, Some, false, true};
+ghost use Rattle.std.specs.Prelude.{◌≡◌, Err, IfOk, None, Ok, OnErr, Some, false, option_copied, true};
 ghost use Rattle.std.specs.Option.{ForSome};
 ghost use Rattle.version_changes.specs.grants.Granting.{GrantsMake};
 ghost use Rattle.version_changes.specs.sets.Applying.{Applies};
@@ -8,33 +8,39 @@ ghost use Rattle.version_changes.specs.sets.Steps.{IsSound};
 ghost use Rattle.version_core.specs.Version.{newest_of};
 ghost use Rattle.keeper_memory.specs.Commits.{CanCommit, CanLead};
 ghost use Rattle.keeper_memory.specs.Kept.{IsKept, KeptState, newest_kept};
-ghost use Rattle.hub_core.specs.Made.{Adopts};
+ghost use Rattle.hub_core.specs.Hub.{MayBeMade};
+ghost use Rattle.hub_core.specs.Made.{Adopts, made_last};
 ghost use Rattle.hub_core.specs.Standing.{IsStanding, KeeperFits};
-ghost use Rattle.hub_core.specs.Steps.{CountsFault, Installs, IsLast, LeavesOpen, MakesNext, RefusesNothing};
+ghost use Rattle.hub_core.specs.Steps.{CountsFault, Installs, LeavesOpen, MakesNext, RefusesNothing};
+ghost use Rattle.hub_core.specs.Works.{Did, DidReload, Handed, Works, copy_kept};
+ghost use Rattle.hub_core.specs.declared.hub_error.HubError.TheVariants as error;
 
 use crate::hub_error::HubError;
 use crate::published::Published;
-use crate::room::{make_room, take_in, take_in_made};
+use crate::room::{is_made, make_room, take_in, take_in_made};
 use grant_scopes::GrantList;
 use keeper_memory::{HubCommit, HubKeeper};
-use roster_base::{KeeperError, NoMemory, Refusal};
+use roster_base::{KeeperError, NoMemory, Refusal, TryCopy};
 use roster_texts::Moment;
 use roster_types::set::RosterSet;
 use std::alloc::Global;
 use std::marker::Model;
+use std::mem::replace;
 use version_changes::{PublishFault, grants_change, set_change_over};
 use version_core::change::Change;
 use version_core::marks::Marks;
 use version_core::table::Table;
 
-/// A hub's state in memory. The keeper goes in with each call. A clause sees the state, the last commit at which the keeper failed, where
-/// none was made since, and whether the keeper hasn't been asked yet what it made of that one.
+/// A hub's state in memory. The keeper goes in with each call. A clause sees the state, a last commit, whether the keeper failed at that
+/// one and hasn't been asked yet what it made of it, and whether commits are kept. Where they are, the last commit is the last one that was
+/// handed to the keeper and not handed out since; else it is the last one at which the keeper failed, where none was made since.
 #[derive(Drop)]
 pub struct Hub {
     table: Table,
     marks: Marks,
     last: Option<HubCommit>,
     is_open: bool,
+    keeps: bool,
     // Whether the newest version is known to have no broken references, so that a set needs to be checked where it changes rows alone.
     is_sound: bool,
 }
@@ -63,6 +69,7 @@ impl Hub {
     pub fn open<H: HubKeeper>(alloc: Global, keeper: &mut H) -> Result<Hub, HubError>
         ensures fits { IfOk result (KeeperFits (H.stands_for keeper.new)) }
         ensures settled { IfOk result (λ hub. (hub.is_open ≡ false) × (hub.last ≡ None)) }
+        ensures keeps { IfOk result (λ hub. hub.keeps ≡ false) }
         ensures kept { IfOk result (λ hub. IsKept hub.kept) }
         ensures told { (kept : KeptState) → H.stands_for keeper.new kept → H.stands_for keeper.old kept }
         ensures cause { CountsFault (H.fault_count keeper.old) (H.fault_count keeper.new) result }
@@ -76,6 +83,7 @@ impl Hub {
             marks: Marks::from_tables(alloc, &tables)?,
             last: None,
             is_open: false,
+            keeps: false,
             is_sound,
         })
     }
@@ -103,6 +111,47 @@ impl Hub {
         &self.marks
     }
 
+    /// Has each commit kept from now on, so that whoever asks can tell what a call made: a copy of it is taken before it is handed to the
+    /// keeper.
+    pub fn keep_commits(&mut self)
+        ensures { self.new ≡ record self.old { keeps = true } }
+    {
+        self.keeps = true;
+    }
+
+    /// The last commit that was handed to the keeper, whatever that answered, where commits are kept; else one at which the keeper failed,
+    /// where none was made since. None where it was handed out. No memory is taken.
+    pub fn last_commit(&self) -> Option<&HubCommit>
+        ensures { option_copied result ≡ self.now.last }
+    {
+        self.last.as_ref()
+    }
+
+    /// Whether the keeper failed at the last commit, and hasn't been asked yet what it made of it.
+    pub fn has_open_commit(&self) -> bool
+        ensures is { result ≡ self.now.is_open }
+        ensures left { result ≡ true → MayBeMade self.now.kept self.now.last }
+    {
+        self.is_open
+    }
+
+    /// Hands out the last commit, where it was made. No memory is taken.
+    pub fn take_made(&mut self) -> Option<HubCommit>
+        requires { self.old.is_open ≡ false }
+        ensures hub { self.new ≡ record self.old { last = None } }
+        ensures made { result ≡ made_last self.old.kept self.old.last }
+    {
+        let Some(last) = self.last.take() else {
+            return None;
+        };
+        if is_made(&self.table, &self.marks, &last) {
+            Some(last)
+        } else {
+            drop(last);
+            None
+        }
+    }
+
     /// Asks the keeper what it made of a commit at which it failed, where there is one, and takes the commit in where it was made. Nothing
     /// else of what the keeper keeps is taken.
     pub fn ready<H: HubKeeper>(&mut self, alloc: Global, keeper: &mut H) -> Result<(), HubError>
@@ -111,6 +160,7 @@ impl Hub {
         ensures told { (after : KeptState) → IsStanding self.new after → IsStanding self.old after × (H.stands_for keeper.new after → H.stands_for keeper.old after) }
         ensures settled { LeavesOpen result self.new.is_open }
         ensures last { self.new.last ≡ self.old.last }
+        ensures keeps { self.new.keeps ≡ self.old.keeps }
         ensures err { OnErr result (self.new ≡ self.old) }
         ensures idle { self.old.is_open ≡ false → (result ≡ Ok tt) × (self.new ≡ self.old) × (keeper.new ≡ keeper.old) }
         ensures cause { CountsFault (H.fault_count keeper.old) (H.fault_count keeper.new) result }
@@ -129,8 +179,18 @@ impl Hub {
         Ok(())
     }
 
-    /// Hands a commit to the keeper, and takes it in where it was made. All memory is taken before. A copy is kept nowhere: the commit moves
-    /// into the table, or stays beside it where the keeper failed.
+    // The copy of a commit that stays when it moves into the table: none where commits aren't kept.
+    fn copy_to_keep(&self, alloc: Global, commit: &HubCommit) -> Result<Option<HubCommit>, NoMemory>
+        ensures { IfOk result (λ copy. copy ≡ copy_kept self.now.keeps commit.now) }
+    {
+        if !self.keeps {
+            return Ok(None);
+        }
+        Ok(Some(commit.copy(alloc)?))
+    }
+
+    /// Hands a commit to the keeper, and takes it in where it was made. All memory is taken before, that of a copy too where commits are
+    /// kept; else the commit is copied nowhere: it moves into the table, or stays beside it where the keeper failed.
     pub fn install<H: HubKeeper>(
         &mut self,
         alloc: Global,
@@ -142,26 +202,33 @@ impl Hub {
         requires can { CanCommit self.old.kept commit }
         ensures fits { KeeperFits (H.stands_for keeper.new) self.new }
         ensures told { (after : KeptState) → IsStanding self.new after → (H.stands_for keeper.new after → H.stands_for keeper.old self.old.kept) × Installs commit result self.old.kept after }
-        ensures last { IsLast commit result self.new.last }
+        ensures handed { Handed commit result self.old self.new }
         ensures settled { LeavesOpen result self.new.is_open }
         ensures cause { CountsFault (H.fault_count keeper.old) (H.fault_count keeper.new) result }
         ensures refused { RefusesNothing result }
     {
+        let copy = self.copy_to_keep(alloc, &commit)?;
         make_room(&mut self.table, &mut self.marks, &commit)?;
         match keeper.commit(alloc, &commit) {
             Ok(()) => {
-                drop(self.last.take());
+                drop(replace(&mut self.last, copy));
                 take_in(&mut self.table, &mut self.marks, commit);
                 self.is_sound = false;
                 Ok(())
             }
             Err(KeeperError::Failed) => {
+                drop(copy);
                 drop(self.last.replace(commit));
                 self.is_open = true;
                 Err(HubError::Keeper)
             }
             Err(KeeperError::NoMemory) => {
-                drop(commit);
+                drop(copy);
+                if self.keeps {
+                    drop(self.last.replace(commit));
+                } else {
+                    drop(commit);
+                }
                 Err(HubError::NoMemory)
             }
         }
@@ -179,6 +246,7 @@ impl Hub {
         requires can { CanLead self.old.kept.versions change }
         ensures fits { KeeperFits (H.stands_for keeper.new) self.new }
         ensures told { (after : KeptState) → IsStanding self.new after → (H.stands_for keeper.new after → H.stands_for keeper.old self.old.kept) × Adopts (Ok (Some change)) result self.old.kept after }
+        ensures works { Works result self.old self.new }
         ensures settled { LeavesOpen result self.new.is_open }
         ensures cause { CountsFault (H.fault_count keeper.old) (H.fault_count keeper.new) result }
     {
@@ -205,6 +273,7 @@ impl Hub {
         requires can { IfOk due (λ change. ForSome change (CanLead self.old.kept.versions)) }
         ensures fits { KeeperFits (H.stands_for keeper.new) self.new }
         ensures told { (after : KeptState) → IsStanding self.new after → (H.stands_for keeper.new after → H.stands_for keeper.old self.old.kept) × Adopts due result self.old.kept after }
+        ensures works { Works result self.old self.new }
         ensures settled { LeavesOpen result self.new.is_open }
         ensures cause { CountsFault (H.fault_count keeper.old) (H.fault_count keeper.new) result }
     {
@@ -239,6 +308,10 @@ impl Hub {
         requires { KeeperFits (H.stands_for keeper.old) self.old }
         ensures fits { KeeperFits (H.stands_for keeper.new) self.new }
         ensures told { (after : KeptState) → IsStanding self.new after → (before : KeptState) × IsStanding self.old before × (H.stands_for keeper.new after → H.stands_for keeper.old before) × MakesNext (λ version. Applies version set at) result before after }
+        // Of a hub with no commit left open, what it made is the last commit, if anything.
+        ensures did { self.old.is_open ≡ false → Did (MakesNext (λ version. Applies version set at)) (Err error.Keeper) result self.old self.new (H.fault_count keeper.old) (H.fault_count keeper.new) }
+        ensures reloads { DidReload (MakesNext (λ version. Applies version set at)) (λ fault. Err fault) result self.old self.new (H.fault_count keeper.old) (H.fault_count keeper.new) }
+        ensures keeps { self.new.keeps ≡ self.old.keeps }
         ensures settled { LeavesOpen result self.new.is_open }
         ensures cause { CountsFault (H.fault_count keeper.old) (H.fault_count keeper.new) result }
     {
@@ -261,6 +334,10 @@ impl Hub {
         requires { KeeperFits (H.stands_for keeper.old) self.old }
         ensures fits { KeeperFits (H.stands_for keeper.new) self.new }
         ensures told { (after : KeptState) → IsStanding self.new after → (before : KeptState) × IsStanding self.old before × (H.stands_for keeper.new after → H.stands_for keeper.old before) × MakesNext (λ version. GrantsMake version list.now at) result before after }
+        // Of a hub with no commit left open, what it made is the last commit, if anything.
+        ensures did { self.old.is_open ≡ false → Did (MakesNext (λ version. GrantsMake version list.now at)) (Err error.Keeper) result self.old self.new (H.fault_count keeper.old) (H.fault_count keeper.new) }
+        ensures reloads { DidReload (MakesNext (λ version. GrantsMake version list.now at)) (λ fault. Err fault) result self.old self.new (H.fault_count keeper.old) (H.fault_count keeper.new) }
+        ensures keeps { self.new.keeps ≡ self.old.keeps }
         ensures settled { LeavesOpen result self.new.is_open }
         ensures cause { CountsFault (H.fault_count keeper.old) (H.fault_count keeper.new) result }
     {

@@ -92,6 +92,19 @@ fn has_commit(tables: &HubTables, commit: &HubCommit) -> bool
     }
 }
 
+/// Whether a commit was taken in.
+pub fn is_made(table: &Table, marks: &Marks, commit: &HubCommit) -> bool
+    ensures { result ≡ has_commit (kept_in table.now marks.now.marks) commit.now }
+{
+    if let Some(change) = &commit.change {
+        return change.version <= table.newest();
+    }
+    match &commit.mark {
+        Some(mark) => marks.get(&mark.caller, mark.number).is_some(),
+        None => false,
+    }
+}
+
 /// Takes in a copy of a commit that tables have. Where they lack it, all stays as it was.
 pub fn take_in_made(
     alloc: Global,
