@@ -1,4 +1,5 @@
 pub mod Agreement
+pub mod Asked
 pub mod Bounds
 pub mod Causes
 pub mod Completeness

@@ -12,6 +12,7 @@ ghost use Rattle.keeper_memory.specs.declared.copy.state.TheConstants.{LAST};
 ghost use Rattle.exchange_link.specs.Causes.{IsOwnReply};
 ghost use Rattle.exchange_link.specs.Owning.{IsOwnRead, Tries};
 ghost use Rattle.exchange_link.specs.Requests.{Asks, IfOwn, IsNumbered, IsReady, is_number, number, numbered};
+ghost use Rattle.exchange_link.specs.Asked.{IsTry, SendsOn};
 ghost use Rattle.exchange_link.specs.Causes.{IsLast, IsMore, RoseBy};
 
 use crate::link::Link;
@@ -107,6 +108,9 @@ pub fn ask<L: Link>(
         × Asks run count.old count.new (IsNumbered request) before after
         × (IsReady run count.old before.sent → IfOwn result (λ w. IsOwnRead before after (numbered request (number run count.new)) w)) }
     ensures last { result ≢ Outcome.NoMemory → (after : Told) → L.tells link.new after → IsLast (numbered request (number run count.new)) after.sent }
+    // Each exchange sent this request, under the next count.
+    ensures asks { (after : Told) → L.tells link.new after → (before : Told) × L.tells link.old before
+        × SendsOn (IsTry (numbered request)) run count.old count.new (result ≡ Outcome.NoMemory) before.sent after.sent }
 {
     for i in 0..tries {
         let number = Echo {

@@ -3,8 +3,10 @@ use Rattle.exchange_link.specs.Exchanges.{IsTextOf}
 use Rattle.http_wire.specs.Sending.{request_text}
 use Rattle.status_info.specs.declared.request.Echo.{Echo}
 use Rattle.status_info.specs.declared.request.Request.{Request}
+use Rattle.exchange_link.specs.Asked.{IsTry}
 use Rattle.exchange_link.specs.Requests.{IsNumbered, number, numbered}
 use Rattle.exchange_link.proofs.AskLemmas.{asks_on, asks_refl, own_map, missed_other, own_on, sent_last}
+use Rattle.exchange_link.proofs.AskedLemmas.{sends_once, sends_refl, sends_trans, sends_weaker}
 use Rattle.exchange_link.proofs.asking.ask.Goals as goal
 
 pub loop-i-init : goal.loop-i-init
@@ -17,11 +19,17 @@ loop-i-init g c = record {
   rose = omega arith;
   none = λ p. absurd (omega (arith, p));
   told = λ after tells. (after, tells, asks_refl c.args.run c.args.count.now (IsNumbered c.args.request) after);
+  sends = λ after tells. (after, tells, sends_refl (IsTry (numbered c.args.request)) c.args.run c.args.count.now ⊥ after.sent);
   last = λ p. absurd (omega (arith, p));
 }
 
 pub returns-in-Err-clause-told : goal.returns-in-Err-clause-told
 returns-in-Err-clause-told g c after tells = let y = c.loop-i.invariant.told after tells in (y.0, y.1, y.2, λ ready. tt)
+
+pub returns-in-Err-clause-asks : goal.returns-in-Err-clause-asks
+returns-in-Err-clause-asks g c after tells =
+    let y = c.loop-i.invariant.sends after tells in
+    (y.0, y.1, sends_weaker (IsTry (numbered c.args.request)) (IsTry (numbered c.args.request)) _ _ _ ⊥ _ _ _ (λ n q h. h) (λ h. absurd h) y.2)
 
 pub once-requires : goal.once-requires
 once-requires g c =
@@ -65,6 +73,10 @@ returns-in_default g c =
       last = λ ne after tells.
           let x = c.once.ensures.told q is after tells in
           sent_last q c.once.result x.0 after x.2 ne;
+      asks = λ after tells.
+          let x = c.once.ensures.told q is after tells in
+          let y = c.loop-i.invariant.sends x.0 x.1 in
+          (y.0, y.1, sends_trans (IsTry (numbered c.args.request)) c.args.run _ c.loop-i.count _ ⊥ _ _ _ _ (λ h. h) y.2 (sends_once (IsTry (numbered c.args.request)) c.args.run c.loop-i.count _ q c.once.result x.0 after refl refl x.2));
     }
 
 pub loop-i-preserved : goal.loop-i-preserved
@@ -92,6 +104,15 @@ loop-i-preserved g c =
           let x = c.once.ensures.told q is after tells in
           let y = c.loop-i.invariant.told x.0 x.1 in
           (y.0, y.1, asks_on c.args.run _ c.loop-i.count _ (IsNumbered c.args.request) q _ _ _ _ refl (omega arith) (n, refl) y.2 x.2);
+      sends = λ after tells.
+          let x = c.once.ensures.told q is after tells in
+          let y = c.loop-i.invariant.sends x.0 x.1 in
+          let one = sends_once (IsTry (numbered c.args.request)) c.args.run c.loop-i.count _ q c.once.result x.0 after refl refl x.2 in (
+            y.0,
+            y.1,
+            sends_trans (IsTry (numbered c.args.request)) c.args.run _ c.loop-i.count _ ⊥ ⊥ _ _ _ (λ h. h) y.2
+                (sends_weaker (IsTry (numbered c.args.request)) (IsTry (numbered c.args.request)) _ _ _ _ ⊥ _ _ (λ n q h. h) (λ e. missed_other (sym c.in-Missed.is ∙ e)) one),
+          );
       last = λ p after tells.
           let x = c.once.ensures.told q is after tells in
           sent_last q c.once.result x.0 after x.2 (λ e. missed_other (sym c.in-Missed.is ∙ e));
@@ -105,3 +126,8 @@ returns-clause-missed g c e =
 
 pub returns-clause-told : goal.returns-clause-told
 returns-clause-told g c after tells = let y = c.loop-i.invariant.told after tells in (y.0, y.1, y.2, λ ready. tt)
+
+pub returns-clause-asks : goal.returns-clause-asks
+returns-clause-asks g c after tells =
+    let y = c.loop-i.invariant.sends after tells in
+    (y.0, y.1, sends_weaker (IsTry (numbered c.args.request)) (IsTry (numbered c.args.request)) _ _ _ ⊥ _ _ _ (λ n q h. h) (λ h. absurd h) y.2)

@@ -2,6 +2,7 @@ use Rattle.std.proofs.Common.{◌≡◌, ◌+◌, ◌<◌, ◌≤◌}
 use Rattle.exchange_link.specs.Exchanges.{Told}
 use Rattle.http_wire.specs.Answers.{IsReplyText}
 use Rattle.http_wire.specs.declared.answer.WireReply.{WireReply}
+use Rattle.exchange_link.specs.Asked.{IsTry, SendsOn}
 use Rattle.exchange_link.specs.Requests.{Asks, IsNumbered, number, numbered}
 use Rattle.exchange_link.specs.Causes.{IsLast, IsMore, RoseBy}
 use Rattle.std.proofs.Common.{Some}
@@ -17,5 +18,6 @@ invariant-loop-i g l = record {
   rose : RoseBy l.i (g.L.Link.fault_count l.fn.link) (g.L.Link.fault_count l.link);
   none : 0 < l.i → (w : WireReply) → IsReplyText (g.L.Link.kept l.link) w → w.echo ≡ Some (number l.run l.count) → ⊥;
   told : (after : Told) → g.L.Link.tells l.link after → (before : Told) × g.L.Link.tells l.fn.link before × Asks l.run l.fn.count l.count (IsNumbered l.fn.request) before after;
+  sends : (after : Told) → g.L.Link.tells l.link after → (before : Told) × g.L.Link.tells l.fn.link before × SendsOn (IsTry (numbered l.fn.request)) l.run l.fn.count l.count ⊥ before.sent after.sent;
   last : 0 < l.i → (after : Told) → g.L.Link.tells l.link after → IsLast (numbered l.fn.request (number l.run l.count)) after.sent;
 }
