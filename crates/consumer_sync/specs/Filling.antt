@@ -1,9 +1,10 @@
 -- Page after page.
-use Rattle.std.specs.Prelude.{◌≡◌, ◌⊎◌, ℕ, ◌+◌, ◌-◌, ◌*◌, ◌≤◌, List, Option, Some, None, ⊤}
+use Rattle.std.specs.Prelude.{◌≡◌, ◌⊎◌, ℕ, ◌+◌, ◌-◌, ◌*◌, ◌≤◌, List, Option, Some, None, IfSome, ⊤}
 use Rattle.keeper_memory.specs.copy.Copies.{Copy, Stage}
 use Rattle.keeper_memory.specs.copy.Lists.{kind_count}
 use Rattle.keeper_memory.specs.declared.copy.state.StageState.{StageState}
 use Rattle.keeper_memory.specs.declared.copy.state.TheConstants.{LAST}
+use Rattle.exchange_link.specs.Asked.{TriedFor}
 use Rattle.exchange_link.specs.Bounds.{HasPin, IsCallPin, work}
 use Rattle.exchange_link.specs.Causes.{AnswersTo, AsksOn, CauseOf, IsAside, IsPageStatus, ToldCause}
 use Rattle.exchange_link.specs.Completeness.{IsDone}
@@ -110,3 +111,6 @@ AsksOnIf (Some a) = AsksOn a
 abbrev pub IsEndIf : Option SyncAnswer → Type 0
 IsEndIf None = Unit {0}
 IsEndIf (Some a) = IsEnd a
+
+abbrev pub TriedIf : Option SyncAnswer → List ℕ → ℕ → ℕ → ℕ → ℕ → List Request → Type 0
+TriedIf result token limit run count tries sent = IfSome result (λ a. TriedFor a token limit run count tries sent)

@@ -7,6 +7,7 @@ ghost use Rattle.keeper_memory.specs.copy.States.{stage_of};
 ghost use Rattle.keeper_memory.specs.declared.copy.state.StageState.{StageState as State};
 ghost use Rattle.keeper_memory.specs.declared.copy.state.TheConstants.{LAST};
 ghost use Rattle.exchange_link.specs.Agreement.{StageFitsIf};
+ghost use Rattle.exchange_link.specs.Asked.{IsPageUnder, SendsOn};
 ghost use Rattle.exchange_link.specs.Bounds.{Bounded};
 ghost use Rattle.exchange_link.specs.Causes.{IsLast, IsMore, IsOwnReply, RoseBy};
 ghost use Rattle.exchange_link.specs.Completeness.{StandsAt, first_pin};
@@ -16,7 +17,7 @@ ghost use Rattle.http_wire.specs.declared.answer.WireReply.{WireReply as Reply};
 ghost use Rattle.roster_base.specs.Faults.{Rose};
 ghost use Rattle.consumer_sync.specs.Faulted.{SaysGone};
 ghost use Rattle.exchange_link.specs.Synchronised.{StageOn};
-ghost use Rattle.consumer_sync.specs.Filling.{AsksOnIf, CauseIf, Ends, ExactIf, HasToken, IsCallPinIf, IsDoneIf, IsEndIf, IsSmall, PinLaw, ToldIf, request_of};
+ghost use Rattle.consumer_sync.specs.Filling.{AsksOnIf, CauseIf, Ends, ExactIf, HasToken, IsCallPinIf, IsDoneIf, IsEndIf, IsSmall, PinLaw, ToldIf, TriedIf, request_of};
 ghost use Rattle.consumer_sync.specs.Requests.{IsUnmarked};
 ghost use Rattle.exchange_link.specs.Requests.{Asks, IsReady};
 
@@ -75,6 +76,10 @@ pub fn fill<C: CopyKeeper, L: Link>(
         × ((w : Reply) → IsOwnReply (L.kept link.new) run n w → ExactIf (pin_of asked) w result)
         × (1 ≤ n → result ≢ Some SyncAnswer.NoMemory → (t : Told) → L.tells link.new t → IsLast (request_of asked run n token.now limit) t.sent)
         × (AsksOnIf result → (1 ≤ n) × ((c : Copy) → C.stands_for copy.new c → stage_of c ≡ asked)) }
+    ensures asks { (count : ℕ) × IsMore (L.asked link.old) count (L.asked link.new)
+        × ((after : Told) → L.tells link.new after → (before : Told) × L.tells link.old before
+        × SendsOn (IsPageUnder token.now limit) run 0 count (result ≡ Some SyncAnswer.NoMemory) before.sent after.sent
+        × TriedIf result token.now limit run count tries after.sent) }
 {
     let mut count: u64 = 0;
     'rounds: while kinds_done(stage) < KINDS {

@@ -3,8 +3,10 @@
 ghost use Rattle.std.specs.Prelude.{◌≡◌, ◌≢◌, ◌+◌, ◌-◌, ◌*◌, ◌<◌, ◌≤◌, ◌++◌, IfOk, Some, codes, string_bytes};
 ghost use Rattle.keeper_memory.specs.copy.Lists.{kind_count};
 ghost use Rattle.keeper_memory.specs.declared.copy.state.TheConstants.{LAST};
+ghost use Rattle.exchange_link.specs.Asked.{IsTry, SendsOn};
 ghost use Rattle.exchange_link.specs.Causes.{IsLast, IsMore, IsOwnReply, RoseBy};
 ghost use Rattle.exchange_link.specs.Exchanges.{Told};
+ghost use Rattle.exchange_link.specs.Pages.{page_request as request_under};
 ghost use Rattle.exchange_link.specs.Places.{kinds_of, next_page};
 ghost use Rattle.hub_spec.specs.requests.PageRequests.{page_path, page_query, pin_text};
 ghost use Rattle.http_wire.specs.Answers.{IsNoReply, IsReplyText};
@@ -126,6 +128,8 @@ pub fn fetch<L: Link>(
         × Asks run count.old count.new IsUnmarked before after
         × (IsReady run count.old before.sent → IfOwn result (λ w. IsOwnRead before after (request_of stage.now run count.new token.now limit) w)) }
     ensures last { result ≢ Outcome.NoMemory → (after : Told) → L.tells link.new after → IsLast (request_of stage.now run count.new token.now limit) after.sent }
+    ensures asks { (after : Told) → L.tells link.new after → (before : Told) × L.tells link.old before
+        × SendsOn (IsTry (request_under (next_page token.now limit stage.now))) run count.old count.new (result ≡ Outcome.NoMemory) before.sent after.sent }
 {
     match page_request(alloc, token, limit, stage) {
         Ok(request) => ask(alloc, link, request, run, count, tries),

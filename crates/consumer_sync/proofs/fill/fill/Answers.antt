@@ -4,7 +4,6 @@ use Rattle.keeper_memory.specs.copy.Lists.{kind_count}
 use Rattle.keeper_memory.specs.copy.States.{stage_of}
 use Rattle.keeper_memory.specs.declared.copy.state.StageState.{StageState}
 use Rattle.exchange_link.specs.Bounds.{HasPin}
-use Rattle.exchange_link.specs.Causes.{IsPageStatus}
 use Rattle.exchange_link.specs.Places.{kind_at, kinds_of, staged_of}
 use Rattle.exchange_link.specs.declared.answer.SyncAnswer.{SyncAnswer}
 use Rattle.exchange_link.specs.declared.answer.SyncAnswer.TheVariants as answer
@@ -14,7 +13,10 @@ use Rattle.consumer_sync.specs.Filling.{BoundSoFar, HasToken, IsCallPinIf, IsDon
 use Rattle.consumer_sync.specs.Judging.{judged}
 use Rattle.consumer_sync.specs.Staging.{IsBroken, answer_of}
 use Rattle.consumer_sync.proofs.AgreeLemmas.{agrees_if_on, own_page, performs_agrees, said_of}
-use Rattle.exchange_link.proofs.AskLemmas.{asks_trans, missed_other, own_other}
+use Rattle.exchange_link.proofs.AskLemmas.{asks_trans, missed_other, none_other, own_other}
+use Rattle.exchange_link.proofs.AskedLemmas.{sends_weaker}
+use Rattle.exchange_link.specs.Asked.{IsPageUnder}
+use Rattle.exchange_link.specs.Causes.{IsPageStatus}
 use Rattle.consumer_sync.proofs.BoundLemmas.{StandingIf, bound_done, bound_end, bound_on, call_pin, pin_performs, pin_same, standing_if}
 use Rattle.consumer_sync.proofs.CauseLemmas.{answer_cause, broken_cause, exact_own, page_status, performs_on}
 use Rattle.consumer_sync.proofs.DoneLemmas.{broken_told, own_done, own_told}
@@ -22,6 +24,7 @@ use Rattle.consumer_sync.proofs.FaultLemmas.{says_gone}
 use Rattle.consumer_sync.proofs.FillLemmas.{can_next, ends_on, fault_stage, fills_end, fills_on, kinds_on, pin_on, small_fits, small_on, token_on, weight_falls}
 use Rattle.consumer_sync.proofs.JudgeLemmas.{taken_page}
 use Rattle.consumer_sync.proofs.SyncLemmas.{cause_end}
+use Rattle.consumer_sync.proofs.TriedLemmas.{sends_page, tried_own, tried_page}
 use Rattle.exchange_link.proofs.TextLemmas.{version_low}
 use Rattle.consumer_sync.proofs.fill.fill.Goals as goal
 
@@ -216,6 +219,36 @@ pub returns-in-NoMemory-clause-cause : goal.returns-in-NoMemory-clause-cause
 returns-in-NoMemory-clause-cause g c =
     (c.rounds.stage, c.fetch.new.count, record { least = omega (arith, c.rounds.invariant.asked.least, c.fetch.ensures.asked.least, c.fetch.ensures.count.0); most = omega (arith, c.rounds.invariant.asked.most, c.fetch.ensures.asked.most, c.fetch.ensures.count.0) }, tt, λ w own. inl tt, λ some ne. absurd (ne refl), λ on. absurd on)
 
+pub returns-in-NoReply-clause-asks : goal.returns-in-NoReply-clause-asks
+returns-in-NoReply-clause-asks g c = (
+  c.fetch.new.count,
+  record { least = omega (arith, c.rounds.invariant.asked.least, c.fetch.ensures.asked.least, c.fetch.ensures.count.0); most = omega (arith, c.rounds.invariant.asked.most, c.fetch.ensures.asked.most, c.fetch.ensures.count.0) },
+  λ after tells.
+      let y = c.fetch.ensures.asks after tells in
+      let z = c.rounds.invariant.sends y.0 y.1 in
+      (z.0, z.1, sends_page c.args.token.now c.args.limit c.args.run 0 c.rounds.count c.fetch.new.count c.rounds.stage _ _ _ _ _ (λ e. absurd (none_other (sym c.in-NoReply.is ∙ e))) z.2 y.2, tt),
+)
+
+pub returns-in-Missed-clause-asks : goal.returns-in-Missed-clause-asks
+returns-in-Missed-clause-asks g c = (
+  c.fetch.new.count,
+  record { least = omega (arith, c.rounds.invariant.asked.least, c.fetch.ensures.asked.least, c.fetch.ensures.count.0); most = omega (arith, c.rounds.invariant.asked.most, c.fetch.ensures.asked.most, c.fetch.ensures.count.0) },
+  λ after tells.
+      let y = c.fetch.ensures.asks after tells in
+      let z = c.rounds.invariant.sends y.0 y.1 in
+      (z.0, z.1, sends_page c.args.token.now c.args.limit c.args.run 0 c.rounds.count c.fetch.new.count c.rounds.stage _ _ _ _ _ (λ e. absurd (missed_other (sym c.in-Missed.is ∙ e))) z.2 y.2, tried_page c.args.token.now c.args.limit c.args.run c.rounds.count c.fetch.new.count c.args.tries c.rounds.stage _ _ _ _ _ c.kind-in-Missed.ensures c.staged-in-Missed.ensures.staged (c.in-Missed.ensures.missed refl).0 (λ e. missed_other (sym c.in-Missed.is ∙ e)) y.2),
+)
+
+pub returns-in-NoMemory-clause-asks : goal.returns-in-NoMemory-clause-asks
+returns-in-NoMemory-clause-asks g c = (
+  c.fetch.new.count,
+  record { least = omega (arith, c.rounds.invariant.asked.least, c.fetch.ensures.asked.least, c.fetch.ensures.count.0); most = omega (arith, c.rounds.invariant.asked.most, c.fetch.ensures.asked.most, c.fetch.ensures.count.0) },
+  λ after tells.
+      let y = c.fetch.ensures.asks after tells in
+      let z = c.rounds.invariant.sends y.0 y.1 in
+      (z.0, z.1, sends_page c.args.token.now c.args.limit c.args.run 0 c.rounds.count c.fetch.new.count c.rounds.stage _ _ _ _ _ (λ e. refl) z.2 y.2, tt),
+)
+
 pub rounds-preserved : goal.rounds-preserved
 rounds-preserved g c =
     let lt : kinds_of c.rounds.stage < kind_count = omega (arith, c.rounds-test.true, c.kinds_done.ensures) in
@@ -271,6 +304,10 @@ rounds-preserved g c =
       heard = omega (arith, c.rounds.invariant.heard, c.fetch.ensures.later);
       later = omega (arith, c.rounds.invariant.later, c.take_reply.ensures.later);
       page = λ w own. subst (λ (r : WireReply). IsPageStatus r.status) (one_answer _ c.in-Own.reply w c.in-Own.ensures.own.text own.text) (page_status c.rounds.stage c.args.limit c.in-Own.reply on.0 on.1);
+      sends = λ after tells.
+          let y = c.fetch.ensures.asks after tells in
+          let z = c.rounds.invariant.sends y.0 y.1 in
+          (z.0, z.1, sends_page c.args.token.now c.args.limit c.args.run 0 c.rounds.count c.fetch.new.count c.rounds.stage _ ⊥ _ _ _ (λ e. own_other c.in-Own.reply (sym c.in-Own.is ∙ e)) z.2 y.2);
       last = (c.rounds.stage, λ some t tells. c.fetch.ensures.last (λ e. own_other c.in-Own.reply (sym c.in-Own.is ∙ e)) t tells);
     }
 
@@ -409,6 +446,25 @@ returns-in_default-clause-cause g c =
       λ some ne t tells. c.fetch.ensures.last (λ e. own_other c.in-Own.reply (sym c.in-Own.is ∙ e)) t tells,
       λ on. (own.from, λ d stands. let x = c.take_reply.ensures.told d stands in ap stage_of (performs_on (judged c.rounds.stage c.args.limit c.in-Own.reply) c.args.token.now c.take_reply.result x.0 d x.2 on) ∙ c.rounds.invariant.holds x.0 x.1),
     )
+
+pub returns-in_default-clause-asks : goal.returns-in_default-clause-asks
+returns-in_default-clause-asks g c = (
+  c.fetch.new.count,
+  record { least = omega (arith, c.rounds.invariant.asked.least, c.fetch.ensures.asked.least, c.fetch.ensures.count.0); most = omega (arith, c.rounds.invariant.asked.most, c.fetch.ensures.asked.most, c.fetch.ensures.count.0) },
+  λ after tells.
+      let y = c.fetch.ensures.asks after tells in
+      let z = c.rounds.invariant.sends y.0 y.1 in
+      (z.0, z.1, sends_page c.args.token.now c.args.limit c.args.run 0 c.rounds.count c.fetch.new.count c.rounds.stage _ _ _ _ _ (λ e. absurd (own_other c.in-Own.reply (sym c.in-Own.is ∙ e))) z.2 y.2, tried_own c.rounds.stage c.take_reply.result (judged c.rounds.stage c.args.limit c.in-Own.reply) c.args.token.now c.args.limit c.args.run c.fetch.new.count c.args.tries _ c.take_reply.ensures.answer),
+)
+
+pub returns-clause-asks : goal.returns-clause-asks
+returns-clause-asks g c = (
+  c.rounds.count,
+  c.rounds.invariant.asked,
+  λ after tells.
+      let z = c.rounds.invariant.sends after tells in
+      (z.0, z.1, sends_weaker (IsPageUnder c.args.token.now c.args.limit) (IsPageUnder c.args.token.now c.args.limit) c.args.run 0 c.rounds.count ⊥ _ _ _ (λ n q h. h) (λ h. absurd h) z.2, tt),
+)
 
 pub returns-clause-holds : goal.returns-clause-holds
 returns-clause-holds g c e = c.rounds.invariant.holds

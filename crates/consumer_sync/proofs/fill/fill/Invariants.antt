@@ -3,6 +3,7 @@ use Rattle.keeper_memory.specs.copy.Copies.{Copy}
 use Rattle.keeper_memory.specs.copy.Lists.{kind_count}
 use Rattle.keeper_memory.specs.copy.States.{stage_of}
 use Rattle.exchange_link.specs.Agreement.{StageFitsIf}
+use Rattle.exchange_link.specs.Asked.{IsPageUnder, SendsOn}
 use Rattle.exchange_link.specs.Causes.{IsLast, IsMore, IsOwnReply, IsPageStatus}
 use Rattle.exchange_link.specs.Exchanges.{Told}
 use Rattle.exchange_link.specs.Places.{kinds_of}
@@ -34,6 +35,7 @@ invariant-rounds g l =
       heard : g.L.Link.fault_count l.fn.link ≤ g.L.Link.fault_count l.link;
       later : g.C.CopyKeeper.fault_count l.fn.copy ≤ g.C.CopyKeeper.fault_count l.copy;
       page : (w : WireReply) → IsOwnReply (g.L.Link.kept l.link) l.run l.count w → IsPageStatus w.status;
+      sends : (after : Told) → T l.link after → (before : Told) × T l.fn.link before × SendsOn (IsPageUnder l.token l.limit) l.run 0 l.count ⊥ before.sent after.sent;
       last : (asked : Option StageState) × (1 ≤ l.count → (t : Told) → T l.link t → IsLast (request_of asked l.run l.count l.token l.limit) t.sent);
     }
 

@@ -21,7 +21,10 @@ use Rattle.consumer_sync.proofs.CauseLemmas.{exact_page}
 use Rattle.consumer_sync.proofs.DoneLemmas.{start_told}
 use Rattle.consumer_sync.proofs.MarkLemmas.{marks_asked, marks_dropped, marks_kept}
 use Rattle.consumer_sync.proofs.SyncLemmas.{begun_is, cause_whole, drop_done, drop_fails, drop_sync, enter_cause, enter_done, enter_leaves, enter_sync, entry, fill_leaves, fill_sync, finish_by, finish_other, last_dropped, last_ended, last_entered, last_low, own_few, own_token, start_cause, start_on, swap_leaves, swap_run, swap_sync}
+use Rattle.consumer_sync.proofs.TriedLemmas.{tried_entered, tried_start}
 use Rattle.consumer_sync.specs.Starting.{StartCause, unentered}
+use Rattle.exchange_link.proofs.AskedLemmas.{sends_refl, sends_weaker}
+use Rattle.exchange_link.specs.Asked.{IsPageUnder, TriedFor}
 use Rattle.exchange_link.proofs.RunLemmas.{ready_from}
 use Rattle.exchange_link.specs.declared.begin.NoRun.{NoRun}
 use Rattle.exchange_link.specs.declared.begin.NoRun.TheVariants as no_run
@@ -412,3 +415,70 @@ returns-in-Some-stage-clause-marks g c agree after tells stands told =
     let x = returns-in-Some-stage-clause-copy g c after stands in
     let l = c.fill.ensures.link tells told in
     marks_kept c.args.token.now _ x.0 after tells x.2 (marks_asked c.in-Ok.state.run l.2 x.0 l.0 tells l.3 (agree x.0 l.0 x.1 l.1))
+
+pub returns-in-Err-clause-asks : goal.returns-in-Err-clause-asks
+returns-in-Err-clause-asks g c after tells = (
+  after,
+  tells,
+  record {
+    run = 0;
+    count = 0;
+    runs = λ some. absurd (omega (arith, some));
+    counts = record { least = omega arith; most = omega arith };
+    pages = sends_refl (IsPageUnder c.args.token.now c.args.limit) 0 0 _ after.sent;
+    tried = subst (λ (a : SyncAnswer). TriedFor a c.args.token.now c.args.limit 0 0 c.args.tries after.sent) (sym c.unentered.ensures) (tried_entered c.in-Err.error c.args.token.now c.args.limit 0 0 c.args.tries after.sent);
+  },
+)
+
+pub returns-in-Err-drop_other-clause-asks : goal.returns-in-Err-drop_other-clause-asks
+returns-in-Err-drop_other-clause-asks g c after tells = (
+  after,
+  tells,
+  record {
+    run = 0;
+    count = 0;
+    runs = λ some. absurd (omega (arith, some));
+    counts = record { least = omega arith; most = omega arith };
+    pages = sends_refl (IsPageUnder c.args.token.now c.args.limit) 0 0 _ after.sent;
+    tried = tried_start _ c.in-Err-drop_other.answer c.args.token.now c.args.limit 0 0 c.args.tries after.sent (c.in-Err-drop_other.ensures.cause).1;
+  },
+)
+
+pub returns-in-Some-clause-asks : goal.returns-in-Some-clause-asks
+returns-in-Some-clause-asks g c after tells =
+    let f = c.in-Some.ensures.asks in
+    let x = f.2 after tells in (
+      x.0,
+      x.1,
+      record {
+        run = c.in-Ok.state.run;
+        count = f.0;
+        runs = λ some d stands.
+            let z = c.in-Some.ensures.copy d stands in
+            let y = c.in-Ok-drop_other.ensures.told z.0 z.1 in
+            (z.2).run ∙ ap (λ (e : Copy). e.run) y.2 ∙ (c.in-Ok.ensures.holds y.0 y.1).0;
+        counts = f.1;
+        pages = sends_weaker (IsPageUnder c.args.token.now c.args.limit) (IsPageUnder c.args.token.now c.args.limit) c.in-Ok.state.run 0 f.0 _ _ _ _ (λ n q h. h) (λ e. some_answer e) x.2;
+        tried = x.3;
+      },
+    )
+
+pub returns-in-Some-stage-clause-asks : goal.returns-in-Some-stage-clause-asks
+returns-in-Some-stage-clause-asks g c after tells =
+    let f = c.in-None.ensures.asks in
+    let x = f.2 after tells in (
+      x.0,
+      x.1,
+      record {
+        run = c.in-Ok.state.run;
+        count = f.0;
+        runs = λ some d stands.
+            let v = c.finish.ensures.told d stands in
+            let z = c.in-None.ensures.copy v.0 v.1 in
+            let y = c.in-Ok-drop_other.ensures.told z.0 z.1 in
+            swap_run c.finish.result _ v.0 d v.2 ∙ (z.2).run ∙ ap (λ (e : Copy). e.run) y.2 ∙ (c.in-Ok.ensures.holds y.0 y.1).0;
+        counts = f.1;
+        pages = sends_weaker (IsPageUnder c.args.token.now c.args.limit) (IsPageUnder c.args.token.now c.args.limit) c.in-Ok.state.run 0 f.0 _ _ _ _ (λ n q h. h) (λ e. absurd (none_memory e)) x.2;
+        tried = finish_by (λ a. TriedFor a c.args.token.now c.args.limit c.in-Ok.state.run f.0 c.args.tries after.sent) c.finish.result c.in-Some-stage.s.pin c.finish.ensures.answers tt (λ e. tt) tt;
+      },
+    )
