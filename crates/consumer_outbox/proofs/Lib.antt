@@ -3,5 +3,6 @@ pub mod CallLemmas
 pub mod OwnLemmas
 pub mod RequestLemmas
 pub mod StepLemmas
+pub mod TriedLemmas
 pub mod VerdictLemmas
 pub mod WalkLemmas

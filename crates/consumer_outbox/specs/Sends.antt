@@ -95,6 +95,11 @@ ToldIf token before after entries result = IfSome result (SendToldCause token be
 abbrev pub IsFineIf : Option SendAnswer → Type 0
 IsFineIf result = IfSome result IsFine
 
+-- each try of the entry missed
+abbrev pub IsInterrupted : Option SendAnswer → Type 0
+IsInterrupted (Some (answer.Interrupted number)) = ⊤
+IsInterrupted result = ⊥
+
 -- ---- all of them
 
 -- the entries that aren't settled have numbers above this one

@@ -3,6 +3,7 @@
 ghost use Rattle.std.specs.Prelude.{◌≡◌, ◌≢◌, ◌+◌, ◌*◌, ◌<◌, ◌≤◌};
 ghost use Rattle.keeper_memory.specs.copy.Copies.{Copy};
 ghost use Rattle.keeper_memory.specs.declared.copy.state.TheConstants.{LAST};
+ghost use Rattle.exchange_link.specs.Asked.{AsksWrites};
 ghost use Rattle.exchange_link.specs.Causes.{RoseBy};
 ghost use Rattle.exchange_link.specs.Exchanges.{Told};
 ghost use Rattle.exchange_link.specs.Marks.{Agree};
@@ -45,6 +46,10 @@ pub fn send<C: CopyKeeper, L: Link>(
     ensures last_run { (after : Copy) → C.stands_for copy.new after → (before : Copy) × C.stands_for copy.old before × SendLastLaw result before after }
     ensures cause { SendCaused token.now (C.stands_for copy.new) (L.tells link.new) (L.asked link.old) (L.asked link.new) (L.kept link.new)
         (λ n. (tries ≤ L.missed link.new) × (tries ≤ n) × RoseBy tries (L.fault_count link.old) (L.fault_count link.new)) (Rose (C.fault_count copy.old) (C.fault_count copy.new)) result }
+    // Over one that tells.
+    ensures asks { (after : Copy) (tells : Told) → C.stands_for copy.new after → L.tells link.new tells
+        → (before : Copy) × (told : Told) × C.stands_for copy.old before × L.tells link.old told
+        × AsksWrites token.now tries (L.asked link.old) (L.asked link.new) result before after told.sent tells.sent }
     // Over one that tells, where copy and link agree.
     ensures told { ((c : Copy) (t : Told) → C.stands_for copy.old c → L.tells link.old t → Agree c t)
         → (after : Copy) (tells : Told) → C.stands_for copy.new after → L.tells link.new tells

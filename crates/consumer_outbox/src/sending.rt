@@ -4,6 +4,7 @@ ghost use Rattle.std.specs.Prelude.{◌≡◌, ◌≢◌, ◌⊎◌, ℕ, [], �
 ghost use Rattle.keeper_memory.specs.copy.Copies.{Copy, IsOutWrite, first_unsettled};
 ghost use Rattle.keeper_memory.specs.copy.States.{CanBeEntry};
 ghost use Rattle.keeper_memory.specs.declared.copy.state.TheConstants.{LAST};
+ghost use Rattle.exchange_link.specs.Asked.{IsTry, IsWriteUnder, SendsOn, TriedEntry};
 ghost use Rattle.exchange_link.specs.Causes.{IsLast, IsMore, IsOwnReply, RoseBy};
 ghost use Rattle.exchange_link.specs.Exchanges.{Told};
 ghost use Rattle.exchange_link.specs.SendCauses.{CarriesFirst, EndsAtEntry, IsSendAside, AnswersSend, SendCauseOf, SendToldCause};
@@ -18,7 +19,7 @@ ghost use Rattle.status_info.specs.declared.request.Echo.{Echo as Number};
 ghost use Rattle.exchange_link.specs.Owning.{IsOwnRead};
 ghost use Rattle.exchange_link.specs.Requests.{Asks, IfOwn, IsReady, Moved, number, numbered};
 ghost use Rattle.version_core.specs.HubStates.{newest_number};
-ghost use Rattle.consumer_outbox.specs.Sends.{Carries, CauseIf, EndsIf, ExactIf, Goes, IsBroken, IsFineIf, Ready, SettledTo, SoFar, Takes, ToldIf, answer_of, broken_answer, request_of};
+ghost use Rattle.consumer_outbox.specs.Sends.{Carries, CauseIf, EndsIf, ExactIf, Goes, IsBroken, IsFineIf, IsInterrupted, Ready, SettledTo, SoFar, Takes, ToldIf, answer_of, broken_answer, request_of};
 ghost use Rattle.consumer_outbox.specs.Verdicts.{does_settle, verdict_of};
 
 use crate::halves::settled_from;
@@ -119,6 +120,8 @@ fn ask_for<L: Link>(
         × (IsReady run count.old before.sent → IfOwn result (λ w. IsOwnRead before after (numbered (request_of token.now entry) (number run count.new)) w)) }
     ensures last { result ≢ Outcome.NoMemory → (marked_by (numbered (request_of token.now entry) (number run count.new)) ≡ Some (mark_of entry))
         × ((after : Told) → L.tells link.new after → IsLast (numbered (request_of token.now entry) (number run count.new)) after.sent) }
+    ensures asks { (after : Told) → L.tells link.new after → (before : Told) × L.tells link.old before
+        × SendsOn (IsTry (numbered (request_of token.now entry))) run count.old count.new (result ≡ Outcome.NoMemory) before.sent after.sent }
 {
     match request_for(alloc, token, entry) {
         Ok(request) => ask(alloc, link, request, run, count, tries),
@@ -164,6 +167,9 @@ fn send_entry<C: CopyKeeper, L: Link>(
     ensures names { IfSome result (λ a. IfSome (number_in a) (λ n. n ≡ entry.number)) }
     ensures stays { (c : Copy) → C.stands_for copy.new c → EndsIf result → first_unsettled c.entries ≡ Some entry }
     ensures last { EndsIf result → (1 ≤ count.new) × ((c : Copy) (t : Told) → C.stands_for copy.new c → L.tells link.new t → CarriesFirst token.now (number run count.new) c.entries t.sent) }
+    ensures asks { (after : Told) → L.tells link.new after → (before : Told) × L.tells link.old before
+        × SendsOn (IsTry (numbered (request_of token.now entry))) run count.old count.new (result ≡ Some SendAnswer.NoMemory) before.sent after.sent }
+    ensures full { IsInterrupted result → count.new ≡ count.old + tries }
 {
     let number = entry.number;
     match ask_for(alloc, link, entry, run, token, count, tries) {
@@ -238,6 +244,11 @@ pub fn send_all<C: CopyKeeper, L: Link>(
         × ((w : Reply) → IsOwnReply (L.kept link.new) run n w → IsSendAside result ⊎ AnswersSend w result)
         × ((c : Copy) → C.stands_for copy.new c → NamesFirst result c.entries)
         × (EndsAtEntry result → (1 ≤ n) × ((c : Copy) (t : Told) → C.stands_for copy.new c → L.tells link.new t → CarriesFirst token.now (number run n) c.entries t.sent)) }
+    ensures asks { (n : ℕ) × IsMore (L.asked link.old) n (L.asked link.new)
+        × ((after : Copy) (tells : Told) → C.stands_for copy.new after → L.tells link.new tells
+        → (before : Copy) × (told : Told) × C.stands_for copy.old before × L.tells link.old told
+        × SendsOn (IsWriteUnder token.now before.entries) run 0 n (result ≡ SendAnswer.NoMemory) told.sent tells.sent
+        × TriedEntry result token.now run n tries after.entries tells.sent) }
 {
     let mut count: u64 = 0;
     let mut after: u64 = 0;

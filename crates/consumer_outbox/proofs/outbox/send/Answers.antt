@@ -1,12 +1,17 @@
-use Rattle.std.proofs.Common.{arith, sym, subst}
+use Rattle.std.proofs.Common.{arith, ◌≡◌, List, sym, ap, subst}
 use Rattle.keeper_memory.specs.copy.Copies.{Copy}
+use Rattle.exchange_link.proofs.AskedLemmas.{sends_refl}
+use Rattle.exchange_link.specs.Asked.{IsWriteUnder, SendsOn, TriedEntry}
 use Rattle.exchange_link.specs.Exchanges.{Told}
+use Rattle.exchange_link.specs.declared.send_answer.SendAnswer.TheVariants as answer
+use Rattle.keeper_memory.specs.declared.copy.entry.OutEntry.{OutEntry}
 use Rattle.exchange_link.specs.SendCauses.{SendLastLaw}
 use Rattle.exchange_link.specs.SendCompleteness.{IsFine}
 use Rattle.exchange_link.specs.Sent.{SendLeaves}
 use Rattle.exchange_link.specs.SentTold.{WasSent}
 use Rattle.consumer_outbox.proofs.AllLemmas.{cause_more}
 use Rattle.consumer_outbox.proofs.CallLemmas.{agree_ended, bound_begun, can_begun, last_ended, leaves_ended, ready_begun, run_is, start_fine, start_last, start_leaves, start_told, started_caused}
+use Rattle.consumer_outbox.proofs.TriedLemmas.{begun_tried}
 use Rattle.consumer_outbox.proofs.outbox.send.Goals as goal
 
 pub returns-in-Err-clause-copy : goal.returns-in-Err-clause-copy
@@ -84,3 +89,41 @@ returns-in-Ok-clause-complete g c agree link copy after tells stands told =
     let y = c.send_all.ensures.complete (λ (d : Copy) (u : Told) sd tu. let x2 = c.in-Ok.ensures.told d sd in ready_begun c.in-Ok.state x2.0 d u x2.2 (agree x2.0 u x2.1 tu)) link (λ rose. copy (omega (arith, rose, c.begin_run.ensures.later))) after tells stands told in
     let x = c.in-Ok.ensures.told y.0 y.2 in
     (x.0, y.1, x.1, y.3, λ low quiet can. y.4 quiet (can_begun c.in-Ok.state c.args.token.now _ x.0 y.0 tells.hub x.2 can))
+
+pub returns-in-Err-clause-asks : goal.returns-in-Err-clause-asks
+returns-in-Err-clause-asks g c after tells stands told =
+    let x = c.in-Err.ensures.told after stands in (
+      x.0,
+      tells,
+      x.1,
+      told,
+      record {
+        run = 0;
+        count = 0;
+        runs = λ some. absurd (omega (arith, some));
+        counts = record { least = omega arith; most = omega arith };
+        writes = sends_refl (IsWriteUnder c.args.token.now x.0.entries) 0 0 _ tells.sent;
+        tried = subst (λ a. TriedEntry a c.args.token.now 0 0 c.args.tries after.entries tells.sent) (sym c.not_begun.ensures) (begun_tried c.in-Err.why c.args.token.now 0 0 c.args.tries after.entries tells.sent);
+      },
+    )
+
+pub returns-in-Ok-clause-asks : goal.returns-in-Ok-clause-asks
+returns-in-Ok-clause-asks g c after tells stands told =
+    let f = c.send_all.ensures.asks in
+    let z = f.2 after tells stands told in
+    let x = c.in-Ok.ensures.told z.0 z.2 in
+    let k = c.send_all.ensures.copy after stands in
+    let y = c.in-Ok.ensures.told k.0 k.1 in (
+      x.0,
+      z.1,
+      x.1,
+      z.3,
+      record {
+        run = c.in-Ok.state.run;
+        count = f.0;
+        runs = λ some. run_is c.in-Ok.state k.2.0 y.0 k.0 after y.2 k.2.1;
+        counts = f.1;
+        writes = subst (λ (es : List OutEntry). SendsOn (IsWriteUnder c.args.token.now es) c.in-Ok.state.run 0 f.0 (c.send_all.result ≡ answer.NoMemory) (z.1).sent tells.sent) (ap (λ (d : Copy). d.entries) (x.2).1) z.4;
+        tried = z.5;
+      },
+    )

@@ -4,11 +4,21 @@ use Rattle.keeper_memory.specs.copy.Copies.{Copy, first_unsettled}
 use Rattle.keeper_memory.specs.copy.States.{CanBeEntry}
 use Rattle.keeper_memory.specs.declared.copy.entry.OutEntry.{OutEntry}
 use Rattle.exchange_link.specs.Exchanges.{Told}
+use Rattle.exchange_link.specs.declared.send_answer.SendAnswer.{SendAnswer}
 use Rattle.exchange_link.proofs.AskLemmas.{moved_on, moved_refl}
+use Rattle.exchange_link.proofs.AskedLemmas.{sends_refl, sends_weaker}
+use Rattle.exchange_link.specs.Asked.{IsWriteUnder}
 use Rattle.consumer_outbox.proofs.AllLemmas.{aside_cause, aside_fine, aside_names, aside_settled, aside_stays, aside_told, bound_at, bound_next, can_send, cause_more, end_names, end_not_last, entry_left, goes_end, goes_on, goes_to, more_none, more_to, rose_from, so_far_none, told_on}
+use Rattle.consumer_outbox.proofs.TriedLemmas.{aside_tried, entry_tried, sends_entry}
 use Rattle.consumer_outbox.proofs.VerdictLemmas.{settled_exact}
 use Rattle.consumer_outbox.proofs.WalkLemmas.{walk_begins, walk_over}
 use Rattle.consumer_outbox.proofs.sending.send_all.Goals as goal
+
+none_some : {a : SendAnswer} → None ≡ Some a → ⊥
+none_some e = cc
+
+some_answer : {a b : SendAnswer} → Some a ≡ Some b → a ≡ b
+some_answer e = cc
 
 pub entries-init : goal.entries-init
 entries-init g c = record {
@@ -20,6 +30,7 @@ entries-init g c = record {
   kept = λ w own. absurd (omega (arith, own.from));
   copy = λ d stands. (d, stands, so_far_none d);
   link = λ t tells. (t, tells, moved_refl t);
+  sends = λ d t stands tells. (d, t, stands, tells, so_far_none d, sends_refl (IsWriteUnder c.args.token.now d.entries) c.args.run 0 ⊥ t.sent);
   agree = λ entry d t stands tells. entry d t stands tells;
   heard = omega arith;
   later = omega arith;
@@ -162,6 +173,18 @@ entries-preserved g c =
           let y = c.in-None.ensures.link t tells in
           let z = c.entries.invariant.link y.0 y.1 in
           (z.0, z.1, moved_on z.2 y.2);
+      sends = λ d t stands tells.
+          let x = c.in-None.ensures.copy d stands in
+          let y = c.in-None.ensures.asks t tells in
+          let z = c.entries.invariant.sends x.0 y.0 (c.next_unsettled.ensures.same x.0 x.1) y.1 in
+          let first = c.in-Ok-Some.ensures.next x.0 x.1 ∙ c.in-Ok-Some.field-0-is in (
+            z.0,
+            z.1,
+            z.2,
+            z.3,
+            goes_on c.entries.settled _ z.0 x.0 d c.in-Ok-Some.entry z.4 first x.2,
+            sends_entry c.args.token.now c.entries.settled c.args.run c.entries.count c.send_entry.new.count z.0 x.0 c.in-Ok-Some.entry _ ⊥ _ _ _ z.4 first (λ e. absurd (none_some e)) z.5 y.2,
+          );
       agree = λ entry d t stands tells. c.in-None.ensures.agree (λ (e : Copy) (u : Told) se te. c.entries.invariant.agree entry e u (c.next_unsettled.ensures.same e se) te) d t stands tells;
       heard = omega (arith, c.entries.invariant.heard, c.send_entry.ensures.heard);
       later = omega (arith, c.entries.invariant.later, c.next_unsettled.ensures.later, c.send_entry.ensures.later);
@@ -190,3 +213,50 @@ returns-clause-complete g c entry link copy d t stands tells =
 
 pub returns-clause-cause : goal.returns-clause-cause
 returns-clause-cause g c = (c.entries.count, c.entries.invariant.asked, tt, λ w own. inr (settled_exact w _ (c.entries.invariant.kept w own)), λ d stands. tt, λ ends. absurd ends)
+
+-- ---- what was sent
+
+pub returns-in-Err-clause-asks : goal.returns-in-Err-clause-asks
+returns-in-Err-clause-asks g c = (
+  c.entries.count,
+  c.entries.invariant.asked,
+  λ d t stands tells.
+      let z = c.entries.invariant.sends d t (c.next_unsettled.ensures.same d stands) tells in
+      (z.0, z.1, z.2, z.3, sends_weaker (IsWriteUnder c.args.token.now z.0.entries) (IsWriteUnder c.args.token.now z.0.entries) c.args.run 0 c.entries.count ⊥ _ _ _ (λ n q h. h) (λ h. absurd h) z.5, aside_tried c.in-Err.answer c.args.token.now c.args.run c.entries.count c.args.tries d.entries t.sent c.in-Err.ensures.cause.0),
+)
+
+pub returns-in-Ok-None-clause-asks : goal.returns-in-Ok-None-clause-asks
+returns-in-Ok-None-clause-asks g c = (
+  c.entries.count,
+  c.entries.invariant.asked,
+  λ d t stands tells.
+      let z = c.entries.invariant.sends d t (c.next_unsettled.ensures.same d stands) tells in
+      (z.0, z.1, z.2, z.3, sends_weaker (IsWriteUnder c.args.token.now z.0.entries) (IsWriteUnder c.args.token.now z.0.entries) c.args.run 0 c.entries.count ⊥ _ _ _ (λ n q h. h) (λ h. absurd h) z.5, tt),
+)
+
+pub returns-in-Some-clause-asks : goal.returns-in-Some-clause-asks
+returns-in-Some-clause-asks g c = (
+  c.send_entry.new.count,
+  more_to _ _ _ c.entries.count c.send_entry.new.count c.entries.invariant.asked c.send_entry.ensures.count.0 c.send_entry.ensures.asked,
+  λ d t stands tells.
+      let x = c.in-Some.ensures.copy d stands in
+      let y = c.in-Some.ensures.asks t tells in
+      let z = c.entries.invariant.sends x.0 y.0 (c.next_unsettled.ensures.same x.0 x.1) y.1 in
+      let first = c.in-Ok-Some.ensures.next x.0 x.1 ∙ c.in-Ok-Some.field-0-is in (
+        z.0,
+        z.1,
+        z.2,
+        z.3,
+        sends_entry c.args.token.now c.entries.settled c.args.run c.entries.count c.send_entry.new.count z.0 x.0 c.in-Ok-Some.entry _ _ _ _ _ z.4 first (λ e. some_answer e) z.5 y.2,
+        entry_tried c.in-Some.answer c.args.token.now c.args.run c.entries.count c.send_entry.new.count c.args.tries c.in-Ok-Some.entry d.entries _ _ (λ ends. c.in-Some.ensures.stays d stands ends) c.in-Some.ensures.full y.2,
+      ),
+)
+
+pub returns-clause-asks : goal.returns-clause-asks
+returns-clause-asks g c = (
+  c.entries.count,
+  c.entries.invariant.asked,
+  λ d t stands tells.
+      let z = c.entries.invariant.sends d t stands tells in
+      (z.0, z.1, z.2, z.3, sends_weaker (IsWriteUnder c.args.token.now z.0.entries) (IsWriteUnder c.args.token.now z.0.entries) c.args.run 0 c.entries.count ⊥ _ _ _ (λ n q h. h) (λ h. absurd h) z.5, tt),
+)

@@ -1,6 +1,7 @@
 use Rattle.std.proofs.Common.{◌-◌, ◌*◌, ◌≤◌}
 use Rattle.keeper_memory.specs.copy.Copies.{Copy}
 use Rattle.keeper_memory.specs.declared.copy.state.TheConstants.{LAST}
+use Rattle.exchange_link.specs.Asked.{IsWriteUnder, SendsOn}
 use Rattle.exchange_link.specs.Causes.{IsMore, IsOwnReply}
 use Rattle.exchange_link.specs.Exchanges.{Told}
 use Rattle.http_wire.specs.declared.answer.WireReply.{WireReply}
@@ -22,6 +23,8 @@ invariant-entries g l =
       kept : (w : WireReply) → IsOwnReply (g.L.Link.kept l.link) l.run l.count w → Settled w;
       copy : (after : Copy) → S l.copy after → (before : Copy) × S l.fn.copy before × SoFar l.settled before after;
       link : (after : Told) → T l.link after → (before : Told) × T l.fn.link before × Moved before after;
+      sends : (after : Copy) (t : Told) → S l.copy after → T l.link t → (before : Copy) × (first : Told) × S l.fn.copy before × T l.fn.link first × SoFar l.settled before after
+          × SendsOn (IsWriteUnder l.token before.entries) l.run 0 l.count ⊥ first.sent t.sent;
       agree : ((c : Copy) (t : Told) → S l.fn.copy c → T l.fn.link t → Ready l.run 0 c t)
           → (c : Copy) (t : Told) → S l.copy c → T l.link t → Ready l.run l.count c t;
       heard : g.L.Link.fault_count l.fn.link ≤ g.L.Link.fault_count l.link;

@@ -1,4 +1,4 @@
-use Rattle.std.proofs.Common.{◌≡◌, refl, subst}
+use Rattle.std.proofs.Common.{◌≡◌, ◌∙◌, refl, sym, subst}
 use Rattle.std.specs.Prelude.{is_none}
 use Rattle.keeper_memory.specs.declared.copy.entry.OutEntry.{OutEntry}
 use Rattle.hub_spec.proofs.Below.{found_passes}
@@ -6,9 +6,11 @@ use Rattle.http_wire.proofs.AnswerLemmas.{one_answer}
 use Rattle.http_wire.specs.declared.answer.WireReply.{WireReply}
 use Rattle.hub_spec.specs.marks.Marked.{mark_of}
 use Rattle.status_info.specs.declared.request.Request.{Request}
-use Rattle.exchange_link.proofs.AskLemmas.{own_other}
+use Rattle.exchange_link.proofs.AskLemmas.{missed_other, none_other, own_other}
+use Rattle.consumer_outbox.proofs.TriedLemmas.{own_ends, sends_try}
 use Rattle.exchange_link.specs.Requests.{number, numbered}
 use Rattle.consumer_outbox.specs.Sends.{ExactIf, request_of}
+use Rattle.consumer_outbox.specs.Verdicts.{verdict_of}
 use Rattle.consumer_outbox.proofs.OwnLemmas.{ready_asked, ready_taken, said_of, taken_fine, taken_told}
 use Rattle.consumer_outbox.proofs.StepLemmas.{carries_first, stays_first, takes_goes}
 use Rattle.consumer_outbox.proofs.VerdictLemmas.{exact_of, taken_cause}
@@ -95,3 +97,29 @@ pub returns-in-NoMemory-clause-complete : goal.returns-in-NoMemory-clause-comple
 returns-in-NoMemory-clause-complete g c entry link copy d t stands tells =
     let y = c.ask_for.ensures.told t tells in
     (y.0, y.1, λ quiet can. tt)
+
+pub returns-in-Own-clause-asks : goal.returns-in-Own-clause-asks
+returns-in-Own-clause-asks g c after tells =
+    let y = c.ask_for.ensures.asks after tells in
+    (y.0, y.1, sends_try c.args.token.now c.args.entry c.args.run c.args.count.now c.ask_for.new.count _ _ _ _ (λ e. absurd (own_other c.in-Own.reply (sym c.in-Own.is ∙ e))) y.2)
+
+pub returns-in-Own-clause-full : goal.returns-in-Own-clause-full
+returns-in-Own-clause-full g c ends = absurd (own_ends (verdict_of c.args.entry.number c.in-Own.reply) c.args.entry.number c.take_reply.result c.take_reply.ensures.answer ends)
+
+pub returns-in-NoReply-clause-asks : goal.returns-in-NoReply-clause-asks
+returns-in-NoReply-clause-asks g c after tells =
+    let y = c.ask_for.ensures.asks after tells in
+    (y.0, y.1, sends_try c.args.token.now c.args.entry c.args.run c.args.count.now c.ask_for.new.count _ _ _ _ (λ e. absurd (none_other (sym c.in-NoReply.is ∙ e))) y.2)
+
+pub returns-in-Missed-clause-asks : goal.returns-in-Missed-clause-asks
+returns-in-Missed-clause-asks g c after tells =
+    let y = c.ask_for.ensures.asks after tells in
+    (y.0, y.1, sends_try c.args.token.now c.args.entry c.args.run c.args.count.now c.ask_for.new.count _ _ _ _ (λ e. absurd (missed_other (sym c.in-Missed.is ∙ e))) y.2)
+
+pub returns-in-Missed-clause-full : goal.returns-in-Missed-clause-full
+returns-in-Missed-clause-full g c ends = (c.in-Missed.ensures.missed refl).0
+
+pub returns-in-NoMemory-clause-asks : goal.returns-in-NoMemory-clause-asks
+returns-in-NoMemory-clause-asks g c after tells =
+    let y = c.ask_for.ensures.asks after tells in
+    (y.0, y.1, sends_try c.args.token.now c.args.entry c.args.run c.args.count.now c.ask_for.new.count _ _ _ _ (λ e. refl) y.2)
