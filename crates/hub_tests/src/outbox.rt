@@ -1,8 +1,8 @@
 //! Writes that are entered, listed and sent, over replies that are given beforehand.
 
-use crate::outside::{Files, push_file, run_among};
+use crate::outside::{Files, push_file, run_among, run_with_copy};
 use exchange_link::PeerLink;
-use keeper_memory::{MemCopy, MemHub};
+use keeper_memory::{CopyTables, LAST, MemCopy, MemHub};
 use outside_ports::{MemFolder, MemSink};
 use std::alloc::Global;
 use std::process::Abort;
@@ -171,4 +171,29 @@ fn assert_told(rt: &impl Abort, alloc: Global, turns: &[Turn]) -> Result<(), Fai
 fn replies_that_leave_a_write_waiting(rt: HostRuntime) -> Result<(), Fail> {
     assert_told(&rt, rt.alloc(), &WAITING)?;
     assert_told(&rt, rt.alloc(), &REFUSED)
+}
+
+// A copy that holds nothing, and has given the last number to an entry.
+fn last_copy(alloc: Global) -> MemCopy {
+    MemCopy::holding(
+        alloc,
+        CopyTables {
+            run: 0,
+            held: None,
+            stage: None,
+            entries: Vec::new(alloc),
+            last_number: LAST,
+        },
+    )
+}
+
+#[test]
+fn no_number_follows_the_last(rt: HostRuntime) -> Result<(), Fail> {
+    let mut copy = last_copy(rt.alloc());
+    let line = "enter delete categories c9";
+    let told = run_with_copy(rt.alloc(), line, &mut copy, Vec::new(rt.alloc()));
+    drop(copy);
+    let (status, text) = told?;
+    assert_eq!(rt; (status, text.as_str()), (16, "last number\n"));
+    Ok(())
 }
