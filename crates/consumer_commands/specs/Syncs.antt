@@ -30,7 +30,7 @@ pub record IsSyncOf (task : Task) (a : SyncAnswer) (copies : CopyRun) (link : Li
       → (before : Copy) × (told : Told) × copies.stood before × link.told told × Synchronised task.token a before told after tells
   pub bound : Agreed copies link → (after : Copy) (tells : Told) → copies.stands after → link.tells tells
       → (before : Copy) × copies.stood before × (n : ℕ) × (link.asked_now ≤ link.asked_before + n)
-      × Bounded n task.tries task.limit task.token (own_state task.token (stage_of before)) (λ v. IsCallPin a after.stage v) tells.hub
+      × Bounded n task.tries task.limit task.token (own_state task.token (stage_of before)) (λ v. IsCallPin a after tells.sent v) tells.hub
   pub cause_told : Agreed copies link → (after : Copy) (tells : Told) → copies.stands after → link.tells tells
       → (told : Told) × link.told told × ToldCause task.token told tells a
   -- where no call of the link and of the copy's keeper failed

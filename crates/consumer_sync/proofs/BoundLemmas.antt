@@ -11,19 +11,22 @@ use Rattle.keeper_memory.specs.copy.States.{stage_of, state_of}
 use Rattle.keeper_memory.specs.declared.copy.change.CopyChange.TheVariants.{Swap}
 use Rattle.keeper_memory.specs.declared.copy.state.StageState.{StageState}
 use Rattle.exchange_link.specs.Agreement.{StageFitsIf}
-use Rattle.exchange_link.specs.Bounds.{Bounded, HasPin, IsCallPin, pages, rounds, work}
+use Rattle.exchange_link.specs.Bounds.{Bounded, HasPin, HoldsVersion, IsCallPin, pages, rounds, work}
+use Rattle.exchange_link.specs.Causes.{IsLast}
+use Rattle.exchange_link.specs.Requests.{number}
+use Rattle.status_info.specs.declared.request.Request.{Request}
 use Rattle.hub_spec.specs.views.Cuts.{cut}
 use Rattle.exchange_link.specs.Sayings.{list_of}
 use Rattle.hub_spec.specs.rules.Checks.{version_at}
 use Rattle.hub_spec.specs.rules.Growth.{Grew}
-use Rattle.exchange_link.specs.Places.{kinds_of, pin_of, staged_of}
+use Rattle.exchange_link.specs.Places.{kinds_of, next_page, pin_of, staged_of}
 use Rattle.exchange_link.specs.declared.answer.SyncAnswer.{SyncAnswer}
 use Rattle.exchange_link.specs.declared.answer.SyncAnswer.TheVariants as answer
 use Rattle.exchange_link.proofs.CutLemmas.{cut_whole}
 use Rattle.roster_types.specs.Records.{Record}
 use Rattle.version_core.specs.HubStates.{HubState}
 use Rattle.version_core.specs.declared.change.BaseVersion.{BaseVersion}
-use Rattle.consumer_sync.specs.Filling.{BoundSoFar, CauseIf, IsCallPinIf, PinLaw}
+use Rattle.consumer_sync.specs.Filling.{BoundSoFar, CauseIf, IsCallPinIf, PinLaw, request_of}
 use Rattle.consumer_sync.specs.Judging.{opened, paged}
 use Rattle.consumer_sync.specs.Staging.{MayEnd, Performs, Taking}
 use Rattle.consumer_sync.specs.Staging.Adds.{Stays, Opened, Takes}
@@ -166,31 +169,32 @@ pub bounded_zero : (tries limit : ℕ) (token : List ℕ) (first : Option StageS
 bounded_zero tries limit token (Some s) P h = omega arith
 bounded_zero tries limit token None P h = inl (omega arith)
 
-pub call_pin : (result : Option SyncAnswer) (o : Option Stage) (stage : Option StageState) (limit : ℕ) (kept : List ℕ) (run n : ℕ) (missed broke : Type 0) → CauseIf stage limit kept run n missed broke result → (s : StageState) → stage ≡ Some s → PinLeft result s.pin o → IsCallPinIf result o s.pin
-call_pin None o stage limit kept run n missed broke c s e (inl h) = h
-call_pin None o stage limit kept run n missed broke c s e (inr x) = absurd x.0
-call_pin (Some (answer.Complete p)) o stage limit kept run n missed broke c s e h = absurd c
-call_pin (Some (answer.PinGone p old)) o stage limit kept run n missed broke c s e h = some_pin (sym (ap pin_of e) ∙ c.4)
+pub call_pin : (result : Option SyncAnswer) (c : Copy) (sent : List Request) (stage : Option StageState) (token : List ℕ) (limit : ℕ) (kept : List ℕ) (run n : ℕ) (missed broke : Type 0) → CauseIf stage limit kept run n missed broke result
+    → IsLast (request_of stage run n token limit) sent → (s : StageState) → stage ≡ Some s → PinLeft result s.pin c.stage → IsCallPinIf result c sent s.pin
+call_pin None c sent stage token limit kept run n missed broke k last s e (inl h) = h
+call_pin None c sent stage token limit kept run n missed broke k last s e (inr x) = absurd x.0
+call_pin (Some (answer.Complete p)) c sent stage token limit kept run n missed broke k last s e h = absurd k
+call_pin (Some (answer.PinGone p old)) c sent stage token limit kept run n missed broke k last s e h = some_pin (sym (ap pin_of e) ∙ k.4)
   where
     some_pin : {a b : ℕ} → Some a ≡ Some b → a ≡ b
     some_pin e = cc
-call_pin (Some answer.KeeperFault) o stage limit kept run n missed broke c s e (inl h) = inl h
-call_pin (Some answer.KeeperFault) o stage limit kept run n missed broke c s e (inr x) = inr x.1
-call_pin (Some a) o stage limit kept run n missed broke c s e (inl h) = h
-call_pin (Some a) o stage limit kept run n missed broke c s e (inr x) = absurd x.0
+call_pin (Some answer.KeeperFault) c sent stage token limit kept run n missed broke k last s e (inl h) = inl h
+call_pin (Some answer.KeeperFault) c sent stage token limit kept run n missed broke k last s e (inr x) = inr (x.1, inr (next_page token limit stage, number run n, ap pin_of e, last))
+call_pin (Some a) c sent stage token limit kept run n missed broke k last s e (inl h) = h
+call_pin (Some a) c sent stage token limit kept run n missed broke k last s e (inr x) = absurd x.0
 
 -- at the last step
-pub swap_pin : (e : SyncAnswer) (st : StageState) (c a : Copy) (v : ℕ) → stage_of c ≡ Some st → SwapsIn e st.pin c a → HasPin v c.stage → IsCallPin e a.stage v
-swap_pin (answer.Complete p) st c a v e x h = sym (has_pin c.stage st v e h) ∙ sym x.0
+pub swap_pin : (e : SyncAnswer) (st : StageState) (c a : Copy) (sent : List Request) (v : ℕ) → stage_of c ≡ Some st → SwapsIn e st.pin c a → HasPin v c.stage → IsCallPin e a sent v
+swap_pin (answer.Complete p) st c a sent v e x h = sym (has_pin c.stage st v e h) ∙ sym x.0
   where
     has_pin : (o : Option Stage) (st : StageState) (v : ℕ) → option_map state_of o ≡ Some st → HasPin v o → st.pin ≡ v
     has_pin None st v e h = cc
     has_pin (Some s) st v e h = sym (ap (λ (y : StageState). y.pin) (some_state e)) ∙ h
-swap_pin answer.KeeperFault st c a v e x h = ⊎_elim (λ (y : a ≡ c). subst (λ (d : Copy). IsCallPin answer.KeeperFault d.stage v) (sym y) (inl h))
-    (λ (y : a ≡ copy_after Swap c). subst (λ (d : Copy). IsCallPin answer.KeeperFault d.stage v) (sym y) (inr (gone c.stage st e))) x
+swap_pin answer.KeeperFault st c a sent v e x h = ⊎_elim (λ (y : a ≡ c). subst (λ (d : Copy). IsCallPin answer.KeeperFault d sent v) (sym y) (inl h))
+    (λ (y : a ≡ copy_after Swap c). let held = swapped_holds c c.stage v h in subst (λ (d : Copy). IsCallPin answer.KeeperFault d sent v) (sym y) (inr (held.0, inl held.1))) x
   where
-    gone : (o : Option Stage) (st : StageState) → option_map state_of o ≡ Some st → (swapped c o).stage ≡ None
-    gone None st e = cc
-    gone (Some s) st e = refl
-swap_pin answer.NoMemory st c a v e x h = subst (λ (d : Copy). HasPin v d.stage) (sym x) h
-swap_pin b st c a v e x h = absurd x
+    swapped_holds : (c : Copy) (o : Option Stage) (v : ℕ) → HasPin v o → ((swapped c o).stage ≡ None) × HoldsVersion v (swapped c o)
+    swapped_holds c None v h = absurd h
+    swapped_holds c (Some s) v h = (refl, h)
+swap_pin answer.NoMemory st c a sent v e x h = subst (λ (d : Copy). HasPin v d.stage) (sym x) h
+swap_pin b st c a sent v e x h = absurd x

@@ -89,9 +89,9 @@ CauseIf stage limit kept run n missed broke (Some answer.LastRun) = ⊥
 CauseIf stage limit kept run n missed broke (Some a) = CauseOf stage limit kept run n missed broke a
 
 -- the pin of the pages, so far or at their end
-abbrev pub IsCallPinIf : Option SyncAnswer → Option Stage → ℕ → Type 0
-IsCallPinIf None stage v = HasPin v stage
-IsCallPinIf (Some a) stage v = IsCallPin a stage v
+abbrev pub IsCallPinIf : Option SyncAnswer → Copy → List Request → ℕ → Type 0
+IsCallPinIf None c sent v = HasPin v c.stage
+IsCallPinIf (Some a) c sent v = IsCallPin a c sent v
 
 -- the answers that end the pages
 abbrev pub IsEnd : SyncAnswer → Type 0

@@ -61,7 +61,7 @@ pub fn fill<C: CopyKeeper, L: Link>(
         → (c : Copy) (t : Told) → C.stands_for copy.new c → L.tells link.new t → StageFitsIf c.stage t.hub }
     ensures bound { ((c : Copy) (t : Told) → C.stands_for copy.old c → L.tells link.old t → StageFitsIf c.stage t.hub × IsReady run 0 t.sent)
         → (c : Copy) (t : Told) → C.stands_for copy.new c → L.tells link.new t
-        → (n : ℕ) × (L.asked link.new ≤ L.asked link.old + n) × Bounded n tries limit token.now stage.old (λ v. IsCallPinIf result c.stage v) t.hub }
+        → (n : ℕ) × (L.asked link.new ≤ L.asked link.old + n) × Bounded n tries limit token.now stage.old (λ v. IsCallPinIf result c t.sent v) t.hub }
     ensures complete { ((c : Copy) (t : Told) → C.stands_for copy.old c → L.tells link.old t → StageFitsIf c.stage t.hub × IsReady run 0 t.sent)
         → ¬ Rose (L.fault_count link.old) (L.fault_count link.new) → ¬ Rose (C.fault_count copy.old) (C.fault_count copy.new)
         → (c : Copy) (t : Told) → C.stands_for copy.new c → L.tells link.new t

@@ -383,8 +383,8 @@ returns-in_default-clause-bound g c entry d t stands tells =
     c.take_reply.ensures.answer in (
       c.fetch.new.count,
       omega (arith, c.rounds.invariant.asked.most, c.fetch.ensures.asked.most, c.fetch.ensures.count.0),
-      bound_end c.rounds.count c.fetch.new.count c.args.tries c.args.limit c.args.token.now c.args.stage.now c.rounds.stage (λ v. IsCallPinIf c.take_reply.result d.stage v) z.0.hub y.0.hub t.hub (c.rounds.invariant.bound entry x.0 y.0 x.1 y.1) (c.fetch.ensures.count).1 (y.2).moved.grew
-          st (z.3 small ready) lt (λ s e. call_pin c.take_reply.result d.stage c.rounds.stage c.args.limit _ _ _ _ _ cause s e (pin_performs _ c.args.token.now _ x.0 d c.rounds.stage (c.rounds.invariant.holds x.0 x.1) x.2 s e)),
+      bound_end c.rounds.count c.fetch.new.count c.args.tries c.args.limit c.args.token.now c.args.stage.now c.rounds.stage (λ v. IsCallPinIf c.take_reply.result d t.sent v) z.0.hub y.0.hub t.hub (c.rounds.invariant.bound entry x.0 y.0 x.1 y.1) (c.fetch.ensures.count).1 (y.2).moved.grew
+          st (z.3 small ready) lt (λ s e. call_pin c.take_reply.result d t.sent c.rounds.stage c.args.token.now c.args.limit _ c.args.run c.fetch.new.count _ _ cause (c.fetch.ensures.last (λ no. own_other c.in-Own.reply (sym c.in-Own.is ∙ no)) t tells) s e (pin_performs _ c.args.token.now _ x.0 d c.rounds.stage (c.rounds.invariant.holds x.0 x.1) x.2 s e)),
     )
 
 pub returns-in_default-clause-complete : goal.returns-in_default-clause-complete

@@ -124,13 +124,13 @@ returns-in-Some-stage-clause-told g c agree after tells stands told =
 pub returns-in-Err-clause-bound : goal.returns-in-Err-clause-bound
 returns-in-Err-clause-bound g c agree after tells stands told =
     let x = c.in-Err.ensures.told after stands in
-    (x.0, x.1, 0, omega arith, bounded_zero c.args.tries c.args.limit c.args.token.now (own_state c.args.token.now (stage_of x.0)) (λ v. IsCallPin c.unentered.result after.stage v) tells.hub)
+    (x.0, x.1, 0, omega arith, bounded_zero c.args.tries c.args.limit c.args.token.now (own_state c.args.token.now (stage_of x.0)) (λ v. IsCallPin c.unentered.result after tells.sent v) tells.hub)
 
 pub returns-in-Err-drop_other-clause-bound : goal.returns-in-Err-drop_other-clause-bound
 returns-in-Err-drop_other-clause-bound g c agree after tells stands told =
     let y = c.in-Err-drop_other.ensures.told after stands in
     let x = c.in-Ok.ensures.told y.0 y.1 in
-    (x.0, x.1, 0, omega arith, bounded_zero c.args.tries c.args.limit c.args.token.now (own_state c.args.token.now (stage_of x.0)) (λ v. IsCallPin c.in-Err-drop_other.answer after.stage v) tells.hub)
+    (x.0, x.1, 0, omega arith, bounded_zero c.args.tries c.args.limit c.args.token.now (own_state c.args.token.now (stage_of x.0)) (λ v. IsCallPin c.in-Err-drop_other.answer after tells.sent v) tells.hub)
 
 pub returns-in-Some-clause-bound : goal.returns-in-Some-clause-bound
 returns-in-Some-clause-bound g c agree after tells stands told =
@@ -149,7 +149,7 @@ returns-in-Some-clause-bound g c agree after tells stands told =
       x.1,
       n.0,
       n.1,
-      subst (λ (o : Option StageState). Bounded n.0 c.args.tries c.args.limit c.args.token.now o (λ v. IsCallPin c.in-Some.answer after.stage v) tells.hub) stage_is
+      subst (λ (o : Option StageState). Bounded n.0 c.args.tries c.args.limit c.args.token.now o (λ v. IsCallPin c.in-Some.answer after tells.sent v) tells.hub) stage_is
           n.2,
     )
 
@@ -171,9 +171,9 @@ returns-in-Some-stage-clause-bound g c agree after tells stands told =
       x.1,
       n.0,
       n.1,
-      subst (λ (o : Option StageState). Bounded n.0 c.args.tries c.args.limit c.args.token.now o (λ v. IsCallPin c.finish.result after.stage v) tells.hub) stage_is
-          (bounded_map n.0 c.args.tries c.args.limit c.args.token.now c.in-Ok-drop_other.begun (λ v. HasPin v (w.0).stage) (λ v. IsCallPin c.finish.result after.stage v) tells.hub
-          (λ v h. swap_pin c.finish.result c.in-Some-stage.s w.0 after v (c.fill.ensures.holds c.in-None.is w.0 w.1 ∙ c.in-Some-stage.is) w.2 h) n.2),
+      subst (λ (o : Option StageState). Bounded n.0 c.args.tries c.args.limit c.args.token.now o (λ v. IsCallPin c.finish.result after tells.sent v) tells.hub) stage_is
+          (bounded_map n.0 c.args.tries c.args.limit c.args.token.now c.in-Ok-drop_other.begun (λ v. HasPin v (w.0).stage) (λ v. IsCallPin c.finish.result after tells.sent v) tells.hub
+          (λ v h. swap_pin c.finish.result c.in-Some-stage.s w.0 after tells.sent v (c.fill.ensures.holds c.in-None.is w.0 w.1 ∙ c.in-Some-stage.is) w.2 h) n.2),
     )
 
 pub returns-in-Err-clause-complete : goal.returns-in-Err-clause-complete
