@@ -1,11 +1,12 @@
 -- What the calls make of what a connection stands for.
-use Rattle.std.proofs.Common.{◌≡◌, ◌≤◌, ℕ, pos, ◌⊎◌, inl, inr, List, [], ◌∷◌, length, true, false, not, ◌&&◌, ◌||◌, cond, take, Option, Some, None, Ok, Err, Result, OnErr, IfOk, IfErr, Vec, IsTrue, map, is_some, IsSome, refl, sym, ap, ap₂, ◌∙◌, subst, subst₂, arith}
+use Rattle.std.proofs.Common.{◌≡◌, ◌≤◌, Bool, ℕ, pos, ◌⊎◌, inl, inr, List, [], ◌∷◌, length, true, false, not, ◌&&◌, ◌||◌, cond, take, Option, Some, None, Ok, Err, Result, OnErr, IfOk, IfErr, Vec, IsTrue, map, is_some, IsSome, refl, sym, ap, ap₂, ◌∙◌, subst, subst₂, arith}
 use Rattle.std.proofs.lemmas.Bool.{cases_Bool}
 use Rattle.sqlite.specs.declared.error.Error.{Error}
 use Rattle.sqlite.specs.declared.types.Value.TheVariants.{Int}
 use Rattle.sqlite.specs.Order.{Row}
 use Rattle.sqlite.specs.Command.TheVariants.{Begin, Commit, Rollback, Select, Insert, InsertOr, Update, Delete, CreateTable, CreateIndex, DropTable, DropIndex, Savepoint, Release, RollbackTo, Nothing, CreateView, DropView, Rows}
 use Rattle.sqlite.specs.Effect.{Database}
+use Rattle.sqlite.specs.Schema.{Schema}
 use Rattle.sqlite.specs.Clock.{timed}
 use Rattle.std.specs.declared.alloc.Global.{Global}
 use Rattle.sqlite_resolve.specs.declared.error.CompileError.{CompileError}
@@ -291,3 +292,20 @@ module _ (old new : State) (earlier : Earlier old new) (m : Items) (area : ℕ) 
       → (HasCleanDisk new → IfErr r (FailsToQuery select_text (params_of area from to (Int (pos limit) ∷ [])) old new)) → IsReady old m → StandsFor new m
   select_same (Ok rows) ok err h = ready_stands new m (range_is old new earlier m area from to limit rows.items ok h).1
   select_same (Err e) ok err h = stands_stops old new m earlier (λ clean. query_stops select_text _ old new e (err clean)) (ready_stands old m h)
+
+neither : (b : Bool) → not b ≡ true → b ≡ true → ⊥
+neither false some none = absurd cc
+neither true some none = absurd cc
+
+-- where the database has a table, it is the item table
+pub table_stands : (s : State) (m : Items) (none : Bool) → (s.now.schema.tables ≡ [] → none ≡ true) → not none ≡ true → StandsFor s m → IsReady s m
+table_stands s m none seen some stands clean live =
+    let was = stands clean live in
+    record {
+      autocommit = was.autocommit;
+      same = was.same;
+      told = elim was.told [
+        | inl bare ↦ absurd (neither none some (seen (ap (λ (d : Database). d.schema.tables) was.same ∙ ap (λ (schema : Schema). schema.tables) bare.0)))
+        | inr table ↦ table
+      ];
+    }

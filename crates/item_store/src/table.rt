@@ -1,17 +1,24 @@
 //! The item table itself.
 
-ghost use Rattle.std.specs.Prelude.{OnOk, OnErr};
+ghost use Rattle.std.specs.Prelude.{◌≡◌, OnOk, OnErr, true};
 ghost use Rattle.sqlite.specs.Held.{state};
 ghost use Rattle.sqlite.specs.State.{HasCleanDisk};
-ghost use Rattle.item_store.specs.Asked.{Asks};
+ghost use Rattle.item_store.specs.Asked.{Asks, AsksInTurn};
 ghost use Rattle.item_maps.specs.Items.{Items};
 ghost use Rattle.item_store.specs.Left.{IsLeft, Leaves, WasOpen};
 ghost use Rattle.item_store.specs.Stands.{StandsFor, IsReady, Earlier};
 
 use sqlite::{Alter, Connection, Error};
 
-/// Makes the table where it doesn't stand.
-pub fn make<S: Alter>(conn: &mut Connection<S>) -> Result<(), Error>
+// Whether the database has a table. A store has no other than the item table.
+fn has_table<S: Alter>(conn: &Connection<S>) -> bool
+    ensures { result ≡ true → (m : Items) → StandsFor (state S.Store conn.now) m → IsReady (state S.Store conn.now) m }
+{
+    !conn.schema().tables.as_slice().is_empty()
+}
+
+// Makes the table where it doesn't stand, by a statement.
+fn create<S: Alter>(conn: &mut Connection<S>) -> Result<(), Error>
     ensures ok { (m : Items) → StandsFor (state S.Store conn.old) m → OnOk result (IsReady (state S.Store conn.new) m) }
     ensures err { (m : Items) → StandsFor (state S.Store conn.old) m → OnErr result (StandsFor (state S.Store conn.new) m) }
     ensures asks { HasCleanDisk (state S.Store conn.new) → Asks (state S.Store conn.old) (state S.Store conn.new) result }
@@ -24,4 +31,19 @@ pub fn make<S: Alter>(conn: &mut Connection<S>) -> Result<(), Error>
         &[],
     )?;
     Ok(())
+}
+
+/// Makes the table where it doesn't stand. A database that has it is asked nothing.
+pub fn make<S: Alter>(conn: &mut Connection<S>) -> Result<(), Error>
+    ensures ok { (m : Items) → StandsFor (state S.Store conn.old) m → OnOk result (IsReady (state S.Store conn.new) m) }
+    ensures err { (m : Items) → StandsFor (state S.Store conn.old) m → OnErr result (StandsFor (state S.Store conn.new) m) }
+    ensures asks { HasCleanDisk (state S.Store conn.new) → AsksInTurn (state S.Store) conn.old conn.new result }
+    ensures left { (m : Items) → StandsFor (state S.Store conn.old) m → Leaves (state S.Store conn.old) (state S.Store conn.new) result (λ db. IsLeft db m) }
+    ensures was_open { WasOpen (state S.Store conn.old) (state S.Store conn.new) }
+    ensures honest { Earlier (state S.Store conn.old) (state S.Store conn.new) }
+{
+    if has_table(conn) {
+        return Ok(());
+    }
+    create(conn)
 }

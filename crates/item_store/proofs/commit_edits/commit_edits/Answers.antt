@@ -31,20 +31,20 @@ returns-clause-err g c m h =
 pub returns-in_err-make-clause-asks : goal.returns-in_err-make-clause-asks
 returns-in_err-make-clause-asks g c clean out =
     let p = err_from_is_err_and c.from_residual.result c.from_residual.ensures.1 in
-    rw (p.1, p.2) (λ cause. at_once (state g.S.Store) c.in_err-make.field-0.0 (c.in_err-make.ensures.asks clean))
+    rw (p.1, p.2) (c.in_err-make.ensures.asks clean)
 
 pub returns-in_err-begin-clause-asks : goal.returns-in_err-begin-clause-asks
 returns-in_err-begin-clause-asks g c clean out =
     let view = state g.S.Store in
     let p = err_from_is_err_and c.from_residual-in_err-begin.result c.from_residual-in_err-begin.ensures.1 in
-    rw (p.1, p.2) (λ cause. late view {mid = c.make.new.conn} c.in_err-begin.field-0.0 (one view (c.in_ok-make.ensures.asks (c.begin.ensures.honest clean))) (at_once view c.in_err-begin.field-0.0 (c.in_err-begin.ensures.asks clean)))
+    rw (p.1, p.2) (λ cause. late view {mid = c.make.new.conn} c.in_err-begin.field-0.0 (c.in_ok-make.ensures.asks (c.begin.ensures.honest clean)) (at_once view c.in_err-begin.field-0.0 (c.in_err-begin.ensures.asks clean)))
 
 pub returns-clause-asks : goal.returns-clause-asks
 returns-clause-asks g c clean out =
     let view = state g.S.Store in
     let ended = c.roll_back.ensures.honest clean in
     let begun = c.finish-ended.ensures.honest ended in
-    let inside = joined view {mid = c.make.new.conn} (one view (c.in_ok-make.ensures.asks (c.begin.ensures.honest begun))) (one view (c.in_ok-begin.ensures.asks begun)) in
+    let inside = joined view {mid = c.make.new.conn} (c.in_ok-make.ensures.asks (c.begin.ensures.honest begun)) (one view (c.in_ok-begin.ensures.asks begun)) in
     rolled view c.args.conn.now c.finish-ended.new.conn c.roll_back.new.conn c.finish-ended.result c.roll_back.ensures.honest
     (in_turn view c.args.conn.now c.begin.new.conn c.finish-ended.new.conn c.finish-ended.result inside (c.finish-ended.ensures.asks ended))
 

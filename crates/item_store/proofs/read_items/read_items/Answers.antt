@@ -1,7 +1,7 @@
 use Rattle.std.proofs.Common.{take, ◌∙◌}
 use Rattle.std.proofs.lemmas.Result.{IfErr-weaker, err_from_is_err_and}
 use Rattle.sqlite.specs.Held.{state}
-use Rattle.item_store.proofs.Asking.{one, late, at_once}
+use Rattle.item_store.proofs.Asking.{late, at_once}
 use Rattle.item_maps.specs.Items.{listed}
 use Rattle.std.proofs.Common.{inl, inr}
 use Rattle.item_store.proofs.read_items.read_items.Goals as goal
@@ -19,13 +19,13 @@ returns-clause-same g c m h = c.select.ensures.same m (c.in_ok-make.ensures.ok m
 pub returns-in_err-make-clause-asks : goal.returns-in_err-make-clause-asks
 returns-in_err-make-clause-asks g c m h clean live =
     let p = err_from_is_err_and c.from_residual.result c.from_residual.ensures.1 in
-    rw (p.1, p.2) (λ cause. at_once (state g.S.Store) c.in_err-make.field-0.0 (c.in_err-make.ensures.asks clean))
+    rw (p.1, p.2) (c.in_err-make.ensures.asks clean)
 
 pub returns-in_err-rows-clause-asks : goal.returns-in_err-rows-clause-asks
 returns-in_err-rows-clause-asks g c m h clean live =
     let view = state g.S.Store in
     let p = err_from_is_err_and c.from_residual-in_err-rows.result c.from_residual-in_err-rows.ensures.1 in
-    rw (p.1, p.2) (λ cause. late view {mid = c.make.new.conn} c.in_err-rows.field-0.0 (one view (c.in_ok-make.ensures.asks (c.select.ensures.honest clean))) (at_once view c.in_err-rows.field-0.0 (c.in_err-rows.ensures.asks clean)))
+    rw (p.1, p.2) (λ cause. late view {mid = c.make.new.conn} c.in_err-rows.field-0.0 (c.in_ok-make.ensures.asks (c.select.ensures.honest clean)) (at_once view c.in_err-rows.field-0.0 (c.in_err-rows.ensures.asks clean)))
 
 pub returns-clause-asks : goal.returns-clause-asks
 returns-clause-asks g c m h clean live =
