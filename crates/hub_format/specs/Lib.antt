@@ -1,3 +1,4 @@
+pub mod Areas
 pub mod Pieces
 pub mod Format
 pub mod Edits

@@ -3,10 +3,12 @@
 ghost use Rattle.std.specs.Prelude.{◌≡◌, ◌++◌, ◌∷◌, [], ◌+◌, ◌<◌, ◌^◌, IfOk, OnOk};
 ghost use Rattle.std.specs.List.{AllByRecursion};
 ghost use Rattle.std.specs.Option.{ForSome};
+ghost use Rattle.hub_format.specs.Areas.{area_number};
 ghost use Rattle.hub_format.specs.Edits.{added, clear_version, first_edits, mark_edits, put_at, puts};
 ghost use Rattle.hub_format.specs.Format.{FitsChange, FitsGrant, FitsMark, format_entry, some_grants};
 ghost use Rattle.hub_format.specs.Pieces.{number};
 
+use crate::area::HubArea;
 use crate::pieces::push_number;
 use crate::writing::{put_grants, put_mark, put_rows, put_version};
 use item_maps::Edit;
@@ -29,7 +31,7 @@ pub fn put_format(alloc: Global) -> Result<Edit, NoMemory>
     ensures { IfOk result (λ edit. edit ≡ put_at 0 format_entry) }
 {
     Ok(Edit::Put {
-        area: 0,
+        area: HubArea::Format.number(),
         label: Bytes::from_vec(Vec::new(alloc)),
         body: Bytes::from_vec(number_bytes(alloc, 1)?),
     })
@@ -44,7 +46,7 @@ pub(crate) fn put_state(alloc: Global, keep: u64, base: u64, at: &[u8]) -> Resul
     push_number(&mut body, base)?;
     body.extend_from_slice(at)?;
     Ok(Edit::Put {
-        area: 1,
+        area: HubArea::State.number(),
         label: Bytes::from_vec(Vec::new(alloc)),
         body: Bytes::from_vec(body),
     })
@@ -87,7 +89,7 @@ pub fn added_edits(alloc: Global, change: &Change) -> Result<Vec<Edit>, NoMemory
     put_rows(
         alloc,
         &mut edits,
-        4,
+        HubArea::ChangeRows,
         prefix.as_slice(),
         change.rows.as_slice(),
     )?;
@@ -114,12 +116,12 @@ pub fn push_mark(
 }
 
 // The edit that takes away what stands behind a version's number.
-pub(crate) fn clear_version(alloc: Global, area: u32, version: u64) -> Result<Edit, NoMemory>
+pub(crate) fn clear_version(alloc: Global, area: HubArea, version: u64) -> Result<Edit, NoMemory>
     requires { version + 1 < 2 ^ 64 }
-    ensures { IfOk result (λ edit. edit ≡ clear_version area version) }
+    ensures { IfOk result (λ edit. edit ≡ clear_version (area_number area) version) }
 {
     Ok(Edit::Clear {
-        area,
+        area: area.number(),
         from: Bytes::from_vec(number_bytes(alloc, version)?),
         to: Bytes::from_vec(number_bytes(alloc, version + 1)?),
     })

@@ -4,11 +4,13 @@ ghost use Rattle.std.specs.Prelude.{◌≡◌, ◌++◌, ◌∷◌, [], ◌+◌,
 ghost use Rattle.item_maps.specs.Edits.{entry_of};
 ghost use Rattle.version_core.specs.declared.change.BaseVersion.{BaseVersion};
 ghost use Rattle.version_core.specs.declared.change.Change.{Change as ChangeValue};
+ghost use Rattle.hub_format.specs.Areas.{area_number};
 ghost use Rattle.hub_format.specs.Edits.{clear_version, folded, put_at, puts};
 ghost use Rattle.hub_format.specs.Format.{grants_under, own_rows, rows_under};
 ghost use Rattle.hub_format.specs.Pieces.{change_body, number};
 ghost use Rattle.hub_format.specs.Moves.{all_moved, grants_moved, moved_to};
 
+use crate::area::HubArea;
 use crate::edits::{clear_version, number_bytes, put_state};
 use crate::reading::behind;
 use crate::writing::{change_body, put_rows};
@@ -18,14 +20,14 @@ use std::alloc::Global;
 use version_core::change::Change;
 use version_core::row_change::RowChange;
 
-fn put_moved(alloc: Global, area: u32, prefix: &[u8], item: &Item) -> Result<Edit, NoMemory>
-    ensures { IfOk result (λ edit. edit ≡ put_at area (moved_to prefix.now (entry_of item.now))) }
+fn put_moved(alloc: Global, area: HubArea, prefix: &[u8], item: &Item) -> Result<Edit, NoMemory>
+    ensures { IfOk result (λ edit. edit ≡ put_at (area_number area) (moved_to prefix.now (entry_of item.now))) }
 {
     let mut label = Vec::from_slice(alloc, prefix)?;
     label.extend_from_slice(behind(item.label.as_slice(), 8))?;
     let body = Vec::from_slice(alloc, item.body.as_slice())?;
     Ok(Edit::Put {
-        area,
+        area: area.number(),
         label: Bytes::from_vec(label),
         body: Bytes::from_vec(body),
     })
@@ -35,11 +37,11 @@ fn put_moved(alloc: Global, area: u32, prefix: &[u8], item: &Item) -> Result<Edi
 fn push_moved(
     alloc: Global,
     edits: &mut Vec<Edit>,
-    area: u32,
+    area: HubArea,
     prefix: &[u8],
     items: &[Item],
 ) -> Result<(), NoMemory>
-    ensures { OnOk result (edits.new.items ≡ edits.old.items ++ puts area (all_moved prefix.now (map entry_of items.now))) }
+    ensures { OnOk result (edits.new.items ≡ edits.old.items ++ puts (area_number area) (all_moved prefix.now (map entry_of items.now))) }
 {
     for item in items {
         edits.push(put_moved(alloc, area, prefix, item)?)?;
@@ -61,7 +63,7 @@ fn push_grants(
         return Ok(());
     }
     let prefix = number_bytes(alloc, version)?;
-    push_moved(alloc, edits, 5, prefix.as_slice(), grants)
+    push_moved(alloc, edits, HubArea::Grants, prefix.as_slice(), grants)
 }
 
 // Adds the edits that take away what stands behind the base's number and the next.
@@ -69,9 +71,9 @@ fn push_clears(alloc: Global, edits: &mut Vec<Edit>, base: u64) -> Result<(), No
     requires { base + 2 < 2 ^ 64 }
     ensures { OnOk result (edits.new.items ≡ edits.old.items ++ (clear_version 3 (base + 1) ∷ clear_version 4 (base + 1) ∷ clear_version 5 base ∷ [])) }
 {
-    edits.push(clear_version(alloc, 3, base + 1)?)?;
-    edits.push(clear_version(alloc, 4, base + 1)?)?;
-    edits.push(clear_version(alloc, 5, base)?)?;
+    edits.push(clear_version(alloc, HubArea::Versions, base + 1)?)?;
+    edits.push(clear_version(alloc, HubArea::ChangeRows, base + 1)?)?;
+    edits.push(clear_version(alloc, HubArea::Grants, base)?)?;
     Ok(())
 }
 
@@ -104,7 +106,7 @@ fn push_parts(
         ++ grants_moved flag (base + 1) (map entry_of grants.now) ++ (clear_version 3 (base + 1) ∷ clear_version 4 (base + 1) ∷ clear_version 5 base ∷ []))) }
 {
     edits.push(put_state(alloc, keep, base + 1, at)?)?;
-    push_moved(alloc, edits, 2, &[], rows)?;
+    push_moved(alloc, edits, HubArea::BaseRows, &[], rows)?;
     push_grants(alloc, edits, flag, base + 1, grants)?;
     push_clears(alloc, edits, base)?;
     Ok(())
@@ -150,7 +152,7 @@ fn push_new_parts(
         ++ grants_moved flag (base + 1) (map entry_of grants.now) ++ (clear_version 3 (base + 1) ∷ clear_version 4 (base + 1) ∷ clear_version 5 base ∷ []))) }
 {
     edits.push(put_state(alloc, keep, base + 1, at)?)?;
-    put_rows(alloc, edits, 2, &[], rows)?;
+    put_rows(alloc, edits, HubArea::BaseRows, &[], rows)?;
     push_grants(alloc, edits, flag, base + 1, grants)?;
     push_clears(alloc, edits, base)?;
     Ok(())

@@ -1,6 +1,7 @@
 //! The items in which a hub's state is kept: their labels and bodies as definitions, written and read, and the edits of a commit.
 #![tactic(auto)]
 
+mod area;
 mod edits;
 mod fold;
 pub mod laws;
@@ -13,6 +14,7 @@ mod read_state;
 mod reading;
 mod writing;
 
+pub use area::HubArea;
 pub use edits::{first_edits, put_format};
 pub use pieces::{kind_byte, push_number, push_sized};
 pub use plan::{Oldest, commit_edits, lets_go};

@@ -5,10 +5,12 @@ ghost use Rattle.std.specs.Int.{w64};
 ghost use Rattle.std.specs.Int.RustNames.{FitsSigned};
 ghost use Rattle.std.specs.List.{AllByRecursion};
 ghost use Rattle.roster_values.specs.Kinds.{place_of_kind};
+ghost use Rattle.hub_format.specs.Areas.{area_number};
 ghost use Rattle.hub_format.specs.Edits.{put_at, puts};
 ghost use Rattle.hub_format.specs.Format.{FitsGrant, FitsMark, grant_entry, grants_under, mark_entry, row_entry, rows_under, version_entry};
 ghost use Rattle.hub_format.specs.Pieces.{AreSized, HasNoZero, IsReadBack, IsSized, caller_label, change_body, grant_body, key_label, mark_body, mark_label, number, row_body};
 
+use crate::area::HubArea;
 use crate::pieces::{
     kind_byte, push_caller, push_moment, push_number, push_owner, push_schools, push_sized,
 };
@@ -49,7 +51,7 @@ pub(crate) fn put_version(alloc: Global, change: &Change) -> Result<Edit, NoMemo
     ensures fits { OnOk result (FitsSigned w64 change.now.moment) }
 {
     Ok(Edit::Put {
-        area: 3,
+        area: HubArea::Versions.number(),
         label: version_label(alloc, change.version)?,
         body: change_body(alloc, change)?,
     })
@@ -76,12 +78,17 @@ fn row_body(alloc: Global, change: &RowChange) -> Result<Bytes, NoMemory>
     Ok(Bytes::from_vec(body))
 }
 
-fn put_row(alloc: Global, area: u32, prefix: &[u8], change: &RowChange) -> Result<Edit, NoMemory>
-    ensures edit { IfOk result (λ edit. edit ≡ put_at area (row_entry prefix.now change.now)) }
+fn put_row(
+    alloc: Global,
+    area: HubArea,
+    prefix: &[u8],
+    change: &RowChange,
+) -> Result<Edit, NoMemory>
+    ensures edit { IfOk result (λ edit. edit ≡ put_at (area_number area) (row_entry prefix.now change.now)) }
     ensures back { OnOk result (IsReadBack change.now) }
 {
     Ok(Edit::Put {
-        area,
+        area: area.number(),
         label: row_label(alloc, prefix, change.row.kind(), change.row.id())?,
         body: row_body(alloc, change)?,
     })
@@ -91,11 +98,11 @@ fn put_row(alloc: Global, area: u32, prefix: &[u8], change: &RowChange) -> Resul
 pub(crate) fn put_rows(
     alloc: Global,
     edits: &mut Vec<Edit>,
-    area: u32,
+    area: HubArea,
     prefix: &[u8],
     rows: &[RowChange],
 ) -> Result<(), NoMemory>
-    ensures edits { OnOk result (edits.new.items ≡ edits.old.items ++ puts area (rows_under prefix.now rows.now)) }
+    ensures edits { OnOk result (edits.new.items ≡ edits.old.items ++ puts (area_number area) (rows_under prefix.now rows.now)) }
     ensures back { OnOk result (AllByRecursion IsReadBack rows.now) }
 {
     for row in rows {
@@ -133,7 +140,7 @@ fn put_grant(alloc: Global, version: u64, row: &GrantRow) -> Result<Edit, NoMemo
     ensures fits { OnOk result (FitsGrant row.now) }
 {
     Ok(Edit::Put {
-        area: 5,
+        area: HubArea::Grants.number(),
         label: grant_label(alloc, version, &row.caller)?,
         body: grant_body(alloc, &row.grant)?,
     })
@@ -189,7 +196,7 @@ pub(crate) fn put_mark(alloc: Global, mark: &MarkRow) -> Result<Edit, NoMemory>
     ensures fits { OnOk result (FitsMark mark.now) }
 {
     Ok(Edit::Put {
-        area: 6,
+        area: HubArea::Marks.number(),
         label: mark_label(alloc, &mark.caller, mark.number)?,
         body: mark_body(alloc, mark)?,
     })

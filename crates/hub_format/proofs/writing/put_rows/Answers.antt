@@ -1,4 +1,5 @@
 use Rattle.std.proofs.Common.{◌<◌, ◌∙◌, length, arith}
+use Rattle.hub_format.specs.Areas.{area_number}
 use Rattle.hub_format.specs.Format.{row_entry}
 use Rattle.hub_format.specs.Pieces.{IsReadBack}
 use Rattle.hub_format.proofs.Steps.{more_all, more_puts}
@@ -10,6 +11,6 @@ loop-row-preserved c =
     let i = c.loop-row.row-index in
     let within : i < length rows = omega arith in
     record {
-      edits = c.in_ok-push.ensures.items ∙ more_puts c.args.area (row_entry c.args.prefix.now) c.args.edits.now.items c.loop-row.edits.items rows i c.row-item.result c.in_ok-put_row.field-0 c.loop-row.invariant.edits within c.row-item.is c.in_ok-put_row.ensures.edit;
+      edits = c.in_ok-push.ensures.items ∙ more_puts (area_number c.args.area) (row_entry c.args.prefix.now) c.args.edits.now.items c.loop-row.edits.items rows i c.row-item.result c.in_ok-put_row.field-0 c.loop-row.invariant.edits within c.row-item.is c.in_ok-put_row.ensures.edit;
       back = more_all IsReadBack rows i c.row-item.result c.loop-row.invariant.back within c.row-item.is c.in_ok-put_row.ensures.back;
     }
