@@ -3,7 +3,9 @@
 ghost use Rattle.std.specs.Prelude.{◌≡◌, ◌≢◌, ℕ, ◌+◌, ◌<◌, ◌≤◌, Some};
 ghost use Rattle.keeper_memory.specs.copy.HeldCopy.{empty_copy};
 ghost use Rattle.keeper_memory.specs.copy.States.{stage_of};
+ghost use Rattle.consumer_sync.specs.Faulted.{FaultLaw};
 ghost use Rattle.exchange_link.specs.Agreement.{StageAgrees};
+ghost use Rattle.exchange_link.specs.Asked.{AsksPages};
 ghost use Rattle.exchange_link.specs.Bounds.{Bounded, IsCallPin};
 ghost use Rattle.exchange_link.specs.Causes.{ToldCause};
 ghost use Rattle.exchange_link.specs.Completeness.{IsDone, StandsAt, first_pin};
@@ -41,7 +43,11 @@ pub fn sync_over(
         → copy.old.copy.run ≢ LAST → StandsAt (first_pin (own_state token.now (stage_of copy.old.copy)) link.old.hub) token.now link.new.hub → IsDone result }
     // The exchanges are no more than the pages missing and the kinds left, each with its tries.
     ensures bound { (n : ℕ) × (link.new.asked ≤ link.old.asked + n)
-        × Bounded n tries limit token.now (own_state token.now (stage_of copy.old.copy)) (λ version. IsCallPin result copy.new.copy.stage version) link.new.hub }
+        × Bounded n tries limit token.now (own_state token.now (stage_of copy.old.copy)) (λ version. IsCallPin result copy.new.copy link.new.sent version) link.new.hub }
+    // All requests are for pages of this token and limit, each under the next number of the run.
+    ensures asks { AsksPages token.now limit tries (λ c. c ≡ copy.new.copy) link.old.asked link.new.asked result link.old.sent link.new.sent }
+    // Where the copy's keeper failed, a stage under this token ends at the swap alone, or where the hub says that its pin isn't kept.
+    ensures faulted { result ≡ SyncAnswer.KeeperFault → FaultLaw token.now link.new.kept copy.old.copy copy.new.copy }
     ensures cause { ToldCause token.now (told_by link.old) (told_by link.new) result }
     // What the entries of the copy and the marks of the hub agree on stays so.
     ensures marks { MarksTold copy.old.copy (told_by link.old) → MarksTold copy.new.copy (told_by link.new) }
