@@ -1,6 +1,6 @@
 -- A verdict by what is held under the mark, and what a new version's change keeps.
-use Rattle.std.proofs.Common.{◌≡◌, ℕ, ℤ, List, Option, None, Result, Ok, Err, IfOk, option_and_then, sym, ap, subst, ◌∙◌}
-use Rattle.gradebook_core.specs.Judging.{HasOrder, MayLead, verdict_of}
+use Rattle.std.proofs.Common.{◌≡◌, ℕ, ℤ, List, Option, None, Some, Result, Ok, Err, IfOk, option_and_then, sym, ap, subst, ◌∙◌}
+use Rattle.gradebook_core.specs.Judging.{IsNewlyMade, MayLead, RepeatsAlone, RepeatsOneOf, verdict_of}
 use Rattle.gradebook_core.specs.declared.judgement.Judgement.{Judgement}
 use Rattle.gradebook_core.specs.declared.judgement.Judgement.TheVariants as judgement
 use Rattle.hub_spec.proofs.Judging.{judged_led}
@@ -33,10 +33,26 @@ both P Q R (Err e) from p q = tt
 
 -- the change of a write that no mark tells of may be added
 pub may_lead : (newest : BaseVersion) → IsVersion newest → (by : GrantRow) (write : Write) (at : ℤ) (made : Judgement)
-    → NewJudged write.delete newest by write at (verdict_of newest made) → HasOrder made → MayLead newest made
+    → NewJudged write.delete newest by write at (verdict_of newest made) → IsNewlyMade made → MayLead newest made
 may_lead newest is by write at (judgement.New change) judged order =
     let next = judged_led newest is at by write (after newest change) None judged in
     record { next = next.number; version = next.version; changes = order }
 may_lead newest is by write at judgement.Same judged order = tt
-may_lead newest is by write at (judgement.Repeat kept) judged order = tt
+may_lead newest is by write at (judgement.Repeat kept) judged order = absurd order
 may_lead newest is by write at (judgement.Refused n) judged order = tt
+
+-- what the write of a held mark repeats is kept under one of the marks
+pub repeats_held : (marks : List MarkRow) (caller : List ℕ) (mark : Option ℕ) (held : MarkRow) → Some held ≡ option_and_then (λ number. mark_at (caller, number) marks) mark
+    → (made : Judgement) → RepeatsAlone held made → RepeatsOneOf marks made
+repeats_held marks caller None held found made alone = let none : Some held ≡ None = found in absurd (cc)
+repeats_held marks caller (Some number) held found (judgement.New change) alone = tt
+repeats_held marks caller (Some number) held found judgement.Same alone = tt
+repeats_held marks caller (Some number) held found (judgement.Repeat kept) alone = record { key = (caller, number); held = held; found = sym found; is = alone }
+repeats_held marks caller (Some number) held found (judgement.Refused failed) alone = tt
+
+-- and a write that no mark tells of repeats nothing
+pub repeats_none : (marks : List MarkRow) (made : Judgement) → IsNewlyMade made → RepeatsOneOf marks made
+repeats_none marks (judgement.New change) new = tt
+repeats_none marks judgement.Same new = tt
+repeats_none marks (judgement.Repeat kept) new = absurd new
+repeats_none marks (judgement.Refused failed) new = tt

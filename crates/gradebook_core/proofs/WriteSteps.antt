@@ -1,10 +1,15 @@
 -- What is made of a judgement is what its verdict leads to.
-use Rattle.std.proofs.Common.{◌≡◌, ℕ, ℤ, ◌-◌, inl, inr, List, [], ◌∷◌, length, length-append, Option, None, Some, Ok, Err, refl, sym, ap, subst, ◌∙◌, arith}
+use Rattle.std.proofs.Common.{◌≡◌, ◌≤◌, ◌&&◌, ◌==◌, ℕ, ℤ, ◌-◌, Bool, true, false, cond, nat_le, inl, inr, List, [], ◌∷◌, length, length-append, Option, None, Some, Ok, Err, refl, sym, ap, subst, ◌∙◌, arith}
+use Rattle.std.proofs.lemmas.Bool.{and_parts, eqb-true, leb-true, or_cases}
+use Rattle.std.specs.List.{AllByRecursion}
 use Rattle.std.specs.Option.{ForSome}
-use Rattle.gradebook_core.specs.Judging.{MayLead, verdict_of}
+use Rattle.gradebook_core.specs.Judging.{MayLead, RepeatsOneOf, verdict_of}
+use Rattle.gradebook_core.specs.Outcomes.{check_number}
 use Rattle.gradebook_core.specs.Writing.{MayCommit, LedBy, Writes, change_in, commit_of, number_after, refused_as, told_of, written_as, written_of}
 use Rattle.gradebook_core.specs.declared.judgement.Judgement.{Judgement}
 use Rattle.gradebook_core.specs.declared.judgement.Judgement.TheVariants as judgement
+use Rattle.gradebook_core.specs.declared.outcome.Check.{Check}
+use Rattle.gradebook_core.specs.declared.outcome.Check.TheVariants as check
 use Rattle.gradebook_core.specs.declared.written.Written.{Written}
 use Rattle.hub_core.proofs.StepLemmas.{may_follow, newest_is}
 use Rattle.hub_core.specs.Steps.{Installs}
@@ -22,10 +27,11 @@ use Rattle.keeper_memory.specs.Kept.{IsKept, KeptState, newest_kept}
 use Rattle.keeper_memory.specs.Parts.{IsPartOf}
 use Rattle.keeper_memory.specs.declared.hub_commit.HubCommit.{HubCommit}
 use Rattle.version_core.specs.HubStates.{HubState, IsHubState}
-use Rattle.version_core.specs.Marks.{CanMark}
+use Rattle.version_core.specs.Marks.{AreMarks, CanMark, is_outcome, mark_at, mark_key, same_mark}
 use Rattle.version_core.specs.Version.{Versions, after, empty_version, last_or, newest_of}
 use Rattle.version_core.specs.declared.change.BaseVersion.{BaseVersion}
 use Rattle.version_core.specs.declared.grant_row.GrantRow.{GrantRow}
+use Rattle.version_core.specs.declared.mark.Kept.{Kept}
 use Rattle.version_core.specs.declared.mark.MarkRow.{MarkRow}
 use Rattle.version_core.specs.declared.mark.Write.{Write}
 
@@ -75,7 +81,7 @@ module _ (state : HubState) (is : IsHubState state) (kept : KeptState) (part : I
     written_is (judgement.New change) leads = ap (written_as mark (done_of write)) (number_is (judgement.New change) leads)
     written_is judgement.Same leads = ap (written_as mark (done_of write)) number
     written_is (judgement.Repeat held) leads = refl
-    written_is (judgement.Refused n) leads = ap (refused_as mark n) number
+    written_is (judgement.Refused n) leads = ap (refused_as mark (check_number n)) number
 
     marks_led : (caller : List ℕ) (made : Judgement) → MayLead newest made
         → marks_after kept.marks (kept_mark caller mark write (number_after newest made) (outcome_of write (verdict_of newest made)))
@@ -198,3 +204,44 @@ module _ (kept : KeptState) (table : Versions) (marks : List MarkRow) (same : ta
 
   pub failed : (e : HubError) (after : KeptState) → Installs {T = Unit {0}} due (Err e) kept after → Writes by mark write at (Err e) kept after
   failed e after installs = writes_failed by mark write at kept made judged_here leads_here e after (subst (λ d. Installs {T = Unit {0}} d (Err e) kept after) due_here installs)
+
+-- ---- the number of an outcome
+
+-- what holds of each mark holds of one that is found
+found_has : (P : MarkRow → Type 0) (key : List ℕ × ℕ) (marks : List MarkRow) (held : MarkRow) → AllByRecursion P marks → mark_at key marks ≡ Some held → P held
+found_has P key [] held all found = let none : None ≡ Some held = found in absurd (cc)
+found_has P key (mark ∷ marks) held all found =
+    elim (same_mark key (mark_key mark)) as (λ b. cond b (Some mark) (mark_at key marks) ≡ Some held → P held) [
+      | true ↦ λ here. let same : mark ≡ held = cc in subst P same all.0
+      | false ↦ λ there. found_has P key marks held all.1 there
+    ] found
+
+kept_low : (delete : Bool) (n : ℕ) → is_outcome delete n ≡ true → n ≤ 9
+kept_low delete n is = elim (or_cases (n == cond delete 9 0) (nat_le 2 n && nat_le n 8) is) [
+  | inl same ↦ let here = eqb-true n (cond delete 9 0) same in
+      subst (λ m. m ≤ 9) (sym here) (elim delete as (λ b. cond b 9 0 ≤ 9) [ true ↦ omega arith | false ↦ omega arith ])
+  | inr between ↦ let high = leb-true n 8 (and_parts (nat_le 2 n) (nat_le n 8) between).1 in omega arith
+]
+
+done_low : (write : Write) → done_of write ≤ 9
+done_low write = elim write.delete as (λ b. cond b 9 0 ≤ 9) [ true ↦ omega arith | false ↦ omega arith ]
+
+check_low : (failed : Check) → check_number failed ≤ 9
+check_low check.MarkOfAnotherWrite = omega arith
+check_low check.BadBody = omega arith
+check_low check.NoSuchObject = omega arith
+check_low check.OwnedByAnother = omega arith
+check_low check.ReferenceOutsideGrant = omega arith
+check_low check.ReferenceOfWrongType = omega arith
+check_low check.TooManyRows = omega arith
+check_low check.LastVersion = omega arith
+
+-- what is told of a judgement is the number of an outcome
+pub told_low : (top : ℕ) (marks : List MarkRow) → AreMarks top marks → (newest : BaseVersion) (mark : Option ℕ) (write : Write) (made : Judgement)
+    → RepeatsOneOf marks made → (told_of newest mark write made).outcome ≤ 9
+told_low top marks are newest mark write (judgement.New change) repeats = done_low write
+told_low top marks are newest mark write judgement.Same repeats = done_low write
+told_low top marks are newest mark write (judgement.Repeat kept) repeats =
+    let has = found_has (λ m. is_outcome m.write.delete m.kept.outcome ≡ true) repeats.key marks repeats.held are.outcomes repeats.found in
+    subst (λ (k : Kept). k.outcome ≤ 9) (sym repeats.is) (kept_low repeats.held.write.delete repeats.held.kept.outcome has)
+told_low top marks are newest mark write (judgement.Refused failed) repeats = check_low failed

@@ -2,6 +2,7 @@
 use Rattle.std.specs.Prelude.{◌≡◌, ◌⊎◌, ◌&&◌, ℕ, ℤ, List, Option, None, Some, Result, Ok, Err, is_some, nat_lt}
 use Rattle.std.specs.Option.{ForSome}
 use Rattle.gradebook_core.specs.Judging.{verdict_of}
+use Rattle.gradebook_core.specs.Outcomes.{check_number}
 use Rattle.gradebook_core.specs.declared.judgement.Judgement.{Judgement}
 use Rattle.gradebook_core.specs.declared.judgement.Judgement.TheVariants as judgement
 use Rattle.gradebook_core.specs.declared.written.Written.{Written}
@@ -64,7 +65,7 @@ abbrev pub told_of : BaseVersion → Option ℕ → Write → Judgement → Writ
 told_of newest mark write (judgement.New change) = written_as mark (done_of write) change.version
 told_of newest mark write judgement.Same = written_as mark (done_of write) newest.number
 told_of newest mark write (judgement.Repeat kept) = written_as mark kept.outcome kept.version
-told_of newest mark write (judgement.Refused number) = refused_as mark number newest.number
+told_of newest mark write (judgement.Refused failed) = refused_as mark (check_number failed) newest.number
 
 abbrev pub change_in : Judgement → Option Change
 change_in (judgement.New change) = Some change

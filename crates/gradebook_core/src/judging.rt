@@ -1,7 +1,7 @@
 //! Judging writes.
 
 ghost use Rattle.std.specs.Prelude.{◌≡◌, IfOk, Ok, option_and_then, option_copied};
-ghost use Rattle.gradebook_core.specs.Judging.{HasOrder, MayLead, verdict_of};
+ghost use Rattle.gradebook_core.specs.Judging.{IsNewlyMade, MayLead, RepeatsOneOf, verdict_of};
 ghost use Rattle.hub_spec.specs.rules.Refusals.{delete_refusal};
 ghost use Rattle.hub_spec.specs.rules.Verdicts as spec;
 ghost use Rattle.row_json.specs.Puts.{put_of};
@@ -10,6 +10,7 @@ ghost use Rattle.version_core.specs.Marks.{mark_at};
 ghost use Rattle.version_core.specs.Version.{newest_of};
 
 use crate::judgement::Judgement;
+use crate::outcome::Check;
 use crate::refusals::{delete_refusal, put_refusal};
 use crate::repeats::repeated;
 use crate::stored::{delete_makes, put_makes};
@@ -35,13 +36,13 @@ fn put_judged(
     row: Row,
 ) -> Result<Judgement, NoMemory>
     ensures verdict { IfOk result (λ made. spec.BodyJudged (newest_of table.now) by.now write.now at (Ok row) (verdict_of (newest_of table.now) made)) }
-    ensures order { IfOk result HasOrder }
+    ensures order { IfOk result IsNewlyMade }
 {
     let view = table.newest_rows();
     let stored = view.change(write.kind, &write.id);
-    if let Some(number) = put_refusal(&view, by, write, stored, &row) {
+    if let Some(check) = put_refusal(&view, by, write, stored, &row) {
         drop(row);
-        return Ok(Judgement::Refused(number));
+        return Ok(Judgement::Refused(check));
     }
     let owner = Owner::Caller(by.caller.copy(alloc)?);
     put_makes(alloc, table, at, RowChange { row, owner }, stored)
@@ -56,11 +57,11 @@ fn body_judged(
     at: Moment,
 ) -> Result<Judgement, NoMemory>
     ensures verdict { IfOk result (λ made. spec.BodyJudged (newest_of table.now) by.now write.now at (put_of write.now.kind write.now.id at write.now.body) (verdict_of (newest_of table.now) made)) }
-    ensures order { IfOk result HasOrder }
+    ensures order { IfOk result IsNewlyMade }
 {
     match read_put(alloc, write.kind, &write.id, at, write.body.as_slice()) {
         Ok(row) => put_judged(alloc, table, by, write, at, row),
-        Err(Refusal::Fault(_)) => Ok(Judgement::Refused(2)),
+        Err(Refusal::Fault(_)) => Ok(Judgement::Refused(Check::BadBody)),
         Err(Refusal::NoMemory) => Err(NoMemory),
     }
 }
@@ -74,12 +75,12 @@ fn delete_judged(
     at: Moment,
 ) -> Result<Judgement, NoMemory>
     ensures verdict { IfOk result (λ made. verdict_of (newest_of table.now) made ≡ spec.delete_judged (newest_of table.now) write.now at (delete_refusal (newest_of table.now) by.now write.now)) }
-    ensures order { IfOk result HasOrder }
+    ensures order { IfOk result IsNewlyMade }
 {
     let view = table.newest_rows();
     let stored = view.change(write.kind, &write.id);
-    if let Some(number) = delete_refusal(&view, by, write, stored) {
-        return Ok(Judgement::Refused(number));
+    if let Some(check) = delete_refusal(&view, by, write, stored) {
+        return Ok(Judgement::Refused(check));
     }
     delete_makes(alloc, table, at, stored)
 }
@@ -93,7 +94,7 @@ fn new_judged(
     at: Moment,
 ) -> Result<Judgement, NoMemory>
     ensures verdict { IfOk result (λ made. spec.NewJudged write.now.delete (newest_of table.now) by.now write.now at (verdict_of (newest_of table.now) made)) }
-    ensures order { IfOk result HasOrder }
+    ensures order { IfOk result IsNewlyMade }
 {
     if write.delete {
         return delete_judged(alloc, table, by, write, at);
@@ -126,6 +127,7 @@ pub fn judge(
     ensures verdict { (state : HubState) → spec.newest_in state ≡ newest_of table.now → state.marks ≡ marks.now.marks
         → IfOk result (λ made. spec.Judges state by.now mark write.now at (verdict_of (newest_of table.now) made)) }
     ensures leads { IfOk result (MayLead (newest_of table.now)) }
+    ensures repeats { IfOk result (RepeatsOneOf marks.now.marks) }
 {
     // Read for what it keeps.
     let _ = table.newest_rows();

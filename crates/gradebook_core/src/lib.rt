@@ -5,6 +5,7 @@ mod checks;
 mod fields;
 mod judgement;
 mod judging;
+mod outcome;
 mod refusals;
 mod repeats;
 mod stored;
@@ -13,5 +14,6 @@ mod written;
 
 pub use judgement::Judgement;
 pub use judging::judge;
+pub use outcome::{Check, Outcome};
 pub use writing::write;
 pub use written::Written;

@@ -1,12 +1,13 @@
 //! Writes under marks that are held.
 
 ghost use Rattle.std.specs.Prelude.{◌≡◌};
-ghost use Rattle.gradebook_core.specs.Judging.{MayLead, verdict_of};
+ghost use Rattle.gradebook_core.specs.Judging.{MayLead, RepeatsAlone, verdict_of};
 ghost use Rattle.hub_spec.specs.rules.Marked as spec;
 ghost use Rattle.hub_spec.specs.rules.Verdicts.{repeated};
 ghost use Rattle.version_core.specs.declared.change.BaseVersion.{BaseVersion};
 
 use crate::judgement::Judgement;
+use crate::outcome::Check;
 use version_core::mark::{MarkRow, Write};
 
 fn same_flag(one: bool, other: bool) -> bool
@@ -29,9 +30,10 @@ fn same_write(one: &Write, other: &Write) -> bool
 pub fn repeated(held: &MarkRow, write: &Write) -> Judgement
     ensures verdict { (newest : BaseVersion) → verdict_of newest result ≡ repeated held.now write.now }
     ensures leads { (newest : BaseVersion) → MayLead newest result }
+    ensures repeats { RepeatsAlone held.now result }
 {
     if same_write(&held.write, write) {
         return Judgement::Repeat(held.kept);
     }
-    Judgement::Refused(1)
+    Judgement::Refused(Check::MarkOfAnotherWrite)
 }

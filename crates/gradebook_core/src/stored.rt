@@ -1,11 +1,12 @@
 //! What a row that passes its checks makes of the newest version.
 
 ghost use Rattle.std.specs.Prelude.{◌≡◌, IfOk, option_copied};
-ghost use Rattle.gradebook_core.specs.Judging.{HasOrder, verdict_of};
+ghost use Rattle.gradebook_core.specs.Judging.{IsNewlyMade, verdict_of};
 ghost use Rattle.hub_spec.specs.rules.Verdicts as spec;
 ghost use Rattle.version_core.specs.Version.{newest_of};
 
 use crate::judgement::Judgement;
+use crate::outcome::Check;
 use roster_base::NoMemory;
 use roster_texts::Moment;
 use std::alloc::Global;
@@ -24,13 +25,13 @@ fn leads_with(
     change: RowChange,
 ) -> Result<Judgement, NoMemory>
     ensures verdict { IfOk result (λ made. verdict_of (newest_of table.now) made ≡ spec.leads_with (newest_of table.now) at change) }
-    ensures order { IfOk result HasOrder }
+    ensures order { IfOk result IsNewlyMade }
 {
     // Read for the bound of its number.
     let _ = table.newest_rows();
     if table.newest() == LAST_VERSION {
         drop(change);
-        return Ok(Judgement::Refused(8));
+        return Ok(Judgement::Refused(Check::LastVersion));
     }
     let mut rows = SortedRows::new(alloc);
     rows.put(change)?;
@@ -53,7 +54,7 @@ pub fn put_makes(
     stored: Option<&RowChange>,
 ) -> Result<Judgement, NoMemory>
     ensures verdict { IfOk result (λ made. spec.PutMakes (newest_of table.now) at change (option_copied stored.entry) (verdict_of (newest_of table.now) made)) }
-    ensures order { IfOk result HasOrder }
+    ensures order { IfOk result IsNewlyMade }
 {
     if let Some(stored) = stored {
         if change.row.is_same_but_date(&stored.row) {
@@ -72,10 +73,10 @@ pub fn delete_makes(
     stored: Option<&RowChange>,
 ) -> Result<Judgement, NoMemory>
     ensures verdict { IfOk result (λ made. verdict_of (newest_of table.now) made ≡ spec.delete_makes (newest_of table.now) at (option_copied stored.entry)) }
-    ensures order { IfOk result HasOrder }
+    ensures order { IfOk result IsNewlyMade }
 {
     let Some(stored) = stored else {
-        return Ok(Judgement::Refused(3));
+        return Ok(Judgement::Refused(Check::NoSuchObject));
     };
     if !is_active(stored.row.status()) {
         return Ok(Judgement::Same);

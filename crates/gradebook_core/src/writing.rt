@@ -1,9 +1,10 @@
 //! Writes of a hub.
 
-ghost use Rattle.std.specs.Prelude.{◌≡◌, false};
+ghost use Rattle.std.specs.Prelude.{◌≡◌, ◌≤◌, IfOk, false};
 ghost use Rattle.gradebook_core.specs.Writing.{MayCommit, Writes};
 ghost use Rattle.hub_core.specs.Standing.{IsStanding, KeeperFits};
 ghost use Rattle.hub_core.specs.Steps.{CountsFault, Installs, LeavesOpen, RefusesNothing};
+ghost use Rattle.hub_core.specs.Works.{Works};
 ghost use Rattle.keeper_memory.specs.Kept.{KeptState};
 
 use crate::judging::judge;
@@ -27,6 +28,7 @@ fn commit<H: HubKeeper>(
     requires may { MayCommit hub.old.kept commit }
     ensures fits { KeeperFits (H.stands_for keeper.new) hub.new }
     ensures told { (after : KeptState) → IsStanding hub.new after → (H.stands_for keeper.new after → H.stands_for keeper.old hub.old.kept) × Installs commit result hub.old.kept after }
+    ensures works { Works result hub.old hub.new }
     ensures settled { LeavesOpen result hub.new.is_open }
     ensures cause { CountsFault (H.fault_count keeper.old) (H.fault_count keeper.new) result }
     ensures refused { RefusesNothing result }
@@ -54,6 +56,10 @@ pub fn write<H: HubKeeper>(
     requires settled { hub.old.is_open ≡ false }
     ensures fits { KeeperFits (H.stands_for keeper.new) hub.new }
     ensures told { (after : KeptState) → IsStanding hub.new after → (H.stands_for keeper.new after → H.stands_for keeper.old hub.old.kept) × Writes by.now mark write at result hub.old.kept after }
+    // What is told is the number of an outcome.
+    ensures outcome { IfOk result (λ written. written.outcome ≤ 9) }
+    // What it made is the last commit, if anything.
+    ensures works { Works result hub.old hub.new }
     ensures settled { LeavesOpen result hub.new.is_open }
     ensures cause { CountsFault (H.fault_count keeper.old) (H.fault_count keeper.new) result }
     ensures refused { RefusesNothing result }

@@ -1,13 +1,15 @@
 //! What a write is answered with, and what is kept of it.
 
-ghost use Rattle.std.specs.Prelude.{◌≡◌, IfOk};
+ghost use Rattle.std.specs.Prelude.{◌≡◌, IfOk, option_map};
 ghost use Rattle.gradebook_core.specs.Judging.{verdict_of};
+ghost use Rattle.gradebook_core.specs.Outcomes.{outcome_number};
 ghost use Rattle.gradebook_core.specs.Writing.{change_in, commit_of, told_of};
 ghost use Rattle.hub_spec.specs.rules.Written as spec;
 ghost use Rattle.version_core.specs.Version.{newest_of};
 ghost use Rattle.version_core.specs.declared.change.BaseVersion.{BaseVersion};
 
 use crate::judgement::Judgement;
+use crate::outcome::Outcome;
 use keeper_memory::HubCommit;
 use roster_base::{NoMemory, TryCopy};
 use roster_texts::Name;
@@ -17,8 +19,7 @@ use version_core::mark::{Kept, MarkRow, Write};
 use version_core::table::Table;
 
 /// What became of a write: its outcome, the number of the newest version after it, and whether both are kept under its mark. The
-/// outcome is 0 where the row was put, 9 where it was deleted, and else the number of the check that it fails, from 1 to 8. For
-/// a write that its mark tells of already, outcome and version are those that were kept.
+/// outcome is the number of an `Outcome`. For a write that its mark tells of already, outcome and version are those that were kept.
 #[derive(Clone, Copy, Debug, PartialEq, Eq)]
 pub struct Written {
     pub outcome: u8,
@@ -27,10 +28,14 @@ pub struct Written {
 }
 
 // The outcome of a write that is done.
-fn done_of(write: &Write) -> u8
-    ensures { result ≡ spec.done_of write.now }
+fn done_of(write: &Write) -> Outcome
+    ensures { outcome_number result ≡ spec.done_of write.now }
 {
-    if write.delete { 9 } else { 0 }
+    if write.delete {
+        Outcome::Deleted
+    } else {
+        Outcome::Stored
+    }
 }
 
 /// What a write is told of its judgement.
@@ -39,12 +44,12 @@ pub fn told_of(table: &Table, mark: Option<u64>, write: &Write, judgement: &Judg
 {
     match judgement {
         Judgement::New(change) => Written {
-            outcome: done_of(write),
+            outcome: done_of(write).number(),
             version: change.version,
             kept: mark.is_some(),
         },
         Judgement::Same => Written {
-            outcome: done_of(write),
+            outcome: done_of(write).number(),
             version: table.newest(),
             kept: mark.is_some(),
         },
@@ -53,21 +58,21 @@ pub fn told_of(table: &Table, mark: Option<u64>, write: &Write, judgement: &Judg
             version: held.version,
             kept: mark.is_some(),
         },
-        Judgement::Refused(number) => Written {
-            outcome: *number,
+        Judgement::Refused(check) => Written {
+            outcome: check.number(),
             version: table.newest(),
-            kept: mark.is_some() && 1 < *number,
+            kept: mark.is_some() && check.is_kept(),
         },
     }
 }
 
 // The outcome that is to be kept of a judgement.
-fn outcome_of(write: &Write, judgement: &Judgement) -> Option<u8>
-    ensures { (newest : BaseVersion) → result ≡ spec.outcome_of write.now (verdict_of newest judgement.now) }
+fn outcome_of(write: &Write, judgement: &Judgement) -> Option<Outcome>
+    ensures { (newest : BaseVersion) → option_map outcome_number result ≡ spec.outcome_of write.now (verdict_of newest judgement.now) }
 {
     match judgement {
         Judgement::New(_) | Judgement::Same => Some(done_of(write)),
-        Judgement::Refused(number) if *number != 1 => Some(*number),
+        Judgement::Refused(check) if check.is_kept() => Some(Outcome::Refused(*check)),
         _ => None,
     }
 }
@@ -79,16 +84,19 @@ fn kept_mark(
     mark: Option<u64>,
     write: Write,
     version: u64,
-    outcome: Option<u8>,
+    outcome: Option<Outcome>,
 ) -> Result<Option<MarkRow>, NoMemory>
-    ensures { IfOk result (λ m. m ≡ spec.kept_mark caller.now mark write version outcome) }
+    ensures { IfOk result (λ m. m ≡ spec.kept_mark caller.now mark write version (option_map outcome_number outcome)) }
 {
     match (mark, outcome) {
         (Some(number), Some(outcome)) => Ok(Some(MarkRow {
             caller: caller.copy(alloc)?,
             number,
             write,
-            kept: Kept { outcome, version },
+            kept: Kept {
+                outcome: outcome.number(),
+                version,
+            },
         })),
         _ => Ok(None),
     }

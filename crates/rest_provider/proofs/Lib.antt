@@ -1,4 +1,4 @@
-pub mod GrantLemmas
+pub mod Doing
 pub mod ReadLemmas
 pub mod StepLemmas
 pub mod WriteLemmas

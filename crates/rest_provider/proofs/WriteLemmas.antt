@@ -13,7 +13,7 @@ use Rattle.hub_spec.proofs.Keeping.{step_keeps}
 use Rattle.hub_spec.specs.rules.Answers.{Answered, Answers, Entered, Written as WrittenAs, reply_to_write, sent, told, write_of, write_result}
 use Rattle.hub_spec.specs.rules.Checks.{Entry, check, entry_of, grant_in, method_refused, refused}
 use Rattle.hub_spec.specs.rules.Runs.{ActedOrNot, Acts, Fails, Replied, Steps, Take, WantsMemory}
-use Rattle.hub_spec.specs.rules.States.{IsHub}
+use Rattle.hub_spec.specs.rules.States.{IsGranted, IsHub}
 use Rattle.hub_spec.specs.rules.Verdicts.{Judges, Leads, Refused, Repeat, Same, Verdict}
 use Rattle.hub_spec.specs.rules.Wanted.{Wanted, allows, is_write, mark_number, takes_writes}
 use Rattle.hub_spec.specs.rules.Written.{done_of, newest_after, state_after}
@@ -21,8 +21,8 @@ use Rattle.keeper_memory.specs.Kept.{KeptState}
 use Rattle.keeper_memory.specs.Parts.{IsPartOf}
 use Rattle.rest_provider.proofs.ReadLemmas.{in_turn}
 use Rattle.rest_provider.specs.Replies.{entry, path_allowed, path_checked}
-use Rattle.rest_provider.proofs.GrantLemmas.{step_granted}
-use Rattle.rest_provider.specs.Steps.{CountsFailed, IsGranted, TakesRequest, error_reply}
+use Rattle.hub_spec.proofs.GrantKeeping.{step_granted}
+use Rattle.rest_provider.specs.Steps.{CountsFailed, TakesRequest, error_reply}
 use Rattle.rest_provider.specs.Writes.{TakesWrite, asked_at, asked_in_turn, reply_of, stop_reply}
 use Rattle.rest_provider.specs.declared.writes.Asked.{Asked}
 use Rattle.roster_base.specs.Moments.{IsMoment}

@@ -4,11 +4,10 @@ use Rattle.std.specs.List.{AllByRecursion, flat_map}
 use Rattle.http_wire.specs.Replies.{reply_text}
 use Rattle.hub_spec.specs.requests.Requests.{wanted_by}
 use Rattle.hub_spec.specs.rules.Runs.{Replied, Runs, Step, Take, end_of}
-use Rattle.hub_spec.specs.rules.States.{IsHub}
+use Rattle.hub_spec.specs.rules.States.{IsGranted, IsHub}
 use Rattle.rest_provider.specs.Moments.{IsMomentOf}
 use Rattle.keeper_memory.specs.Kept.{KeptState}
 use Rattle.keeper_memory.specs.Parts.{IsPartOf}
-use Rattle.rest_provider.specs.Steps.{IsGranted}
 use Rattle.status_info.specs.declared.reply.Reply.{Reply}
 use Rattle.status_info.specs.declared.request.Request.{Request}
 use Rattle.version_core.specs.HubStates.{HubState}

@@ -1,31 +1,28 @@
 -- A request as a step of a hub, told by what is kept of the hub's state.
 use Rattle.std.specs.Prelude.{◌≡◌, ◌⊎◌, ◌+◌, ◌-◌, ◌^◌, ℕ, ℤ, min}
+use Rattle.hub_core.specs.Standing.{HeldHub}
+use Rattle.hub_core.specs.Works.{Did, DidReload}
 use Rattle.hub_core.specs.declared.hub_error.HubError.{HubError}
 use Rattle.hub_core.specs.declared.hub_error.HubError.TheVariants as error
 use Rattle.hub_spec.specs.requests.Requests.{wanted_by}
 use Rattle.hub_spec.specs.rules.Answers.{sent}
 use Rattle.hub_spec.specs.rules.Checks.{refused}
 use Rattle.hub_spec.specs.rules.Runs.{Replied, Steps, Take}
-use Rattle.hub_spec.specs.rules.States.{IsHub}
+use Rattle.hub_spec.specs.rules.States.{IsGranted, IsHub}
 use Rattle.hub_spec.specs.rules.Wanted.{Wanted}
 use Rattle.keeper_memory.specs.Kept.{KeptState}
 use Rattle.keeper_memory.specs.Parts.{IsPartOf}
 use Rattle.status_info.specs.declared.cause.Cause.TheVariants as cause
 use Rattle.status_info.specs.declared.reply.Reply.{Reply}
 use Rattle.status_info.specs.declared.request.Request.{Request}
-use Rattle.version_core.specs.HubStates.{HubState, IsHubState, KeepGrants}
+use Rattle.version_core.specs.HubStates.{HubState}
 
 -- the count rises once where a step failed, and else stands
 abbrev pub CountsFailed : ℕ → ℕ → ℕ → Type 0
 CountsFailed before now failed = ((failed ≡ 0) × (now ≡ before)) ⊎ ((failed ≡ 1) × (now ≡ min (before + 1) (2 ^ 64 - 1)))
 
--- a state of a hub, so far as its numbers and its grants go: nothing is said of what its versions hold
-pub record IsGranted (hub : HubState) : Type 0 where
-  pub state : IsHubState hub
-  pub grants : KeepGrants hub.published
-
--- at each state of a hub of which `before` is kept, the reply is that of a step which takes the request at this moment and leads to a
--- state of a hub of which `after` is kept, and which holds rows where the first does
+-- at each state in which each caller keeps its grant and of which `before` is kept, the reply is that of a step which takes the request at
+-- this moment and leads to such a state of which `after` is kept, and to one whose versions hold rows where the first one's do
 abbrev pub TakesRequest : Request → ℤ → Reply → KeptState → KeptState → ℕ → Type 0
 TakesRequest request at reply before after failed =
     (state : HubState) → IsGranted state → IsPartOf before state
@@ -35,3 +32,12 @@ TakesRequest request at reply before after failed =
 abbrev pub error_reply : Wanted → HubError → Reply
 error_reply wanted error.Keeper = sent wanted (refused wanted cause.StoreFailed)
 error_reply wanted _ = sent wanted (refused wanted cause.NoMemory)
+
+-- what an answer to a request did of a hub with no commit left open: a step of the abstract hub that didn't fail, in one commit at most; or
+-- the keeper failed at a commit
+abbrev pub DidRequest : Request → ℤ → Reply → HeldHub → HeldHub → ℕ → ℕ → Type 0
+DidRequest request at = Did (λ reply before after. TakesRequest request at reply before after 0) (error_reply (wanted_by request) error.Keeper)
+
+-- and of a hub that may have one left open: the keeper is asked first what it made of it
+abbrev pub DidReloadRequest : Request → ℤ → Reply → HeldHub → HeldHub → ℕ → ℕ → Type 0
+DidReloadRequest request at = DidReload (λ reply before after. TakesRequest request at reply before after 0) (error_reply (wanted_by request))

@@ -1,16 +1,19 @@
 -- Writes, from a table that stands for a hub's state.
 use Rattle.std.specs.Prelude.{◌≡◌, ℕ, ℤ, None, Result, Ok, if◌then◌else◌}
 use Rattle.gradebook_core.specs.declared.written.Written.{Written}
+use Rattle.hub_core.specs.Standing.{HeldHub}
+use Rattle.hub_core.specs.Works.{Did}
+use Rattle.hub_core.specs.declared.hub_error.HubError.TheVariants as error
 use Rattle.rest_paths.specs.Paths.{PathParts as Path}
 use Rattle.hub_spec.specs.requests.Requests.{wanted_by}
 use Rattle.hub_spec.specs.rules.Answers.{sent, told, write_of, write_result}
 use Rattle.hub_spec.specs.rules.Checks.{grant_in, refused}
 use Rattle.hub_spec.specs.rules.Runs.{Replied, Steps, Take}
-use Rattle.hub_spec.specs.rules.States.{IsHub}
+use Rattle.hub_spec.specs.rules.States.{IsGranted, IsHub}
 use Rattle.hub_spec.specs.rules.Wanted.{Wanted, mark_number}
 use Rattle.keeper_memory.specs.Kept.{KeptState}
 use Rattle.keeper_memory.specs.Parts.{IsPartOf}
-use Rattle.rest_provider.specs.Steps.{IsGranted}
+use Rattle.rest_provider.specs.Steps.{error_reply}
 use Rattle.rest_provider.specs.Replies.{entry, out_of_memory, path_checked}
 use Rattle.rest_provider.specs.declared.writes.Asked.{Asked}
 use Rattle.roster_base.specs.Reading.{◌>>=◌}
@@ -48,3 +51,7 @@ abbrev pub TakesWrite : Request → ℤ → Asked → Reply → KeptState → Ke
 TakesWrite request at asked reply before after failed =
     (state : HubState) → IsGranted state → IsPartOf before state → asked_in_turn state (wanted_by request) ≡ Ok asked
     → (next : HubState) × IsGranted next × (IsHub state → IsHub next) × IsPartOf after next × Steps (Take (wanted_by request) at) state (Replied reply) next failed
+
+-- what such a write did of a hub with no commit left open
+abbrev pub DidWrite : Request → ℤ → Asked → Reply → HeldHub → HeldHub → ℕ → ℕ → Type 0
+DidWrite request at asked = Did (λ reply before after. TakesWrite request at asked reply before after 0) (error_reply (wanted_by request) error.Keeper)

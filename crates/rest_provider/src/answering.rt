@@ -5,7 +5,8 @@ ghost use Rattle.hub_core.specs.Standing.{IsStanding, KeeperFits};
 ghost use Rattle.hub_spec.specs.requests.Requests.{wanted_by};
 ghost use Rattle.hub_spec.specs.rules.Wanted.{is_write};
 ghost use Rattle.keeper_memory.specs.Kept.{KeptState};
-ghost use Rattle.rest_provider.specs.Steps.{CountsFailed, TakesRequest, error_reply};
+ghost use Rattle.hub_core.specs.declared.hub_error.HubError.{HubError};
+ghost use Rattle.rest_provider.specs.Steps.{CountsFailed, DidReloadRequest, DidRequest, TakesRequest, error_reply};
 
 use crate::reads::{answer_read, sent};
 use crate::refusals::refused;
@@ -53,6 +54,7 @@ fn answer_settled<H: HubKeeper>(
     ensures step { (failed : ℕ) × CountsFailed (H.fault_count keeper.old) (H.fault_count keeper.new) failed
         × ((after : KeptState) → IsStanding hub.new after → (before : KeptState) × IsStanding hub.old before × (H.stands_for keeper.new after → H.stands_for keeper.old before)
         × TakesRequest request.now at result before after failed) }
+    ensures did { DidRequest request.now at result hub.old hub.new (H.fault_count keeper.old) (H.fault_count keeper.new) }
 {
     if is_write(request.verb) {
         answer_write(alloc, router, hub, keeper, request, at)
@@ -77,6 +79,12 @@ pub fn answer<H: HubKeeper>(
     ensures step { (failed : ℕ) × CountsFailed (H.fault_count keeper.old) (H.fault_count keeper.new) failed
         × ((after : KeptState) → IsStanding hub.new after → (before : KeptState) × IsStanding hub.old before × (H.stands_for keeper.new after → H.stands_for keeper.old before)
         × TakesRequest request.now at result before after failed) }
+    // Over a hub with no commit left open, what it made is the last commit, if anything.
+    ensures did { hub.old.is_open ≡ false → DidRequest request.now at result hub.old hub.new (H.fault_count keeper.old) (H.fault_count keeper.new) }
+    ensures reloads { DidReloadRequest request.now at result hub.old hub.new (H.fault_count keeper.old) (H.fault_count keeper.new) }
+    // A commit is open after the call only where the reply tells that the store failed, or that memory is wanting.
+    ensures open { hub.new.is_open ≡ true → (fault : HubError) × (result ≡ error_reply (wanted_by request.now) fault) }
+    ensures keeps { hub.new.keeps ≡ hub.old.keeps }
 {
     // Who sees what, and what belongs to a path, is found by references.
     hub.index();

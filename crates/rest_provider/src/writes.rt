@@ -1,7 +1,8 @@
 //! Answers to writes.
 
-ghost use Rattle.std.specs.Prelude.{◌≡◌, ◌⊎◌, ℕ, IfOk, Result, Some, false, true};
+ghost use Rattle.std.specs.Prelude.{◌≡◌, ◌≤◌, ◌⊎◌, ℕ, IfOk, Result, Some, false, true};
 ghost use Rattle.std.specs.Option.{ForSome};
+ghost use Rattle.gradebook_core.specs.Outcomes.{check_number, outcome_number};
 ghost use Rattle.hub_core.specs.Standing.{IsStanding, KeeperFits};
 ghost use Rattle.rest_paths.specs.Paths.{IsPath};
 ghost use Rattle.hub_spec.specs.requests.Requests.{wanted_by};
@@ -9,8 +10,8 @@ ghost use Rattle.hub_spec.specs.rules.Answers as answers;
 ghost use Rattle.hub_spec.specs.rules.Wanted as wanting;
 ghost use Rattle.keeper_memory.specs.Kept.{KeptState};
 ghost use Rattle.rest_provider.specs.Replies.{IsReadOf};
-ghost use Rattle.rest_provider.specs.Steps.{CountsFailed, TakesRequest};
-ghost use Rattle.rest_provider.specs.Writes.{TakesWrite, asked_at, asked_in_turn, reply_of, stop_reply};
+ghost use Rattle.rest_provider.specs.Steps.{CountsFailed, DidRequest, TakesRequest};
+ghost use Rattle.rest_provider.specs.Writes.{DidWrite, TakesWrite, asked_at, asked_in_turn, reply_of, stop_reply};
 ghost use Rattle.roster_base.specs.Reading.{Gives};
 ghost use Rattle.version_core.specs.HubStates.{HubState};
 
@@ -19,7 +20,7 @@ use crate::checks::{caller_of, path_of};
 use crate::reading::Reading;
 use crate::reads::sent;
 use crate::refusals::{Stop, refused, refused_at};
-use gradebook_core::{Written, write};
+use gradebook_core::{Check, Outcome, Written, write};
 use grant_scopes::Grant;
 use hub_core::Hub;
 use keeper_memory::HubKeeper;
@@ -139,34 +140,42 @@ fn asked_in_turn(
     asked_at(alloc, table, request, &path)
 }
 
-// What the outcomes of writes are told by, by their numbers.
-static CAUSES: [Cause; 10] = [
-    Cause::Stored,
-    Cause::MarkOfAnotherWrite,
-    Cause::BadBody,
-    Cause::NoSuchObject,
-    Cause::OwnedByAnother,
-    Cause::ReferenceOutsideGrant,
-    Cause::ReferenceOfWrongType,
-    Cause::TooManyRows,
-    Cause::LastVersion,
-    Cause::Deleted,
-];
-
-fn cause_of(outcome: u8) -> Cause
-    ensures { result ≡ answers.cause_of outcome }
+// What tells of a check that a write fails.
+fn cause_of_check(check: Check) -> Cause
+    ensures { result ≡ answers.cause_of (check_number check) }
 {
-    match CAUSES.get(outcome as usize) {
-        Some(cause) => *cause,
-        None => Cause::Stored,
+    match check {
+        Check::MarkOfAnotherWrite => Cause::MarkOfAnotherWrite,
+        Check::BadBody => Cause::BadBody,
+        Check::NoSuchObject => Cause::NoSuchObject,
+        Check::OwnedByAnother => Cause::OwnedByAnother,
+        Check::ReferenceOutsideGrant => Cause::ReferenceOutsideGrant,
+        Check::ReferenceOfWrongType => Cause::ReferenceOfWrongType,
+        Check::TooManyRows => Cause::TooManyRows,
+        Check::LastVersion => Cause::LastVersion,
+    }
+}
+
+// What tells of what a write came to.
+fn cause_of(outcome: Outcome) -> Cause
+    ensures { result ≡ answers.cause_of (outcome_number outcome) }
+{
+    match outcome {
+        Outcome::Stored => Cause::Stored,
+        Outcome::Refused(check) => cause_of_check(check),
+        Outcome::Deleted => Cause::Deleted,
     }
 }
 
 // The reply that tells what became of a write.
 fn reply_of(alloc: Global, request: &Request, written: Written) -> Reply
+    requires { written.outcome ≤ 9 }
     ensures { result ≡ reply_of (wanted_by request.now) written }
 {
-    let mut reply = refused_at(alloc, request, written.version, cause_of(written.outcome));
+    let Some(outcome) = Outcome::from_number(written.outcome) else {
+        unreachable!();
+    };
+    let mut reply = refused_at(alloc, request, written.version, cause_of(outcome));
     if written.kept {
         reply.mark = mark_number(request.mark);
     }
@@ -190,6 +199,7 @@ fn answer_asked<H: HubKeeper>(
     ensures step { (failed : ℕ) × CountsFailed (H.fault_count keeper.old) (H.fault_count keeper.new) failed
         × ((after : KeptState) → IsStanding hub.new after → (H.stands_for keeper.new after → H.stands_for keeper.old hub.old.kept)
         × TakesWrite request.now at asked result hub.old.kept after failed) }
+    ensures did { DidWrite request.now at asked result hub.old hub.new (H.fault_count keeper.old) (H.fault_count keeper.new) }
 {
     // Read for what it keeps.
     let _ = at.milliseconds();
@@ -230,6 +240,7 @@ pub fn answer_write<H: HubKeeper>(
     ensures step { (failed : ℕ) × CountsFailed (H.fault_count keeper.old) (H.fault_count keeper.new) failed
         × ((after : KeptState) → IsStanding hub.new after → (before : KeptState) × IsStanding hub.old before × (H.stands_for keeper.new after → H.stands_for keeper.old before)
         × TakesRequest request.now at result before after failed) }
+    ensures did { DidRequest request.now at result hub.old hub.new (H.fault_count keeper.old) (H.fault_count keeper.new) }
 {
     match asked_in_turn(alloc, router, hub.table(), request) {
         Ok(asked) => answer_asked(alloc, hub, keeper, request, asked, at),

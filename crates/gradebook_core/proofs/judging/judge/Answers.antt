@@ -1,6 +1,6 @@
 use Rattle.std.proofs.Common.{None, Some}
-use Rattle.gradebook_core.proofs.Verdicts.{both, each, judges, may_lead}
-use Rattle.gradebook_core.specs.Judging.{HasOrder, MayLead, verdict_of}
+use Rattle.gradebook_core.proofs.Verdicts.{both, each, judges, may_lead, repeats_held, repeats_none}
+use Rattle.gradebook_core.specs.Judging.{IsNewlyMade, MayLead, RepeatsOneOf, verdict_of}
 use Rattle.hub_spec.specs.rules.Verdicts.{Judges, NewJudged}
 use Rattle.version_core.specs.Version.{newest_of}
 use Rattle.gradebook_core.proofs.judging.judge.Goals as goal
@@ -27,6 +27,14 @@ returns-in-None-clause-leads c =
     let version = newest_of c.args.table.now in
     let by = c.args.by.now in
     let write = c.args.write.now in
-    both (λ made. NewJudged write.delete version by write c.args.at (verdict_of version made)) HasOrder (MayLead version) c.new_judged.result
+    both (λ made. NewJudged write.delete version by write c.args.at (verdict_of version made)) IsNewlyMade (MayLead version) c.new_judged.result
     (λ made judged order. may_lead version c.newest_rows.ensures.version by write c.args.at made judged order)
     c.new_judged.ensures.verdict c.new_judged.ensures.order
+
+pub returns-in-Some-clause-repeats : goal.returns-in-Some-clause-repeats
+returns-in-Some-clause-repeats c = repeats_held c.args.marks.now.marks c.args.by.now.caller c.args.mark c.in-Some.held.now c.in-Some.ensures c.repeated.result c.repeated.ensures.repeats
+
+pub returns-in-None-clause-repeats : goal.returns-in-None-clause-repeats
+returns-in-None-clause-repeats c =
+    let marks = c.args.marks.now.marks in
+    each IsNewlyMade (RepeatsOneOf marks) c.new_judged.result (repeats_none marks) c.new_judged.ensures.order

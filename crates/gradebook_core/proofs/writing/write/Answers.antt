@@ -1,4 +1,10 @@
-use Rattle.gradebook_core.proofs.WriteSteps.{done, failed, may_commit}
+use Rattle.std.proofs.Common.{◌≤◌, List, subst, sym}
+use Rattle.gradebook_core.proofs.WriteSteps.{done, failed, may_commit, told_low}
+use Rattle.gradebook_core.specs.declared.written.Written.{Written}
+use Rattle.keeper_memory.specs.Kept.{newest_kept}
+use Rattle.version_core.specs.Marks.{AreMarks}
+use Rattle.version_core.specs.Version.{newest_of}
+use Rattle.version_core.specs.declared.mark.MarkRow.{MarkRow}
 use Rattle.gradebook_core.proofs.writing.write.Goals as goal
 
 pub commit-requires-clause-may : goal.commit-requires-clause-may
@@ -21,3 +27,12 @@ returns-in-Err-clause-told g c = λ after standing.
       failed c.args.hub.now.kept c.table-table.result.now c.marks.result.now.marks c.table-table.ensures.versions c.marks.ensures c.args.by.now c.args.mark c.args.write c.args.at c.in_ok-judgement.judgement
           c.in_ok-judgement.ensures.verdict c.in_ok-judgement.ensures.leads c.told_of-written.result c.told_of-written.ensures c.in_ok-due.due c.in_ok-due.ensures c.in-Err.error after told.1,
     )
+
+pub returns-in-Ok-clause-outcome : goal.returns-in-Ok-clause-outcome
+returns-in-Ok-clause-outcome g c =
+    let newest = newest_of c.table-table.result.now in
+    let kept = c.table-table.ensures.kept.marks in
+    let marks = c.marks.result.now.marks in
+    let are = subst (λ (ms : List MarkRow). AreMarks (newest_kept c.args.hub.now.kept.versions).number ms) (sym c.marks.ensures) kept in
+    subst (λ (w : Written). w.outcome ≤ 9) (sym c.told_of-written.ensures)
+    (told_low (newest_kept c.args.hub.now.kept.versions).number marks are newest c.args.mark c.args.write c.in_ok-judgement.judgement c.in_ok-judgement.ensures.repeats)
