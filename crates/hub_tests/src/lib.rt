@@ -23,3 +23,5 @@ mod publishing;
 mod showing;
 #[cfg(test)]
 mod words;
+#[cfg(test)]
+mod writing;
