@@ -8,9 +8,10 @@ ghost use Rattle.keeper_memory.specs.declared.copy.change.CopyChange.TheVariants
 ghost use Rattle.copy_format.specs.Edits.{FitsChange, edits as edits_of, first_edits};
 ghost use Rattle.copy_format.specs.Roots.{root_in};
 
+use crate::area::CopyArea;
 use crate::root::CopyRoot;
 use crate::staging::{new_stage, staged_more};
-use crate::writing::{push_clear_stage, put_out, put_root, put_rows, put_stage, row_area};
+use crate::writing::{push_clear_stage, put_out, put_root, put_rows, put_stage};
 use hub_format::put_format;
 use item_maps::Edit;
 use keeper_memory::{OutEntry, Settled, StageState};
@@ -80,7 +81,13 @@ pub fn page_edits(
     };
     let mut edits = Vec::new(alloc);
     edits.push(put_stage(alloc, &later)?)?;
-    put_rows(alloc, &mut edits, row_area(1 - side, kind), rows.as_slice())?;
+    let side = 1 - side;
+    put_rows(
+        alloc,
+        &mut edits,
+        CopyArea::Rows { side, kind },
+        rows.as_slice(),
+    )?;
     Ok(Some(edits))
 }
 

@@ -1,6 +1,7 @@
 //! The items in which a consumer's copy is kept: their labels and bodies as definitions, written and read, and the edits of a change.
 #![tactic(auto)]
 
+mod area;
 mod edits;
 pub mod laws;
 mod pieces;
@@ -12,6 +13,7 @@ mod root;
 mod staging;
 mod writing;
 
+pub use area::CopyArea;
 pub use edits::{
     begin_edits, drop_edits, enter_edits, first_edits, page_edits, run_edits, settle_edits,
     swap_edits,
@@ -20,4 +22,3 @@ pub use read_outs::out_of;
 pub use read_rows::rows_of;
 pub use read_stage::stage_of;
 pub use root::{CopyRoot, root_of};
-pub use writing::row_area;

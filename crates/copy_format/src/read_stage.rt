@@ -14,6 +14,7 @@ use item_maps::Item;
 use keeper_memory::{LAST, StageState};
 use roster_base::NoMemory;
 use roster_texts::Token;
+use roster_values::Kind;
 use std::alloc::Global;
 use std::str;
 
@@ -72,13 +73,13 @@ fn stage_of_body(alloc: Global, body: &[u8]) -> Result<Option<StageState>, NoMem
 fn is_stage(stage: &StageState) -> bool
     ensures { result ≡ true → CanBeStage stage.now }
 {
-    if stage.pin > LAST || stage.kinds_done > 10 {
+    if stage.pin > LAST || usize::from(stage.kinds_done) > Kind::ALL.len() {
         return false;
     }
     if stage.last.is_some() != (stage.staged != 0) {
         return false;
     }
-    stage.kinds_done < 10 || (stage.staged == 0 && stage.total.is_none())
+    usize::from(stage.kinds_done) < Kind::ALL.len() || (stage.staged == 0 && stage.total.is_none())
 }
 
 // The small part of the stage of an item, if a stage can have it.

@@ -3,13 +3,15 @@
 ghost use Rattle.std.specs.Prelude.{◌≡◌, ◌++◌, [], IfOk, None, Ok, OnOk, map};
 ghost use Rattle.hub_format.specs.Edits.{put_at, puts};
 ghost use Rattle.hub_format.specs.Pieces.{IsSized, number as number_bytes};
+ghost use Rattle.copy_format.specs.Areas.{area_number};
 ghost use Rattle.copy_format.specs.Bodies.{out_body, row_body, stage_body, state_body};
 ghost use Rattle.copy_format.specs.Edits.{clear_rows as cleared_rows, clear_side, clear_stage};
-ghost use Rattle.copy_format.specs.Format.{FitRows, FitsOut, FitsRow, out_entry, row_area as area_of_rows, row_entry, rows_under};
+ghost use Rattle.copy_format.specs.Format.{FitRows, FitsOut, FitsRow, out_entry, row_entry, rows_under};
 ghost use Rattle.row_json.specs.Json.{single_text as text_of};
 ghost use Rattle.row_json.specs.Reading.{row_of};
 ghost use Rattle.copy_format.specs.Roots.{root_entry};
 
+use crate::area::CopyArea;
 use crate::pieces::{push_optional_id, push_optional_number, push_optional_settled, push_write};
 use crate::root::CopyRoot;
 use hub_format::{push_number, push_sized};
@@ -31,7 +33,7 @@ pub(crate) fn put_root(alloc: Global, root: CopyRoot) -> Result<Edit, NoMemory>
     body.push(root.side)?;
     push_number(&mut body, root.last_number)?;
     Ok(Edit::Put {
-        area: 1,
+        area: CopyArea::State.number(),
         label: Bytes::from_vec(Vec::new(alloc)),
         body: Bytes::from_vec(body),
     })
@@ -57,7 +59,7 @@ pub(crate) fn put_stage(alloc: Global, stage: &StageState) -> Result<Edit, NoMem
     ensures token { OnOk result (IsSized stage.now.token) }
 {
     Ok(Edit::Put {
-        area: 2,
+        area: CopyArea::Stage.number(),
         label: Bytes::from_vec(Vec::new(alloc)),
         body: stage_body(alloc, stage)?,
     })
@@ -87,17 +89,10 @@ pub(crate) fn put_out(alloc: Global, entry: &OutEntry) -> Result<Edit, NoMemory>
     ensures id { OnOk result (IsSized entry.now.write.id) }
 {
     Ok(Edit::Put {
-        area: 3,
+        area: CopyArea::Outbox.number(),
         label: number_label(alloc, entry.number)?,
         body: out_body(alloc, entry)?,
     })
-}
-
-/// The area of a kind's rows on a side.
-pub fn row_area(side: u8, kind: Kind) -> u32
-    ensures { result ≡ area_of_rows side kind }
-{
-    32 + 32 * u32::from(side) + kind.place() as u32
 }
 
 // A row's text, from which it is read back.
@@ -112,14 +107,14 @@ fn row_body(alloc: Global, row: &Row) -> Result<Bytes, NoMemory>
     Ok(Bytes::from_vec(body))
 }
 
-fn put_row(alloc: Global, area: u32, row: &Row) -> Result<Edit, NoMemory>
-    ensures edit { IfOk result (λ edit. edit ≡ put_at area (row_entry row.now)) }
+fn put_row(alloc: Global, area: CopyArea, row: &Row) -> Result<Edit, NoMemory>
+    ensures edit { IfOk result (λ edit. edit ≡ put_at (area_number area) (row_entry row.now)) }
     ensures fits { OnOk result (FitsRow row.now) }
 {
     let mut label = Vec::new(alloc);
     label.extend_from_slice(row.id().as_str().as_bytes())?;
     Ok(Edit::Put {
-        area,
+        area: area.number(),
         label: Bytes::from_vec(label),
         body: row_body(alloc, row)?,
     })
@@ -129,10 +124,10 @@ fn put_row(alloc: Global, area: u32, row: &Row) -> Result<Edit, NoMemory>
 pub(crate) fn put_rows(
     alloc: Global,
     edits: &mut Vec<Edit>,
-    area: u32,
+    area: CopyArea,
     rows: &[Row],
 ) -> Result<(), NoMemory>
-    ensures edits { OnOk result (edits.new.items ≡ edits.old.items ++ puts area (rows_under rows.now)) }
+    ensures edits { OnOk result (edits.new.items ≡ edits.old.items ++ puts (area_number area) (rows_under rows.now)) }
     ensures fit { OnOk result (FitRows rows.now) }
 {
     for row in rows {
@@ -146,7 +141,7 @@ fn clear_rows(alloc: Global, side: u8, kind: Kind) -> Result<Edit, NoMemory>
     ensures { IfOk result (λ edit. edit ≡ cleared_rows side kind) }
 {
     Ok(Edit::Clear {
-        area: row_area(side, kind),
+        area: CopyArea::Rows { side, kind }.number(),
         from: Bytes::from_vec(Vec::new(alloc)),
         to: Bytes::from_vec(Vec::from_slice(alloc, &[255])?),
     })
@@ -187,7 +182,7 @@ pub(crate) fn push_clear_stage(
     ensures { OnOk result (edits.new.items ≡ edits.old.items ++ clear_stage side) }
 {
     edits.push(Edit::Clear {
-        area: 2,
+        area: CopyArea::Stage.number(),
         from: Bytes::from_vec(Vec::new(alloc)),
         to: Bytes::from_vec(Vec::from_slice(alloc, &[0])?),
     })?;

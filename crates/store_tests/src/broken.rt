@@ -168,8 +168,12 @@ fn broken_stores_fail(rt: HostRuntime) -> Result<(), Fail> {
 
 const OTHER_FORMAT: &str = "UPDATE item SET body = x'0000000000000002' WHERE area = 0";
 
+// The last number becomes 0, where entry 1 stands.
+const BEYOND: &str =
+    "UPDATE item SET body = x'0000000000000002010000000000000005010000000000000000' WHERE area = 1";
+
 // Statements that break a copy's store, and words that read what they broke.
-static BREAKING_COPIES: [(&str, &str); 14] = [
+static BREAKING_COPIES: [(&str, &str); 18] = [
     (OTHER_FORMAT, "outbox"),
     (OTHER_FORMAT, "list orgs"),
     (OTHER_FORMAT, "enter delete categories c9"),
@@ -202,6 +206,19 @@ static BREAKING_COPIES: [(&str, &str); 14] = [
         "UPDATE item SET area = 65 WHERE area = 64",
         "list academicSessions",
     ),
+    // A stage that has a row, and no last id.
+    (
+        "UPDATE item SET body = x'00000000000000050000000000000005746f6b2d6100000000000000000101000000000000000200' WHERE area = 2",
+        "sync tok-a 100 1",
+    ),
+    // Rows, and a state that holds no version.
+    (
+        "UPDATE item SET body = x'000000000000000200010000000000000001' WHERE area = 1",
+        "list orgs",
+    ),
+    // An entry that is numbered above the last number: it is neither listed nor written over.
+    (BEYOND, "outbox"),
+    (BEYOND, "enter delete categories c9"),
 ];
 
 #[test]

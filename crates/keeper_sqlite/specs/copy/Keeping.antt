@@ -7,6 +7,7 @@ use Rattle.keeper_memory.specs.copy.HeldCopy.{empty_copy}
 use Rattle.keeper_memory.specs.declared.copy.change.CopyChange.{CopyChange}
 use Rattle.copy_format.specs.Edits.{FitsChange, edits}
 use Rattle.copy_format.specs.Format.{AreItemsOf, Fit, Keep}
+use Rattle.keeper_sqlite.specs.hub.Telling.{Tells}
 
 -- no items keep the copy that holds nothing
 abbrev pub KeepOrNew : Items → Copy → Type 0
@@ -23,3 +24,7 @@ pub record HasCopy (stand : Items → Type 0) (side : ℕ) (c : Copy) : Type 0 w
 -- these are the edits of the change, which is found again
 abbrev pub AreEditsOf : ℕ → Copy → CopyChange → List Edit → Type 0
 AreEditsOf side c change es = (es ≡ edits side c change) × FitsChange change c
+
+-- what the keeper of a copy tells: of its store, and of the store as it was handed in
+abbrev pub CopyTells : {Store : Type 0} → (Store → Items → Type 0) → (Store → Type 0) → Store × Store → Copy → Type 0
+CopyTells stands_for is_trusted keeper c = Tells KeepOrNew (stands_for keeper.1) (stands_for keeper.0) (is_trusted keeper.0) c

@@ -1,9 +1,13 @@
 //! A keeper of a consumer's copy over a store of items.
 
-ghost use Rattle.std.specs.Prelude.{◌≡◌, ◌<◌, ◌^◌};
-ghost use Rattle.keeper_memory.specs.copy.Copies.{Copy};
-ghost use Rattle.keeper_sqlite.specs.copy.Keeping.{KeepOrNew};
-ghost use Rattle.keeper_sqlite.specs.hub.Keeping.{Keeps};
+ghost use Rattle.std.specs.Prelude.{◌≡◌, ◌<◌, ◌≤◌, ◌^◌, IfOk, IfSome, IsErr};
+ghost use Rattle.roster_base.specs.Faults.{CountsFailure};
+ghost use Rattle.item_maps.specs.Items.{Items as Kept};
+ghost use Rattle.keeper_memory.specs.copy.Changes.{CanChange, Commits};
+ghost use Rattle.keeper_memory.specs.copy.Copies.{Copy, entry_after, held_list};
+ghost use Rattle.keeper_memory.specs.copy.States.{CanBe, CanBeEntry, CanBeList, Shows};
+ghost use Rattle.keeper_sqlite.specs.copy.Keeping.{CopyTells, KeepOrNew};
+ghost use Rattle.keeper_sqlite.specs.hub.Keeping.{HasOtherFormat, Keeps};
 ghost use Rattle.keeper_sqlite.specs.hub.Telling.{Tells};
 
 use crate::copy::commit::commit_to;
@@ -71,28 +75,60 @@ impl<S: StoredItems> CopyKeeper for ItemCopy<S> {
     ghost use Rattle.keeper_memory.specs.copy.HeldCopy.{empty_copy};
     ghost use Rattle.item_maps.specs.Items.{no_items};
 
-    ghost stands_for = { λ keeper c. Tells KeepOrNew (S.stands_for keeper.1) (S.stands_for keeper.0) (S.is_trusted keeper.0) c };
+    ghost stands_for = { CopyTells S.stands_for S.is_trusted };
 
     ghost fault_count = { λ keeper. S.fault_count keeper.0 };
 
     ghost is_copy = { λ keeper c tells. ⊎_elim (λ (kept : Keep tells.this.items c). kept.is) (λ (none : (tells.this.items ≡ no_items) × (c ≡ empty_copy)). subst IsCopy (sym none.1) empty_is) tells.this.kept };
 
-    fn state(&mut self, alloc: Global) -> Result<CopyState, KeeperError> {
+    fn state(&mut self, alloc: Global) -> Result<CopyState, KeeperError>
+        ensures shown { IfOk result (λ s. (c : Copy) → CopyTells S.stands_for S.is_trusted self.new c → Shows c s) }
+        ensures any { IfOk result CanBe }
+        ensures same { (c : Copy) → CopyTells S.stands_for S.is_trusted self.new c → CopyTells S.stands_for S.is_trusted self.old c }
+        ensures later { S.fault_count self.old.0 ≤ S.fault_count self.new.0 }
+        ensures cause { CountsFailure (S.fault_count self.old.0) (S.fault_count self.new.0) result }
+        // Items of another format are refused, and stay as they are.
+        ensures other { (m : Kept) → S.stands_for self.old.0 m → HasOtherFormat m → S.is_trusted self.new.0 → IsErr result × S.stands_for self.new.0 m }
+    {
         bounded(&self.store);
         state_from(alloc, &mut self.store)
     }
 
-    fn held(&mut self, alloc: Global, kind: Kind) -> Result<Items<Row>, KeeperError> {
+    fn held(&mut self, alloc: Global, kind: Kind) -> Result<Items<Row>, KeeperError>
+        ensures shown { IfOk result (λ rows. (c : Copy) → CopyTells S.stands_for S.is_trusted self.new c → rows ≡ held_list c kind) }
+        ensures any { IfOk result (CanBeList kind) }
+        ensures same { (c : Copy) → CopyTells S.stands_for S.is_trusted self.new c → CopyTells S.stands_for S.is_trusted self.old c }
+        ensures later { S.fault_count self.old.0 ≤ S.fault_count self.new.0 }
+        ensures cause { CountsFailure (S.fault_count self.old.0) (S.fault_count self.new.0) result }
+        // Items of another format are refused, and stay as they are.
+        ensures other { (m : Kept) → S.stands_for self.old.0 m → HasOtherFormat m → S.is_trusted self.new.0 → IsErr result × S.stands_for self.new.0 m }
+    {
         bounded(&self.store);
         held_from(alloc, &mut self.store, kind)
     }
 
-    fn entry(&mut self, alloc: Global, after: u64) -> Result<Option<OutEntry>, KeeperError> {
+    fn entry(&mut self, alloc: Global, after: u64) -> Result<Option<OutEntry>, KeeperError>
+        ensures shown { IfOk result (λ entry. (c : Copy) → CopyTells S.stands_for S.is_trusted self.new c → entry ≡ entry_after after c.entries) }
+        ensures any { IfOk result (λ entry. IfSome entry (CanBeEntry after)) }
+        ensures same { (c : Copy) → CopyTells S.stands_for S.is_trusted self.new c → CopyTells S.stands_for S.is_trusted self.old c }
+        ensures later { S.fault_count self.old.0 ≤ S.fault_count self.new.0 }
+        ensures cause { CountsFailure (S.fault_count self.old.0) (S.fault_count self.new.0) result }
+        // Items of another format are refused, and stay as they are.
+        ensures other { (m : Kept) → S.stands_for self.old.0 m → HasOtherFormat m → S.is_trusted self.new.0 → IsErr result × S.stands_for self.new.0 m }
+    {
         bounded(&self.store);
         entry_from(alloc, &mut self.store, after)
     }
 
-    fn commit(&mut self, alloc: Global, change: CopyChange) -> Result<(), KeeperError> {
+    fn commit(&mut self, alloc: Global, change: CopyChange) -> Result<(), KeeperError>
+        requires { (c : Copy) → CopyTells S.stands_for S.is_trusted self.old c → CanChange change c }
+        ensures told { (after : Copy) → CopyTells S.stands_for S.is_trusted self.new after
+            → (before : Copy) × CopyTells S.stands_for S.is_trusted self.old before × Commits change result before after }
+        ensures later { S.fault_count self.old.0 ≤ S.fault_count self.new.0 }
+        ensures cause { CountsFailure (S.fault_count self.old.0) (S.fault_count self.new.0) result }
+        // Items of another format are refused, and stay as they are.
+        ensures other { (m : Kept) → S.stands_for self.old.0 m → HasOtherFormat m → S.is_trusted self.new.0 → IsErr result × S.stands_for self.new.0 m }
+    {
         bounded(&self.store);
         commit_to(alloc, &mut self.store, change)
     }

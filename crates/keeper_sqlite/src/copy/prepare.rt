@@ -9,7 +9,7 @@ ghost use Rattle.keeper_sqlite.specs.hub.Keeping.{HasOtherFormat, Keeps};
 ghost use Rattle.keeper_sqlite.specs.copy.Keeping.{KeepOrNew};
 
 use crate::stored_items::StoredItems;
-use copy_format::first_edits;
+use copy_format::{CopyArea, first_edits};
 use hub_format::{Format, format_of};
 use roster_base::KeeperError;
 use std::alloc::Global;
@@ -23,7 +23,7 @@ pub(crate) fn prepare<S: StoredItems>(alloc: Global, store: &mut S) -> Result<()
     ensures cause { CountsFailure (S.fault_count store.old) (S.fault_count store.new) result }
     ensures trust { S.is_trusted store.new → S.is_trusted store.old }
 {
-    let items = store.all_of(alloc, 0, &[], &[0])?;
+    let items = store.all_of(alloc, CopyArea::Format.number(), &[], &[0])?;
     match format_of(items.as_slice()) {
         Format::New => {
             let edits = first_edits(alloc)?;

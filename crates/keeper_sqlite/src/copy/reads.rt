@@ -1,6 +1,6 @@
 //! What a store keeps, read back.
 
-ghost use Rattle.std.specs.Prelude.{◌≡◌, IfOk, IfSome, IsErr};
+ghost use Rattle.std.specs.Prelude.{◌≡◌, ◌≤◌, IfOk, IfSome, IsErr, false};
 ghost use Rattle.roster_base.specs.Faults.{CountsFailure};
 ghost use Rattle.item_maps.specs.Items.{Items as Kept};
 ghost use Rattle.keeper_memory.specs.copy.Copies.{Copy, entry_after, held_list};
@@ -53,7 +53,7 @@ pub(crate) fn state_from<S: StoredItems>(
     ready_state(alloc, store)
 }
 
-// The rows of a kind that a store that is ready holds.
+// The rows of a kind that a store that is ready holds. Rows of no version are refused.
 fn ready_rows<S: StoredItems>(
     alloc: Global,
     store: &mut S,
@@ -66,7 +66,11 @@ fn ready_rows<S: StoredItems>(
     ensures trust { S.is_trusted store.new → S.is_trusted store.old }
 {
     let root = stored_root(alloc, store)?;
-    stored_rows(alloc, store, root.side, kind)
+    let rows = stored_rows(alloc, store, root.side, kind)?;
+    if root.held.is_none() && !rows.is_empty() {
+        return Err(store.refuse());
+    }
+    Ok(rows)
 }
 
 /// The rows of a kind that a store holds.
@@ -86,6 +90,36 @@ pub(crate) fn held_from<S: StoredItems>(
     ready_rows(alloc, store, kind)
 }
 
+// Whether an entry is numbered above the last number.
+fn is_beyond(entry: &Option<OutEntry>, last_number: u64) -> bool
+    ensures { result ≡ false → IfSome entry.now (λ e. e.number ≤ last_number) }
+{
+    match entry {
+        Some(entry) => entry.number > last_number,
+        None => false,
+    }
+}
+
+// The entry of a store that is ready with the least number above `after`. One above the last number is refused.
+fn ready_entry<S: StoredItems>(
+    alloc: Global,
+    store: &mut S,
+    after: u64,
+) -> Result<Option<OutEntry>, KeeperError>
+    ensures shown { (c : Copy) → Keeps Keep (S.stands_for store.old) c → S.is_trusted store.new → IfOk result (λ entry. entry ≡ entry_after after c.entries) }
+    ensures can { IfOk result (λ entry. IfSome entry (CanBeEntry after)) }
+    ensures same { Stay (S.stands_for store.old) (S.stands_for store.new) }
+    ensures cause { CountsFailure (S.fault_count store.old) (S.fault_count store.new) result }
+    ensures trust { S.is_trusted store.new → S.is_trusted store.old }
+{
+    let root = stored_root(alloc, store)?;
+    let entry = stored_entry(alloc, store, after)?;
+    if is_beyond(&entry, root.last_number) {
+        return Err(store.refuse());
+    }
+    Ok(entry)
+}
+
 /// The entry of a store with the least number above `after`.
 pub(crate) fn entry_from<S: StoredItems>(
     alloc: Global,
@@ -100,5 +134,5 @@ pub(crate) fn entry_from<S: StoredItems>(
     ensures trust { S.is_trusted store.new → S.is_trusted store.old }
 {
     prepare(alloc, store)?;
-    stored_entry(alloc, store, after)
+    ready_entry(alloc, store, after)
 }

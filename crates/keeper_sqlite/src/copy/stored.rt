@@ -16,7 +16,7 @@ ghost use Rattle.keeper_sqlite.specs.hub.Keeping.{Stay};
 ghost use Rattle.keeper_sqlite.specs.copy.Keeping.{HasCopy};
 
 use crate::stored_items::StoredItems;
-use copy_format::{CopyRoot, out_of, root_of, row_area, rows_of, stage_of};
+use copy_format::{CopyArea, CopyRoot, out_of, root_of, rows_of, stage_of};
 use item_maps::Item;
 use keeper_memory::{LAST, OutEntry, StageState};
 use roster_base::{Items, KeeperError, NoMemory};
@@ -35,7 +35,7 @@ pub(crate) fn stored_root<S: StoredItems>(
     ensures cause { CountsFailure (S.fault_count store.old) (S.fault_count store.new) result }
     ensures trust { S.is_trusted store.new → S.is_trusted store.old }
 {
-    let items = store.all_of(alloc, 1, &[], &[0])?;
+    let items = store.all_of(alloc, CopyArea::State.number(), &[], &[0])?;
     match root_of(items.as_slice()) {
         Some(root) => Ok(root),
         None => Err(store.refuse()),
@@ -53,7 +53,7 @@ pub(crate) fn stored_stage<S: StoredItems>(
     ensures cause { CountsFailure (S.fault_count store.old) (S.fault_count store.new) result }
     ensures trust { S.is_trusted store.new → S.is_trusted store.old }
 {
-    let items = store.all_of(alloc, 2, &[], &[0])?;
+    let items = store.all_of(alloc, CopyArea::Stage.number(), &[], &[0])?;
     match stage_of(alloc, items.as_slice())? {
         Some(stage) => Ok(stage),
         None => Err(store.refuse()),
@@ -73,7 +73,8 @@ pub(crate) fn stored_rows<S: StoredItems>(
     ensures cause { CountsFailure (S.fault_count store.old) (S.fault_count store.new) result }
     ensures trust { S.is_trusted store.new → S.is_trusted store.old }
 {
-    let items = store.all_of(alloc, row_area(side, kind), &[], &[255])?;
+    let area = CopyArea::Rows { side, kind };
+    let items = store.all_of(alloc, area.number(), &[], &[255])?;
     match rows_of(alloc, kind, items.as_slice())? {
         Some(rows) => Ok(Items::from_vec(rows)),
         None => Err(store.refuse()),
@@ -106,7 +107,7 @@ fn item_above<S: StoredItems>(
 {
     store.first_of(
         alloc,
-        3,
+        CopyArea::Outbox.number(),
         &(after + 1).to_be_bytes(),
         &(LAST + 1).to_be_bytes(),
     )

@@ -83,6 +83,7 @@ fn swap_wanted<S: StoredItems>(alloc: Global, store: &mut S) -> Result<Vec<Edit>
     }
 }
 
+// A write is refused where an entry stands above the last number: its place may be taken.
 fn enter_wanted<S: StoredItems>(
     alloc: Global,
     store: &mut S,
@@ -95,6 +96,9 @@ fn enter_wanted<S: StoredItems>(
     ensures trust { S.is_trusted store.new → S.is_trusted store.old }
 {
     let root = stored_root(alloc, store)?;
+    if stored_entry(alloc, store, root.last_number)?.is_some() {
+        return Err(store.refuse());
+    }
     Ok(enter_edits(alloc, root, number, write)?)
 }
 

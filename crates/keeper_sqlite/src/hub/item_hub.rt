@@ -1,9 +1,13 @@
 //! A keeper of a hub's state over a store of items.
 
-ghost use Rattle.std.specs.Prelude.{◌≡◌};
-ghost use Rattle.keeper_memory.specs.Kept.{KeptState};
-ghost use Rattle.keeper_sqlite.specs.hub.Keeping.{KeepOrNew, Keeps};
-ghost use Rattle.keeper_sqlite.specs.hub.Telling.{Tells};
+ghost use Rattle.std.specs.Prelude.{◌≡◌, IfOk, IsErr};
+ghost use Rattle.roster_base.specs.Faults.{CountsFailure};
+ghost use Rattle.item_maps.specs.Items.{Items};
+ghost use Rattle.keeper_memory.specs.Commits.{CanCommit, Commits};
+ghost use Rattle.keeper_memory.specs.Kept.{KeptState, kept_by};
+ghost use Rattle.version_core.specs.Tables.{AreTables};
+ghost use Rattle.keeper_sqlite.specs.hub.Keeping.{HasOtherFormat, KeepOrNew, Keeps};
+ghost use Rattle.keeper_sqlite.specs.hub.Telling.{HubTells, Tells};
 
 use crate::hub::commit::commit_to;
 use crate::hub::tables::load_from;
@@ -66,15 +70,29 @@ impl<S: StoredItems> ItemHub<S> {
 }
 
 impl<S: StoredItems> HubKeeper for ItemHub<S> {
-    ghost stands_for = { λ hub state. Tells (KeepOrNew hub.2) (S.stands_for hub.1) (S.stands_for hub.0) (S.is_trusted hub.0) state };
+    ghost stands_for = { HubTells S.stands_for S.is_trusted };
 
     ghost fault_count = { λ hub. S.fault_count hub.0 };
 
-    fn load(&mut self, alloc: Global) -> Result<HubTables, KeeperError> {
+    fn load(&mut self, alloc: Global) -> Result<HubTables, KeeperError>
+        ensures shown { IfOk result (λ tables. (kept : KeptState) → HubTells S.stands_for S.is_trusted self.new kept → kept ≡ kept_by tables) }
+        ensures tables { IfOk result AreTables }
+        ensures same { (kept : KeptState) → HubTells S.stands_for S.is_trusted self.new kept → HubTells S.stands_for S.is_trusted self.old kept }
+        ensures cause { CountsFailure (S.fault_count self.old.0) (S.fault_count self.new.0) result }
+        // Items of another format are refused, and stay as they are.
+        ensures other { (m : Items) → S.stands_for self.old.0 m → HasOtherFormat m → S.is_trusted self.new.0 → IsErr result × S.stands_for self.new.0 m }
+    {
         load_from(alloc, &mut self.store, self.keep)
     }
 
-    fn commit(&mut self, alloc: Global, commit: &HubCommit) -> Result<(), KeeperError> {
+    fn commit(&mut self, alloc: Global, commit: &HubCommit) -> Result<(), KeeperError>
+        requires { (kept : KeptState) → HubTells S.stands_for S.is_trusted self.old kept → CanCommit kept commit.now }
+        ensures told { (after : KeptState) → HubTells S.stands_for S.is_trusted self.new after
+            → (before : KeptState) × HubTells S.stands_for S.is_trusted self.old before × Commits commit.now result before after }
+        ensures cause { CountsFailure (S.fault_count self.old.0) (S.fault_count self.new.0) result }
+        // Items of another format are refused, and stay as they are.
+        ensures other { (m : Items) → S.stands_for self.old.0 m → HasOtherFormat m → S.is_trusted self.new.0 → IsErr result × S.stands_for self.new.0 m }
+    {
         commit_to(alloc, &mut self.store, self.keep, commit)
     }
 

@@ -17,7 +17,7 @@ ghost use Rattle.keeper_sqlite.specs.hub.Keeping.{HasTables, Stay};
 
 use crate::hub::state::of_version;
 use crate::stored_items::StoredItems;
-use hub_format::{grants_of, marks_of, rows_of, version_of};
+use hub_format::{HubArea, grants_of, marks_of, rows_of, version_of};
 use item_maps::Item;
 use roster_base::{Items, KeeperError, NoMemory};
 use std::alloc::Global;
@@ -60,7 +60,7 @@ pub(crate) fn base_rows<S: StoredItems>(
     ensures cause { CountsFailure (S.fault_count store.old) (S.fault_count store.new) result }
     ensures trust { S.is_trusted store.new → S.is_trusted store.old }
 {
-    let items = store.all_of(alloc, 2, &[], &[255])?;
+    let items = store.all_of(alloc, HubArea::BaseRows.number(), &[], &[255])?;
     match rows_in(alloc, 0, items.as_slice())? {
         Some(rows) => Ok(rows),
         None => Err(store.refuse()),
@@ -80,7 +80,7 @@ pub(crate) fn grants_at<S: StoredItems>(
     ensures cause { CountsFailure (S.fault_count store.old) (S.fault_count store.new) result }
     ensures trust { S.is_trusted store.new → S.is_trusted store.old }
 {
-    let items = of_version(alloc, store, 5, version)?;
+    let items = of_version(alloc, store, HubArea::Grants, version)?;
     match grants_of(alloc, items.as_slice())? {
         Some(grants) => Ok(Items::from_vec(grants)),
         None => Err(store.refuse()),
@@ -97,7 +97,7 @@ pub(crate) fn marks_in<S: StoredItems>(
     ensures cause { CountsFailure (S.fault_count store.old) (S.fault_count store.new) result }
     ensures trust { S.is_trusted store.new → S.is_trusted store.old }
 {
-    let items = store.all_of(alloc, 6, &[], &[255])?;
+    let items = store.all_of(alloc, HubArea::Marks.number(), &[], &[255])?;
     match marks_of(alloc, items.as_slice())? {
         Some(marks) => Ok(Items::from_vec(marks)),
         None => Err(store.refuse()),
@@ -144,7 +144,7 @@ fn change_of<S: StoredItems>(
         Some(parts) => parts,
         None => return Err(store.refuse()),
     };
-    let laid = of_version(alloc, store, 4, version)?;
+    let laid = of_version(alloc, store, HubArea::ChangeRows, version)?;
     let rows = match rows_in(alloc, 8, laid.as_slice())? {
         Some(rows) => rows,
         None => return Err(store.refuse()),
@@ -184,7 +184,7 @@ fn change_at<S: StoredItems>(
     ensures cause { CountsFailure (S.fault_count store.old) (S.fault_count store.new) result }
     ensures trust { S.is_trusted store.new → S.is_trusted store.old }
 {
-    let items = of_version(alloc, store, 3, version)?;
+    let items = of_version(alloc, store, HubArea::Versions, version)?;
     if has_none(items.as_slice()) {
         return Ok(None);
     }

@@ -9,7 +9,7 @@ ghost use Rattle.keeper_sqlite.specs.hub.Keeping.{HasTables, Stay};
 
 use crate::hub::state::of_version;
 use crate::stored_items::StoredItems;
-use hub_format::{Oldest, lets_go};
+use hub_format::{HubArea, Oldest, lets_go};
 use roster_base::KeeperError;
 use std::alloc::Global;
 use version_core::change::Change;
@@ -23,9 +23,9 @@ fn oldest_of<S: StoredItems>(alloc: Global, store: &mut S, base: u64) -> Result<
     ensures cause { CountsFailure (S.fault_count store.old) (S.fault_count store.new) result }
     ensures trust { S.is_trusted store.new → S.is_trusted store.old }
 {
-    let grants = of_version(alloc, store, 5, base)?;
-    let version = of_version(alloc, store, 3, base + 1)?;
-    let rows = of_version(alloc, store, 4, base + 1)?;
+    let grants = of_version(alloc, store, HubArea::Grants, base)?;
+    let version = of_version(alloc, store, HubArea::Versions, base + 1)?;
+    let rows = of_version(alloc, store, HubArea::ChangeRows, base + 1)?;
     Ok(Oldest {
         grants,
         version,

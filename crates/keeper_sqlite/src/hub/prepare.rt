@@ -8,7 +8,7 @@ ghost use Rattle.hub_format.specs.Format.{Keep};
 ghost use Rattle.keeper_sqlite.specs.hub.Keeping.{HasOtherFormat, KeepOrNew, Keeps};
 
 use crate::stored_items::StoredItems;
-use hub_format::{Format, first_edits, format_of};
+use hub_format::{Format, HubArea, first_edits, format_of};
 use roster_base::KeeperError;
 use std::alloc::Global;
 
@@ -26,7 +26,7 @@ pub(crate) fn prepare<S: StoredItems>(
     ensures cause { CountsFailure (S.fault_count store.old) (S.fault_count store.new) result }
     ensures trust { S.is_trusted store.new → S.is_trusted store.old }
 {
-    let items = store.all_of(alloc, 0, &[], &[0])?;
+    let items = store.all_of(alloc, HubArea::Format.number(), &[], &[0])?;
     match format_of(items.as_slice()) {
         Format::New => {
             let edits = first_edits(alloc, keep)?;

@@ -9,12 +9,13 @@ ghost use Rattle.item_maps.specs.Items.{Items, listed};
 ghost use Rattle.version_core.specs.Version.{last_version};
 ghost use Rattle.version_core.specs.declared.change.BaseVersion.{BaseVersion};
 ghost use Rattle.version_core.specs.declared.hub_tables.HubTables.{HubTables};
+ghost use Rattle.hub_format.specs.Areas.{area_number};
 ghost use Rattle.hub_format.specs.Format.{state_entry};
 ghost use Rattle.hub_format.specs.Pieces.{number};
 ghost use Rattle.keeper_sqlite.specs.hub.Keeping.{HasTables, Stay};
 
 use crate::stored_items::StoredItems;
-use hub_format::state_of;
+use hub_format::{HubArea, state_of};
 use item_maps::Item;
 use roster_base::KeeperError;
 use roster_texts::Moment;
@@ -49,7 +50,7 @@ pub(crate) fn state_of_store<S: StoredItems>(
     ensures cause { CountsFailure (S.fault_count store.old) (S.fault_count store.new) result }
     ensures trust { S.is_trusted store.new → S.is_trusted store.old }
 {
-    let items = store.all_of(alloc, 1, &[], &[0])?;
+    let items = store.all_of(alloc, HubArea::State.number(), &[], &[0])?;
     match state_in(items.as_slice()) {
         Some(state) => Ok(state),
         None => Err(store.refuse()),
@@ -60,19 +61,19 @@ pub(crate) fn state_of_store<S: StoredItems>(
 pub(crate) fn of_version<S: StoredItems>(
     alloc: Global,
     store: &mut S,
-    area: u32,
+    area: HubArea,
     version: u64,
 ) -> Result<Vec<Item>, KeeperError>
     requires { version + 1 < 2 ^ 64 }
     ensures items { (m : Items) → S.stands_for store.old m → S.is_trusted store.new
-        → IfOk result (λ items. map entry_of items.items ≡ listed area (number version) (number (version + 1)) m) }
+        → IfOk result (λ items. map entry_of items.items ≡ listed (area_number area) (number version) (number (version + 1)) m) }
     ensures same { Stay (S.stands_for store.old) (S.stands_for store.new) }
     ensures cause { CountsFailure (S.fault_count store.old) (S.fault_count store.new) result }
     ensures trust { S.is_trusted store.new → S.is_trusted store.old }
 {
     store.all_of(
         alloc,
-        area,
+        area.number(),
         &version.to_be_bytes(),
         &(version + 1).to_be_bytes(),
     )

@@ -7,7 +7,7 @@ use Rattle.keeper_sqlite.proofs.copy.prepare.prepare.Goals as goal
 
 pub returns-in-New-clause-ok : goal.returns-in-New-clause-ok
 returns-in-New-clause-ok g c copy this sure =
-    let told = c.in_ok-items.ensures.items this.items this.stands (c.commit.ensures.trust sure) in
+    let told = rw c.number.ensures at (c.in_ok-items.ensures.items this.items this.stands (c.commit.ensures.trust sure)) in
     let seen = ap (map entry_of) c.as_slice.ensures.value in
     let none = is_new this.items copy (map entry_of c.in_ok-items.items.items) this.kept told (λ one. absurd (let other = c.in-New.ensures.one (seen ∙ one) in cc)) in
     let stays = c.in_ok-items.ensures.same this.items this.stands in
@@ -22,7 +22,7 @@ returns-in-New-clause-err g c copy this =
 
 pub returns-in-One-clause-ok : goal.returns-in-One-clause-ok
 returns-in-One-clause-ok g c copy this sure =
-    let told = c.in_ok-items.ensures.items this.items this.stands sure in
+    let told = rw c.number.ensures at (c.in_ok-items.ensures.items this.items this.stands sure) in
     let seen = ap (map entry_of) c.as_slice.ensures.value in
     record {
       items = this.items;

@@ -9,6 +9,6 @@ returns-clause-shown g c copy this sure =
     let stand = g.S.StoredItems.stands_for in
     let side = this.kept.side in
     let has = copy_of (stand c.args.store.now) copy this in
-    let root = c.in_ok-root.ensures.root side copy has (c.stored_rows.ensures.trust sure) in
+    let root = c.in_ok-root.ensures.root side copy has (c.in_ok-rows.ensures.trust sure) in
     let there = copy_stays (stand c.args.store.now) (stand c.stored_root.new.store) side copy c.in_ok-root.ensures.same has in
-    c.stored_rows.ensures.rows copy (subst (λ s. HasCopy (stand c.stored_root.new.store) s copy) (sym (ap (λ (r : CopyRoot). r.side) root)) there) sure
+    c.in_ok-rows.ensures.rows copy (subst (λ s. HasCopy (stand c.stored_root.new.store) s copy) (sym (ap (λ (r : CopyRoot). r.side) root)) there) sure

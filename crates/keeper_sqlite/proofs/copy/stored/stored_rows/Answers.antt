@@ -11,5 +11,5 @@ returns-in-Some-clause-rows g c copy has sure =
     let kind = c.args.kind in
     c.from_vec.ensures
     ∙ rw c.in-Some.is at (c.in_ok-rows.ensures.found (held_list copy kind) (held_rows side copy has.items has.stored has.is has.fit kind)
-    (ap (map entry_of) c.as_slice.ensures.value ∙ c.in_ok-items.ensures.items has.items has.stands sure ∙ ap (λ area. listed area [] (255 ∷ []) has.items) c.row_area.ensures
+    (ap (map entry_of) c.as_slice.ensures.value ∙ c.in_ok-items.ensures.items has.items has.stands sure ∙ ap (λ area. listed area [] (255 ∷ []) has.items) c.number.ensures
     ∙ held_told side copy has.items has.stored has.is has.fit kind))

@@ -6,4 +6,4 @@ use Rattle.keeper_sqlite.proofs.hub.load.base_rows.Goals as goal
 
 pub returns-in-Some-clause-rows : goal.returns-in-Some-clause-rows
 returns-in-Some-clause-rows g c t has sure =
-    rw c.in-Some.is at (c.in_ok-rows.ensures [] t.base.rows refl has.fit.rows (ap (map entry_of) c.as_slice.ensures.value ∙ c.in_ok-items.ensures.items (items_of t) has.stands sure ∙ base_rows_told t has.are))
+    rw c.in-Some.is at (c.in_ok-rows.ensures [] t.base.rows refl has.fit.rows (ap (map entry_of) c.as_slice.ensures.value ∙ (rw c.number.ensures at (c.in_ok-items.ensures.items (items_of t) has.stands sure)) ∙ base_rows_told t has.are))

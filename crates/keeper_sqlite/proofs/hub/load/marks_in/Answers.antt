@@ -7,4 +7,4 @@ use Rattle.keeper_sqlite.proofs.hub.load.marks_in.Goals as goal
 pub returns-in-Some-clause-marks : goal.returns-in-Some-clause-marks
 returns-in-Some-clause-marks g c t has sure =
     c.from_vec.ensures
-    ∙ rw c.in-Some.is at (c.in_ok-marks.ensures.found t.marks has.fit.marks (ap (map entry_of) c.as_slice.ensures.value ∙ c.in_ok-items.ensures.items (items_of t) has.stands sure ∙ marks_told t has.are has.fit))
+    ∙ rw c.in-Some.is at (c.in_ok-marks.ensures.found t.marks has.fit.marks (ap (map entry_of) c.as_slice.ensures.value ∙ (rw c.number.ensures at (c.in_ok-items.ensures.items (items_of t) has.stands sure)) ∙ marks_told t has.are has.fit))

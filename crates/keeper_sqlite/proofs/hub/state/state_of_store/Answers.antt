@@ -10,4 +10,4 @@ pub returns-in-Some-clause-state : goal.returns-in-Some-clause-state
 returns-in-Some-clause-state g c t has sure =
     let le = (base_meets IsVersion t.base t.changes has.are.versions).number in
     c.in-Some.ensures.state t.keep t.base has.fit.keep (omega (arith, le)) has.fit.moment
-    (ap (map entry_of) c.as_slice.ensures.value ∙ c.in_ok-items.ensures.items (items_of t) has.stands sure ∙ state_told t)
+    (ap (map entry_of) c.as_slice.ensures.value ∙ (rw c.number.ensures at (c.in_ok-items.ensures.items (items_of t) has.stands sure)) ∙ state_told t)

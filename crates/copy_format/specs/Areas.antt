@@ -1,0 +1,13 @@
+-- The areas of a copy's store.
+use Rattle.std.specs.Prelude.{ℕ}
+use Rattle.copy_format.specs.Format.{row_area}
+use Rattle.copy_format.specs.declared.area.CopyArea.{CopyArea}
+use Rattle.copy_format.specs.declared.area.CopyArea.TheVariants.{Format, Outbox, Rows, Stage, State}
+
+-- the number of an area
+abbrev pub area_number : CopyArea → ℕ
+area_number Format = 0
+area_number State = 1
+area_number Stage = 2
+area_number Outbox = 3
+area_number (Rows side kind) = row_area side kind
