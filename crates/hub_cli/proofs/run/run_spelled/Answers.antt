@@ -13,5 +13,5 @@ returns-in-Err g c =
     (outside_between g.F.Folder.files g.F.Folder.faults c.args.folder.now c.args.folder.now (g.K.Clock.moment c.args.clock.now) (faults_between g.H.HubKeeper.fault_count c.args.keeper.now c.args.keeper.now))
     (copy_between g.C.CopyKeeper.stands_for g.C.CopyKeeper.fault_count c.args.copy.now c.args.copy.now)
     (link_between g.L.Link.tells g.L.Link.asked g.L.Link.missed g.L.Link.kept g.L.Link.fault_count c.args.link.now c.args.link.now)
-    (g.H.HubKeeper.stands_for c.args.keeper.now) c.in-Err.place.now (refl, refl) (record { folder = refl; keeper = refl }) a (rw c.nothing_done.ensures at printed))
+    (g.H.HubKeeper.stands_for c.args.keeper.now) c.in-Err.place (refl, refl) (record { folder = refl; keeper = refl }) a (rw c.nothing_done.ensures at printed))
     c.tell.ensures)

@@ -12,4 +12,4 @@ returns-clause-grew c =
 pub returns-clause-own : goal.returns-clause-own
 returns-clause-own c xs ys =
     let (failed, counts, step) = c.take-reply.ensures in
-    if_ok_each _ _ c.own_text-text.result (λ text own. is_own c.args.request.now c.args.at c.take-reply.result text.items c.args.world.now c.take-reply.new.self failed xs ys c.requires c.faults.ensures.hub own step counts) c.own_text-text.ensures.ok
+    if_ok_each _ _ c.own_text-text.result (λ text own. is_own c.args.request.now c.args.at c.take-reply.result text.items c.args.world.now c.take-reply.new.self failed xs ys c.requires c.faults.ensures.hub own step counts) c.own_text-text.ensures
