@@ -61,6 +61,16 @@ impl Table {
         })
     }
 
+    /// A table of the same versions.
+    pub fn copy(&self, alloc: Global) -> Result<Table, NoMemory>
+        ensures { IfOk result (λ t. t ≡ record { keep = self.now.keep; versions = self.now.versions; room = None }) }
+    {
+        Ok(Table {
+            keep: self.keep,
+            log: self.log.copy(alloc)?,
+        })
+    }
+
     /// The number of the oldest version that is kept. No memory is taken.
     pub fn oldest(&self) -> u64
         ensures oldest { result ≡ (oldest_of self.now).number }

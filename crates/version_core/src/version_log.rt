@@ -3,7 +3,7 @@
 ghost use Rattle.std.specs.Prelude.{◌≡◌, pos, ◌+◌, ◌-◌, ◌<◌, ◌≤◌, ◌∷◌, ◌++◌, [], ℕ, Some, None, IfOk, OnOk, OnErr, drop, length, map, slice_get, unwrap_or, vec_capacity, vec_len};
 ghost use Rattle.std.specs.List.{AllByRecursion};
 ghost use Rattle.version_core.specs.Changes.{change_key, AreChanges};
-ghost use Rattle.version_core.specs.History.{AreHistoriesOf};
+ghost use Rattle.version_core.specs.History.{AreHistoriesOf, pasts_of};
 ghost use Rattle.version_core.specs.Since.{standing};
 ghost use Rattle.version_core.specs.Version.{IsVersion, after, empty_version, first_or, last_or};
 
@@ -100,6 +100,31 @@ impl VersionLog {
             number: base.number,
             moment: base.moment,
             moments: Vec::new(alloc),
+            grants,
+            histories,
+            spare: Vec::new(alloc),
+            fresh: Vec::new(alloc),
+            room: None,
+            refs: Vec::new(alloc),
+            limit: 0,
+            is_indexed: false,
+            swept: 0,
+            share: 0,
+        })
+    }
+
+    /// A log of equal versions, in which no room is reserved and nothing is indexed.
+    pub fn copy(&self, alloc: Global) -> Result<VersionLog, NoMemory>
+        ensures { IfOk result (λ log. log ≡ record { versions = self.now.versions; room = None }) }
+    {
+        let moments = Vec::from_slice(alloc, self.moments.as_slice())?;
+        let grants = copied(alloc, &self.grants)?;
+        let histories = copied_histories(alloc, &self.histories)?;
+        Ok(VersionLog {
+            alloc,
+            number: self.number,
+            moment: self.moment,
+            moments,
             grants,
             histories,
             spare: Vec::new(alloc),
@@ -341,4 +366,15 @@ fn histories_of(
     let rows = copied(alloc, changes)?;
     put_rows(&mut histories, &mut spare, &mut fresh, version, rows);
     Ok(histories)
+}
+
+// Histories of equal rows.
+fn copied_histories(alloc: Global, histories: &[History]) -> Result<Vec<History>, NoMemory>
+    ensures { IfOk result (λ copies. pasts_of copies.items ≡ pasts_of histories.now) }
+{
+    let mut copies = Vec::with_capacity(alloc, histories.len())?;
+    for history in histories {
+        copies.push(history.copy(alloc)?)?;
+    }
+    Ok(copies)
 }

@@ -285,3 +285,53 @@ fn references_that_no_version_has(rt: HostRuntime) -> Result<(), Fail> {
     drop(table);
     published
 }
+
+// Publishes so many orgs and users at random.
+fn publish_some(
+    rt: &impl Abort,
+    alloc: Global,
+    table: &mut Table,
+    seed: u64,
+    turns: u8,
+) -> Result<(), Fail> {
+    let mut dice = Dice { seed };
+    for _ in 0..turns {
+        publish_org(rt, alloc, table, &mut dice)?;
+        publish_user(rt, alloc, table, &mut dice)?;
+    }
+    Ok(())
+}
+
+// A table and its copy, each of which goes on by others and compares what it finds.
+fn compare_both(
+    rt: &impl Abort,
+    alloc: Global,
+    table: &mut Table,
+    copy: &mut Table,
+) -> Result<(), Fail> {
+    compare_kept(rt, alloc, copy)?;
+    copy.index();
+    compare_kept(rt, alloc, copy)?;
+    publish_some(rt, alloc, copy, 4, 10)?;
+    publish_some(rt, alloc, table, 5, 10)?;
+    compare_kept(rt, alloc, copy)?;
+    compare_kept(rt, alloc, table)
+}
+
+fn compare_with_copy(rt: &impl Abort, alloc: Global, table: &mut Table) -> Result<(), Fail> {
+    publish_some(rt, alloc, table, 3, 10)?;
+    let mut copy = table.copy(alloc)?;
+    let compared = compare_both(rt, alloc, table, &mut copy);
+    drop(copy);
+    compared
+}
+
+// The copy has no index at first, and then one of its own.
+#[test]
+fn references_of_a_copy(rt: HostRuntime) -> Result<(), Fail> {
+    let mut table = Table::new(rt.alloc(), 5);
+    table.index();
+    let compared = compare_with_copy(&rt, rt.alloc(), &mut table);
+    drop(table);
+    compared
+}

@@ -169,8 +169,8 @@ fn mark(rt: &impl Abort, alloc: Global, caller: &str, number: u64) -> Result<Mar
     })
 }
 
-// Tables with a base and two changes, of which all are kept.
-fn tables(rt: &impl Abort, alloc: Global) -> Result<HubTables, Fail>
+/// Tables with a base and two changes, of which all are kept.
+pub fn tables(rt: &impl Abort, alloc: Global) -> Result<HubTables, Fail>
     ensures { IfOk result AreTables }
 {
     let mut changes = Items::new(alloc);
@@ -218,7 +218,8 @@ fn check_version(
     Ok(())
 }
 
-fn check_versions(rt: &impl Abort, alloc: Global, table: &Table) -> Result<(), Fail> {
+/// Compares the versions of a table with those that the tables stand for.
+pub fn check_versions(rt: &impl Abort, alloc: Global, table: &Table) -> Result<(), Fail> {
     assert!(rt; table.oldest() == 3 && table.newest() == 5);
     check_version(rt, alloc, &table.rows_at(3), (3_000, "aQuiz cTest lms "))?;
     check_version(
