@@ -2,6 +2,7 @@ pub mod Agreement
 pub mod Asked
 pub mod Bounds
 pub mod Causes
+pub mod Coming
 pub mod Completeness
 pub mod Entering
 pub mod Exchanges

@@ -42,6 +42,19 @@ fn carries(reply: &WireReply, number: Echo) -> bool
     }
 }
 
+// What a reply is to the request with this number.
+fn judge(reply: WireReply, number: Echo) -> Outcome
+    ensures own { IfOwn result (λ w. (w ≡ reply) × (w.echo ≡ Some number)) }
+    ensures some { result ≢ Outcome.NoReply }
+    ensures missed { result ≡ Outcome.Missed → (reply.echo ≡ Some number) → ⊥ }
+{
+    if carries(&reply, number) {
+        Outcome::Own(reply)
+    } else {
+        Outcome::Missed
+    }
+}
+
 // What the bytes are that came.
 fn read_own(alloc: Global, bytes: &[u8], number: Echo) -> Outcome
     ensures own { IfOwn result (λ w. IsReplyText bytes.now w × (w.echo ≡ Some number)) }
@@ -49,17 +62,24 @@ fn read_own(alloc: Global, bytes: &[u8], number: Echo) -> Outcome
     ensures missed { result ≡ Outcome.Missed → (w : Reply) × IsReplyText bytes.now w × ((w.echo ≡ Some number) → ⊥) }
 {
     match parse_reply(alloc, bytes) {
-        Ok(reply) => {
-            if carries(&reply, number) {
-                Outcome::Own(reply)
-            } else {
-                Outcome::Missed
-            }
-        }
+        Ok(reply) => judge(reply, number),
         Err(fault) => match fault {
             WireFault::NoMemory => Outcome::NoMemory,
             _ => Outcome::NoReply,
         },
+    }
+}
+
+// What the answer is that a link has kept. Where the link has read it, it isn't read again.
+fn read_kept<L: Link>(alloc: Global, link: &mut L, number: Echo) -> Outcome
+    ensures same { link.new ≡ link.old }
+    ensures own { IfOwn result (λ w. IsReplyText (L.kept link.old) w × (w.echo ≡ Some number)) }
+    ensures none { result ≡ Outcome.NoReply → IsNoReply (L.kept link.old) }
+    ensures missed { result ≡ Outcome.Missed → (w : Reply) × IsReplyText (L.kept link.old) w × ((w.echo ≡ Some number) → ⊥) }
+{
+    match link.take_parsed() {
+        Some(reply) => judge(reply, number),
+        None => read_own(alloc, link.reply(), number),
     }
 }
 
@@ -77,7 +97,7 @@ fn once<L: Link>(alloc: Global, link: &mut L, text: &[u8], number: Echo) -> Outc
         → (before : Told) × L.tells link.old before × Tries q result before after }
 {
     match link.exchange(alloc, text) {
-        Ok(()) => read_own(alloc, link.reply(), number),
+        Ok(()) => read_kept(alloc, link, number),
         Err(IoError::Failed) => Outcome::Missed,
         Err(IoError::NoMemory) => Outcome::NoMemory,
     }

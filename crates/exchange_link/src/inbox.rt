@@ -1,13 +1,16 @@
 //! What a link keeps of its exchanges.
 
-ghost use Rattle.std.specs.Prelude.{◌≡◌, ◌⊎◌, ◌≤◌, ◌+◌, ◌-◌, ◌^◌, OnErr, OnOk, [], min, Err};
+ghost use Rattle.std.specs.Prelude.{◌≡◌, ◌⊎◌, ◌≤◌, ◌+◌, ◌-◌, ◌^◌, IfSome, OnErr, OnOk, [], min, Err};
 ghost use Rattle.exchange_link.specs.Exchanges.{Carries, IsSentText, IsTextOf, Misses};
+ghost use Rattle.http_wire.specs.Answers.{IsReplyText};
 ghost use Rattle.outside_ports.specs.declared.failed.IoError.TheVariants as io_error;
 ghost use Rattle.roster_base.specs.Faults.{Rose};
 ghost use Rattle.status_info.specs.declared.request.Request.{Request};
 
+use crate::came::Came;
 use crate::own::is_own;
 use crate::tally::Tally;
+use http_wire::WireReply;
 use outside_ports::IoError;
 use roster_base::NoMemory;
 use std::alloc::Global;
@@ -15,14 +18,14 @@ use std::alloc::Global;
 // The answer of the last exchange, empty where it failed, and the counts.
 #[derive(Drop)]
 pub(crate) struct Inbox {
-    pub(crate) kept: Vec<u8>,
+    pub(crate) kept: Came,
     pub(crate) tally: Tally,
 }
 
 impl Inbox {
     pub(crate) fn new(alloc: Global) -> Inbox {
         Inbox {
-            kept: Vec::new(alloc),
+            kept: Came::nothing(alloc),
             tally: Tally::new(),
         }
     }
@@ -40,21 +43,21 @@ impl Inbox {
         Err(error)
     }
 
-    // Takes the bytes that came of an exchange, and counts a fault where they aren't the own reply.
-    fn take_reply(&mut self, alloc: Global, request: &[u8], reply: Vec<u8>) -> Result<(), IoError>
+    // Keeps what came of an exchange, and counts a fault where it isn't the own reply.
+    fn keep(&mut self, alloc: Global, request: &[u8], came: Came) -> Result<(), IoError>
         requires sent { IsSentText request.now }
-        requires empty { self.old.kept.items ≡ [] }
+        requires empty { self.old.kept ≡ [] }
         ensures asked { self.new.tally.asked ≡ min (self.old.tally.asked + 1) (2 ^ 64 - 1) }
         ensures missed { Misses (Rose self.old.tally.faults self.new.tally.faults) self.old.tally.missed self.new.tally.missed }
         ensures later { self.old.tally.faults ≤ self.new.tally.faults }
         ensures failed { result ≡ Err io_error.Failed → Rose self.old.tally.faults self.new.tally.faults }
-        ensures kept { OnErr result (self.new.kept.items ≡ []) }
-        ensures own { (q : Request) → IsTextOf q request.now → OnOk result (Carries self.new.kept.items q.echo ⊎ Rose self.old.tally.faults self.new.tally.faults) }
+        ensures kept { OnErr result (self.new.kept ≡ []) }
+        ensures own { (q : Request) → IsTextOf q request.now → OnOk result (Carries self.new.kept q.echo ⊎ Rose self.old.tally.faults self.new.tally.faults) }
     {
-        match is_own(alloc, request, reply.as_slice()) {
+        match is_own(alloc, request, &came) {
             Ok(own) => {
                 self.tally.count(!own);
-                self.kept = reply;
+                self.kept = came;
                 Ok(())
             }
             Err(NoMemory) => self.miss(IoError::NoMemory),
@@ -66,20 +69,28 @@ impl Inbox {
         &mut self,
         alloc: Global,
         request: &[u8],
-        came: Result<Vec<u8>, IoError>,
+        came: Result<Came, IoError>,
     ) -> Result<(), IoError>
         requires { IsSentText request.now }
         ensures asked { self.new.tally.asked ≡ min (self.old.tally.asked + 1) (2 ^ 64 - 1) }
         ensures missed { Misses (Rose self.old.tally.faults self.new.tally.faults) self.old.tally.missed self.new.tally.missed }
         ensures later { self.old.tally.faults ≤ self.new.tally.faults }
         ensures failed { result ≡ Err io_error.Failed → Rose self.old.tally.faults self.new.tally.faults }
-        ensures kept { OnErr result (self.new.kept.items ≡ []) }
-        ensures own { (q : Request) → IsTextOf q request.now → OnOk result (Carries self.new.kept.items q.echo ⊎ Rose self.old.tally.faults self.new.tally.faults) }
+        ensures kept { OnErr result (self.new.kept ≡ []) }
+        ensures own { (q : Request) → IsTextOf q request.now → OnOk result (Carries self.new.kept q.echo ⊎ Rose self.old.tally.faults self.new.tally.faults) }
     {
-        self.kept = Vec::new(alloc);
+        self.kept = Came::nothing(alloc);
         match came {
-            Ok(reply) => self.take_reply(alloc, request, reply),
+            Ok(came) => self.keep(alloc, request, came),
             Err(error) => self.miss(error),
         }
+    }
+
+    // Takes the reply that is kept, where the bytes are one and it wasn't taken. A clause sees no change.
+    pub(crate) fn take_reply(&mut self) -> Option<WireReply>
+        ensures same { self.new ≡ self.old }
+        ensures reads { IfSome result (λ w. IsReplyText self.old.kept w) }
+    {
+        self.kept.take_reply()
     }
 }

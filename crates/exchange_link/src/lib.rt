@@ -6,12 +6,15 @@
 pub mod answer;
 mod asking;
 mod begin;
+mod came;
 mod inbox;
 pub mod link;
 pub mod no_link;
 mod own;
 pub mod peer_link;
+mod reply_bytes;
 pub mod send_answer;
+mod socket_exchange;
 pub mod socket_link;
 pub mod tally;
 

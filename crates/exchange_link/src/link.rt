@@ -1,10 +1,11 @@
 //! The link to a hub.
 
-ghost use Rattle.std.specs.Prelude.{◌≡◌, ◌⊎◌, ◌≤◌, ℕ, ◌+◌, ◌-◌, ◌^◌, List, [], min, OnErr, OnOk, Err};
+ghost use Rattle.std.specs.Prelude.{◌≡◌, ◌⊎◌, ◌≤◌, ℕ, ◌+◌, ◌-◌, ◌^◌, List, [], min, IfSome, OnErr, OnOk, Err};
 ghost use Rattle.roster_base.specs.Faults.{Rose};
 ghost use Rattle.outside_ports.specs.declared.failed.IoError.TheVariants as io_error;
 ghost use Rattle.status_info.specs.declared.request.Request.{Request};
 
+use http_wire::WireReply;
 use outside_ports::IoError;
 use std::alloc::Global;
 
@@ -12,6 +13,7 @@ use std::alloc::Global;
 /// a link tells of its hub after an exchange is told by what it told before it; one that tells nothing has no such value.
 pub trait Link {
     ghost use Rattle.exchange_link.specs.Exchanges.{Carries, Exchanged, IsTextOf, IsSentText, Misses, Told};
+    ghost use Rattle.http_wire.specs.Answers.{IsReplyText};
     ghost use Rattle.hub_spec.specs.rules.States.{IsHub};
 
     /// The number of exchanges, up to the end of `u64`.
@@ -47,6 +49,14 @@ pub trait Link {
     /// The answer that is kept; no memory is taken.
     fn reply(&self) -> &[u8]
         ensures { result.now ≡ kept self.now };
+
+    /// Takes the reply that the kept answer is, where the link has read it and it wasn't taken. A clause sees no change.
+    fn take_parsed(&mut self) -> Option<WireReply>
+        ensures same { self.new ≡ self.old }
+        ensures reads { IfSome result (λ w. IsReplyText (kept self.old) w) }
+    {
+        None
+    }
 
     /// The number of exchanges since the last one at which the count of faults didn't rise.
     fn missed(&self) -> u64

@@ -1,10 +1,11 @@
-//! Whether bytes are the own reply to a request.
+//! Whether what came is the own reply to a request.
 
 ghost use Rattle.std.specs.Prelude.{◌≡◌, [], IfOk, None, Ok, true};
 ghost use Rattle.exchange_link.specs.Exchanges.{Carries, IsSentText, IsTextOf};
 ghost use Rattle.status_info.specs.declared.request.Request.{Request as Asked};
 
-use http_wire::{WireFault, WireReader, parse_reply};
+use crate::came::Came;
+use http_wire::{WireFault, WireReader};
 use outside_ports::HeldSource;
 use roster_base::NoMemory;
 use status_info::{Echo, Request};
@@ -57,15 +58,14 @@ fn is_same(one: Option<Echo>, other: Option<Echo>) -> bool
     }
 }
 
-/// Whether bytes are a reply with the number of the request whose text this is.
-pub fn is_own(alloc: Global, request: &[u8], reply: &[u8]) -> Result<bool, NoMemory>
+/// Whether what came is a reply with the number of the request whose text this is.
+pub(crate) fn is_own(alloc: Global, request: &[u8], came: &Came) -> Result<bool, NoMemory>
     requires { IsSentText request.now }
-    ensures { result ≡ Ok true → (q : Asked) → IsTextOf q request.now → Carries reply.now q.echo }
+    ensures { result ≡ Ok true → (q : Asked) → IsTextOf q request.now → Carries came.now q.echo }
 {
     let number = number_of(alloc, request)?;
-    match parse_reply(alloc, reply) {
-        Ok(reply) => Ok(is_same(reply.echo, number)),
-        Err(WireFault::NoMemory) => Err(NoMemory),
-        Err(_) => Ok(false),
+    match came.reply() {
+        Some(reply) => Ok(is_same(reply.echo, number)),
+        None => Ok(false),
     }
 }

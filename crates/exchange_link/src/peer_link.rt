@@ -2,6 +2,7 @@
 
 ghost use Rattle.std.specs.Prelude.{◌≡◌};
 
+use crate::came::Came;
 use crate::inbox::Inbox;
 use crate::link::Link;
 use outside_ports::IoError;
@@ -37,12 +38,20 @@ fn taken(replies: &mut [Option<Vec<u8>>], place: &mut usize) -> Option<Vec<u8>> 
     reply
 }
 
+// What comes of an exchange to which this is the reply.
+fn came_of(alloc: Global, reply: Option<Vec<u8>>) -> Result<Came, IoError> {
+    match reply {
+        Some(bytes) => Ok(Came::read(alloc, bytes)?),
+        None => Err(IoError::Failed),
+    }
+}
+
 impl Link for PeerLink {
     ghost asked = { λ link. link.inbox.tally.asked };
 
     ghost missed = { λ link. link.inbox.tally.missed };
 
-    ghost kept = { λ link. link.inbox.kept.items };
+    ghost kept = { λ link. link.inbox.kept };
 
     ghost fault_count = { λ link. link.inbox.tally.faults };
 
@@ -51,12 +60,12 @@ impl Link for PeerLink {
     ghost is_hub = { λ _ _ none. absurd none };
 
     fn exchange(&mut self, alloc: Global, request: &[u8]) -> Result<(), IoError> {
-        let came = taken(&mut self.replies, &mut self.place).ok_or(IoError::Failed);
+        let came = came_of(alloc, taken(&mut self.replies, &mut self.place));
         self.inbox.take(alloc, request, came)
     }
 
     fn reply(&self) -> &[u8] {
-        &self.inbox.kept
+        self.inbox.kept.bytes()
     }
 
     fn missed(&self) -> u64 {

@@ -2,6 +2,8 @@
 #![tactic(auto)]
 
 #[cfg(test)]
+mod acceptors;
+#[cfg(test)]
 mod clocks;
 #[cfg(test)]
 mod folders;

@@ -2,7 +2,7 @@
 use Rattle.std.proofs.Common.{◌≡◌, ◌<◌, ◌≤◌, inl, inr, ℕ, ◌+◌, ◌-◌, min, List, [], ◌∷◌, ◌++◌, length, take, drop, map, Bool, true, false, Ok, Err, if◌then◌else◌, nat_lt, refl, sym, ap, ◌∙◌, subst, arith, append_assoc, length-append}
 use Rattle.std.specs.Prelude.{◌≢◌}
 use Rattle.std.proofs.lemmas.Grind.{common_steps}
-use Rattle.std.proofs.lemmas.List.{take-append-drop, take_all, length-take, length-map}
+use Rattle.std.proofs.lemmas.List.{take-append-drop, take-append-le, take_all, length-drop, length-take, length-map}
 use Rattle.std.proofs.lemmas.List.Elements.{All-weaker}
 use Rattle.std.proofs.Math.Seq.{drop-append_seam, take-append-add}
 use Rattle.httparse.specs.Grammar.{ResponseHead, HasNoResponse, MayBecomeResponse, NeverHasResponse, print_response}
@@ -11,14 +11,14 @@ use Rattle.httparse.specs.declared.Error.{Error}
 use Rattle.httparse.specs.declared.Error.TheVariants.{HeaderName, HeaderValue, NewLine, Status, Token, TooManyHeaders, Version}
 use Rattle.httparse.specs.declared.spans.HeaderSpan.{HeaderSpan}
 use Rattle.httparse.specs.declared.spans.ResponseSpans.{ResponseSpans}
-use Rattle.httparse.proofs.GrammarLemmas.{response_unique}
+use Rattle.httparse.proofs.GrammarLemmas.{response_prefix_free, response_unique}
 use Rattle.http_wire.specs.declared.fault.WireFault.{WireFault}
 use Rattle.http_wire.specs.declared.fault.WireFault.TheVariants as fault
 use Rattle.http_wire.specs.declared.answer.WireReply.{WireReply}
 use Rattle.http_wire.specs.Heads.{length_of, max_fields}
 use Rattle.http_wire.specs.Reading.{end_fault, refusal_of}
-use Rattle.http_wire.specs.Answers.{FindsAnswer, HasAnswerHead, IsNoReply, IsReplyText, Refuses, StatesFault, Told, answered, max_reply_body, max_reply_head, missing_length, part_fault, told_at, told_by, told_length}
-use Rattle.http_wire.proofs.FrontLemmas.{IsLengthFault, front_whole, length_fault}
+use Rattle.http_wire.specs.Answers.{BeginsReply, FindsAnswer, HasAnswerHead, IsNoReply, IsReplyText, NeverReply, Refuses, StatesFault, Told, answered, max_reply_body, max_reply_head, missing_length, part_fault, told_at, told_by, told_length}
+use Rattle.http_wire.proofs.FrontLemmas.{IsLengthFault, front_whole, length_fault, length_in_limit}
 
 -- ---- the head
 
@@ -175,3 +175,42 @@ head_refused m bytes NewLine never over = never_in_front m bytes (never (λ (sam
 head_refused m bytes Status never over = never_in_front m bytes (never (λ (same : Status ≡ TooManyHeaders). cc))
 head_refused m bytes Token never over = never_in_front m bytes (never (λ (same : Token ≡ TooManyHeaders). cc))
 head_refused m bytes Version never over = never_in_front m bytes (never (λ (same : Version ≡ TooManyHeaders). cc))
+
+-- ---- the length of the reply that begins with some bytes
+
+-- the head states it
+pub length_stated : {bytes front : List ℕ} {spans : ResponseSpans} {fields : List HeaderSpan} (n : ℕ) → FindsAnswer bytes front spans fields
+    → told_length (told_at front spans.code fields) ≡ Ok n → BeginsReply bytes (spans.len + n)
+length_stated {bytes} {front} {spans} {fields} n found is =
+    let (h, head, same) = found.some in
+    let whole : length bytes ≡ length (print_response h) + length (drop spans.len bytes) = ap length head.reads.1 ∙ length-append (print_response h) (drop spans.len bytes) in
+    let len : spans.len + n ≡ length (print_response h) + n = omega (arith, whole, length-drop spans.len bytes, found.len) in
+    (h, drop spans.len bytes, n, head, ap told_length same ∙ is, len)
+
+-- the head states none that a reply may have
+pub never_stated : {bytes front : List ℕ} {spans : ResponseSpans} {fields : List HeaderSpan} (e : WireFault) → FindsAnswer bytes front spans fields
+    → told_length (told_at front spans.code fields) ≡ Err e → NeverReply bytes
+never_stated {bytes} {front} {spans} {fields} e found is more reply (k, answer) =
+    let (h, head, same) = found.some in
+    let heads : h ≡ k = (response_prefix_free bytes more h k _ _ head.reads answer.head.reads).0 in
+    let states : told_length (told_by h) ≡ Err e = ap told_length same ∙ is in
+    let lengths : told_length (told_by h) ≡ Ok (length reply.body) = ap (λ (h : ResponseHead). told_length (told_by h)) heads ∙ answer.length_is in cc
+
+-- a head needs more bytes than it may have
+pub never_short : (m : ℕ) (bytes : List ℕ) → m ≡ max_reply_head → max_reply_head ≤ length bytes → HasNoResponse (take m bytes) → NeverReply bytes
+never_short m bytes is long none more =
+    let small : m ≡ min (length (bytes ++ more)) max_reply_head = omega (arith, length-append bytes more) in
+    let front : take m (bytes ++ more) ≡ take m bytes = take-append-le m bytes more (omega arith) in
+    none_in_front m (bytes ++ more) small (subst HasNoResponse (sym front) none)
+
+pub short_refused : (m : ℕ) (bytes : List ℕ) → m ≡ max_reply_head → max_reply_head ≤ length bytes → HasNoResponse (take m bytes) → Refuses fault.HeadTooLong bytes
+short_refused m bytes is long none = (none_in_front m bytes (omega arith) none, inl (long, subst (λ (k : ℕ). HasNoResponse (take k bytes)) is none))
+
+-- more fields stand there than a head may have
+pub never_room : (m : ℕ) (bytes : List ℕ) → ResponseOverflows max_fields (take m bytes) → NeverReply bytes
+never_room m bytes over more reply (h, answer) =
+    let many = overflows_from_front m bytes over more h reply.body answer.head.reads in absurd (omega (arith, answer.head.few))
+
+-- a reply in its limits isn't longer than both
+pub reply_fits : (bytes : List ℕ) (n : ℕ) → BeginsReply bytes n → n ≤ max_reply_head + max_reply_body
+reply_fits bytes n (h, body, m, head, states, is) = omega (arith, is, head.short, length_in_limit max_reply_body (missing_length (told_by h).status) (told_by h).fields m states)

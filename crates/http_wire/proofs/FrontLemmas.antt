@@ -47,10 +47,13 @@ faulty_length most (Some m) chunked e h = by (nat_lt most m) chunked h
     by false true h = let same : fault.Chunked ≡ e = cc in subst IsLengthFault same tt
     by false false h = cc
 
-body_in_limit : (fields : List (List ℕ × List ℕ)) (n : ℕ) → body_length fields ≡ Ok n → n ≤ max_body
+pub length_in_limit : (most : ℕ) (missing : Option ℕ) (fields : List (List ℕ × List ℕ)) (n : ℕ) → length_of most missing fields ≡ Ok n → n ≤ most
 unfolding length_of
-body_in_limit fields n h =
-    in_limit max_body (stated_length (Some 0) (value_of (codes "content-length") fields) fields) (is_some (value_of (codes "transfer-encoding") fields)) n h
+length_in_limit most missing fields n h =
+    in_limit most (stated_length missing (value_of (codes "content-length") fields) fields) (is_some (value_of (codes "transfer-encoding") fields)) n h
+
+body_in_limit : (fields : List (List ℕ × List ℕ)) (n : ℕ) → body_length fields ≡ Ok n → n ≤ max_body
+body_in_limit fields n h = length_in_limit max_body (Some 0) fields n h
 
 -- whatever the limit
 pub length_fault : (most : ℕ) (missing : Option ℕ) (fields : List (List ℕ × List ℕ)) (e : WireFault) → length_of most missing fields ≡ Err e → IsLengthFault e

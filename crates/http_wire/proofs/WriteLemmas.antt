@@ -1,10 +1,12 @@
 -- Writes, one behind the other.
-use Rattle.std.proofs.Common.{◌≡◌, ◌<◌, ℕ, ◌+◌, List, [], ◌∷◌, ◌++◌, length, take, drop, get_or, Option, sym, ap, ◌∙◌, subst, append_assoc}
+use Rattle.std.proofs.Common.{◌≡◌, ◌<◌, ℕ, ◌+◌, List, [], ◌∷◌, ◌++◌, length, take, drop, get_or, Option, sym, ap, ◌∙◌, subst, append_assoc, refl, Result}
 use Rattle.std.specs.Io.KnownBytes.{Appends}
 use Rattle.std.specs.List.{flat_map}
 use Rattle.std.proofs.lemmas.List.{append-nil, take-append-drop, take_more}
 use Rattle.std.proofs.lemmas.List.Concat.{flat_map-append}
-use Rattle.outside_ports.specs.Written.{AppendsPart}
+use Rattle.outside_ports.specs.Written.{AppendsPart, Writes}
+use Rattle.status_info.specs.declared.reply.Reply.{Reply}
+use Rattle.http_wire.specs.Replies.{body_text, end_text, front_text, head_text, links_line, reply_text, versions_text, warning_line}
 use Rattle.outside_ports.proofs.Appending.{part_behind, part_front}
 
 -- the same of bytes that are known
@@ -29,3 +31,16 @@ part_at_item f xs i d old mid new less first second =
     subst (λ (bs : List ℕ). AppendsPart old new bs) (sym (split_at_item f xs i d less))
     (part_behind old mid new (flat_map f (take i xs)) (f (get_or xs i d) ++ flat_map f (drop (i + 1) xs)) first
     (part_front mid new (f (get_or xs i d)) (flat_map f (drop (i + 1) xs)) second))
+
+split_shape : (F L W V E B : List ℕ) → F ++ (L ++ (W ++ (V ++ E))) ++ B ≡ F ++ (L ++ (W ++ (V ++ (E ++ B))))
+split_shape F L W V E B = simp (append_assoc) refl
+
+-- the head and the body are the whole
+pub head_and_body : (reply : Reply) → head_text reply ++ body_text reply ≡ reply_text reply
+head_and_body reply = split_shape (front_text reply) (links_line reply.links) (warning_line reply.warnings) (versions_text reply) (end_text reply) (body_text reply)
+
+pub whole_part : (old new : Option (List ℕ)) (reply : Reply) → AppendsPart old new (head_text reply ++ body_text reply) → AppendsPart old new (reply_text reply)
+whole_part old new reply = subst (λ (bs : List ℕ). AppendsPart old new bs) (head_and_body reply)
+
+pub whole_written : {T E : Type 0} (old new : Option (List ℕ)) (reply : Reply) (r : Result T E) → Writes old new (head_text reply ++ body_text reply) r → Writes old new (reply_text reply) r
+whole_written old new reply r = subst (λ (bs : List ℕ). Writes old new bs r) (head_and_body reply)

@@ -1,5 +1,5 @@
 -- What the text of one reply says, and why bytes are none.
-use Rattle.std.specs.Prelude.{◌≡◌, ◌<◌, ◌≤◌, ◌⊎◌, ℕ, List, [], length, drop, take, map, All, Option, Some, None, Result, Ok, Err, if◌then◌else◌, ◌==◌, codes, nat_lt, ⊤}
+use Rattle.std.specs.Prelude.{◌≡◌, ◌<◌, ◌≤◌, ◌⊎◌, ◌+◌, ◌++◌, ℕ, List, [], length, drop, take, map, All, Option, Some, None, Result, Ok, Err, if◌then◌else◌, ◌==◌, codes, nat_lt, ⊤}
 use Rattle.httparse.specs.Grammar.{HasNoResponse, MayBecomeResponse, NeverHasResponse, ReadsResponse, ResponseHead, print_response, status_code}
 use Rattle.httparse.specs.Spans.{IsHeaderWithin, ResponseOverflows, header_bytes, name_and_value}
 use Rattle.httparse.specs.declared.spans.HeaderSpan.{HeaderSpan}
@@ -122,6 +122,27 @@ Refuses e bytes = IsNoReply bytes × Blames e bytes
 abbrev pub ReadsReply : List ℕ → Result WireReply WireFault → Type 0
 ReadsReply bytes (Ok reply) = IsReplyText bytes reply
 ReadsReply bytes (Err e) = Refuses e bytes
+
+-- ---- the length of a reply, as soon as its head is there
+
+-- a head stands at the front of the bytes, and it and the body that it states have n bytes
+abbrev pub BeginsReply : List ℕ → ℕ → Type 0
+BeginsReply bytes n =
+    (h : ResponseHead) × (body : List ℕ) × (m : ℕ) × HasAnswerHead bytes h body × (told_length (told_by h) ≡ Ok m) × (n ≡ length (print_response h) + m)
+
+-- no head in its limits stands there yet
+abbrev pub LacksHead : List ℕ → Type 0
+LacksHead bytes = HasNoResponse bytes × (length bytes < max_reply_head)
+
+-- no bytes can follow that make them a reply
+abbrev pub NeverReply : List ℕ → Type 0
+NeverReply bytes = (more : List ℕ) → IsNoReply (bytes ++ more)
+
+-- the length of the reply that begins with the bytes, or none yet, or why there is no such reply
+abbrev pub TellsLength : List ℕ → Result (Option ℕ) WireFault → Type 0
+TellsLength bytes (Ok (Some n)) = BeginsReply bytes n
+TellsLength bytes (Ok None) = LacksHead bytes
+TellsLength bytes (Err e) = NeverReply bytes × Refuses e bytes
 
 -- spans of the front of the bytes cover the head h
 pub record FindsAnswer (bytes front : List ℕ) (spans : ResponseSpans) (fields : List HeaderSpan) : Type 0 where

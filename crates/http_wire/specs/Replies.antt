@@ -121,6 +121,11 @@ versions_text reply =
 unfoldable pub end_text : Reply → List ℕ
 end_text reply = echo_line reply.echo ++ (close_line reply.close ++ (length_line reply ++ line_end))
 
+-- all that stands in front of the body
+abbrev pub head_text : Reply → List ℕ
+head_text reply =
+    front_text reply ++ (links_line reply.links ++ (warning_line reply.warnings ++ (versions_text reply ++ end_text reply)))
+
 abbrev pub reply_text : Reply → List ℕ
 reply_text reply =
     front_text reply ++ (links_line reply.links ++ (warning_line reply.warnings

@@ -8,7 +8,7 @@ ghost use Rattle.http_wire.specs.Seen.{CanRead, seen_of};
 ghost use Rattle.http_wire.specs.declared.answer.WireReply.{WireReply};
 ghost use Rattle.http_wire.specs.declared.fault.WireFault.{WireFault};
 ghost use Rattle.http_wire.specs.declared.fault.WireFault.TheVariants as fault;
-ghost use Rattle.http_wire.specs.Answers.{FindsAnswer, IsReplyText, ReadsReply, answered, count_at, missing_length, number_at, part_fault, told_at};
+ghost use Rattle.http_wire.specs.Answers.{FindsAnswer, IsReplyText, ReadsReply, TellsLength, answered, count_at, missing_length, number_at, part_fault, told_at, told_length};
 
 use crate::fault::WireFault;
 use crate::front::{MAX_FIELDS, head_fault};
@@ -77,6 +77,14 @@ fn reply_of(bytes: &[u8], status: u16, fields: &[HeaderSpan], body: Bytes) -> Wi
     }
 }
 
+// The length of the body, as a head states it.
+fn length_told(front: &[u8], status: u16, fields: &[HeaderSpan]) -> Result<u64, WireFault>
+    requires { All (IsHeaderWithin (length front.now)) fields.now }
+    ensures { result ≡ told_length (told_at front.now status fields.now) }
+{
+    length_of_body(front, fields, MAX_REPLY_BODY, length_if_missing(status))
+}
+
 // The reply whose head was found at the front of the bytes.
 fn behind_head(
     alloc: Global,
@@ -88,8 +96,7 @@ fn behind_head(
     requires { FindsAnswer bytes.now front.now spans fields.now }
     ensures { ReadsReply bytes.now result }
 {
-    let missing = length_if_missing(spans.code);
-    let length = length_of_body(front, fields, MAX_REPLY_BODY, missing)? as usize;
+    let length = length_told(front, spans.code, fields)? as usize;
     let after = &bytes[spans.len..];
     if after.len() < length {
         return Err(WireFault::Cut);
@@ -126,6 +133,29 @@ pub fn parse_reply(alloc: Global, bytes: &[u8]) -> Result<WireReply, WireFault>
             behind_head(alloc, bytes, front, spans, &headers[..spans.headers])
         }
         Ok(Status::Partial) => Err(fault_of_part(bytes)),
+        Err(error) => Err(head_fault(error)),
+    }
+}
+
+/// How many bytes the reply has that begins with these. `None`: its head isn't all there. A fault: whatever follows, they begin no reply,
+/// for the reason that `parse_reply` gives too.
+pub fn reply_length(bytes: &[u8]) -> Result<Option<u64>, WireFault>
+    ensures { TellsLength bytes.now result }
+{
+    let front = &bytes[..bytes.len().min(MAX_REPLY_HEAD)];
+    let mut headers = [EMPTY_HEADER_SPAN; MAX_FIELDS];
+    match parse_response(front, &mut headers) {
+        Ok(Status::Complete(spans)) => {
+            let length = length_told(front, spans.code, &headers[..spans.headers])?;
+            Ok(Some(spans.len as u64 + length))
+        }
+        Ok(Status::Partial) => {
+            if bytes.len() < MAX_REPLY_HEAD {
+                Ok(None)
+            } else {
+                Err(WireFault::HeadTooLong)
+            }
+        }
         Err(error) => Err(head_fault(error)),
     }
 }

@@ -4,6 +4,8 @@
 pub mod answer;
 pub mod fault;
 mod front;
+pub mod gathering;
+mod growing_text;
 mod head;
 mod pieces;
 pub mod reader;
@@ -12,8 +14,9 @@ pub mod sending;
 pub mod stream;
 pub mod text;
 
-pub use answer::{WireReply, parse_reply};
+pub use answer::{WireReply, parse_reply, reply_length};
 pub use fault::WireFault;
+pub use gathering::{reply_bytes, send_reply};
 pub use reader::WireReader;
 pub use reply::write_reply;
 pub use sending::write_request;

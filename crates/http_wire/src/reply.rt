@@ -5,7 +5,7 @@ ghost use Rattle.http.specs.StatusCode.{IsStatusCode};
 ghost use Rattle.roster_base.specs.Faults.{HasCause};
 ghost use Rattle.outside_ports.specs.Written.{Writes};
 ghost use Rattle.status_info.specs.Bodies.{status_body};
-ghost use Rattle.http_wire.specs.Replies.{allow_line, body_text, challenge_line, close_line, end_text, front_text, further_link, length_line, length_of_body, link_text, links_line, more_links, phrase_of, rel_word, reply_text, some_links, start_text, target_text, type_line, versions_text, warning_line};
+ghost use Rattle.http_wire.specs.Replies.{allow_line, body_text, challenge_line, close_line, end_text, front_text, further_link, head_text, length_line, length_of_body, link_text, links_line, more_links, phrase_of, rel_word, reply_text, some_links, start_text, target_text, type_line, versions_text, warning_line};
 
 use crate::pieces::{write_echo_line, write_number_line, write_pieces};
 use http::StatusCode;
@@ -261,7 +261,7 @@ fn write_status_body<W: Sink>(sink: &mut W, cause: Cause) -> Result<(), Failed>
 }
 
 #[tactic(auto, unfolding(crate::specs::Replies::body_text))]
-fn write_body<W: Sink>(sink: &mut W, reply: &Reply) -> Result<(), Failed>
+pub(crate) fn write_body<W: Sink>(sink: &mut W, reply: &Reply) -> Result<(), Failed>
     ensures bytes { Writes (W.written sink.old) (W.written sink.new) (body_text reply.now) result }
     ensures cause { HasCause (W.faults sink.old) (W.faults sink.new) result }
 {
@@ -275,15 +275,23 @@ fn write_body<W: Sink>(sink: &mut W, reply: &Reply) -> Result<(), Failed>
     }
 }
 
-/// Writes the text of a reply, and takes no memory.
-pub fn write_reply<W: Sink>(sink: &mut W, reply: &Reply) -> Result<(), Failed>
-    ensures bytes { Writes (W.written sink.old) (W.written sink.new) (reply_text reply.now) result }
+// Writes all that stands in front of the body.
+pub(crate) fn write_head<W: Sink>(sink: &mut W, reply: &Reply) -> Result<(), Failed>
+    ensures bytes { Writes (W.written sink.old) (W.written sink.new) (head_text reply.now) result }
     ensures cause { HasCause (W.faults sink.old) (W.faults sink.new) result }
 {
     write_front(sink, reply)?;
     write_links(sink, reply.links.as_slice())?;
     write_warning_line(sink, reply.warnings)?;
     write_versions(sink, reply)?;
-    write_end(sink, reply)?;
+    write_end(sink, reply)
+}
+
+/// Writes the text of a reply, and takes no memory.
+pub fn write_reply<W: Sink>(sink: &mut W, reply: &Reply) -> Result<(), Failed>
+    ensures bytes { Writes (W.written sink.old) (W.written sink.new) (reply_text reply.now) result }
+    ensures cause { HasCause (W.faults sink.old) (W.faults sink.new) result }
+{
+    write_head(sink, reply)?;
     write_body(sink, reply)
 }

@@ -8,39 +8,13 @@ ghost use Rattle.http_wire.specs.Reading.{BeginsWith};
 ghost use Rattle.http_wire.specs.Replies.{number_line};
 ghost use Rattle.http_wire.specs.Sending.{CanSend, mark_number, put_length, path_text, query_mark, query_text, request_text, token_line, token_text, verb_text, verb_word};
 
+use crate::growing_text::GrowingText;
 use crate::pieces::{write_echo_line, write_number_line, write_pieces};
 use outside_ports::{Failed, Sink};
 use roster_base::NoMemory;
 use roster_texts::Token;
 use status_info::{MarkField, Request, Verb};
 use std::alloc::Global;
-
-// A text that grows; a write fails where memory runs out.
-#[derive(Drop)]
-struct GrowingText {
-    bytes: Vec<u8>,
-    faults: u64,
-}
-
-impl Sink for GrowingText {
-    ghost use Rattle.std.specs.Prelude.{Some};
-
-    ghost written = { λ s. Some s.bytes.items };
-
-    ghost faults = { λ s. s.faults };
-
-    fn write_all(&mut self, bytes: &[u8]) -> Result<(), Failed> {
-        if self.bytes.extend_from_slice(bytes).is_err() {
-            self.faults = self.faults.saturating_add(1);
-            return Err(Failed);
-        }
-        Ok(())
-    }
-
-    fn write_faults(&self) -> u64 {
-        self.faults
-    }
-}
 
 fn word_of_verb(verb: Verb) -> &'static str
     ensures { result.now ≡ verb_word verb }
@@ -155,10 +129,7 @@ fn send(text: &mut GrowingText, request: &Request) -> Result<(), Failed>
 pub fn write_request(alloc: Global, request: &Request) -> Result<Vec<u8>, NoMemory>
     ensures { IfOk result (λ text. text.items ≡ request_text request.now) }
 {
-    let mut text = GrowingText {
-        bytes: Vec::new(alloc),
-        faults: 0,
-    };
+    let mut text = GrowingText::new(alloc);
     match send(&mut text, request) {
         Ok(()) => Ok(text.bytes),
         Err(Failed) => Err(NoMemory),

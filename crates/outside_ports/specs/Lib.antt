@@ -1,5 +1,6 @@
 pub mod Calls
 pub mod Causes
+pub mod Connections
 pub mod Files
 pub mod Given
 pub mod HeldBytes

@@ -7,3 +7,5 @@ mod causes;
 mod replies;
 #[cfg(test)]
 mod requests;
+#[cfg(test)]
+mod sending;

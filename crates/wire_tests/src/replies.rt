@@ -1,6 +1,6 @@
 //! Replies as the hub writes them, and as the consumer reads them.
 
-use http_wire::{WireFault, WireReply, parse_reply, write_reply};
+use http_wire::{WireFault, WireReply, parse_reply, reply_length, write_reply};
 use outside_ports::MemSink;
 use roster_base::{Items, Text};
 use status_info::{Cause, Echo, LinkItem, Rel, Reply};
@@ -147,5 +147,45 @@ fn bad_replies_are_refused(rt: HostRuntime) {
     for (text, want) in &ANSWERS {
         let fault = parse_reply(rt.alloc(), text.as_bytes()).err();
         assert_eq!(rt; fault, *want, "{text}");
+    }
+}
+
+// Bytes with which a reply may begin, and how many bytes it has, where its head is there, or why there is none.
+static BEGINNINGS: [(&str, Option<u64>, Option<WireFault>); 9] = [
+    ("", None, None),
+    ("HTTP/1.1 200 OK\r\nContent-Length: 2\r\n", None, None),
+    (
+        "HTTP/1.1 200 OK\r\nContent-Length: 2\r\n\r\n",
+        Some(40),
+        None,
+    ),
+    (
+        "HTTP/1.1 200 OK\r\nContent-Length: 2\r\n\r\n{}HTTP/1.1",
+        Some(40),
+        None,
+    ),
+    ("HTTP/1.1 204 No Content\r\n\r\n", Some(27), None),
+    ("HTTP/1.1 200 OK\r\n\r\n", None, Some(WireFault::Length)),
+    ("SSH-2.0", None, Some(WireFault::Head)),
+    (
+        "HTTP/1.1 204 No Content\r\nTransfer-Encoding: chunked\r\n\r\n",
+        None,
+        Some(WireFault::Chunked),
+    ),
+    (
+        "HTTP/1.1 200 OK\r\nContent-Length: 83886081\r\n\r\n",
+        None,
+        Some(WireFault::BodyTooLong),
+    ),
+];
+
+#[test]
+fn a_reply_tells_its_length(rt: HostRuntime) {
+    for (text, length, fault) in &BEGINNINGS {
+        let told = match reply_length(text.as_bytes()) {
+            Ok(told) => (told, None),
+            Err(fault) => (None, Some(fault)),
+        };
+        assert_eq!(rt; told, (*length, *fault), "{text}");
     }
 }

@@ -8,23 +8,23 @@ use Rattle.http_wire.proofs.answer.behind_head.Goals as goal
 pub returns-in_err-length : goal.returns-in_err-length
 returns-in_err-length c =
     let p = err_from_is_err_and c.from_residual.result c.from_residual.ensures.1 in
-    rw (p.1, p.2) (faulty _ c.requires (rw c.length_if_missing-missing.ensures at (sym c.length_of_body.ensures ∙ c.in_err-length.was)))
+    rw (p.1, p.2) (faulty _ c.requires (sym c.length_told.ensures ∙ c.in_err-length.was))
 
 pub returns-then-after-length : goal.returns-then-after-length
 returns-then-after-length c =
-    let is = rw c.length_if_missing-missing.ensures at (sym c.length_of_body.ensures ∙ c.in_ok-length.was) in
+    let is = sym c.length_told.ensures ∙ c.in_ok-length.was in
     fewer_bytes c.in_ok-length.length c.requires is
     (omega (arith, ap length (rest_of c.args.spans.len c.args.bytes.now), c.if-after-length.true))
 
 pub returns-then-after-length-2 : goal.returns-then-after-length-2
 returns-then-after-length-2 c =
-    let is = rw c.length_if_missing-missing.ensures at (sym c.length_of_body.ensures ∙ c.in_ok-length.was) in
+    let is = sym c.length_told.ensures ∙ c.in_ok-length.was in
     more_bytes c.in_ok-length.length c.requires is
     (omega (arith, ap length (rest_of c.args.spans.len c.args.bytes.now), c.if-after-length-2.true))
 
 pub returns : goal.returns
 returns c =
-    let is = rw c.length_if_missing-missing.ensures at (sym c.length_of_body.ensures ∙ c.in_ok-length.was) in
+    let is = sym c.length_told.ensures ∙ c.in_ok-length.was in
     let rest = rest_of c.args.spans.len c.args.bytes.now in
     let count : length (drop c.args.spans.len c.args.bytes.now) ≡ c.in_ok-length.length =
     omega (arith, ap length rest, c.if-after-length.false, c.if-after-length-2.false) in
