@@ -3,4 +3,5 @@ pub mod ReadLemmas
 pub mod StepLemmas
 pub mod WriteLemmas
 mod Dating
+pub mod EndsProgress
 pub mod Progressing

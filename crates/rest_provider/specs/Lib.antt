@@ -2,6 +2,7 @@ pub mod Replies
 pub mod Shown
 pub mod Steps
 pub mod Writes
+pub mod Ends
 pub mod Exchanges
 pub mod Moments
 pub mod Streams

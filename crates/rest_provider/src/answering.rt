@@ -29,8 +29,8 @@ pub fn failing(alloc: Global, request: &Request, error: HubError) -> Reply
     sent(request, refused(alloc, request, cause))
 }
 
-// Whether the method asks for a write.
-fn is_write(verb: Verb) -> bool
+/// Whether the method asks for a write.
+pub fn is_write(verb: Verb) -> bool
     ensures { result ≡ is_write verb }
 {
     match verb {

@@ -4,6 +4,7 @@
 pub mod answering;
 mod checks;
 mod contents;
+mod ending;
 pub mod moment;
 mod reading;
 pub mod reads;
@@ -11,12 +12,14 @@ mod refusals;
 pub mod request_fault;
 pub mod serving;
 pub mod stream_end;
-mod turn;
+pub mod turn;
 mod writes;
 
 pub use answering::answer;
+pub use ending::stop;
 pub use moment::moment_of;
 pub use reads::answer_read;
 pub use request_fault::RequestFault;
 pub use serving::serve_stream;
 pub use stream_end::StreamEnd;
+pub use turn::Turn;

@@ -2,10 +2,12 @@
 
 ghost use Rattle.std.specs.Prelude.{◌≡◌, [], None};
 ghost use Rattle.hub_core.specs.Standing.{KeeperFits};
+ghost use Rattle.rest_provider.specs.Ends.{ends_of};
 ghost use Rattle.rest_provider.specs.Streams.{Serves, stage_of};
 
+use crate::ending::stop;
 use crate::stream_end::StreamEnd;
-use crate::turn::{Turn, stop, take_turn};
+use crate::turn::{Turn, take_turn};
 use http_wire::WireReader;
 use hub_core::Hub;
 use keeper_memory::HubKeeper;
@@ -29,8 +31,8 @@ fn serve<H: HubKeeper, S: Source, W: Sink, K: Clock>(
     requires fresh { reader.old.fault ≡ None }
     requires none_kept { reader.old.kept ≡ [] }
     ensures fits { KeeperFits (H.stands_for keeper.new) hub.new }
-    ensures served { Serves (stage_of (S.left source.old) (S.faults source.old) (W.written sink.old) (W.faults sink.old) (H.stands_for keeper.old) (H.fault_count keeper.old) hub.old)
-        (stage_of (S.left source.new) (S.faults source.new) (W.written sink.new) (W.faults sink.new) (H.stands_for keeper.new) (H.fault_count keeper.new) hub.new)
+    ensures served { Serves (stage_of (ends_of (S.left source.old) (S.faults source.old) (W.written sink.old) (W.faults sink.old)) (H.stands_for keeper.old) (H.fault_count keeper.old) hub.old)
+        (stage_of (ends_of (S.left source.new) (S.faults source.new) (W.written sink.new) (W.faults sink.new)) (H.stands_for keeper.new) (H.fault_count keeper.new) hub.new)
         (K.moment clock.now) result }
 {
     let mut answered: u64 = 0;
@@ -64,8 +66,8 @@ pub fn serve_stream<H: HubKeeper, S: Source, W: Sink, K: Clock>(
     ensures fits { KeeperFits (H.stands_for keeper.new) hub.new }
     // The requests are the first of the stream, however its reads are cut; what is written is the texts of their replies, and then what
     // tells of a fault; and the replies are those of a run of the hub.
-    ensures served { Serves (stage_of (S.left source.old) (S.faults source.old) (W.written sink.old) (W.faults sink.old) (H.stands_for keeper.old) (H.fault_count keeper.old) hub.old)
-        (stage_of (S.left source.new) (S.faults source.new) (W.written sink.new) (W.faults sink.new) (H.stands_for keeper.new) (H.fault_count keeper.new) hub.new)
+    ensures served { Serves (stage_of (ends_of (S.left source.old) (S.faults source.old) (W.written sink.old) (W.faults sink.old)) (H.stands_for keeper.old) (H.fault_count keeper.old) hub.old)
+        (stage_of (ends_of (S.left source.new) (S.faults source.new) (W.written sink.new) (W.faults sink.new)) (H.stands_for keeper.new) (H.fault_count keeper.new) hub.new)
         (K.moment clock.now) result }
 {
     match WireReader::new(alloc) {

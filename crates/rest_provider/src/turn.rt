@@ -1,25 +1,25 @@
 //! One request after another.
 
-ghost use Rattle.std.specs.Prelude.{◌≡◌, ◌<◌, ℕ, Bool, None, length};
+ghost use Rattle.std.specs.Prelude.{◌≡◌, ◌<◌, Bool, None, length};
 ghost use Rattle.http_wire.specs.Reading.{bytes_due};
 ghost use Rattle.http_wire.specs.Replies.{reply_text};
 ghost use Rattle.hub_core.specs.Standing.{KeeperFits};
+ghost use Rattle.rest_provider.specs.Ends.{ends_of};
 ghost use Rattle.rest_provider.specs.Exchanges.{Exchange};
-ghost use Rattle.rest_provider.specs.Streams.{counted, fault_text, stage_of, unreadable_text};
-ghost use Rattle.rest_provider.specs.Turns.{IsAnswered, TellsStop, Turns};
+ghost use Rattle.rest_provider.specs.Streams.{stage_of};
+ghost use Rattle.rest_provider.specs.Turns.{IsAnswered, Turns};
 ghost use Rattle.rest_provider.specs.declared.turn.Turn.{Turn};
 ghost use Rattle.outside_ports.specs.Written.{Writes};
 ghost use Rattle.roster_base.specs.Faults.{HasCause};
 
 use crate::answering::answer;
 use crate::moment::moment_of;
-use crate::stream_end::StreamEnd;
 use http_wire::{WireFault, WireReader, write_reply};
 use hub_core::Hub;
 use keeper_memory::HubKeeper;
 use outside_ports::{Clock, Failed, Sink, Source};
 use rest_paths::PathRouter;
-use status_info::{Cause, Reply, Request};
+use status_info::Request;
 use std::alloc::Global;
 
 /// What one turn of a stream comes to.
@@ -46,8 +46,8 @@ fn reply_to<H: HubKeeper, W: Sink, K: Clock>(
     requires { KeeperFits (H.stands_for keeper.old) hub.old }
     ensures fits { KeeperFits (H.stands_for keeper.new) hub.new }
     ensures answered { (e : Exchange) × (e.request ≡ request.now) × Writes (W.written sink.old) (W.written sink.new) (reply_text e.reply) result
-        × IsAnswered (stage_of None 0 (W.written sink.old) (W.faults sink.old) (H.stands_for keeper.old) (H.fault_count keeper.old) hub.old)
-        (stage_of None 0 (W.written sink.new) (W.faults sink.new) (H.stands_for keeper.new) (H.fault_count keeper.new) hub.new) (K.moment clock.now) e }
+        × IsAnswered (stage_of (ends_of None 0 (W.written sink.old) (W.faults sink.old)) (H.stands_for keeper.old) (H.fault_count keeper.old) hub.old)
+        (stage_of (ends_of None 0 (W.written sink.new) (W.faults sink.new)) (H.stands_for keeper.new) (H.fault_count keeper.new) hub.new) (K.moment clock.now) e }
     ensures cause { HasCause (W.faults sink.old) (W.faults sink.new) result }
 {
     let reply = answer(alloc, router, hub, keeper, request, moment_of(clock));
@@ -70,8 +70,8 @@ pub fn take_turn<H: HubKeeper, S: Source, W: Sink, K: Clock>(
     requires fits { KeeperFits (H.stands_for keeper.old) hub.old }
     requires fresh { reader.old.fault ≡ None }
     ensures fits { KeeperFits (H.stands_for keeper.new) hub.new }
-    ensures turns { Turns (stage_of (S.left source.old) (S.faults source.old) (W.written sink.old) (W.faults sink.old) (H.stands_for keeper.old) (H.fault_count keeper.old) hub.old)
-        (stage_of (S.left source.new) (S.faults source.new) (W.written sink.new) (W.faults sink.new) (H.stands_for keeper.new) (H.fault_count keeper.new) hub.new)
+    ensures turns { Turns (stage_of (ends_of (S.left source.old) (S.faults source.old) (W.written sink.old) (W.faults sink.old)) (H.stands_for keeper.old) (H.fault_count keeper.old) hub.old)
+        (stage_of (ends_of (S.left source.new) (S.faults source.new) (W.written sink.new) (W.faults sink.new)) (H.stands_for keeper.new) (H.fault_count keeper.new) hub.new)
         reader.old.kept reader.new.kept (K.moment clock.now) result }
     ensures fresh { (close : Bool) → result ≡ Turn.Answered close → reader.new.fault ≡ None }
     ensures due { (close : Bool) → result ≡ Turn.Answered close → bytes_due (S.budget source.new) (length reader.new.kept) < bytes_due (S.budget source.old) (length reader.old.kept) }
@@ -86,50 +86,5 @@ pub fn take_turn<H: HubKeeper, S: Source, W: Sink, K: Clock>(
     match written {
         Ok(()) => Turn::Answered { close },
         Err(_) => Turn::SinkFailed,
-    }
-}
-
-// Writes the reply to what can't be read.
-fn write_unreadable<W: Sink>(alloc: Global, sink: &mut W) -> Result<(), Failed>
-    ensures bytes { Writes (W.written sink.old) (W.written sink.new) unreadable_text result }
-    ensures cause { HasCause (W.faults sink.old) (W.faults sink.new) result }
-{
-    let reply = Reply::failing(alloc, Cause::Unreadable, None, true);
-    let written = write_reply(sink, &reply);
-    drop(reply);
-    written
-}
-
-// Writes what tells of a fault.
-fn write_fault<W: Sink>(alloc: Global, sink: &mut W, fault: WireFault) -> Result<(), Failed>
-    ensures bytes { Writes (W.written sink.old) (W.written sink.new) (fault_text fault) result }
-    ensures cause { HasCause (W.faults sink.old) (W.faults sink.new) result }
-{
-    match fault {
-        WireFault::End | WireFault::Cut | WireFault::Source | WireFault::NoMemory => Ok(()),
-        _ => write_unreadable(alloc, sink),
-    }
-}
-
-/// Tells of the fault at which a stream stops, behind so many answered requests and with so many bytes taken, and gives its end.
-pub fn stop<W: Sink>(
-    alloc: Global,
-    sink: &mut W,
-    fault: WireFault,
-    requests: u64,
-    kept: u64,
-) -> StreamEnd
-    ensures { (answered : ℕ) → requests ≡ counted answered → TellsStop (W.written sink.old) (W.written sink.new) (W.faults sink.old) (W.faults sink.new) fault answered kept result }
-{
-    if write_fault(alloc, sink, fault).is_err() {
-        return StreamEnd::Sink;
-    }
-    match fault {
-        WireFault::End => StreamEnd::Closed { requests, kept },
-        WireFault::NoMemory => StreamEnd::NoMemory,
-        _ => StreamEnd::Wire {
-            request: requests.saturating_add(1),
-            fault,
-        },
     }
 }

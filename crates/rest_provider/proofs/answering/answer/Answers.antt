@@ -1,4 +1,4 @@
-use Rattle.std.proofs.Common.{◌∙◌, ap, inl, inr, refl, subst, sym}
+use Rattle.std.proofs.Common.{◌∙◌, ap, inl, inr, refl, subst}
 use Rattle.hub_core.specs.Standing.{HeldHub, IsStanding}
 use Rattle.hub_core.specs.Works.{IsReloaded}
 use Rattle.rest_provider.proofs.Doing.{did_open, request_keeps}

@@ -1,6 +1,7 @@
 use Rattle.std.proofs.Common.{refl, length, ◌∙◌}
 use Rattle.rest_provider.proofs.Progressing.{begins, breaks_off, closes_at, goes_on, stops_at}
 use Rattle.rest_provider.proofs.serving.serve.Goals as goal
+use Rattle.rest_provider.specs.Exchanges.{requests_of}
 
 pub serving-init : goal.serving-init
 serving-init g c = record {
@@ -32,5 +33,6 @@ returns-in-SinkFailed-clause-served g c =
 pub returns-in-Stopped-clause-served : goal.returns-in-Stopped-clause-served
 returns-in-Stopped-clause-served g c =
     let progress = c.serving.invariant.progress in
-    stops_at _ _ _ _ _ _ _ progress c.in-Stopped.fault c.in-Stopped.ensures.turns _ _ c.stop.result
-    (rw c.kept-in-Stopped.ensures at (c.stop.ensures (length progress.exchanges) progress.number))
+    let (stopped, idle) = c.in-Stopped.ensures.turns in
+    stops_at _ _ _ _ _ _ _ progress c.in-Stopped.fault stopped idle _ _ c.stop.result
+    (rw c.kept-in-Stopped.ensures at (c.stop.ensures (length (requests_of progress.exchanges)) progress.wire.number))
