@@ -2,7 +2,7 @@
 use Rattle.std.specs.Prelude.{◌==◌, ◌&&◌}
 use Rattle.std.proofs.Common.{◌≡◌, ◌≢◌, ◌⊎◌, inl, inr, ℕ, ℤ, ◌+◌, Bool, false, List, [], ◌∷◌, ◌++◌, length, Option, Some, None, Ok, Err, refl, sym, ap, ◌∙◌, subst, arith}
 use Rattle.std.proofs.lemmas.Bool.{ne_eqb}
-use Rattle.std.proofs.lemmas.List.{append-nil}
+use Rattle.std.proofs.lemmas.List.{append-nil, length-map}
 use Rattle.std.specs.Io.KnownBytes.{Appends}
 use Rattle.http_wire.specs.Lasting.{lasting}
 use Rattle.http_wire.specs.Reading.{AreRequests}
@@ -12,9 +12,10 @@ use Rattle.hub_core.specs.Standing.{HeldHub, KeeperFits}
 use Rattle.hub_core.specs.Steps.{CountsFault, RefusesNothing}
 use Rattle.hub_core.specs.declared.hub_error.HubError.{HubError}
 use Rattle.hub_core.specs.declared.hub_error.HubError.TheVariants as error
-use Rattle.rest_provider.proofs.Progressing.{first_taken, requests_stand}
+use Rattle.rest_provider.proofs.EndsProgress.{first_taken, requests_stand}
+use Rattle.rest_provider.specs.Ends.{CloseLast, Ends, EndsBy, IsServed, counted, end_at, ends_of, fault_text, stop_text}
 use Rattle.rest_provider.specs.Exchanges.{Exchange, replies_text, requests_of}
-use Rattle.rest_provider.specs.Streams.{CloseLast, EndsBy, IsServed, Serves, Stage, counted, end_at, fault_text, stage_of, stop_text}
+use Rattle.rest_provider.specs.Streams.{Serves, Stage, stage_of}
 use Rattle.rest_provider.specs.declared.stream_end.StreamEnd.{StreamEnd}
 use Rattle.rest_provider.specs.declared.request_fault.RequestFault.TheVariants.{AfterClose, Unreadable}
 use Rattle.keeper_memory.specs.Kept.{IsKept, KeptState}
@@ -103,11 +104,17 @@ printed_ends bytes xs done end a (inr (other, same)) ends =
 -- ---- what was made of the stream
 
 module _ (bytes left : List ℕ) (written written' : Option (List ℕ)) (sink sink' : ℕ) (stands stands' : KeptState → Type 0) (keeper keeper' : ℕ) (first hub : HeldHub) where
+  abbrev old : Ends
+  old = ends_of (Some bytes) 0 written sink
+
+  abbrev new : Ends
+  new = ends_of (Some left) 0 written' sink'
+
   abbrev before : Stage
-  before = stage_of (Some bytes) 0 written sink stands keeper first
+  before = stage_of old stands keeper first
 
   abbrev now : Stage
-  now = stage_of (Some left) 0 written' sink' stands' keeper' hub
+  now = stage_of new stands' keeper' hub
 
   -- the end that is told, and what was written before its line
   record Told (xs : List Exchange) (end : End) : Type 0 where
@@ -124,7 +131,7 @@ module _ (bytes left : List ℕ) (written written' : Option (List ℕ)) (sink si
     failed : Rose sink sink'
 
   module _ (xs : List Exchange) (kept : List ℕ) where
-    closed : (stop : Option WireFault) → IsServed before now xs stop kept → stop_text stop ≡ [] → AreRequests bytes (requests_of xs) (kept ++ left)
+    closed : (stop : Option WireFault) → IsServed old new (requests_of xs) (replies_text xs) stop kept → stop_text stop ≡ [] → AreRequests bytes (requests_of xs) (kept ++ left)
         → CloseLast (requests_of xs) ⊎ ((kept ≡ []) × (left ≡ [])) → Told xs (closed_end (counted (length xs)) ((length kept == 0) && (length left == 0)))
     closed stop served none are how = record {
       done = replies_text xs;
@@ -133,7 +140,7 @@ module _ (bytes left : List ℕ) (written written' : Option (List ℕ)) (sink si
       stood = served.sink;
     }
 
-    wire : (e : WireFault) → IsServed before now xs (Some e) kept → lasting e ≡ Some e → IsToldOf e → Told xs (RequestRefused (counted (length xs + 1)) (Unreadable e))
+    wire : (e : WireFault) → IsServed old new (requests_of xs) (replies_text xs) (Some e) kept → lasting e ≡ Some e → IsToldOf e → Told xs (RequestRefused (counted (length xs + 1)) (Unreadable e))
     wire e served lasts told = record {
       done = replies_text xs ++ fault_text e;
       ends = (refl, (kept, left, served.read.1 lasts, served.stops, told, served.cause, refl));
@@ -141,7 +148,7 @@ module _ (bytes left : List ℕ) (written written' : Option (List ℕ)) (sink si
       stood = served.sink;
     }
 
-    told_at : (stop : Option WireFault) → IsServed before now xs stop kept → (end : End) → ask_end (end_at stop (length xs) (length kept)) (length left) ≡ Some end → Told xs end
+    told_at : (stop : Option WireFault) → IsServed old new (requests_of xs) (replies_text xs) stop kept → (end : End) → ask_end (end_at stop (length xs) (length kept)) (length left) ≡ Some end → Told xs end
     told_at None served end is = subst (Told xs) (some_same is) (closed None served refl served.read (inl served.stops))
     told_at (Some fault.End) served end is = subst (Told xs) (some_same is) (closed (Some fault.End) served refl (served.read.1 refl) (inr (served.cause.0, served.cause.2)))
     told_at (Some fault.NoMemory) served end is = subst (Told xs) (some_same is) (record {
@@ -158,13 +165,17 @@ module _ (bytes left : List ℕ) (written written' : Option (List ℕ)) (sink si
     told_at (Some fault.BodyTooLong) served end is = subst (Told xs) (some_same is) (wire fault.BodyTooLong served refl tt)
     told_at (Some fault.Chunked) served end is = subst (Told xs) (some_same is) (wire fault.Chunked served refl tt)
 
-  told_of : (xs : List Exchange) (result : StreamEnd) → EndsBy before now xs result → (end : End) → ask_end result (length left) ≡ Some end → Told xs end
-  told_of xs result (inl (stop, kept, served, is)) end asked = told_at xs kept stop served end (ap (λ (r : StreamEnd). ask_end r (length left)) (sym is) ∙ asked)
+  ended : (xs : List Exchange) (stop : Option WireFault) (kept : List ℕ) (result : StreamEnd) → result ≡ end_at stop (length (requests_of xs)) (length kept)
+      → ask_end result (length left) ≡ ask_end (end_at stop (length xs) (length kept)) (length left)
+  ended xs stop kept result is = ap (λ (r : StreamEnd). ask_end r (length left)) (is ∙ ap (λ (n : ℕ). end_at stop n (length kept)) (length-map xs (λ (e : Exchange). e.request)))
+
+  told_of : (xs : List Exchange) (result : StreamEnd) → EndsBy old new (requests_of xs) (replies_text xs) result → (end : End) → ask_end result (length left) ≡ Some end → Told xs end
+  told_of xs result (inl (stop, kept, served, is)) end asked = told_at xs kept stop served end (sym (ended xs stop kept result is) ∙ asked)
   told_of xs result (inr (broken, is)) end asked = let none : None ≡ Some end = ap (λ (r : StreamEnd). ask_end r (length left)) (sym is) ∙ asked in cc none
 
-  broken_of : (xs : List Exchange) (result : StreamEnd) → EndsBy before now xs result → ask_end result (length left) ≡ None → Broken xs
+  broken_of : (xs : List Exchange) (result : StreamEnd) → EndsBy old new (requests_of xs) (replies_text xs) result → ask_end result (length left) ≡ None → Broken xs
   broken_of xs result (inl (stop, kept, served, is)) none =
-      absurd (always_told stop (length xs) (length kept) (length left) (ap (λ (r : StreamEnd). ask_end r (length left)) (sym is) ∙ none))
+      absurd (always_told stop (length xs) (length kept) (length left) (sym (ended xs stop kept result is) ∙ none))
   broken_of xs result (inr (broken, is)) none = record {
     done = replies_text xs ++ broken.more;
     ends = (broken.kept, left, broken.more, broken.taken, broken.follows, refl);

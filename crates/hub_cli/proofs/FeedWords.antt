@@ -2,7 +2,7 @@
 use Rattle.std.proofs.Common.{◌≡◌, ◌+◌, ℕ, List, [], ◌∷◌, ◌++◌, None, Some, Ok, Err, String, Global, drop, length, map, string_bytes, refl, ap, ◌∙◌, append_assoc, arith}
 use Rattle.std.proofs.lemmas.List.{append-nil, drop_all}
 use Rattle.hub_cli.specs.Words.{feed_of, feed_words}
-use Rattle.hub_cli.specs.declared.words.Feed.{Feed}
+use Rattle.hub_server.specs.declared.task.Feed.{Feed}
 
 words-on : (place : ℕ) (word : List ℕ) (rest : List (List ℕ)) (feed : Feed) (feeds : List Feed) → feed_of word ≡ Some feed → feed_words (place + 1) rest ≡ Ok feeds → feed_words place (word ∷ rest) ≡ Ok (feed ∷ feeds)
 words-on place word rest feed feeds one more = rw (one, more) refl

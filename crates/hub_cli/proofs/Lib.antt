@@ -7,4 +7,5 @@ mod Leading
 mod OptionWords
 mod Publishing
 mod Showing
+mod SplitWords
 pub mod Telling

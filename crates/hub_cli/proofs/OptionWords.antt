@@ -1,7 +1,7 @@
 -- The options of words, one after another.
-use Rattle.std.proofs.Common.{◌≡◌, ◌+◌, ℕ, List, [], ◌∷◌, None, Some, Err, String, Global, length, map, string_bytes, refl, sym, subst, arith}
+use Rattle.std.proofs.Common.{◌≡◌, ◌+◌, ℕ, List, [], ◌∷◌, None, Some, Err, Ok, String, Global, length, map, string_bytes, refl, sym, subst, arith}
 use Rattle.roster_base.specs.Reading.{◌>>=◌}
-use Rattle.hub_cli.specs.Words.{command_words, option_of, option_words, set_option, with_options}
+use Rattle.hub_cli.specs.Words.{option_of, option_words, set_option}
 use Rattle.hub_cli.specs.declared.words.OptionWord.{OptionWord}
 use Rattle.hub_cli.specs.declared.words.Options.{Options}
 
@@ -10,17 +10,17 @@ module _ (place : ℕ) (options : Options) where
   Words = List (String Global)
 
   -- no word is left
-  pub options-none : (words : Words) → length words ≡ 0 → option_words place options (map string_bytes words) ≡ Err place
+  pub options-none : (words : Words) → length words ≡ 0 → option_words place options (map string_bytes words) ≡ Ok (options, place)
   unfolding option_words
   options-none [] e = refl
   options-none (word ∷ words) e = absurd (omega arith)
 
   -- a word that is no option begins the command
-  pub options-command : (words : Words) (word : String Global) (behind : Words) → words ≡ word ∷ behind → option_of options (string_bytes word) ≡ None → option_words place options (map string_bytes words) ≡ with_options options (command_words place (map string_bytes words))
+  pub options-command : (words : Words) (word : String Global) (behind : Words) → words ≡ word ∷ behind → option_of options (string_bytes word) ≡ None → option_words place options (map string_bytes words) ≡ Ok (options, place)
   unfolding option_words
-  options-command words word behind is none = subst (λ ws. option_words place options (map string_bytes ws) ≡ with_options options (command_words place (map string_bytes ws))) (sym is) (begun behind)
+  options-command words word behind is none = subst (λ ws. option_words place options (map string_bytes ws) ≡ Ok (options, place)) (sym is) (begun behind)
     where
-      begun : (behind : Words) → option_words place options (map string_bytes (word ∷ behind)) ≡ with_options options (command_words place (map string_bytes (word ∷ behind)))
+      begun : (behind : Words) → option_words place options (map string_bytes (word ∷ behind)) ≡ Ok (options, place)
       begun [] = rw none refl
       begun (value ∷ rest) = rw none refl
 

@@ -26,7 +26,7 @@ use Rattle.hub_cli.specs.Steps.{PublishesFeed, ReadsSet, end_of, end_of_error}
 use Rattle.hub_cli.specs.declared.answer.Answer.{Answer}
 use Rattle.hub_cli.specs.declared.answer.End.{End}
 use Rattle.hub_cli.specs.declared.answer.End.TheVariants.{BadRow, BadWord, CopyFailed, Done, FileNotUtf8, FileTooLarge, FolderFailed, GrantsRefused, HubFailed, MissingFile, NoMemory, NotEntered, NotPublished, Refused, RequestRefused, Sent, Synced}
-use Rattle.hub_cli.specs.declared.words.Feed.{Feed}
+use Rattle.hub_server.specs.declared.task.Feed.{Feed}
 use Rattle.hub_cli.proofs.Leading.{leads-nowhere, leads-on, leads-standing}
 
 -- a failure that is counted makes the count rise

@@ -4,8 +4,8 @@ use Rattle.csv_sets.specs.Files.{largest}
 use Rattle.http_wire.specs.Reading.{AreRequests, Causes}
 use Rattle.http_wire.specs.declared.fault.WireFault.{WireFault}
 use Rattle.http_wire.specs.declared.fault.WireFault.TheVariants as fault
+use Rattle.rest_provider.specs.Ends.{CloseLast, MayFollow, StandFirst, StayOpen, counted, fault_text}
 use Rattle.rest_provider.specs.Exchanges.{AreAt, CountsFailures, Exchange, TakesAll, replies_text, requests_of}
-use Rattle.rest_provider.specs.Streams.{CloseLast, MayFollow, StandFirst, StayOpen, counted, fault_text}
 use Rattle.rest_provider.specs.declared.stream_end.StreamEnd.{StreamEnd}
 use Rattle.rest_provider.specs.declared.stream_end.StreamEnd.TheVariants as stream
 use Rattle.keeper_memory.specs.Kept.{KeptState}

@@ -8,6 +8,7 @@ pub mod Outside
 pub mod Publishes
 pub mod Reads
 pub mod Runs
+pub mod Serves
 pub mod Shows
 pub mod Steps
 pub mod Words

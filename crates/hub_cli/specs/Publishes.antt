@@ -15,7 +15,7 @@ use Rattle.version_changes.specs.sets.Applying.{Applies}
 use Rattle.rest_provider.specs.Moments.{IsMomentOf}
 use Rattle.hub_cli.specs.declared.answer.End.{End}
 use Rattle.hub_cli.specs.declared.answer.End.TheVariants.{Done, FolderFailed, HubFailed, NoMemory, NotPublished, Refused}
-use Rattle.hub_cli.specs.declared.words.Feed.{Feed}
+use Rattle.hub_server.specs.declared.task.Feed.{Feed}
 use Rattle.hub_cli.specs.Lines.{published_text, unchanged_text}
 use Rattle.hub_cli.specs.Outside.{HaveRisen, NothingFailed, Outside}
 

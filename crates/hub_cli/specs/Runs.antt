@@ -11,7 +11,7 @@ use Rattle.hub_cli.specs.declared.answer.Answer.{Answer}
 use Rattle.hub_cli.specs.declared.answer.End.TheVariants.{BadWord, FolderFailed, HubFailed, NoMemory}
 use Rattle.hub_cli.specs.declared.words.Command.{Command}
 use Rattle.hub_cli.specs.declared.words.Command.TheVariants.{Ask, Enter, Grant, ListHeld, Outbox, Publish, Send, Show, Sync}
-use Rattle.hub_cli.specs.declared.words.Feed.{Feed}
+use Rattle.hub_server.specs.declared.task.Feed.{Feed}
 use Rattle.hub_cli.specs.declared.words.Parsed.{Parsed}
 use Rattle.hub_cli.specs.AskAnswers.{IsAskAnswer}
 use Rattle.hub_cli.specs.ConsumerAnswers.{IsListAnswer, IsSyncAnswer}

@@ -12,7 +12,7 @@ use Rattle.hub_cli.specs.Outside.{Faults, HaveRisen, HaveStood, NothingFailed, O
 use Rattle.hub_cli.specs.Publishes.{IsSetOf, PublishesSet, StopsAt}
 use Rattle.hub_cli.specs.declared.answer.End.{End}
 use Rattle.hub_cli.specs.declared.answer.End.TheVariants.{FolderFailed, HubFailed, NoMemory, NotPublished, Refused}
-use Rattle.hub_cli.specs.declared.words.Feed.{Feed}
+use Rattle.hub_server.specs.declared.task.Feed.{Feed}
 
 -- the end that a set's fault brings
 abbrev pub end_of : SetFault → End

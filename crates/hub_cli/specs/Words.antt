@@ -1,6 +1,8 @@
 -- The command that words spell, or the place of the first word that no command continues.
-use Rattle.std.specs.Prelude.{ℕ, ◌+◌, ◌==◌, ◌&&◌, ◌||◌, Bool, false, not, List, [], ◌∷◌, Option, None, Some, Result, Ok, Err, bytes_eq, codes, if◌then◌else◌, is_none, is_some, length, nat_le, nat_lt, unwrap_or}
-use Rattle.std.specs.List.{after_first, before_first}
+use Rattle.std.specs.Prelude.{ℕ, ◌+◌, ◌==◌, ◌&&◌, ◌||◌, Bool, false, not, List, [], ◌∷◌, Option, None, Some, Result, Ok, Err, bytes_eq, codes, if◌then◌else◌, drop, is_none, is_some, length, nat_le, nat_lt, suc, take, true, unwrap_or, zero}
+use Rattle.std.specs.List.{after_first, before_first, list_any, prefix_len}
+use Rattle.hub_server.specs.declared.task.Feed.{Feed}
+use Rattle.hub_server.specs.declared.task.ServeTask.{ServeTask}
 use Rattle.rest_paths.specs.Routes.{is_gradebook}
 use Rattle.roster_base.specs.Reading.{◌>>=◌}
 use Rattle.roster_texts.specs.Digits.{digits_value}
@@ -11,11 +13,11 @@ use Rattle.roster_values.specs.declared.kind.Kind.{Kind}
 use Rattle.hub_cli.specs.declared.words.Command.{Command}
 use Rattle.hub_cli.specs.declared.words.Command.TheVariants.{Ask, Enter, Grant, ListHeld, Outbox, Publish, Send, Show, Sync}
 use Rattle.hub_cli.specs.declared.words.EnterTask.TheVariants.{Delete, Put}
-use Rattle.hub_cli.specs.declared.words.Feed.{Feed}
 use Rattle.hub_cli.specs.declared.words.OptionWord.{OptionWord}
 use Rattle.hub_cli.specs.declared.words.OptionWord.TheVariants.{Folder, Keep, Peer, Store}
 use Rattle.hub_cli.specs.declared.words.Options.{Options}
 use Rattle.hub_cli.specs.declared.words.Parsed.{Parsed}
+use Rattle.hub_cli.specs.declared.words.ServeWords.{ServeWords}
 
 -- a command whose words end here, before the word of that place
 abbrev pub ended : ℕ → Command → List (List ℕ) → Result Command ℕ
@@ -229,13 +231,11 @@ set_option place options Store value = with_store place options value
 set_option place options Peer value = with_peer place options value
 set_option place options Keep value = with_keep place options (number_to largest_keep value)
 
-abbrev pub with_options : Options → Result Command ℕ → Result Parsed ℕ
-with_options options command = do
-  c ← command
-  Ok (record { folder = options.folder; store = options.store; peer = options.peer; keep = options.keep; command = c })
+abbrev pub parsed_of : Options → Command → Parsed
+parsed_of options c = record { folder = options.folder; store = options.store; peer = options.peer; keep = options.keep; command = c }
 
 -- what follows a word: options behind the value of one, or the command that begins with the word
-abbrev pub behind : Option (Result Options ℕ) → Result Parsed ℕ → (Options → Result Parsed ℕ) → Result Parsed ℕ
+abbrev pub behind : {A : Type 0} → Option (Result Options ℕ) → Result A ℕ → (Options → Result A ℕ) → Result A ℕ
 behind None command more = command
 behind (Some options) command more = options >>= more
 
@@ -243,19 +243,67 @@ abbrev pub set_if : ℕ → Options → Option OptionWord → List ℕ → Optio
 set_if place options None value = None
 set_if place options (Some option) value = Some (set_option place options option value)
 
--- options, each at most once and with its value behind it, and then a command
-unfoldable pub option_words : ℕ → Options → List (List ℕ) → Result Parsed ℕ
-option_words place options [] = Err place
-option_words place options (word ∷ []) =
-    if is_some (option_of options word) then Err (place + 1) else with_options options (command_words place (word ∷ []))
+-- options, each at most once and with its value behind it, and the place of the command behind them
+unfoldable pub option_words : ℕ → Options → List (List ℕ) → Result (Options × ℕ) ℕ
+option_words place options [] = Ok (options, place)
+option_words place options (word ∷ []) = if is_some (option_of options word) then Err (place + 1) else Ok (options, place)
 option_words place options (word ∷ value ∷ words) =
     behind (set_if (place + 1) options (option_of options word) value)
-    (with_options options (command_words place (word ∷ value ∷ words)))
+    (Ok (options, place))
     (λ more. option_words (place + 2) more words)
 
 -- options first, and then a command
+abbrev pub with_command : {A B : Type 0} → (Options → A → B) → (ℕ → List (List ℕ) → Result A ℕ) → List (List ℕ) → Result B ℕ
+with_command make command words = do
+  begun ← option_words 0 no_options words
+  c ← command begun.1 (drop begun.1 words)
+  Ok (make begun.0 c)
+
 abbrev pub split : List (List ℕ) → Result Parsed ℕ
-split words = option_words 0 no_options words
+split words = with_command parsed_of command_words words
+
+-- ---- a server
+
+abbrev pub largest_connections : ℕ
+largest_connections = 1000000
+
+abbrev pub has_bytes : List ℕ → Bool
+has_bytes [] = false
+has_bytes (b ∷ bs) = true
+
+-- where a server listens: a word that isn't empty and has no equals sign
+unfoldable pub is_address : List ℕ → Bool
+is_address word = has_bytes word && not (list_any is_equals_sign word)
+
+-- how many addresses stand in front
+abbrev pub address_count : List (List ℕ) → ℕ
+address_count words = prefix_len is_address words
+
+-- one address or more, and then a feed in each word
+abbrev pub listen_words : ℕ → ℕ → ℕ → List (List ℕ) → Result ServeTask ℕ
+listen_words place connections zero words = Err place
+listen_words place connections (suc n) words = do
+  feeds ← feed_words (place + suc n) (drop (suc n) words)
+  Ok (record { connections = connections; addresses = take (suc n) words; feeds = feeds })
+
+-- how many connections are served at each address, behind `serve`
+abbrev pub serve_words : ℕ → List (List ℕ) → Result ServeTask ℕ
+serve_words place [] = Err place
+serve_words place (word ∷ words) = do
+  connections ← or_bad place (number_to largest_connections word)
+  listen_words (place + 1) connections (address_count words) words
+
+-- the task of a server from a place on
+abbrev pub serve_command : ℕ → List (List ℕ) → Result ServeTask ℕ
+serve_command place [] = Err place
+serve_command place (word ∷ words) = if bytes_eq word (codes "serve") then serve_words (place + 1) words else Err place
+
+abbrev pub served_by : Options → ServeTask → ServeWords
+served_by options task = record { options = options; task = task }
+
+-- options first, and then `serve` with its task
+abbrev pub split_serve : List (List ℕ) → Result ServeWords ℕ
+split_serve words = with_command served_by serve_command words
 
 -- the root folder: the one that the words name, and else the working folder
 abbrev pub root_in : Result Parsed ℕ → List ℕ

@@ -13,6 +13,7 @@ mod printing;
 mod publish;
 pub mod run;
 mod send;
+pub mod serve;
 mod show;
 mod sync;
 pub mod words;
@@ -20,7 +21,8 @@ pub mod words;
 pub use answer::{Answer, End};
 pub use printing::print;
 pub use run::{run_hub, run_spelled};
+pub use serve::{ServeEnd, feed_lines, serve_hub};
 pub use words::{
-    Command, EnterTask, Feed, OptionWord, Options, Parsed, Spelled, WordError, keep_of, peer_of,
-    read_words, root_of, split_words, store_of,
+    Command, EnterTask, OptionWord, Options, Parsed, ServeWords, Spelled, WordError, keep_of,
+    names_serve, peer_of, read_words, root_of, split_serve, split_words, store_of,
 };

@@ -10,9 +10,9 @@ ghost use Rattle.hub_cli.specs.Steps.{PublishesFeed, ReadsSet, end_of, end_of_er
 
 use crate::answer::{Answer, End};
 use crate::lines::{published_line, unchanged_line};
-use crate::words::Feed;
 use csv_sets::{SetFault, read_set};
 use hub_core::{Hub, HubError, Published};
+use hub_server::Feed;
 use keeper_memory::HubKeeper;
 use outside_ports::{Clock, Folder};
 use rest_provider::moment_of;
@@ -21,8 +21,8 @@ use roster_texts::Name;
 use roster_types::set::RosterSet;
 use std::alloc::Global;
 
-// The end that a set's fault brings.
-fn end_of(fault: SetFault) -> End
+/// The end that a set's fault brings.
+pub fn end_of(fault: SetFault) -> End
     ensures { result ≡ end_of fault }
 {
     match fault {

@@ -9,18 +9,12 @@ ghost use Rattle.hub_cli.specs.declared.words.Command.{Command as CommandValue};
 ghost use Rattle.hub_cli.specs.declared.words.Command.TheVariants.{Ask, Grant, ListHeld, Show};
 
 use consumer_commands::{GradebookObject, SendTask, SyncTask, is_gradebook};
+use hub_server::{Feed, ServeTask};
 use roster_base::{Items, NoMemory, Refusal, Text};
 use roster_texts::digits::number;
 use roster_texts::{Id, Name, Token};
 use roster_values::Kind;
 use std::alloc::Global;
-
-/// A feed, and the folder in which the files of its set lie.
-#[derive(Drop)]
-pub struct Feed {
-    pub name: Name,
-    pub dir: Text,
-}
 
 /// What is put into the outbox.
 #[derive(Drop)]
@@ -90,15 +84,26 @@ pub struct Parsed {
     pub command: Command,
 }
 
-/// How many versions a new keeper keeps beside the newest at most, and where the words don't say.
+/// What the words of a server say: the options, which stand first, and its task.
+#[derive(Drop)]
+pub struct ServeWords {
+    pub options: Options,
+    pub task: ServeTask,
+}
+
+/// How many versions a new keeper keeps beside the newest at most.
 const LARGEST_KEEP: u32 = 100_000;
 
-const USUAL_KEEP: u32 = 10_000;
+/// How many versions a new keeper keeps beside the newest where the words don't say.
+pub const USUAL_KEEP: u32 = 10_000;
 
 /// How many rows a page has at most, and how often a request is tried, at most.
 const LARGEST_LIMIT: u32 = 1_000;
 
 const LARGEST_TRIES: u32 = 100;
+
+/// How many connections are served at an address at most.
+const LARGEST_CONNECTIONS: u32 = 1_000_000;
 
 /// Why words are no command: the place, from 0, of the first word that no command continues, or the number of words
 /// where one is missing.
@@ -435,32 +440,6 @@ fn command_at(alloc: Global, place: usize, words: &[String]) -> Result<Command, 
     }
 }
 
-// The command from a place on, behind these options.
-fn with_command(
-    alloc: Global,
-    place: usize,
-    options: Options,
-    words: &[String],
-) -> Result<Parsed, WordError>
-    requires { place + length words.now < 2 ^ 63 }
-    ensures { Gives (λ p. p) result (spec.with_options options (spec.command_words place (map string_bytes words.now))) }
-{
-    let command = command_at(alloc, place, words)?;
-    let Options {
-        folder,
-        store,
-        peer,
-        keep,
-    } = options;
-    Ok(Parsed {
-        folder,
-        store,
-        peer,
-        keep,
-        command,
-    })
-}
-
 // The option that a word names, if it isn't given yet.
 #[tactic(auto, unfolding(crate::specs::Words::option_of))]
 fn option_of(options: &Options, word: &str) -> Option<OptionWord>
@@ -560,21 +539,22 @@ fn set_option(
     }
 }
 
-// The options from a place on, each at most once, and the command behind them.
+// The options from a place on, each at most once, and the place of the command behind them.
 fn options_at(
     alloc: Global,
     place: usize,
     options: Options,
     words: &[String],
-) -> Result<Parsed, WordError>
+) -> Result<(Options, usize), WordError>
     requires { place + length words.now < 2 ^ 63 }
-    ensures { Gives (λ p. p) result (spec.option_words place options (map string_bytes words.now)) }
+    ensures given { Gives (λ o. o) result (spec.option_words place options (map string_bytes words.now)) }
+    ensures within { IfOk result (λ o. o.1 ≤ place + length words.now) }
 {
     let Some((word, behind)) = words.split_first() else {
-        return Err(Refusal::Fault(place));
+        return Ok((options, place));
     };
     let Some(option) = option_of(&options, word.as_str()) else {
-        return with_command(alloc, place, options, words);
+        return Ok((options, place));
     };
     let Some((value, behind)) = behind.split_first() else {
         return Err(Refusal::Fault(place + 1));
@@ -583,9 +563,10 @@ fn options_at(
     options_at(alloc, place + 2, options, behind)
 }
 
-/// The options and the command that words spell.
-pub fn split_words(alloc: Global, words: &[String]) -> Result<Parsed, WordError>
-    ensures { Gives (λ p. p) result (spec.split (map string_bytes words.now)) }
+// The options that stand first, and the place of the command behind them.
+fn first_options(alloc: Global, words: &[String]) -> Result<(Options, usize), WordError>
+    ensures given { Gives (λ o. o) result (spec.option_words 0 spec.no_options (map string_bytes words.now)) }
+    ensures within { IfOk result (λ o. o.1 ≤ length words.now) }
 {
     let none = Options {
         folder: None,
@@ -594,6 +575,125 @@ pub fn split_words(alloc: Global, words: &[String]) -> Result<Parsed, WordError>
         keep: None,
     };
     options_at(alloc, 0, none, words)
+}
+
+/// The options and the command that words spell.
+pub fn split_words(alloc: Global, words: &[String]) -> Result<Parsed, WordError>
+    ensures { Gives (λ p. p) result (spec.split (map string_bytes words.now)) }
+{
+    let (options, place) = first_options(alloc, words)?;
+    let (_, behind) = words.split_at(place);
+    let command = command_at(alloc, place, behind)?;
+    let Options {
+        folder,
+        store,
+        peer,
+        keep,
+    } = options;
+    Ok(Parsed {
+        folder,
+        store,
+        peer,
+        keep,
+        command,
+    })
+}
+
+// Whether a word may be an address.
+#[tactic(auto, unfolding(crate::specs::Words::is_address))]
+fn is_address(word: &str) -> bool
+    ensures { result ≡ spec.is_address word.now }
+{
+    !word.is_empty() && !word.as_bytes().contains(&b'=')
+}
+
+// How many words in front are addresses.
+fn address_count(words: &[String]) -> usize
+    ensures count { result ≡ spec.address_count (map string_bytes words.now) }
+    ensures within { result ≤ length words.now }
+{
+    match words.split_first() {
+        Some((word, words)) if is_address(word.as_str()) => 1 + address_count(words),
+        _ => 0,
+    }
+}
+
+// The texts of words.
+fn texts_of(alloc: Global, words: &[String]) -> Result<Items<Text>, NoMemory>
+    ensures { IfOk result (λ texts. texts ≡ map string_bytes words.now) }
+{
+    let mut texts = Vec::with_capacity(alloc, words.len())?;
+    for word in words {
+        texts.push(Text::new(alloc, word.as_str())?)?;
+    }
+    Ok(Items::from_vec(texts))
+}
+
+// The addresses and the feeds from a place on.
+fn listen(
+    alloc: Global,
+    place: usize,
+    connections: u32,
+    words: &[String],
+) -> Result<ServeTask, WordError>
+    requires { place + length words.now < 2 ^ 63 }
+    ensures { Gives (λ t. t) result (spec.listen_words place connections (spec.address_count (map string_bytes words.now)) (map string_bytes words.now)) }
+{
+    let count = address_count(words);
+    if count == 0 {
+        return Err(Refusal::Fault(place));
+    }
+    let (addresses, feeds) = words.split_at(count);
+    let feeds = Items::from_vec(feeds_at(alloc, place + count, feeds)?);
+    let addresses = texts_of(alloc, addresses)?;
+    Ok(ServeTask {
+        connections,
+        addresses,
+        feeds,
+    })
+}
+
+// The task of a server from a place on.
+fn serve_at(alloc: Global, place: usize, words: &[String]) -> Result<ServeTask, WordError>
+    requires { place + length words.now < 2 ^ 63 }
+    ensures { Gives (λ t. t) result (spec.serve_words place (map string_bytes words.now)) }
+{
+    let Some((word, words)) = words.split_first() else {
+        return Err(Refusal::Fault(place));
+    };
+    match number_to(LARGEST_CONNECTIONS, word.as_str()) {
+        Some(connections) => listen(alloc, place + 1, connections, words),
+        None => Err(Refusal::Fault(place)),
+    }
+}
+
+// The task of the words from a place on, if they begin with `serve`.
+fn serve_command(alloc: Global, place: usize, words: &[String]) -> Result<ServeTask, WordError>
+    requires { place + length words.now < 2 ^ 63 }
+    ensures { Gives (λ t. t) result (spec.serve_command place (map string_bytes words.now)) }
+{
+    match words.split_first() {
+        Some((word, words)) if word.as_str() == "serve" => serve_at(alloc, place + 1, words),
+        _ => Err(Refusal::Fault(place)),
+    }
+}
+
+/// The options and the task of a server that words spell.
+pub fn split_serve(alloc: Global, words: &[String]) -> Result<ServeWords, WordError>
+    ensures { Gives (λ s. s) result (spec.split_serve (map string_bytes words.now)) }
+{
+    let (options, place) = first_options(alloc, words)?;
+    let (_, behind) = words.split_at(place);
+    let task = serve_command(alloc, place, behind)?;
+    Ok(ServeWords { options, task })
+}
+
+/// Whether the command of words is `serve`, whatever follows it.
+pub fn names_serve(alloc: Global, words: &[String]) -> bool {
+    match first_options(alloc, words) {
+        Ok((_, place)) => matches!(words.get(place), Some(word) if word.as_str() == "serve"),
+        Err(_) => false,
+    }
 }
 
 /// What words spell: the options and the command, or the place, from 0, of the first word that no command continues.

@@ -1,4 +1,4 @@
-use Rattle.std.proofs.Common.{◌≡◌, refl}
+use Rattle.std.proofs.Common.{refl}
 use Rattle.consumer_commands.specs.Consumers.{copy_between, link_between}
 use Rattle.hub_cli.proofs.Ending.{leads-command, leads-entered, leads-listed, leads-outbox, leads-resting, leads-sent, leads-shown, leads-synchronised, leads-told}
 use Rattle.hub_cli.proofs.Telling.{writes_as}

@@ -1,4 +1,4 @@
-use Rattle.std.proofs.Common.{◌≡◌, Err, map, refl, string_bytes}
+use Rattle.std.proofs.Common.{map, refl, string_bytes}
 use Rattle.consumer_commands.specs.Consumers.{copy_between, link_between}
 use Rattle.hub_cli.proofs.Ending.{leads-no-memory}
 use Rattle.hub_cli.proofs.Telling.{writes_as}

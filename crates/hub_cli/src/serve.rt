@@ -1,0 +1,140 @@
+//! The top call of a server.
+
+ghost use Rattle.std.specs.Prelude.{◌≡◌, ◌≢◌, IsErr, Ok, length, map, string_bytes};
+ghost use Rattle.hub_server.specs.Serving.{AllMean, AllServed, ComesBy, SomeRefused, SomeRose};
+ghost use Rattle.keeper_memory.specs.Kept.{IsKept, KeptState};
+ghost use Rattle.roster_base.specs.Faults.{Rose};
+ghost use Rattle.hub_cli.specs.Serves as serves;
+ghost use Rattle.hub_cli.specs.Words.{split_serve};
+ghost use Rattle.hub_cli.specs.declared.words.ServeWords.{ServeWords as ServeWordsValue};
+
+use crate::lines::NO_MEMORY;
+use crate::publish::{end_of, end_of_error, told_line};
+use crate::words::{ServeWords, split_serve};
+use hub_server::{Ending, Notices, Served, serve_task};
+use hub_shared::FeedEnd;
+use keeper_memory::HubKeeper;
+use outside_ports::{Acceptor, Clock, Folder, Gate};
+use roster_base::{NoMemory, Refusal};
+use roster_texts::Name;
+use std::alloc::Global;
+use std::sync::Wait;
+use std::thread::Threads;
+
+/// The status, and what was handed in, in its order. Where the status is 17 both lists may be empty.
+pub struct ServeEnd<H, A: Drop, F: Drop> {
+    pub status: u8,
+    pub hub: H,
+    pub acceptors: Vec<A>,
+    pub folders: Vec<F>,
+}
+
+// The status that an ending brings.
+fn status_of(ending: Ending) -> u8
+    ensures value { result ≡ serves.status_of ending }
+    ensures other { result ≢ 1 }
+{
+    match ending {
+        Ending::Done => 0,
+        Ending::FolderFailed => 3,
+        Ending::Refused => 4,
+        Ending::KeeperFailed => 5,
+        Ending::NoMemory => 17,
+        Ending::AcceptorFailed => 18,
+    }
+}
+
+/// The lines that tell what came of a feed: its version, or behind its name why it was refused.
+pub fn feed_lines(alloc: Global, feed: &Name, end: FeedEnd) -> Result<String, NoMemory> {
+    let end = match end {
+        FeedEnd::Published(published) => return told_line(alloc, feed.as_str(), published),
+        FeedEnd::Set(Refusal::Fault(fault)) => end_of(fault),
+        FeedEnd::Hub(error) => end_of_error(error),
+        FeedEnd::Set(Refusal::NoMemory) => return Ok(String::from_str(alloc, NO_MEMORY)?),
+    };
+    let mut lines = String::from_str(alloc, feed.as_str())?;
+    lines.push_str(": ")?;
+    lines.push_str(end.lines(alloc)?.as_str())?;
+    Ok(lines)
+}
+
+/// Serves the hub that a keeper keeps, as the words of `serve` say: for each acceptor the stated number of connections, one after another,
+/// and beside them the set of each feed, published once. The status is the first of a job that isn't 0, feeds before acceptors:
+///
+/// - 0: each connection was served, and each set was published;
+/// - 2: the words are no `serve` command;
+/// - 3: the folder of a feed failed;
+/// - 4: the set of a feed was refused;
+/// - 5: the hub's keeper failed;
+/// - 17: memory ran out, which says nothing of the input;
+/// - 18: an acceptor failed.
+pub fn serve_hub<
+    R: Threads + Wait + Sync,
+    A: Acceptor + Drop + Send,
+    F: Folder + Drop + Send,
+    H: HubKeeper + Send,
+    K: Clock + Sync,
+    G: Gate + Sync,
+    T: Notices + Sync,
+>(
+    rt: &R,
+    alloc: Global,
+    words: &[String],
+    acceptors: Vec<A>,
+    folders: Vec<F>,
+    hub: H,
+    clock: &K,
+    gate: &G,
+    notices: &T,
+) -> ServeEnd<H, A, F>
+where
+    A::Input: Send,
+    A::Output: Send,
+    // There are as many acceptors and folders as the words name.
+    requires { (w : ServeWordsValue) → split_serve (map string_bytes words.now) ≡ Ok w → (length acceptors.items ≡ length w.task.addresses) × (length folders.items ≡ length w.task.feeds) }
+    ensures words_are_bad { result.status ≡ 2 → IsErr (split_serve (map string_bytes words.now)) }
+    ensures bad_words { IsErr (split_serve (map string_bytes words.now)) → result.status ≢ 17 → result.status ≡ 2 }
+    ensures done { result.status ≡ 0 → (w : ServeWordsValue) × (split_serve (map string_bytes words.now) ≡ Ok w)
+        × AllServed A.given_count w.task.connections acceptors.items result.acceptors.items × AllMean F.files w.task.feeds folders.items }
+    ensures folder_failed { result.status ≡ 3 → SomeRose F.faults folders.items result.folders.items }
+    ensures refused { result.status ≡ 4 → (w : ServeWordsValue) × (split_serve (map string_bytes words.now) ≡ Ok w)
+        × (opening : KeptState) × IsKept opening × SomeRefused F.files opening w.task.feeds folders.items }
+    ensures keeper_failed { result.status ≡ 5 → Rose (H.fault_count hub) (H.fault_count result.hub) }
+    ensures acceptor_failed { result.status ≡ 18 → SomeRose A.fault_count acceptors.items result.acceptors.items }
+    // 1 is the status of an output that couldn't be written, and there is none.
+    ensures other { result.status ≢ 1 }
+    // Whatever the status is, the keeper stands for a state at entry with a history applied.
+    ensures kept { (now : KeptState) → H.stands_for result.hub now → (stood : KeptState) × H.stands_for hub stood × ComesBy stood now }
+{
+    let task = match split_serve(alloc, words) {
+        Ok(ServeWords { options, task }) => {
+            drop(options);
+            task
+        }
+        Err(error) => {
+            return ServeEnd {
+                status: match error {
+                    Refusal::Fault(_) => 2,
+                    Refusal::NoMemory => 17,
+                },
+                hub,
+                acceptors,
+                folders,
+            };
+        }
+    };
+    let Served {
+        ending,
+        keeper,
+        acceptors,
+        folders,
+    } = serve_task(
+        rt, alloc, task, acceptors, folders, hub, clock, gate, notices,
+    );
+    ServeEnd {
+        status: status_of(ending),
+        hub: keeper,
+        acceptors,
+        folders,
+    }
+}

@@ -1,0 +1,4 @@
+mod Ends
+mod FeedEnds
+mod JobLists
+mod Kept

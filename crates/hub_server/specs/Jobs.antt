@@ -1,0 +1,86 @@
+-- What the jobs of a server do.
+use Rattle.std.specs.Prelude.{◌≡◌, ◌⊎◌, ◌+◌, ⊤, ℕ, ℤ, List, Option, Result, Ok, Err, IfSome}
+use Rattle.csv_sets.specs.Sets.{set_of}
+use Rattle.csv_sets.specs.declared.fault.SetFault.{SetFault}
+use Rattle.csv_sets.specs.declared.fault.SetFault.TheVariants.{Folder}
+use Rattle.hub_core.specs.Steps.{MakesNext}
+use Rattle.hub_core.specs.declared.hub_error.HubError.TheVariants as error
+use Rattle.hub_history.specs.Histories.{state_after}
+use Rattle.hub_history.specs.declared.entry.Entry.{Entry}
+use Rattle.hub_server.specs.declared.ending.Ending.{Ending}
+use Rattle.hub_server.specs.declared.ending.Ending.TheVariants as ending
+use Rattle.hub_server.specs.declared.jobs.Job.{Job}
+use Rattle.hub_server.specs.declared.jobs.Job.TheVariants as job
+use Rattle.hub_server.specs.declared.jobs.JobEnd.{JobEnd}
+use Rattle.hub_server.specs.declared.jobs.JobEnd.TheVariants as job_end
+use Rattle.hub_server.specs.declared.task.Feed.{Feed}
+use Rattle.hub_shared.specs.declared.feeding.FeedEnd.{FeedEnd}
+use Rattle.hub_shared.specs.declared.feeding.FeedEnd.TheVariants as feed_end
+use Rattle.keeper_memory.specs.Kept.{KeptState}
+use Rattle.outside_ports.specs.Files.{Stored}
+use Rattle.roster_base.specs.Faults.{Rose}
+use Rattle.roster_base.specs.declared.refusal.Refusal.TheVariants as refusal
+use Rattle.roster_types.specs.Sets.{SetRecord}
+use Rattle.version_changes.specs.declared.sets.publish_fault.PublishFault.{PublishFault}
+use Rattle.version_changes.specs.sets.Applying.{Applies}
+
+-- the feed's files mean this set, or they have this first fault, where they are told
+abbrev pub Means : Option (List Stored) → Feed → Result SetRecord SetFault → Type 0
+Means files feed set = IfSome files (λ fs. set_of feed.dir feed.name fs ≡ set)
+
+-- the feed's files mean a set
+abbrev pub MeansSet : Option (List Stored) → Feed → Type 0
+MeansSet files feed = (set : SetRecord) × Means files feed (Ok set)
+
+-- the hub makes nothing of a set at a state that a history leads to
+abbrev pub IsTurnedDown : KeptState → SetRecord → Type 0
+IsTurnedDown opening set = (log : List Entry) × (log' : List Entry) × (at : ℤ) × (fault : PublishFault)
+    × MakesNext (λ version. Applies version set at) (Err (error.Refused fault)) (state_after opening log) (state_after opening log')
+
+-- why a feed is refused: its files mean no set, or the hub turns the set down
+abbrev pub IsRefused : KeptState → Option (List Stored) → Feed → Type 0
+IsRefused opening files feed =
+    ((fault : SetFault) × Means files feed (Err fault)) ⊎ ((set : SetRecord) × Means files feed (Ok set) × IsTurnedDown opening set)
+
+-- the ending that a fault of a set brings
+abbrev pub ending_of_fault : SetFault → Ending
+ending_of_fault Folder = ending.FolderFailed
+ending_of_fault fault = ending.Refused
+
+-- the ending that the end of a feed brings
+abbrev pub ending_of : FeedEnd → Ending
+ending_of (feed_end.Published published) = ending.Done
+ending_of (feed_end.Set (refusal.Fault fault)) = ending_of_fault fault
+ending_of (feed_end.Set refusal.NoMemory) = ending.NoMemory
+ending_of (feed_end.Hub error.Keeper) = ending.KeeperFailed
+ending_of (feed_end.Hub error.NoMemory) = ending.NoMemory
+ending_of (feed_end.Hub (error.Refused fault)) = ending.Refused
+
+-- what a feed comes to, between two counts of its folder's faults
+abbrev pub Feeds : KeptState → Option (List Stored) → ℕ → ℕ → Feed → Ending → Type 0
+Feeds opening files faults faults' feed ending.Done = MeansSet files feed
+Feeds opening files faults faults' feed ending.FolderFailed = Rose faults faults'
+Feeds opening files faults faults' feed ending.Refused = IsRefused opening files feed
+Feeds opening files faults faults' feed ending.KeeperFailed = ⊤
+Feeds opening files faults faults' feed ending.AcceptorFailed = ⊥
+Feeds opening files faults faults' feed ending.NoMemory = ⊤
+
+-- what an acceptor's job comes to, between two counts of its connections and of its faults
+abbrev pub ServesAll : ℕ → ℕ → ℕ → ℕ → ℕ → Ending → Type 0
+ServesAll connections given given' faults faults' ending.Done = given' ≡ given + connections
+ServesAll connections given given' faults faults' ending.AcceptorFailed = Rose faults faults'
+ServesAll connections given given' faults faults' ending.NoMemory = ⊤
+ServesAll connections given given' faults faults' _ = ⊥
+
+-- what a job does
+abbrev pub Does : {A F : Type 0} → (A → ℕ) → (A → ℕ) → (F → Option (List Stored)) → (F → ℕ) → KeptState → ℕ → Job A F → JobEnd A F → Type 0
+Does given acceptor_faults files folder_faults opening connections (job.Feed j) (job_end.Feed folder e) =
+    Feeds opening (files j.folder) (folder_faults j.folder) (folder_faults folder) j.feed e
+Does given acceptor_faults files folder_faults opening connections (job.Acceptor j) (job_end.Acceptor acceptor e) =
+    ServesAll connections (given j.acceptor) (given acceptor) (acceptor_faults j.acceptor) (acceptor_faults acceptor) e
+Does given acceptor_faults files folder_faults opening connections _ _ = ⊥
+
+-- a job was given back as it was, since memory ran out
+abbrev pub IsUndone : {A F : Type 0} → Job A F → JobEnd A F → Type 0
+IsUndone (job.Feed j) end = end ≡ job_end.Feed j.folder ending.NoMemory
+IsUndone (job.Acceptor j) end = end ≡ job_end.Acceptor j.acceptor ending.NoMemory

@@ -1,0 +1,13 @@
+//! A server over a hub that threads share: it serves connections and feeds sets at once.
+#![tactic(auto)]
+
+pub mod ending;
+mod jobs;
+pub mod notices;
+pub mod server;
+pub mod task;
+
+pub use ending::Ending;
+pub use notices::{NoNotices, Notices};
+pub use server::{Served, serve_task};
+pub use task::{Feed, ServeTask};

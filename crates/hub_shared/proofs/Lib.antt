@@ -1,0 +1,5 @@
+pub mod Calls
+pub mod Chains
+pub mod Orders
+pub mod Reading
+pub mod Stands

@@ -1,0 +1,97 @@
+//! Where a commit and a read meet: each is held until the other is there.
+
+ghost use Rattle.keeper_memory.specs.Kept.{KeptState};
+
+use keeper_memory::{HubCommit, HubKeeper, MemHub};
+use outside_ports::Gate;
+use roster_base::KeeperError;
+use std::alloc::Global;
+use std::sync::atomic::{AtomicBool, Ordering};
+use version_core::hub_tables::HubTables;
+
+// How often a wait looks at its word at most.
+const MOST_TURNS: u32 = 100_000_000;
+
+// The job of the reader, behind that of the feed.
+const READER: u32 = 1;
+
+/// What the feed's commit and the reader's call tell each other.
+#[derive(Drop)]
+pub struct Meeting {
+    // The commit has begun.
+    begun: AtomicBool,
+    // The reader's first call was made.
+    made: AtomicBool,
+    // A wait has used up its turns.
+    missed: AtomicBool,
+}
+
+impl Meeting {
+    pub fn new() -> Meeting {
+        Meeting {
+            begun: AtomicBool::new(false),
+            made: AtomicBool::new(false),
+            missed: AtomicBool::new(false),
+        }
+    }
+
+    // Waits until the word is true.
+    fn wait_for(&self, word: &AtomicBool) {
+        for _ in 0..MOST_TURNS {
+            if word.load(Ordering::SeqCst) {
+                return;
+            }
+        }
+        self.missed.store(true, Ordering::SeqCst);
+    }
+
+    /// Whether the commit began, the reader's call was made, and neither wait used up its turns.
+    pub fn took_place(&self) -> bool {
+        self.begun.load(Ordering::SeqCst)
+            && self.made.load(Ordering::SeqCst)
+            && !self.missed.load(Ordering::SeqCst)
+    }
+}
+
+impl Gate for Meeting {
+    fn arrive(&self, job: u32, turn: u64) {
+        if job == READER && turn == 0 {
+            self.wait_for(&self.begun);
+        }
+    }
+
+    fn passed(&self, job: u32, turn: u64) {
+        if job == READER && turn == 0 {
+            self.made.store(true, Ordering::SeqCst);
+        }
+    }
+}
+
+/// A keeper in memory, each commit of which waits for the reader.
+#[derive(Drop)]
+pub struct MeetingHub<'a> {
+    pub hub: MemHub,
+    pub meeting: &'a Meeting,
+}
+
+impl<'a> HubKeeper for MeetingHub<'a> {
+    ghost use Rattle.std.specs.Prelude.{◌≡◌};
+
+    ghost stands_for = { λ h kept. kept ≡ h.hub.kept };
+
+    ghost fault_count = { λ h. h.hub.plan.faults };
+
+    fn load(&mut self, alloc: Global) -> Result<HubTables, KeeperError> {
+        self.hub.load(alloc)
+    }
+
+    fn commit(&mut self, alloc: Global, commit: &HubCommit) -> Result<(), KeeperError> {
+        self.meeting.begun.store(true, Ordering::SeqCst);
+        self.meeting.wait_for(&self.meeting.made);
+        self.hub.commit(alloc, commit)
+    }
+
+    fn faults(&self) -> u64 {
+        self.hub.faults()
+    }
+}

@@ -1,0 +1,103 @@
+//! A server of a test: what it is given, and what it leaves.
+
+ghost use Rattle.std.specs.Prelude.{◌≡◌, Ok, length, map, string_bytes};
+ghost use Rattle.hub_cli.specs.Words.{split_serve};
+ghost use Rattle.hub_cli.specs.declared.words.ServeWords.{ServeWords as ServeWordsValue};
+
+use crate::lake::NOON;
+use hub_cli::{ServeEnd, serve_hub};
+use hub_server::NoNotices;
+use keeper_memory::HubKeeper;
+use outside_ports::{FixedClock, Gate, MemAcceptor, MemFolder, MemSink, MemSource};
+use roster_base::Refusal;
+use std::alloc::Global;
+use std::process::Abort;
+use std::sync::Wait;
+use std::test::Fail;
+use std::thread::Threads;
+
+// The words between spaces.
+fn words_of(alloc: Global, line: &str) -> Result<Vec<String>, Fail> {
+    let mut words = Vec::new(alloc);
+    for word in line.split_whitespace() {
+        words.push(String::from_str(alloc, word)?)?;
+    }
+    Ok(words)
+}
+
+// A connection that sends these bytes.
+fn connection(alloc: Global, sent: &str) -> Result<(MemSource, MemSink), Fail> {
+    let bytes = sent.as_bytes().to_vec(alloc)?;
+    let source = MemSource::new(bytes, Vec::new(alloc), Vec::new(alloc));
+    Ok((source, MemSink::new(alloc, 8192, Vec::new(alloc))?))
+}
+
+/// An acceptor of one connection, which sends these bytes, and the calls that fail.
+pub fn acceptor(alloc: Global, sent: &str, failing: &[u64]) -> Result<MemAcceptor, Fail> {
+    let mut streams = Vec::new(alloc);
+    streams.push(connection(alloc, sent)?)?;
+    Ok(MemAcceptor::new(streams, failing.to_vec(alloc)?))
+}
+
+// There are as many acceptors and folders as the words name.
+fn assert_enough(
+    rt: &impl Abort,
+    alloc: Global,
+    words: &[String],
+    acceptors: &[MemAcceptor],
+    folders: &[MemFolder],
+)
+    ensures { (w : ServeWordsValue) → split_serve (map string_bytes words.now) ≡ Ok w → (length acceptors.now ≡ length w.task.addresses) × (length folders.now ≡ length w.task.feeds) }
+{
+    match hub_cli::split_serve(alloc, words) {
+        Ok(spelled) => {
+            assert!(rt; acceptors.len() == spelled.task.addresses.as_slice().len());
+            assert!(rt; folders.len() == spelled.task.feeds.as_slice().len());
+        }
+        Err(Refusal::Fault(_)) => (),
+        Err(Refusal::NoMemory) => panic!(rt; "no memory"),
+    }
+}
+
+/// Runs the words between spaces at noon, and gives the status and the keeper.
+pub fn serve<R: Threads + Wait + Abort + Sync, H: HubKeeper + Send, G: Gate + Sync>(
+    rt: &R,
+    alloc: Global,
+    line: &str,
+    acceptors: Vec<MemAcceptor>,
+    folders: Vec<MemFolder>,
+    keeper: H,
+    gate: &G,
+) -> (u8, H) {
+    let words = match words_of(alloc, line) {
+        Ok(words) => words,
+        Err(_fail) => panic!(rt; "no words"),
+    };
+    assert_enough(
+        rt,
+        alloc,
+        words.as_slice(),
+        acceptors.as_slice(),
+        folders.as_slice(),
+    );
+    let clock = FixedClock::at(NOON);
+    let ServeEnd {
+        status,
+        hub,
+        acceptors,
+        folders,
+    } = serve_hub(
+        rt,
+        alloc,
+        words.as_slice(),
+        acceptors,
+        folders,
+        keeper,
+        &clock,
+        gate,
+        &NoNotices,
+    );
+    drop(acceptors);
+    drop(folders);
+    (status, hub)
+}
