@@ -48,7 +48,7 @@ fn acceptor_in_memory_hands_out_in_order(rt: HostRuntime) -> Result<(), Fail> {
 }
 
 // An acceptor that doesn't listen says why, and fails at each call.
-fn assert_deaf(rt: &impl Abort, alloc: Global, mut acceptor: TcpAcceptor) {
+fn assert_deaf(rt: &impl Abort, alloc: Global, mut acceptor: TcpAcceptor<HostRuntime>) {
     let is_told = acceptor.bind_error().is_some();
     let fails = matches!(acceptor.next(alloc), Err(IoError::Failed))
         && matches!(acceptor.next(alloc), Err(IoError::Failed));
@@ -64,7 +64,7 @@ static ADDRESSES: [&str; 3] = ["", "lake", "192.0.2.1:80"];
 #[test]
 fn acceptor_at_no_address_fails(rt: HostRuntime) {
     for address in &ADDRESSES {
-        let acceptor = TcpAcceptor::at(&rt, address);
+        let acceptor = TcpAcceptor::at(rt, address);
         assert_deaf(&rt, rt.alloc(), acceptor.beside());
         assert_deaf(&rt, rt.alloc(), acceptor);
     }

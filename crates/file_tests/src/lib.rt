@@ -23,3 +23,5 @@ mod set_lines;
 mod sinks;
 #[cfg(test)]
 mod sources;
+#[cfg(test)]
+mod timed_ends;

@@ -22,6 +22,7 @@ pub mod sink;
 pub mod source;
 pub mod system_clock;
 pub mod tcp_acceptor;
+pub mod timed_end;
 
 pub use acceptor::Acceptor;
 pub use clock::Clock;
@@ -42,3 +43,4 @@ pub use sink::Sink;
 pub use source::Source;
 pub use system_clock::SystemClock;
 pub use tcp_acceptor::TcpAcceptor;
+pub use timed_end::TimedEnd;

@@ -6,11 +6,12 @@ use crate::acceptor::Acceptor;
 use crate::failed::IoError;
 use crate::io_sink::IoSink;
 use crate::io_source::IoSource;
+use crate::timed_end::TimedEnd;
 use std::alloc::Global;
-use std::io;
+use std::io::{self, ErrorKind};
 use std::marker::Model;
 use std::net::{Net, TcpListener, TcpStream};
-use std::time::Duration;
+use std::time::{Clock, Duration};
 
 // How long a read or a write may wait for the other end, in seconds. A connection that is kept open waits for its next request no longer
 // either, since its acceptor serves no other one meanwhile.
@@ -19,16 +20,17 @@ const PATIENCE: u64 = 10;
 // How many connections that break before they can be served are passed over in one call.
 const MOST_BROKEN: u32 = 1_000;
 
-/// Connections to an address, a host and a port. Each call fails where the address couldn't be bound. A connection whose other end lets it
-/// wait for ten seconds fails at its read or write.
+/// Connections to an address, a host and a port. Each call fails where the address couldn't be bound. A connection fails at its read or
+/// write where its other end lets it wait for ten seconds, and where a request and its reply take more than thirty.
 #[derive(Drop)]
-pub struct TcpAcceptor {
+pub struct TcpAcceptor<R> {
+    rt: R,
     listener: io::Result<TcpListener>,
     given: u64,
     faults: u64,
 }
 
-impl Model for TcpAcceptor {
+impl<R> Model for TcpAcceptor<R> {
     ghost use Rattle.outside_ports.specs.Connections.{HeldTallies};
 
     ghost Value = { HeldTallies };
@@ -36,22 +38,23 @@ impl Model for TcpAcceptor {
     ghost view = { λ a. record { given = a.given; faults = a.faults } };
 }
 
-impl TcpAcceptor {
+impl<R: Net<Listener = TcpListener, Stream = TcpStream>> TcpAcceptor<R> {
     /// An acceptor at this address, which listens from now on.
-    pub fn at<R: Net<Listener = TcpListener, Stream = TcpStream>>(
-        rt: &R,
-        address: &str,
-    ) -> TcpAcceptor
+    pub fn at(rt: R, address: &str) -> TcpAcceptor<R>
         ensures { result ≡ record { given = 0; faults = 0 } }
     {
-        TcpAcceptor::over(TcpListener::bind(rt, address))
+        let listener = TcpListener::bind(&rt, address);
+        TcpAcceptor::over(rt, listener)
     }
+}
 
+impl<R> TcpAcceptor<R> {
     // An acceptor over this listener.
-    fn over(listener: io::Result<TcpListener>) -> TcpAcceptor
+    fn over(rt: R, listener: io::Result<TcpListener>) -> TcpAcceptor<R>
         ensures { result ≡ record { given = 0; faults = 0 } }
     {
         TcpAcceptor {
+            rt,
             listener,
             given: 0,
             faults: 0,
@@ -59,13 +62,16 @@ impl TcpAcceptor {
     }
 
     /// Another acceptor over the same listener: each connection goes to one of them.
-    pub fn beside(&self) -> TcpAcceptor
+    pub fn beside(&self) -> TcpAcceptor<R>
+    where
+        R: Copy,
         ensures { result ≡ record { given = 0; faults = 0 } }
     {
-        TcpAcceptor::over(match &self.listener {
+        let listener = match &self.listener {
             Ok(listener) => listener.try_clone(),
             Err(error) => Err(io::Error::from(error.kind())),
-        })
+        };
+        TcpAcceptor::over(self.rt, listener)
     }
 
     /// Why it doesn't listen, where it doesn't.
@@ -77,51 +83,74 @@ impl TcpAcceptor {
     }
 }
 
+/// What comes over a connection.
+pub type TcpInput<R> = IoSource<TimedEnd<TcpStream, R>>;
+
+/// What goes over a connection.
+pub type TcpOutput<R> = IoSink<TimedEnd<TcpStream, R>>;
+
 // The two ends of a connection, each with its patience. Small replies go out at once.
-fn ends_of(stream: TcpStream) -> io::Result<(IoSource<TcpStream>, IoSink<TcpStream>)> {
+fn ends_of<R: Clock + Copy>(
+    alloc: Global,
+    rt: R,
+    stream: TcpStream,
+) -> io::Result<(TcpInput<R>, TcpOutput<R>)> {
     let patience = Some(Duration::from_secs(PATIENCE));
     stream.set_read_timeout(patience)?;
     stream.set_write_timeout(patience)?;
     stream.set_nodelay(true)?;
     let other = stream.try_clone()?;
-    Ok((IoSource::new(stream), IoSink::new(other)))
+    let (input, output) = TimedEnd::pair(alloc, rt, stream, other)?;
+    Ok((IoSource::new(input), IoSink::new(output)))
 }
 
 // The next connection of a listener.
-fn accepted(listener: &TcpListener) -> io::Result<(IoSource<TcpStream>, IoSink<TcpStream>)> {
+fn accepted<R: Clock + Copy>(
+    alloc: Global,
+    rt: R,
+    listener: &TcpListener,
+) -> io::Result<(TcpInput<R>, TcpOutput<R>)> {
     let (stream, _) = listener.accept()?;
-    ends_of(stream)
+    ends_of(alloc, rt, stream)
 }
 
 // The next connection that can be served. One whose other end let it go at once isn't worth a fault.
-fn next_whole(listener: &TcpListener) -> Option<(IoSource<TcpStream>, IoSink<TcpStream>)> {
+fn next_whole<R: Clock + Copy>(
+    alloc: Global,
+    rt: R,
+    listener: &TcpListener,
+) -> Result<(TcpInput<R>, TcpOutput<R>), IoError> {
     for _ in 0..MOST_BROKEN {
-        if let Ok(ends) = accepted(listener) {
-            return Some(ends);
+        match accepted(alloc, rt, listener) {
+            Ok(ends) => return Ok(ends),
+            Err(error) if error.kind() == ErrorKind::OutOfMemory => return Err(IoError::NoMemory),
+            Err(_) => {}
         }
     }
-    None
+    Err(IoError::Failed)
 }
 
-impl Acceptor for TcpAcceptor {
-    type Input = IoSource<TcpStream>;
+impl<R: Clock + Copy> Acceptor for TcpAcceptor<R> {
+    type Input = TcpInput<R>;
 
-    type Output = IoSink<TcpStream>;
+    type Output = TcpOutput<R>;
 
     ghost given_count = { λ a. a.given };
 
     ghost fault_count = { λ a. a.faults };
 
-    fn next(
-        &mut self,
-        _alloc: Global,
-    ) -> Result<(IoSource<TcpStream>, IoSink<TcpStream>), IoError> {
+    fn next(&mut self, alloc: Global) -> Result<(TcpInput<R>, TcpOutput<R>), IoError> {
         if self.given < u64::MAX
             && let Ok(listener) = &self.listener
-            && let Some(ends) = next_whole(listener)
         {
-            self.given += 1;
-            return Ok(ends);
+            match next_whole(alloc, self.rt, listener) {
+                Ok(ends) => {
+                    self.given += 1;
+                    return Ok(ends);
+                }
+                Err(IoError::NoMemory) => return Err(IoError::NoMemory),
+                Err(IoError::Failed) => {}
+            }
         }
         self.faults = self.faults.saturating_add(1);
         Err(IoError::Failed)
