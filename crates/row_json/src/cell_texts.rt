@@ -1,9 +1,10 @@
 //! What a JSON value says in a field, as the text of a cell that says the same.
 
-ghost use Rattle.std.specs.Prelude.{◌≡◌, Some, IfOk, string_bytes};
+ghost use Rattle.std.specs.Prelude.{◌≡◌, ◌++◌, Some, IfOk, OnOk, string_bytes};
 ghost use Rattle.std.specs.List.{list_all};
 ghost use Rattle.serde_json.specs.Find.{as_array, get};
 ghost use Rattle.serde_json.specs.View.{items_view, number_view, view};
+ghost use Rattle.serde_json.specs.Written.{comma_if};
 ghost use Rattle.roster_base.specs.Reading.{Gives};
 ghost use Rattle.roster_texts.specs.declared.fault.ValueFault.TheVariants as fault;
 ghost use Rattle.roster_values.specs.CellText.{user_id_text};
@@ -11,7 +12,6 @@ ghost use Rattle.roster_values.specs.Fit.{is_no_comma};
 ghost use Rattle.roster_values.specs.Table.{form_of};
 ghost use Rattle.row_json.specs.CellTexts.{in_user_id, item_text, list_text, listed_id, listed_reference, part_or, reference_text, scalar_or, text_of, user_id_part, whole_text, without_comma};
 
-use crate::text::push_part;
 use roster_base::{NoMemory, Refusal};
 use roster_texts::ValueFault;
 use roster_texts::trim::trim_spaces;
@@ -160,6 +160,17 @@ fn item_text(alloc: Global, form: FieldForm, item: &Value) -> Result<String, Val
         FieldForm::UserIds => user_id_part(alloc, item),
         _ => listed_reference(alloc, item),
     }
+}
+
+// Adds a text, behind a comma where it is not the first.
+fn push_part(text: &mut String, is_later: bool, part: &str) -> Result<(), NoMemory>
+    ensures { OnOk result (string_bytes text.new ≡ string_bytes text.old ++ (comma_if is_later ++ part.now)) }
+{
+    if is_later {
+        text.push(',')?;
+    }
+    text.push_str(part)?;
+    Ok(())
 }
 
 // The texts of a list's items, with commas between them.
