@@ -2,11 +2,12 @@ use Rattle.std.proofs.Common.{◌≡◌, ◌<◌, ◌-◌, ◌++◌, Option, Som
 use Rattle.query_pages.specs.Whole.{rows_from}
 use Rattle.query_pages.proofs.Wholes.{copied_on}
 use Rattle.roster_types.specs.Records.{Record}
+use Rattle.version_core.specs.Changes.{rows_of}
 use Rattle.query_pages.proofs.whole.copied_from.Goals as goal
 
 pub loop-next-preserved : goal.loop-next-preserved
-loop-next-preserved g c =
-    let rows = g.R.Rows.rows c.args.rows.now in
+loop-next-preserved c =
+    let rows = rows_of c.args.view.now.rows in
     let kind = c.args.kind in
     let limit = c.args.limit in
     let found = c.loop-next.found.items in
@@ -15,4 +16,4 @@ loop-next-preserved g c =
     let lt : length found < limit = omega (arith, c.len.ensures, c.if-len-limit.false) in
     let before : found ++ take (limit - length found) (rows_from kind (Some row) rows) ≡ whole =
     subst (λ (next : Option Record). found ++ take (limit - length found) (rows_from kind next rows) ≡ whole) (ap option_copied c.in-Some.is) c.loop-next.invariant in
-    rw (c.in_ok-push.ensures.items, c.in_ok-copy.ensures, c.next-next.ensures, c.id.ensures) (copied_on kind rows c.requires limit row found whole lt before)
+    rw (c.in_ok-push.ensures.items, c.in_ok-copy.ensures, c.next_near-next.ensures, c.id.ensures) (copied_on kind rows c.requires limit row found whole lt before)
