@@ -31,6 +31,7 @@ pub fn enter<C: CopyKeeper>(alloc: Global, copy: &mut C, write: Write) -> Result
     // Over any link that agrees with the copy before.
     ensures agree { (told : Told) → ((c : Copy) → C.stands_for copy.old c → Agree c told) → (c : Copy) → C.stands_for copy.new c → Agree c told }
     ensures later { C.fault_count copy.old ≤ C.fault_count copy.new }
+    ensures copy_leads { C.leads copy.old copy.new }
     ensures cause { result ≡ Err EnterError.KeeperFault → Rose (C.fault_count copy.old) (C.fault_count copy.new) }
 {
     match copy.state(alloc) {

@@ -19,6 +19,7 @@ fn settled_behind<C: CopyKeeper>(
     ensures above { IfOk result (λ o. IfSome o (λ n. after < n)) }
     ensures same { (c : Copy) → C.stands_for copy.new c → C.stands_for copy.old c }
     ensures later { C.fault_count copy.old ≤ C.fault_count copy.new }
+    ensures copy_leads { C.leads copy.old copy.new }
     ensures cause { result ≡ Err KeeperError.Failed → Rose (C.fault_count copy.old) (C.fault_count copy.new) }
 {
     match copy.entry(alloc, after) {
@@ -44,6 +45,7 @@ pub fn settled_from<C: CopyKeeper>(
     ensures above { IfOk result (λ n. from ≤ n) }
     ensures same { (c : Copy) → C.stands_for copy.new c → C.stands_for copy.old c }
     ensures later { C.fault_count copy.old ≤ C.fault_count copy.new }
+    ensures copy_leads { C.leads copy.old copy.new }
     ensures cause { result ≡ Err KeeperError.Failed → Rose (C.fault_count copy.old) (C.fault_count copy.new) }
 {
     let mut settled = from;

@@ -44,6 +44,8 @@ pub fn send<C: CopyKeeper, L: Link>(
     ensures copy { (after : Copy) → C.stands_for copy.new after → (before : Copy) × C.stands_for copy.old before × SendLeaves result before after
         × (L.asked link.new ≤ L.asked link.old + tries * unsettled before.entries) }
     ensures last_run { (after : Copy) → C.stands_for copy.new after → (before : Copy) × C.stands_for copy.old before × SendLastLaw result before after }
+    ensures copy_leads { C.leads copy.old copy.new }
+    ensures link_leads { L.leads link.old link.new }
     ensures cause { SendCaused token.now (C.stands_for copy.new) (L.tells link.new) (L.asked link.old) (L.asked link.new) (L.kept link.new)
         (λ n. (tries ≤ L.missed link.new) × (tries ≤ n) × RoseBy tries (L.fault_count link.old) (L.fault_count link.new)) (Rose (C.fault_count copy.old) (C.fault_count copy.new)) result }
     // Over one that tells.

@@ -53,6 +53,7 @@ fn settle<C: CopyKeeper>(
     ensures told { (after : Copy) → C.stands_for copy.new after → (before : Copy) × C.stands_for copy.old before × Takes (Verdict.Settles status version) number result before after }
     ensures broken { (result ≡ None) ⊎ IsBroken result }
     ensures later { C.fault_count copy.old ≤ C.fault_count copy.new }
+    ensures copy_leads { C.leads copy.old copy.new }
     ensures cause { result ≡ Some SendAnswer.KeeperFault → Rose (C.fault_count copy.old) (C.fault_count copy.new) }
 {
     match copy.commit(
@@ -79,6 +80,7 @@ fn take_reply<C: CopyKeeper>(
     ensures told { (after : Copy) → C.stands_for copy.new after → (before : Copy) × C.stands_for copy.old before × Takes (verdict_of number reply.now) number result before after }
     ensures answer { (result ≡ answer_of (verdict_of number reply.now) number) ⊎ (IsBroken result × (does_settle (verdict_of number reply.now) ≡ true)) }
     ensures later { C.fault_count copy.old ≤ C.fault_count copy.new }
+    ensures copy_leads { C.leads copy.old copy.new }
     ensures cause { result ≡ Some SendAnswer.KeeperFault → Rose (C.fault_count copy.old) (C.fault_count copy.new) }
 {
     match judge(number, reply) {
@@ -110,6 +112,7 @@ fn ask_for<L: Link>(
     ensures count { (count.old ≤ count.new) × (count.new ≤ count.old + tries) }
     ensures asked { IsMore (L.asked link.old) (count.new - count.old) (L.asked link.new) }
     ensures later { L.fault_count link.old ≤ L.fault_count link.new }
+    ensures link_leads { L.leads link.old link.new }
     ensures own { IfOwn result (λ w. IsOwnReply (L.kept link.new) run count.new w) }
     ensures none { result ≡ Outcome.NoReply → (1 ≤ count.new) × IsNoReply (L.kept link.new) × ((after : Told) → L.tells link.new after → ⊥) }
     ensures missed { result ≡ Outcome.Missed → (count.new ≡ count.old + tries) × (tries ≤ L.missed link.new)
@@ -149,7 +152,9 @@ fn send_entry<C: CopyKeeper, L: Link>(
     ensures count { (count.old ≤ count.new) × (count.new ≤ count.old + tries) }
     ensures asked { IsMore (L.asked link.old) (count.new - count.old) (L.asked link.new) }
     ensures heard { L.fault_count link.old ≤ L.fault_count link.new }
+    ensures link_leads { L.leads link.old link.new }
     ensures later { C.fault_count copy.old ≤ C.fault_count copy.new }
+    ensures copy_leads { C.leads copy.old copy.new }
     ensures copy { (after : Copy) → C.stands_for copy.new after → (before : Copy) × C.stands_for copy.old before × Goes entry.number result before after }
     ensures link { (after : Told) → L.tells link.new after → (before : Told) × L.tells link.old before × Moved before after }
     ensures agree { ((c : Copy) (t : Told) → C.stands_for copy.old c → L.tells link.old t → Ready run count.old c t)
@@ -192,6 +197,7 @@ fn next_unsettled<C: CopyKeeper>(
     ensures any { IfOk result (λ o. IfSome o (CanBeEntry after)) }
     ensures same { (c : Copy) → C.stands_for copy.new c → C.stands_for copy.old c }
     ensures later { C.fault_count copy.old ≤ C.fault_count copy.new }
+    ensures copy_leads { C.leads copy.old copy.new }
     ensures cause { IfErr result (λ a. IsSendAside a × (a ≡ SendAnswer.KeeperFault → Rose (C.fault_count copy.old) (C.fault_count copy.new))) }
 {
     let mut at = after;
@@ -238,7 +244,9 @@ pub fn send_all<C: CopyKeeper, L: Link>(
         → (b : Copy) × (before : Told) × C.stands_for copy.old b × L.tells link.old before
         × (¬ Rose before.hub_faults t.hub_faults → CanSendAll token.now (newest_number before.hub) b.entries t.hub → IsFine result) }
     ensures later { C.fault_count copy.old ≤ C.fault_count copy.new }
+    ensures copy_leads { C.leads copy.old copy.new }
     ensures not_last { result ≢ SendAnswer.LastRun }
+    ensures link_leads { L.leads link.old link.new }
     ensures cause { (n : ℕ) × IsMore (L.asked link.old) n (L.asked link.new)
         × SendCauseOf (L.kept link.new) run n ((tries ≤ L.missed link.new) × (tries ≤ n) × RoseBy tries (L.fault_count link.old) (L.fault_count link.new)) (Rose (C.fault_count copy.old) (C.fault_count copy.new)) result
         × ((w : Reply) → IsOwnReply (L.kept link.new) run n w → IsSendAside result ⊎ AnswersSend w result)

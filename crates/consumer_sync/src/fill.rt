@@ -71,6 +71,8 @@ pub fn fill<C: CopyKeeper, L: Link>(
         → (before : Told) × L.tells link.old before × ToldIf token.now before t result }
     ensures ends { IsEndIf result }
     ensures later { C.fault_count copy.old ≤ C.fault_count copy.new }
+    ensures copy_leads { C.leads copy.old copy.new }
+    ensures link_leads { L.leads link.old link.new }
     ensures cause { (asked : Option State) × (n : ℕ) × IsMore (L.asked link.old) n (L.asked link.new)
         × CauseIf asked limit (L.kept link.new) run n ((tries ≤ L.missed link.new) × (tries ≤ n) × RoseBy tries (L.fault_count link.old) (L.fault_count link.new)) (Rose (C.fault_count copy.old) (C.fault_count copy.new)) result
         × ((w : Reply) → IsOwnReply (L.kept link.new) run n w → ExactIf (pin_of asked) w result)

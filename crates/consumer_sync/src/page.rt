@@ -119,6 +119,7 @@ pub fn fetch<L: Link>(
     ensures count { (count.old ≤ count.new) × (count.new ≤ count.old + tries) }
     ensures asked { IsMore (L.asked link.old) (count.new - count.old) (L.asked link.new) }
     ensures later { L.fault_count link.old ≤ L.fault_count link.new }
+    ensures link_leads { L.leads link.old link.new }
     ensures own { IfOwn result (λ w. IsOwnReply (L.kept link.new) run count.new w) }
     ensures none { result ≡ Outcome.NoReply → (1 ≤ count.new) × IsNoReply (L.kept link.new) × ((after : Told) → L.tells link.new after → ⊥) }
     ensures missed { result ≡ Outcome.Missed → (count.new ≡ count.old + tries) × (tries ≤ L.missed link.new)

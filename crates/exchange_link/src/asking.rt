@@ -93,6 +93,7 @@ fn once<L: Link>(alloc: Global, link: &mut L, text: &[u8], number: Echo) -> Outc
     ensures misses { Misses (Rose (L.fault_count link.old) (L.fault_count link.new)) (L.missed link.old) (L.missed link.new) }
     ensures asked { IsMore (L.asked link.old) 1 (L.asked link.new) }
     ensures later { L.fault_count link.old ≤ L.fault_count link.new }
+    ensures link_leads { L.leads link.old link.new }
     ensures told { (q : Asked) → IsTextOf q text.now → (after : Told) → L.tells link.new after
         → (before : Told) × L.tells link.old before × Tries q result before after }
 {
@@ -119,6 +120,7 @@ pub fn ask<L: Link>(
     ensures count { (count.old ≤ count.new) × (count.new ≤ count.old + tries) }
     ensures asked { IsMore (L.asked link.old) (count.new - count.old) (L.asked link.new) }
     ensures later { L.fault_count link.old ≤ L.fault_count link.new }
+    ensures link_leads { L.leads link.old link.new }
     ensures own { IfOwn result (λ w. IsOwnReply (L.kept link.new) run count.new w) }
     ensures none { result ≡ Outcome.NoReply → (1 ≤ count.new) × IsNoReply (L.kept link.new) × ((after : Told) → L.tells link.new after → ⊥) }
     ensures missed { result ≡ Outcome.Missed → (count.new ≡ count.old + tries) × (tries ≤ L.missed link.new)

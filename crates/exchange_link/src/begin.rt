@@ -40,6 +40,7 @@ pub fn begin_run<C: CopyKeeper>(alloc: Global, copy: &mut C) -> Result<CopyState
     ensures run { IfOk result (λ s. (1 ≤ s.run) × (s.run ≤ LAST)) }
     ensures told { (after : Copy) → C.stands_for copy.new after → (before : Copy) × C.stands_for copy.old before × Enters result before after }
     ensures later { C.fault_count copy.old ≤ C.fault_count copy.new }
+    ensures copy_leads { C.leads copy.old copy.new }
     ensures cause { IfErr result (λ e. e ≡ NoRun.KeeperFault → Rose (C.fault_count copy.old) (C.fault_count copy.new)) }
 {
     match copy.state(alloc) {

@@ -31,12 +31,16 @@ pub trait Link {
     /// What it tells of its hub, where it tells.
     ghost tells: { Self → Told → Type 0 };
 
+    /// What exchanges, one behind another, may make of a link.
+    ghost leads: { Self → Self → Type 0 };
+
     /// Sends the text of a request with its number, and keeps the answer.
     fn exchange(&mut self, alloc: Global, request: &[u8]) -> Result<(), IoError>
         requires { IsSentText request.now }
         ensures asked { asked self.new ≡ min (asked self.old + 1) (2 ^ 64 - 1) }
         ensures missed { Misses (Rose (fault_count self.old) (fault_count self.new)) (missed self.old) (missed self.new) }
         ensures later { fault_count self.old ≤ fault_count self.new }
+        ensures leads { leads self.old self.new }
         ensures failed { result ≡ Err io_error.Failed → Rose (fault_count self.old) (fault_count self.new) }
         ensures kept { OnErr result (kept self.new ≡ []) }
         // Also where the link tells nothing: an answer without the request's number comes only where the count rose.
@@ -68,4 +72,10 @@ pub trait Link {
 
     /// What it tells is a state that a hub can have.
     ghost is_hub: { (link : Self) (told : Told) → tells link told → IsHub told.hub };
+
+    /// A link leads to itself.
+    ghost stays: { (link : Self) → leads link link };
+
+    /// One behind another.
+    ghost leads_on: { (one two three : Self) → leads one two → leads two three → leads one three };
 }

@@ -23,7 +23,7 @@ impl NoLink {
 }
 
 impl Link for NoLink {
-    ghost use Rattle.std.specs.Prelude.{[]};
+    ghost use Rattle.std.specs.Prelude.{⊤, []};
 
     ghost asked = { λ link. link.faults };
 
@@ -36,6 +36,12 @@ impl Link for NoLink {
     ghost tells = { λ _ _. ⊥ };
 
     ghost is_hub = { λ _ _ none. absurd none };
+
+    ghost leads = { λ _ _. ⊤ };
+
+    ghost stays = { λ _. tt };
+
+    ghost leads_on = { λ _ _ _ _ _. tt };
 
     fn exchange(&mut self, _alloc: Global, request: &[u8]) -> Result<(), IoError>
         requires { IsSentText request.now }

@@ -47,6 +47,8 @@ fn came_of(alloc: Global, reply: Option<Vec<u8>>) -> Result<Came, IoError> {
 }
 
 impl Link for PeerLink {
+    ghost use Rattle.std.specs.Prelude.{⊤};
+
     ghost asked = { λ link. link.inbox.tally.asked };
 
     ghost missed = { λ link. link.inbox.tally.missed };
@@ -58,6 +60,12 @@ impl Link for PeerLink {
     ghost tells = { λ _ _. ⊥ };
 
     ghost is_hub = { λ _ _ none. absurd none };
+
+    ghost leads = { λ _ _. ⊤ };
+
+    ghost stays = { λ _. tt };
+
+    ghost leads_on = { λ _ _ _ _ _. tt };
 
     fn exchange(&mut self, alloc: Global, request: &[u8]) -> Result<(), IoError> {
         let came = came_of(alloc, taken(&mut self.replies, &mut self.place));

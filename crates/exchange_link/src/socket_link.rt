@@ -47,6 +47,8 @@ fn reply_from<R: Net + Clock>(
 }
 
 impl<R: Net + Clock> Link for SocketLink<R> {
+    ghost use Rattle.std.specs.Prelude.{⊤};
+
     ghost asked = { λ link. link.inbox.tally.asked };
 
     ghost missed = { λ link. link.inbox.tally.missed };
@@ -58,6 +60,12 @@ impl<R: Net + Clock> Link for SocketLink<R> {
     ghost tells = { λ _ _. ⊥ };
 
     ghost is_hub = { λ _ _ none. absurd none };
+
+    ghost leads = { λ _ _. ⊤ };
+
+    ghost stays = { λ _. tt };
+
+    ghost leads_on = { λ _ _ _ _ _. tt };
 
     fn exchange(&mut self, alloc: Global, request: &[u8]) -> Result<(), IoError> {
         let came = reply_from(alloc, &self.rt, self.address.as_str(), request);

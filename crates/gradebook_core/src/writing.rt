@@ -31,6 +31,7 @@ fn commit<H: HubKeeper>(
     ensures works { Works result hub.old hub.new }
     ensures settled { LeavesOpen result hub.new.is_open }
     ensures cause { CountsFault (H.fault_count keeper.old) (H.fault_count keeper.new) result }
+    ensures leads { H.leads keeper.old keeper.new }
     ensures refused { RefusesNothing result }
 {
     if commit.change.is_none() && commit.mark.is_none() {
@@ -62,6 +63,7 @@ pub fn write<H: HubKeeper>(
     ensures works { Works result hub.old hub.new }
     ensures settled { LeavesOpen result hub.new.is_open }
     ensures cause { CountsFault (H.fault_count keeper.old) (H.fault_count keeper.new) result }
+    ensures leads { H.leads keeper.old keeper.new }
     ensures refused { RefusesNothing result }
 {
     let table = hub.table();

@@ -73,6 +73,7 @@ impl Hub {
         ensures kept { IfOk result (λ hub. IsKept hub.kept) }
         ensures told { (kept : KeptState) → H.stands_for keeper.new kept → H.stands_for keeper.old kept }
         ensures cause { CountsFault (H.fault_count keeper.old) (H.fault_count keeper.new) result }
+        ensures leads { H.leads keeper.old keeper.new }
         ensures refused { RefusesNothing result }
     {
         let tables = keeper.load(alloc)?;
@@ -164,6 +165,7 @@ impl Hub {
         ensures err { OnErr result (self.new ≡ self.old) }
         ensures idle { self.old.is_open ≡ false → (result ≡ Ok tt) × (self.new ≡ self.old) × (keeper.new ≡ keeper.old) }
         ensures cause { CountsFault (H.fault_count keeper.old) (H.fault_count keeper.new) result }
+        ensures leads { H.leads keeper.old keeper.new }
         ensures refused { RefusesNothing result }
     {
         if !self.is_open {
@@ -205,6 +207,7 @@ impl Hub {
         ensures handed { Handed commit result self.old self.new }
         ensures settled { LeavesOpen result self.new.is_open }
         ensures cause { CountsFault (H.fault_count keeper.old) (H.fault_count keeper.new) result }
+        ensures leads { H.leads keeper.old keeper.new }
         ensures refused { RefusesNothing result }
     {
         let copy = self.copy_to_keep(alloc, &commit)?;
@@ -249,6 +252,7 @@ impl Hub {
         ensures works { Works result self.old self.new }
         ensures settled { LeavesOpen result self.new.is_open }
         ensures cause { CountsFault (H.fault_count keeper.old) (H.fault_count keeper.new) result }
+        ensures leads { H.leads keeper.old keeper.new }
     {
         let version = change.version;
         let commit = HubCommit {
@@ -276,6 +280,7 @@ impl Hub {
         ensures works { Works result self.old self.new }
         ensures settled { LeavesOpen result self.new.is_open }
         ensures cause { CountsFault (H.fault_count keeper.old) (H.fault_count keeper.new) result }
+        ensures leads { H.leads keeper.old keeper.new }
     {
         match due {
             Ok(Some(change)) => self.add_version(alloc, keeper, change),
@@ -314,6 +319,7 @@ impl Hub {
         ensures keeps { self.new.keeps ≡ self.old.keeps }
         ensures settled { LeavesOpen result self.new.is_open }
         ensures cause { CountsFault (H.fault_count keeper.old) (H.fault_count keeper.new) result }
+        ensures leads { H.leads keeper.old keeper.new }
     {
         self.ready(alloc, keeper)?;
         let due = set_change_over(alloc, &self.table, self.is_sound, set, at);
@@ -340,6 +346,7 @@ impl Hub {
         ensures keeps { self.new.keeps ≡ self.old.keeps }
         ensures settled { LeavesOpen result self.new.is_open }
         ensures cause { CountsFault (H.fault_count keeper.old) (H.fault_count keeper.new) result }
+        ensures leads { H.leads keeper.old keeper.new }
     {
         self.ready(alloc, keeper)?;
         let due = grants_change(alloc, &self.table, list, at);

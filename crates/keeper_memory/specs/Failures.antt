@@ -1,5 +1,5 @@
 -- The calls that a keeper in memory has met, and those that are to fail.
-use Rattle.std.specs.Prelude.{◌≡◌, ℕ, Bool, List, Result, Err, Ok, ◌+◌, ◌-◌, ◌^◌, ◌==◌, min, if◌then◌else◌}
+use Rattle.std.specs.Prelude.{◌≡◌, ℕ, Bool, true, false, List, [], ◌∷◌, ◌++◌, Result, Err, Ok, ◌+◌, ◌-◌, ◌^◌, ◌==◌, min, if◌then◌else◌}
 use Rattle.std.specs.List.{list_any}
 use Rattle.roster_base.specs.declared.keeper.KeeperError.{KeeperError}
 use Rattle.roster_base.specs.declared.keeper.KeeperError.TheVariants.{Failed}
@@ -59,3 +59,8 @@ pub record KeepsPlan (old new : FailurePlan) : Type 0 where
   pub reads : new.reads ≡ old.reads
   pub commits : new.commits_made ≡ one_more old.commits_made
   pub loads : new.reads_made ≡ old.reads_made
+
+-- one commit more is listed, which fails behind what it does, or before that
+abbrev pub with_listed : Bool → ℕ → FailurePlan → FailurePlan
+with_listed true commit plan = record plan { after = plan.after ++ commit ∷ [] }
+with_listed false commit plan = record plan { before = plan.before ++ commit ∷ [] }

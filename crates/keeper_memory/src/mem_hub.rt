@@ -6,7 +6,8 @@ ghost use Rattle.roster_base.specs.declared.keeper.KeeperError.TheVariants as ke
 ghost use Rattle.version_core.specs.Tables.{AreTables};
 ghost use Rattle.version_core.specs.Version.{empty_version};
 ghost use Rattle.keeper_memory.specs.Commits.{CanCommit, Commits, with_commit};
-ghost use Rattle.keeper_memory.specs.Failures.{KeepsPlan, after_read, fails_after, fails_before, planned, read_fails};
+ghost use Rattle.keeper_memory.specs.Calls.{CallsLead, calls_on, calls_stay};
+ghost use Rattle.keeper_memory.specs.Failures.{KeepsPlan, after_read, fails_after, fails_before, planned, read_fails, with_listed};
 ghost use Rattle.keeper_memory.specs.Kept.{KeptState, kept_by};
 
 use crate::failures::Failures;
@@ -138,6 +139,15 @@ impl MemHub {
             failures: Failures::new(before, after, reads),
         }
     }
+
+    /// Lists one commit more, by its number from 1, that fails behind what it does, or before that.
+    pub fn list_commit(&mut self, acted: bool, commit: u64) -> Result<(), NoMemory>
+        ensures kept { self.new.kept ≡ self.old.kept }
+        ensures ok { OnOk result (self.new.plan ≡ with_listed acted commit self.old.plan) }
+        ensures err { OnErr result (self.new ≡ self.old) }
+    {
+        self.failures.list_commit(acted, commit)
+    }
 }
 
 impl HubKeeper for MemHub {
@@ -145,10 +155,18 @@ impl HubKeeper for MemHub {
 
     ghost fault_count = { λ hub. hub.plan.faults };
 
+    ghost leads = { λ old new. CallsLead old.plan new.plan };
+
+    ghost stays = { λ keeper. calls_stay keeper.plan };
+
+    ghost leads_on = { λ one two three. calls_on one.plan two.plan three.plan };
+
+    #[tactic(auto, using(crate::proofs::CallLemmas::read_leads))]
     fn load(&mut self, alloc: Global) -> Result<HubTables, KeeperError>
         ensures shown { IfOk result (λ tables. (kept : KeptState) → kept ≡ self.new.kept → kept ≡ kept_by tables) }
         ensures tables { IfOk result AreTables }
         ensures same { (kept : KeptState) → kept ≡ self.new.kept → kept ≡ self.old.kept }
+        ensures leads { CallsLead self.old.plan self.new.plan }
         ensures cause { CountsFailure self.old.plan.faults self.new.plan.faults result }
         // It fails exactly where it is listed.
         ensures exact { IsTrue (read_fails self.old.plan) ↔ (result ≡ Err keeper.Failed) }
@@ -158,9 +176,11 @@ impl HubKeeper for MemHub {
         Ok(self.tables.load(alloc)?)
     }
 
+    #[tactic(auto, using(crate::proofs::CallLemmas::begun_leads, crate::proofs::CallLemmas::ended_leads))]
     fn commit(&mut self, alloc: Global, commit: &HubCommit) -> Result<(), KeeperError>
         requires { (kept : KeptState) → kept ≡ self.old.kept → CanCommit kept commit.now }
         ensures told { (after : KeptState) → after ≡ self.new.kept → (before : KeptState) × (before ≡ self.old.kept) × Commits commit.now result before after }
+        ensures leads { CallsLead self.old.plan self.new.plan }
         ensures cause { CountsFailure self.old.plan.faults self.new.plan.faults result }
         // It fails exactly where it is listed, and is made exactly where it isn't listed to fail before.
         ensures before { IsTrue (fails_before self.old.plan) → (result ≡ Err keeper.Failed) × (self.new.kept ≡ self.old.kept) }

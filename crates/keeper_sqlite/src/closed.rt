@@ -37,9 +37,17 @@ impl ClosedStore {
 }
 
 impl HubKeeper for ClosedStore {
+    ghost use Rattle.std.specs.Prelude.{⊤};
+
     ghost stands_for = { λ _ _. ⊥ };
 
     ghost fault_count = { λ store. store.faults };
+
+    ghost leads = { λ _ _. ⊤ };
+
+    ghost stays = { λ _. tt };
+
+    ghost leads_on = { λ _ _ _ _ _. tt };
 
     fn load(&mut self, alloc: Global) -> Result<HubTables, KeeperError>
         ensures cause { CountsFailure self.old.faults self.new.faults result }
@@ -64,9 +72,17 @@ impl HubKeeper for ClosedStore {
 }
 
 impl CopyKeeper for ClosedStore {
+    ghost use Rattle.std.specs.Prelude.{⊤};
+
     ghost stands_for = { λ _ _. ⊥ };
 
     ghost fault_count = { λ store. store.faults };
+
+    ghost leads = { λ _ _. ⊤ };
+
+    ghost stays = { λ _. tt };
+
+    ghost leads_on = { λ _ _ _ _ _. tt };
 
     ghost is_copy = { λ _ _ none. absurd none };
 

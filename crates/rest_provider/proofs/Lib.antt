@@ -5,3 +5,4 @@ pub mod WriteLemmas
 mod Dating
 pub mod EndsProgress
 pub mod Progressing
+pub mod Running

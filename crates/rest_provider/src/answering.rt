@@ -51,6 +51,7 @@ fn answer_settled<H: HubKeeper>(
     requires fits { KeeperFits (H.stands_for keeper.old) hub.old }
     requires settled { hub.old.is_open ≡ false }
     ensures fits { KeeperFits (H.stands_for keeper.new) hub.new }
+    ensures leads { H.leads keeper.old keeper.new }
     ensures step { (failed : ℕ) × CountsFailed (H.fault_count keeper.old) (H.fault_count keeper.new) failed
         × ((after : KeptState) → IsStanding hub.new after → (before : KeptState) × IsStanding hub.old before × (H.stands_for keeper.new after → H.stands_for keeper.old before)
         × TakesRequest request.now at result before after failed) }
@@ -75,6 +76,7 @@ pub fn answer<H: HubKeeper>(
 ) -> Reply
     requires { KeeperFits (H.stands_for keeper.old) hub.old }
     ensures fits { KeeperFits (H.stands_for keeper.new) hub.new }
+    ensures leads { H.leads keeper.old keeper.new }
     // What may stand after the call comes of what may have stood before it, by one step that takes the request and has this reply.
     ensures step { (failed : ℕ) × CountsFailed (H.fault_count keeper.old) (H.fault_count keeper.new) failed
         × ((after : KeptState) → IsStanding hub.new after → (before : KeptState) × IsStanding hub.old before × (H.stands_for keeper.new after → H.stands_for keeper.old before)

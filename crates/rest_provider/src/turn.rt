@@ -45,6 +45,7 @@ fn reply_to<H: HubKeeper, W: Sink, K: Clock>(
 ) -> Result<(), Failed>
     requires { KeeperFits (H.stands_for keeper.old) hub.old }
     ensures fits { KeeperFits (H.stands_for keeper.new) hub.new }
+    ensures leads { H.leads keeper.old keeper.new }
     ensures answered { (e : Exchange) × (e.request ≡ request.now) × Writes (W.written sink.old) (W.written sink.new) (reply_text e.reply) result
         × IsAnswered (stage_of (ends_of None 0 (W.written sink.old) (W.faults sink.old)) (H.stands_for keeper.old) (H.fault_count keeper.old) hub.old)
         (stage_of (ends_of None 0 (W.written sink.new) (W.faults sink.new)) (H.stands_for keeper.new) (H.fault_count keeper.new) hub.new) (K.moment clock.now) e }
@@ -70,6 +71,7 @@ pub fn take_turn<H: HubKeeper, S: Source, W: Sink, K: Clock>(
     requires fits { KeeperFits (H.stands_for keeper.old) hub.old }
     requires fresh { reader.old.fault ≡ None }
     ensures fits { KeeperFits (H.stands_for keeper.new) hub.new }
+    ensures leads { H.leads keeper.old keeper.new }
     ensures turns { Turns (stage_of (ends_of (S.left source.old) (S.faults source.old) (W.written sink.old) (W.faults sink.old)) (H.stands_for keeper.old) (H.fault_count keeper.old) hub.old)
         (stage_of (ends_of (S.left source.new) (S.faults source.new) (W.written sink.new) (W.faults sink.new)) (H.stands_for keeper.new) (H.fault_count keeper.new) hub.new)
         reader.old.kept reader.new.kept (K.moment clock.now) result }

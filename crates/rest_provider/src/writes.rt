@@ -196,6 +196,7 @@ fn answer_asked<H: HubKeeper>(
     requires path { ForSome (wanted_by request.now).path IsPath }
     requires writes { wanting.is_write request.now.verb ≡ true }
     ensures fits { KeeperFits (H.stands_for keeper.new) hub.new }
+    ensures leads { H.leads keeper.old keeper.new }
     ensures step { (failed : ℕ) × CountsFailed (H.fault_count keeper.old) (H.fault_count keeper.new) failed
         × ((after : KeptState) → IsStanding hub.new after → (H.stands_for keeper.new after → H.stands_for keeper.old hub.old.kept)
         × TakesWrite request.now at asked result hub.old.kept after failed) }
@@ -237,6 +238,7 @@ pub fn answer_write<H: HubKeeper>(
     requires settled { hub.old.is_open ≡ false }
     requires writes { wanting.is_write request.now.verb ≡ true }
     ensures fits { KeeperFits (H.stands_for keeper.new) hub.new }
+    ensures leads { H.leads keeper.old keeper.new }
     ensures step { (failed : ℕ) × CountsFailed (H.fault_count keeper.old) (H.fault_count keeper.new) failed
         × ((after : KeptState) → IsStanding hub.new after → (before : KeptState) × IsStanding hub.old before × (H.stands_for keeper.new after → H.stands_for keeper.old before)
         × TakesRequest request.now at result before after failed) }

@@ -131,8 +131,14 @@ impl WorldLink {
 
 impl Link for WorldLink {
     ghost use Rattle.hub_spec.specs.rules.States.{IsHub};
-    ghost use Rattle.std.specs.Prelude.{◌≡◌};
+    ghost use Rattle.std.specs.Prelude.{◌≡◌, ⊤};
     ghost use Rattle.sync_world.specs.Links.{told_by};
+
+    ghost leads = { λ _ _. ⊤ };
+
+    ghost stays = { λ _. tt };
+
+    ghost leads_on = { λ _ _ _ _ _. tt };
 
     ghost asked = { λ link. link.asked };
 

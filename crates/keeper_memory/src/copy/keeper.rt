@@ -25,12 +25,16 @@ pub trait CopyKeeper {
     /// How many calls failed. The count stays at the end of `u64`.
     ghost fault_count: { Self → ℕ };
 
+    /// What calls, one behind another, may make of a keeper.
+    ghost leads: { Self → Self → Type 0 };
+
     /// The small part of the copy.
     fn state(&mut self, alloc: Global) -> Result<CopyState, KeeperError>
         ensures shown { IfOk result (λ s. (c : Copy) → stands_for self.new c → Shows c s) }
         // Also where the keeper tells nothing.
         ensures any { IfOk result CanBe }
         ensures same { (c : Copy) → stands_for self.new c → stands_for self.old c }
+        ensures leads { leads self.old self.new }
         ensures later { fault_count self.old ≤ fault_count self.new }
         ensures cause { CountsFailure (fault_count self.old) (fault_count self.new) result };
 
@@ -39,6 +43,7 @@ pub trait CopyKeeper {
         ensures shown { IfOk result (λ rows. (c : Copy) → stands_for self.new c → rows ≡ held_list c kind) }
         ensures any { IfOk result (CanBeList kind) }
         ensures same { (c : Copy) → stands_for self.new c → stands_for self.old c }
+        ensures leads { leads self.old self.new }
         ensures later { fault_count self.old ≤ fault_count self.new }
         ensures cause { CountsFailure (fault_count self.old) (fault_count self.new) result };
 
@@ -47,6 +52,7 @@ pub trait CopyKeeper {
         ensures shown { IfOk result (λ entry. (c : Copy) → stands_for self.new c → entry ≡ entry_after after c.entries) }
         ensures any { IfOk result (λ entry. IfSome entry (CanBeEntry after)) }
         ensures same { (c : Copy) → stands_for self.new c → stands_for self.old c }
+        ensures leads { leads self.old self.new }
         ensures later { fault_count self.old ≤ fault_count self.new }
         ensures cause { CountsFailure (fault_count self.old) (fault_count self.new) result };
 
@@ -54,6 +60,7 @@ pub trait CopyKeeper {
     fn commit(&mut self, alloc: Global, change: CopyChange) -> Result<(), KeeperError>
         requires { (c : Copy) → stands_for self.old c → CanChange change c }
         ensures told { (after : Copy) → stands_for self.new after → (before : Copy) × stands_for self.old before × Commits change result before after }
+        ensures leads { leads self.old self.new }
         ensures later { fault_count self.old ≤ fault_count self.new }
         ensures cause { CountsFailure (fault_count self.old) (fault_count self.new) result };
 
@@ -63,4 +70,10 @@ pub trait CopyKeeper {
 
     /// What it stands for meets what is asked of a copy.
     ghost is_copy: { (keeper : Self) (c : Copy) → stands_for keeper c → IsCopy c };
+
+    /// A keeper leads to itself.
+    ghost stays: { (keeper : Self) → leads keeper keeper };
+
+    /// One behind another.
+    ghost leads_on: { (one two three : Self) → leads one two → leads two three → leads one three };
 }

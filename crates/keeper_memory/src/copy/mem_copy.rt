@@ -1,11 +1,12 @@
 //! A keeper of a copy in memory.
 
-ghost use Rattle.std.specs.Prelude.{◌≡◌, ◌≢◌, ◌≤◌, ◌↔◌, ◌||◌, [], Err, IfOk, IfSome, IsErr, IsTrue, false};
+ghost use Rattle.std.specs.Prelude.{◌≡◌, ◌≢◌, ◌≤◌, ◌↔◌, ◌||◌, [], Err, IfOk, IfSome, IsErr, IsTrue, OnErr, OnOk, false};
 ghost use Rattle.roster_base.specs.Faults.{CountsFailure};
 ghost use Rattle.roster_base.specs.declared.keeper.KeeperError.TheVariants as keeper;
 ghost use Rattle.keeper_memory.specs.copy.Changes.{CanChange, Commits, IsQuick, copy_after};
 ghost use Rattle.keeper_memory.specs.copy.Copies.{Copy, IsCopy, entry_after, held_list};
-ghost use Rattle.keeper_memory.specs.Failures.{KeepsPlan, after_read, fails_after, fails_before, planned, read_fails};
+ghost use Rattle.keeper_memory.specs.Calls.{CallsLead, calls_on, calls_stay};
+ghost use Rattle.keeper_memory.specs.Failures.{KeepsPlan, after_read, fails_after, fails_before, planned, read_fails, with_listed};
 ghost use Rattle.keeper_memory.specs.copy.HeldCopy.{empty_copy};
 ghost use Rattle.keeper_memory.specs.copy.Tables.{AreCopyTables, copy_in};
 ghost use Rattle.keeper_memory.specs.copy.States.{CanBe, CanBeEntry, CanBeList, Shows};
@@ -17,7 +18,7 @@ use crate::copy::mem_tables::MemTables;
 use crate::copy::state::CopyState;
 use crate::copy::tables::CopyTables;
 use crate::failures::Failures;
-use roster_base::{Items, KeeperError};
+use roster_base::{Items, KeeperError, NoMemory};
 use roster_types::row::Row;
 use roster_values::Kind;
 use std::alloc::Global;
@@ -81,6 +82,15 @@ impl MemCopy {
             failures: Failures::new(before, after, reads),
         }
     }
+
+    /// Lists one commit more, by its number from 1, that fails behind what it does, or before that.
+    pub fn list_commit(&mut self, acted: bool, commit: u64) -> Result<(), NoMemory>
+        ensures copy { self.new.copy ≡ self.old.copy }
+        ensures ok { OnOk result (self.new.plan ≡ with_listed acted commit self.old.plan) }
+        ensures err { OnErr result (self.new ≡ self.old) }
+    {
+        self.failures.list_commit(acted, commit)
+    }
 }
 
 impl CopyKeeper for MemCopy {
@@ -90,10 +100,18 @@ impl CopyKeeper for MemCopy {
 
     ghost is_copy = { λ m c h. h.1 };
 
+    ghost leads = { λ old new. CallsLead old.plan new.plan };
+
+    ghost stays = { λ keeper. calls_stay keeper.plan };
+
+    ghost leads_on = { λ one two three. calls_on one.plan two.plan three.plan };
+
+    #[tactic(auto, using(crate::proofs::CallLemmas::read_leads))]
     fn state(&mut self, alloc: Global) -> Result<CopyState, KeeperError>
         ensures shown { IfOk result (λ s. (c : Copy) → (c ≡ self.new.copy) × IsCopy c → Shows c s) }
         ensures any { IfOk result CanBe }
         ensures same { (c : Copy) → (c ≡ self.new.copy) × IsCopy c → (c ≡ self.old.copy) × IsCopy c }
+        ensures leads { CallsLead self.old.plan self.new.plan }
         ensures later { self.old.plan.faults ≤ self.new.plan.faults }
         ensures cause { CountsFailure self.old.plan.faults self.new.plan.faults result }
         // It fails exactly where it is listed.
@@ -104,10 +122,12 @@ impl CopyKeeper for MemCopy {
         Ok(self.tables.state(alloc)?)
     }
 
+    #[tactic(auto, using(crate::proofs::CallLemmas::read_leads))]
     fn held(&mut self, alloc: Global, kind: Kind) -> Result<Items<Row>, KeeperError>
         ensures shown { IfOk result (λ rows. (c : Copy) → (c ≡ self.new.copy) × IsCopy c → rows ≡ held_list c kind) }
         ensures any { IfOk result (CanBeList kind) }
         ensures same { (c : Copy) → (c ≡ self.new.copy) × IsCopy c → (c ≡ self.old.copy) × IsCopy c }
+        ensures leads { CallsLead self.old.plan self.new.plan }
         ensures later { self.old.plan.faults ≤ self.new.plan.faults }
         ensures cause { CountsFailure self.old.plan.faults self.new.plan.faults result }
         ensures exact { IsTrue (read_fails self.old.plan) ↔ (result ≡ Err keeper.Failed) }
@@ -117,10 +137,12 @@ impl CopyKeeper for MemCopy {
         Ok(self.tables.held(alloc, kind)?)
     }
 
+    #[tactic(auto, using(crate::proofs::CallLemmas::read_leads))]
     fn entry(&mut self, alloc: Global, after: u64) -> Result<Option<OutEntry>, KeeperError>
         ensures shown { IfOk result (λ entry. (c : Copy) → (c ≡ self.new.copy) × IsCopy c → entry ≡ entry_after after c.entries) }
         ensures any { IfOk result (λ entry. IfSome entry (CanBeEntry after)) }
         ensures same { (c : Copy) → (c ≡ self.new.copy) × IsCopy c → (c ≡ self.old.copy) × IsCopy c }
+        ensures leads { CallsLead self.old.plan self.new.plan }
         ensures later { self.old.plan.faults ≤ self.new.plan.faults }
         ensures cause { CountsFailure self.old.plan.faults self.new.plan.faults result }
         ensures exact { IsTrue (read_fails self.old.plan) ↔ (result ≡ Err keeper.Failed) }
@@ -130,9 +152,11 @@ impl CopyKeeper for MemCopy {
         Ok(self.tables.entry(alloc, after)?)
     }
 
+    #[tactic(auto, using(crate::proofs::CallLemmas::begun_leads, crate::proofs::CallLemmas::ended_leads))]
     fn commit(&mut self, alloc: Global, change: CopyChange) -> Result<(), KeeperError>
         requires { (c : Copy) → (c ≡ self.old.copy) × IsCopy c → CanChange change c }
         ensures told { (after : Copy) → (after ≡ self.new.copy) × IsCopy after → (before : Copy) × ((before ≡ self.old.copy) × IsCopy before) × Commits change result before after }
+        ensures leads { CallsLead self.old.plan self.new.plan }
         ensures later { self.old.plan.faults ≤ self.new.plan.faults }
         ensures cause { CountsFailure self.old.plan.faults self.new.plan.faults result }
         // It fails exactly where it is listed, and is made exactly where it isn't listed to fail before.

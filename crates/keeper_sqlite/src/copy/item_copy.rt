@@ -67,7 +67,7 @@ fn bounded<S: StoredItems>(store: &S)
 }
 
 impl<S: StoredItems> CopyKeeper for ItemCopy<S> {
-    ghost use Rattle.std.specs.Prelude.{◌≡◌};
+    ghost use Rattle.std.specs.Prelude.{◌≡◌, ⊤};
     ghost use Rattle.std.proofs.Common.{⊎_elim, subst, sym};
     ghost use Rattle.copy_format.specs.Format.{Keep};
     ghost use Rattle.keeper_memory.proofs.CopyLemmas.{empty_is};
@@ -78,6 +78,12 @@ impl<S: StoredItems> CopyKeeper for ItemCopy<S> {
     ghost stands_for = { CopyTells S.stands_for S.is_trusted };
 
     ghost fault_count = { λ keeper. S.fault_count keeper.0 };
+
+    ghost leads = { λ _ _. ⊤ };
+
+    ghost stays = { λ _. tt };
+
+    ghost leads_on = { λ _ _ _ _ _. tt };
 
     ghost is_copy = { λ keeper c tells. ⊎_elim (λ (kept : Keep tells.this.items c). kept.is) (λ (none : (tells.this.items ≡ no_items) × (c ≡ empty_copy)). subst IsCopy (sym none.1) empty_is) tells.this.kept };
 

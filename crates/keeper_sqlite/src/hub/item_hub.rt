@@ -70,9 +70,17 @@ impl<S: StoredItems> ItemHub<S> {
 }
 
 impl<S: StoredItems> HubKeeper for ItemHub<S> {
+    ghost use Rattle.std.specs.Prelude.{⊤};
+
     ghost stands_for = { HubTells S.stands_for S.is_trusted };
 
     ghost fault_count = { λ hub. S.fault_count hub.0 };
+
+    ghost leads = { λ _ _. ⊤ };
+
+    ghost stays = { λ _. tt };
+
+    ghost leads_on = { λ _ _ _ _ _. tt };
 
     fn load(&mut self, alloc: Global) -> Result<HubTables, KeeperError>
         ensures shown { IfOk result (λ tables. (kept : KeptState) → HubTells S.stands_for S.is_trusted self.new kept → kept ≡ kept_by tables) }

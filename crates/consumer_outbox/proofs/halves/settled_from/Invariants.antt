@@ -10,6 +10,7 @@ invariant-halves g l =
       same : (c : Copy) → S l.copy c → S l.fn.copy c;
       settled : (c : Copy) → S l.copy c → SettledTo l.settled c.entries;
       above : l.fn.from ≤ l.settled;
+      leads : g.C.CopyKeeper.leads l.fn.copy l.copy;
       later : g.C.CopyKeeper.fault_count l.fn.copy ≤ g.C.CopyKeeper.fault_count l.copy;
     }
 

@@ -127,3 +127,9 @@ returns-in-Ok-clause-asks g c after tells stands told =
         tried = z.5;
       },
     )
+
+pub returns-in-Err-clause-link_leads : goal.returns-in-Err-clause-link_leads
+returns-in-Err-clause-link_leads g c = g.met.L.Link.stays _
+
+pub returns-in-Ok-clause-copy_leads : goal.returns-in-Ok-clause-copy_leads
+returns-in-Ok-clause-copy_leads g c = g.met.C.CopyKeeper.leads_on _ _ _ c.begin_run.ensures.copy_leads c.send_all.ensures.copy_leads

@@ -24,6 +24,7 @@ settled-preserved g c =
     record {
       same = λ d stands. c.settled.invariant.same d (c.entry.ensures.same d (c.settled_from.ensures.same d stands));
       walked = c.in-Ok.ensures.settled;
+      leads = g.met.C.CopyKeeper.leads_on _ _ _ c.settled.invariant.leads (g.met.C.CopyKeeper.leads_on _ _ _ c.entry.ensures.leads c.settled_from.ensures.copy_leads);
       low = omega (arith, can.above, c.settled.invariant.low, c.in-Ok.ensures.above);
       later = omega (arith, c.settled.invariant.later, c.entry.ensures.later, c.settled_from.ensures.later);
     }

@@ -11,6 +11,7 @@ invariant-settled g l =
       same : (c : Copy) → S l.copy c → S l.fn.copy c;
       walked : (c : Copy) → S l.copy c → SettledTo l.at c.entries;
       low : l.fn.after ≤ l.at;
+      leads : g.C.CopyKeeper.leads l.fn.copy l.copy;
       later : g.C.CopyKeeper.fault_count l.fn.copy ≤ g.C.CopyKeeper.fault_count l.copy;
     }
 

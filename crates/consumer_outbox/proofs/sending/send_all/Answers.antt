@@ -33,6 +33,8 @@ entries-init g c = record {
   sends = λ d t stands tells. (d, t, stands, tells, so_far_none d, sends_refl (IsWriteUnder c.args.token.now d.entries) c.args.run 0 ⊥ t.sent);
   agree = λ entry d t stands tells. entry d t stands tells;
   heard = omega arith;
+  copy_leads = g.met.C.CopyKeeper.stays _;
+  link_leads = g.met.L.Link.stays _;
   later = omega arith;
 }
 
@@ -187,6 +189,8 @@ entries-preserved g c =
           );
       agree = λ entry d t stands tells. c.in-None.ensures.agree (λ (e : Copy) (u : Told) se te. c.entries.invariant.agree entry e u (c.next_unsettled.ensures.same e se) te) d t stands tells;
       heard = omega (arith, c.entries.invariant.heard, c.send_entry.ensures.heard);
+      copy_leads = g.met.C.CopyKeeper.leads_on _ _ _ c.entries.invariant.copy_leads (g.met.C.CopyKeeper.leads_on _ _ _ c.next_unsettled.ensures.copy_leads c.send_entry.ensures.copy_leads);
+      link_leads = g.met.L.Link.leads_on _ _ _ c.entries.invariant.link_leads c.send_entry.ensures.link_leads;
       later = omega (arith, c.entries.invariant.later, c.next_unsettled.ensures.later, c.send_entry.ensures.later);
     }
 
@@ -260,3 +264,18 @@ returns-clause-asks g c = (
       let z = c.entries.invariant.sends d t stands tells in
       (z.0, z.1, z.2, z.3, sends_weaker (IsWriteUnder c.args.token.now z.0.entries) (IsWriteUnder c.args.token.now z.0.entries) c.args.run 0 c.entries.count ⊥ _ _ _ (λ n q h. h) (λ h. absurd h) z.5, tt),
 )
+
+-- ---- what was called
+
+pub returns-in-Err-clause-copy_leads : goal.returns-in-Err-clause-copy_leads
+returns-in-Err-clause-copy_leads g c = g.met.C.CopyKeeper.leads_on _ _ _ c.entries.invariant.copy_leads c.next_unsettled.ensures.copy_leads
+
+pub returns-in-Ok-None-clause-copy_leads : goal.returns-in-Ok-None-clause-copy_leads
+returns-in-Ok-None-clause-copy_leads g c = g.met.C.CopyKeeper.leads_on _ _ _ c.entries.invariant.copy_leads c.next_unsettled.ensures.copy_leads
+
+pub returns-in-Some-clause-copy_leads : goal.returns-in-Some-clause-copy_leads
+returns-in-Some-clause-copy_leads g c =
+    g.met.C.CopyKeeper.leads_on _ _ _ c.entries.invariant.copy_leads (g.met.C.CopyKeeper.leads_on _ _ _ c.next_unsettled.ensures.copy_leads c.send_entry.ensures.copy_leads)
+
+pub returns-in-Some-clause-link_leads : goal.returns-in-Some-clause-link_leads
+returns-in-Some-clause-link_leads g c = g.met.L.Link.leads_on _ _ _ c.entries.invariant.link_leads c.send_entry.ensures.link_leads

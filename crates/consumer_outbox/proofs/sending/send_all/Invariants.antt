@@ -28,6 +28,8 @@ invariant-entries g l =
       agree : ((c : Copy) (t : Told) → S l.fn.copy c → T l.fn.link t → Ready l.run 0 c t)
           → (c : Copy) (t : Told) → S l.copy c → T l.link t → Ready l.run l.count c t;
       heard : g.L.Link.fault_count l.fn.link ≤ g.L.Link.fault_count l.link;
+      copy_leads : g.C.CopyKeeper.leads l.fn.copy l.copy;
+      link_leads : g.L.Link.leads l.fn.link l.link;
       later : g.C.CopyKeeper.fault_count l.fn.copy ≤ g.C.CopyKeeper.fault_count l.copy;
     }
 

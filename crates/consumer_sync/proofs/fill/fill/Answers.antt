@@ -303,6 +303,8 @@ rounds-preserved g c =
           (c.rounds.invariant.bound entry x.0 y.0 x.1 y.1) (c.fetch.ensures.count).1 (y.2).moved.grew st (z.3 small ready) page.0 p);
       heard = omega (arith, c.rounds.invariant.heard, c.fetch.ensures.later);
       later = omega (arith, c.rounds.invariant.later, c.take_reply.ensures.later);
+      copy_leads = g.met.C.CopyKeeper.leads_on _ _ _ c.rounds.invariant.copy_leads c.take_reply.ensures.copy_leads;
+      link_leads = g.met.L.Link.leads_on _ _ _ c.rounds.invariant.link_leads c.fetch.ensures.link_leads;
       page = λ w own. subst (λ (r : WireReply). IsPageStatus r.status) (one_answer _ c.in-Own.reply w c.in-Own.ensures.own.text own.text) (page_status c.rounds.stage c.args.limit c.in-Own.reply on.0 on.1);
       sends = λ after tells.
           let y = c.fetch.ensures.asks after tells in
@@ -532,3 +534,18 @@ returns-in_default-clause-ends g c =
     (λ (e : c.take_reply.result ≡ answer_of (judged c.rounds.stage c.args.limit c.in-Own.reply) (kind_at (kinds_of c.rounds.stage)) (staged_of c.rounds.stage)).
     answer_cause c.rounds.stage c.args.limit c.in-Own.reply (g.L.Link.kept c.fetch.new.link) c.args.run c.fetch.new.count c.take_reply.result (Unit {0}) (Unit {0}) c.in-Own.ensures.own e)
     c.take_reply.ensures.answer)
+
+pub returns-in-NoReply-clause-link_leads : goal.returns-in-NoReply-clause-link_leads
+returns-in-NoReply-clause-link_leads g c = g.met.L.Link.leads_on _ _ _ c.rounds.invariant.link_leads c.fetch.ensures.link_leads
+
+pub returns-in-Missed-clause-link_leads : goal.returns-in-Missed-clause-link_leads
+returns-in-Missed-clause-link_leads g c = g.met.L.Link.leads_on _ _ _ c.rounds.invariant.link_leads c.fetch.ensures.link_leads
+
+pub returns-in-NoMemory-clause-link_leads : goal.returns-in-NoMemory-clause-link_leads
+returns-in-NoMemory-clause-link_leads g c = g.met.L.Link.leads_on _ _ _ c.rounds.invariant.link_leads c.fetch.ensures.link_leads
+
+pub returns-in_default-clause-link_leads : goal.returns-in_default-clause-link_leads
+returns-in_default-clause-link_leads g c = g.met.L.Link.leads_on _ _ _ c.rounds.invariant.link_leads c.fetch.ensures.link_leads
+
+pub returns-in_default-clause-copy_leads : goal.returns-in_default-clause-copy_leads
+returns-in_default-clause-copy_leads g c = g.met.C.CopyKeeper.leads_on _ _ _ c.rounds.invariant.copy_leads c.take_reply.ensures.copy_leads

@@ -34,6 +34,8 @@ invariant-rounds g l =
           → (c : Copy) (t : Told) → S l.copy c → T l.link t → BoundSoFar l.count l.tries l.limit l.token l.fn.stage l.stage t.hub;
       heard : g.L.Link.fault_count l.fn.link ≤ g.L.Link.fault_count l.link;
       later : g.C.CopyKeeper.fault_count l.fn.copy ≤ g.C.CopyKeeper.fault_count l.copy;
+      copy_leads : g.C.CopyKeeper.leads l.fn.copy l.copy;
+      link_leads : g.L.Link.leads l.fn.link l.link;
       page : (w : WireReply) → IsOwnReply (g.L.Link.kept l.link) l.run l.count w → IsPageStatus w.status;
       sends : (after : Told) → T l.link after → (before : Told) × T l.fn.link before × SendsOn (IsPageUnder l.token l.limit) l.run 0 l.count ⊥ before.sent after.sent;
       last : (asked : Option StageState) × (1 ≤ l.count → (t : Told) → T l.link t → IsLast (request_of asked l.run l.count l.token l.limit) t.sent);

@@ -29,3 +29,6 @@ pub returns-in-Ok-clause-asks : goal.returns-in-Ok-clause-asks
 returns-in-Ok-clause-asks g c after tells =
     let y = c.ask.ensures.asks after tells in
     (y.0, y.1, subst (λ (q : Request). SendsOn (IsTry (numbered q)) c.args.run c.args.count.now c.ask.new.count (c.ask.result ≡ outcome.NoMemory) y.0.sent after.sent) c.in-Ok.ensures.request y.2)
+
+pub returns-in-Err-clause-link_leads : goal.returns-in-Err-clause-link_leads
+returns-in-Err-clause-link_leads g c = g.met.L.Link.stays _

@@ -482,3 +482,20 @@ returns-in-Some-stage-clause-asks g c after tells =
         tried = finish_by (λ a. TriedFor a c.args.token.now c.args.limit c.in-Ok.state.run f.0 c.args.tries after.sent) c.finish.result c.in-Some-stage.s.pin c.finish.ensures.answers tt (λ e. tt) tt;
       },
     )
+
+pub returns-in-Err-clause-link_leads : goal.returns-in-Err-clause-link_leads
+returns-in-Err-clause-link_leads g c = g.met.L.Link.stays _
+
+pub returns-in-Err-drop_other-clause-link_leads : goal.returns-in-Err-drop_other-clause-link_leads
+returns-in-Err-drop_other-clause-link_leads g c = g.met.L.Link.stays _
+
+pub returns-in-Err-drop_other-clause-copy_leads : goal.returns-in-Err-drop_other-clause-copy_leads
+returns-in-Err-drop_other-clause-copy_leads g c = g.met.C.CopyKeeper.leads_on _ _ _ c.begin_run.ensures.copy_leads c.drop_other.ensures.copy_leads
+
+pub returns-in-Some-clause-copy_leads : goal.returns-in-Some-clause-copy_leads
+returns-in-Some-clause-copy_leads g c =
+    g.met.C.CopyKeeper.leads_on _ _ _ (g.met.C.CopyKeeper.leads_on _ _ _ c.begin_run.ensures.copy_leads c.drop_other.ensures.copy_leads) c.fill.ensures.copy_leads
+
+pub returns-in-Some-stage-clause-copy_leads : goal.returns-in-Some-stage-clause-copy_leads
+returns-in-Some-stage-clause-copy_leads g c =
+    g.met.C.CopyKeeper.leads_on _ _ _ (g.met.C.CopyKeeper.leads_on _ _ _ (g.met.C.CopyKeeper.leads_on _ _ _ c.begin_run.ensures.copy_leads c.drop_other.ensures.copy_leads) c.fill.ensures.copy_leads) c.finish.ensures.copy_leads

@@ -16,6 +16,7 @@ loop-i-init g c = record {
   missed = omega arith;
   asked = record { least = omega arith; most = omega arith };
   later = omega arith;
+  leads = g.met.L.Link.stays _;
   rose = omega arith;
   none = λ p. absurd (omega (arith, p));
   told = λ after tells. (after, tells, asks_refl c.args.run c.args.count.now (IsNumbered c.args.request) after);
@@ -59,6 +60,7 @@ returns-in_default g c =
         most = omega (arith, c.loop-i.invariant.asked.most, c.once.ensures.asked.most, c.loop-i.invariant.count);
       };
       later = omega (arith, c.loop-i.invariant.later, c.once.ensures.later);
+      link_leads = g.met.L.Link.leads_on _ _ _ c.loop-i.invariant.leads c.once.ensures.link_leads;
       own = own_map c.once.result _ _ (λ w x. record { text = x.0; number = x.1; from = omega arith }) c.once.ensures.own;
       none = λ e. let x = c.once.ensures.none e in (omega arith, x.0, x.1);
       missed = λ e. absurd (c.in_default.not-Missed e);
@@ -98,6 +100,7 @@ loop-i-preserved g c =
         most = omega (arith, c.loop-i.invariant.asked.most, c.once.ensures.asked.most);
       };
       later = omega (arith, c.loop-i.invariant.later, c.once.ensures.later);
+      leads = g.met.L.Link.leads_on _ _ _ c.loop-i.invariant.leads c.once.ensures.link_leads;
       rose = let r = m.0 in omega (arith, r, c.loop-i.invariant.rose);
       none = λ p w text echo. m.1 w text echo;
       told = λ after tells.

@@ -15,6 +15,7 @@ invariant-loop-i g l = record {
   missed : l.i ≤ g.L.Link.missed l.link;
   asked : IsMore (g.L.Link.asked l.fn.link) l.i (g.L.Link.asked l.link);
   later : g.L.Link.fault_count l.fn.link ≤ g.L.Link.fault_count l.link;
+  leads : g.L.Link.leads l.fn.link l.link;
   rose : RoseBy l.i (g.L.Link.fault_count l.fn.link) (g.L.Link.fault_count l.link);
   none : 0 < l.i → (w : WireReply) → IsReplyText (g.L.Link.kept l.link) w → w.echo ≡ Some (number l.run l.count) → ⊥;
   told : (after : Told) → g.L.Link.tells l.link after → (before : Told) × g.L.Link.tells l.fn.link before × Asks l.run l.fn.count l.count (IsNumbered l.fn.request) before after;

@@ -54,3 +54,6 @@ returns-in-Ok-clause-keeps g c =
     let count = g.H.HubKeeper.fault_count in
     request_keeps c.args.request.now c.args.at c.answer_settled.result c.ready.new.self c.answer_settled.new.hub (count c.ready.new.keeper) (count c.answer_settled.new.keeper) c.answer_settled.ensures.did
     ∙ c.in-Ok.ensures.keeps ∙ ap (λ (h : HeldHub). h.keeps) c.index.ensures
+
+pub returns-in-Ok-clause-leads : goal.returns-in-Ok-clause-leads
+returns-in-Ok-clause-leads g c = g.met.H.HubKeeper.leads_on _ _ _ c.ready.ensures.leads c.answer_settled.ensures.leads

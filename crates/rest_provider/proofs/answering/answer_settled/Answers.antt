@@ -23,3 +23,6 @@ returns-else-is_write-clause-did g c =
     let hub = c.args.hub.now in
     read_did c.args.request.now c.args.at c.answer_read.result hub _ c.requires.settled
     (read_step c.args.request.now c.answer_read.result hub.kept c.table.result.now c.table.ensures.versions c.answer_read.ensures c.args.at)
+
+pub returns-else-is_write-clause-leads : goal.returns-else-is_write-clause-leads
+returns-else-is_write-clause-leads g c = g.met.H.HubKeeper.stays _

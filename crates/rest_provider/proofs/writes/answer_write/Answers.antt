@@ -45,3 +45,6 @@ returns-in-Err-clause-did g c =
     read_did request c.args.at c.stopped.result hub _ c.requires.settled
     (stopped_step request c.args.at hub.kept c.in-Err.stop c.stopped.result c.requires.writes c.stopped.ensures
     (λ state is part. c.in-Err.ensures.asked state (read_of state is.state hub.kept part c.table.result.now c.table.ensures.versions)))
+
+pub returns-in-Err-clause-leads : goal.returns-in-Err-clause-leads
+returns-in-Err-clause-leads g c = g.met.H.HubKeeper.stays _

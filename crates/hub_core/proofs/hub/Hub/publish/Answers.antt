@@ -67,3 +67,6 @@ returns-clause-reloads g c =
 pub returns-clause-keeps : goal.returns-clause-keeps
 returns-clause-keeps g c =
     ap (λ (h : HeldHub). h.keeps) c.note_sound.ensures ∙ works_keeps c.adopt-answer.result c.ready.new.self c.adopt-answer.new.self c.adopt-answer.ensures.works ∙ c.in_ok-ready.ensures.keeps
+
+pub returns-clause-leads : goal.returns-clause-leads
+returns-clause-leads g c = g.met.H.HubKeeper.leads_on _ _ _ c.ready.ensures.leads c.adopt-answer.ensures.leads

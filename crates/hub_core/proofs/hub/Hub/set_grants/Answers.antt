@@ -59,3 +59,6 @@ returns-clause-reloads g c =
 
 pub returns-clause-keeps : goal.returns-clause-keeps
 returns-clause-keeps g c = works_keeps c.adopt.result c.ready.new.self c.adopt.new.self c.adopt.ensures.works ∙ c.in_ok-ready.ensures.keeps
+
+pub returns-clause-leads : goal.returns-clause-leads
+returns-clause-leads g c = g.met.H.HubKeeper.leads_on _ _ _ c.ready.ensures.leads c.adopt.ensures.leads
