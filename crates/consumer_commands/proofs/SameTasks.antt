@@ -3,7 +3,7 @@ use Rattle.std.proofs.Common.{◌≡◌, ℕ, List, refl, subst}
 use Rattle.consumer_commands.specs.Consumers.{CopyRun, LinkRun}
 use Rattle.consumer_commands.specs.Sends.{IsSendOf}
 use Rattle.consumer_commands.specs.Syncs.{IsSyncOf}
-use Rattle.consumer_commands.specs.Tasks.{Sending, Task}
+use Rattle.hub_words.specs.Tasks.{Sending, Task}
 use Rattle.exchange_link.specs.declared.answer.SyncAnswer.{SyncAnswer}
 use Rattle.exchange_link.specs.declared.send_answer.SendAnswer.{SendAnswer}
 

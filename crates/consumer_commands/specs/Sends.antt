@@ -17,7 +17,7 @@ use Rattle.roster_base.specs.Faults.{Rose}
 use Rattle.version_core.specs.HubStates.{newest_number}
 use Rattle.version_core.specs.declared.mark.Write.{Write}
 use Rattle.consumer_commands.specs.Consumers.{CopyRun, LinkRun}
-use Rattle.consumer_commands.specs.Tasks.{Sending}
+use Rattle.hub_words.specs.Tasks.{Sending}
 
 -- ---- entering
 

@@ -13,7 +13,7 @@ use Rattle.exchange_link.specs.Synchronised.{Leaves, Synchronised, own_state}
 use Rattle.exchange_link.specs.declared.answer.SyncAnswer.{SyncAnswer}
 use Rattle.roster_base.specs.Faults.{Rose}
 use Rattle.consumer_commands.specs.Consumers.{CopyRun, LinkRun}
-use Rattle.consumer_commands.specs.Tasks.{Task}
+use Rattle.hub_words.specs.Tasks.{Task}
 
 -- copy and link agreed before, where both tell
 abbrev pub Agreed : CopyRun → LinkRun → Type 0

@@ -7,7 +7,6 @@ pub mod outbox;
 pub mod outbox_lines;
 mod run;
 mod sending;
-pub mod task;
 
 pub use held::held_text;
 pub use line::{COPY_FAILED, sync_line, sync_status};
@@ -15,4 +14,3 @@ pub use outbox::outbox_text;
 pub use outbox_lines::{enter_line, enter_status, entered_line, send_line, send_status};
 pub use run::synchronise;
 pub use sending::{enter_write, send_writes};
-pub use task::{GradebookObject, SendTask, SyncTask, is_gradebook};

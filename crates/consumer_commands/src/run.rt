@@ -4,9 +4,9 @@ ghost use Rattle.std.specs.Prelude.{◌≡◌};
 ghost use Rattle.consumer_commands.specs.Consumers.{copy_between, link_between};
 ghost use Rattle.consumer_commands.specs.Syncs.{IsSyncOf};
 
-use crate::task::SyncTask;
 use consumer_sync::sync;
 use exchange_link::{Link, SyncAnswer};
+use hub_words::SyncTask;
 use keeper_memory::CopyKeeper;
 use std::alloc::Global;
 

@@ -5,9 +5,9 @@ ghost use Rattle.keeper_memory.specs.copy.Copies.{IsOutWrite};
 ghost use Rattle.consumer_commands.specs.Consumers.{copy_between, link_between};
 ghost use Rattle.consumer_commands.specs.Sends.{IsEnterOf, IsSendOf};
 
-use crate::task::SendTask;
 use consumer_outbox::{enter, send};
 use exchange_link::{EnterError, Link, SendAnswer};
+use hub_words::SendTask;
 use keeper_memory::CopyKeeper;
 use std::alloc::Global;
 use version_core::mark::Write;

@@ -3,7 +3,7 @@ use Rattle.std.proofs.Common.{◌≡◌, ◌≢◌, ◌⊎◌, ℕ, ℤ, List, [
 use Rattle.consumer_commands.specs.Consumers.{CopyRun, LinkRun}
 use Rattle.consumer_commands.specs.SyncLines.{sync_status, sync_text}
 use Rattle.consumer_commands.specs.Syncs.{IsSyncOf}
-use Rattle.consumer_commands.specs.Tasks.{Object, Sending, Task}
+use Rattle.hub_words.specs.Tasks.{Object, Sending, Task}
 use Rattle.consumer_commands.specs.Held.{IsHeldText}
 use Rattle.consumer_commands.specs.Outbox.{IsOutboxText}
 use Rattle.consumer_commands.specs.Sends.{IsEnterOf, IsSendOf}
@@ -29,25 +29,26 @@ use Rattle.roster_base.specs.Faults.{Rose}
 use Rattle.roster_types.specs.declared.set_row.SetRow.{SetRow}
 use Rattle.roster_values.specs.declared.kind.Kind.{Kind}
 use Rattle.roster_values.specs.declared.mode.Mode.TheVariants.{Bulk}
-use Rattle.hub_cli.specs.Answers.{IsPrinted, status_of, text_of}
-use Rattle.hub_cli.specs.ConsumerAnswers.{IsListAnswer, IsSyncAnswer, ReadEnds}
-use Rattle.hub_cli.specs.OutboxAnswers.{IsEnterAnswer, IsEntered, IsOutboxAnswer, IsSendAnswer, IsWriteOf, ReadsWrite, or_bad_row, put_in}
-use Rattle.hub_cli.specs.Outside.{HaveRisen, HaveStood, NothingFailed, Outside}
-use Rattle.hub_cli.specs.Runs.{ConsumerRests, IsAnswer, IsCommandAnswer, IsShowAnswer, LeadsFrom, WantsMemory}
-use Rattle.hub_cli.specs.Shows.{IsShown, answer_of_file, answer_of_rows}
-use Rattle.hub_cli.specs.Words.{command_in}
-use Rattle.hub_cli.specs.declared.answer.Answer.{Answer}
-use Rattle.hub_cli.specs.declared.answer.End.{End}
-use Rattle.hub_cli.specs.declared.answer.End.TheVariants as ends
-use Rattle.hub_cli.specs.declared.words.Command.{Command}
-use Rattle.hub_cli.specs.declared.words.Command.TheVariants.{Ask, Enter, Grant, ListHeld, Outbox, Publish, Send, Show, Sync}
-use Rattle.hub_cli.specs.declared.words.EnterTask.{EnterTask}
-use Rattle.hub_cli.specs.declared.words.EnterTask.TheVariants.{Delete, Put}
-use Rattle.hub_cli.specs.declared.words.Parsed.{Parsed}
-use Rattle.hub_cli.proofs.Asking.{ask-says, ask-wants}
-use Rattle.hub_cli.proofs.Granting.{grant-says, grant-wants}
-use Rattle.hub_cli.proofs.Leading.{leads-nowhere, leads-on}
-use Rattle.hub_cli.proofs.Publishing.{Says, run-says, run-wants}
+use Rattle.hub_commands.specs.Answers.{IsPrinted, status_of, text_of}
+use Rattle.hub_commands.specs.ConsumerAnswers.{IsListAnswer, IsSyncAnswer, ReadEnds}
+use Rattle.hub_commands.specs.OutboxAnswers.{IsEnterAnswer, IsEntered, IsOutboxAnswer, IsSendAnswer, IsWriteOf, ReadsWrite, or_bad_row, put_in}
+use Rattle.hub_commands.specs.Outside.{HaveRisen, HaveStood, NothingFailed, Outside}
+use Rattle.hub_commands.specs.Runs.{IsShowAnswer, LeadsFrom, WantsMemory}
+use Rattle.hub_cli.specs.Runs.{ConsumerRests, IsAnswer, IsCommandAnswer}
+use Rattle.hub_commands.specs.Shows.{IsShown, answer_of_file, answer_of_rows}
+use Rattle.hub_words.specs.Words.{command_in}
+use Rattle.hub_commands.specs.declared.answer.Answer.{Answer}
+use Rattle.hub_commands.specs.declared.answer.End.{End}
+use Rattle.hub_commands.specs.declared.answer.End.TheVariants as ends
+use Rattle.hub_words.specs.declared.words.Command.{Command}
+use Rattle.hub_words.specs.declared.words.Command.TheVariants.{Ask, Enter, Grant, ListHeld, Outbox, Publish, Send, Show, Sync}
+use Rattle.hub_words.specs.declared.words.EnterTask.{EnterTask}
+use Rattle.hub_words.specs.declared.words.EnterTask.TheVariants.{Delete, Put}
+use Rattle.hub_words.specs.declared.words.Parsed.{Parsed}
+use Rattle.hub_commands.proofs.Asking.{ask-says, ask-wants}
+use Rattle.hub_commands.proofs.Granting.{grant-says, grant-wants}
+use Rattle.hub_commands.proofs.Leading.{leads-nowhere, leads-on}
+use Rattle.hub_commands.proofs.Publishing.{Says, run-says, run-wants}
 
 abbrev pub out_of_memory : Answer
 out_of_memory = record { done = []; end = ends.NoMemory }

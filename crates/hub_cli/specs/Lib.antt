@@ -1,14 +1,2 @@
-pub mod Answers
-pub mod AskAnswers
-pub mod ConsumerAnswers
-pub mod GrantAnswers
-pub mod Lines
-pub mod OutboxAnswers
-pub mod Outside
-pub mod Publishes
-pub mod Reads
 pub mod Runs
 pub mod Serves
-pub mod Shows
-pub mod Steps
-pub mod Words

@@ -5,14 +5,14 @@ ghost use Rattle.hub_server.specs.Serving.{AllMean, AllServed, ComesBy, SomeRefu
 ghost use Rattle.keeper_memory.specs.Kept.{IsKept, KeptState};
 ghost use Rattle.roster_base.specs.Faults.{Rose};
 ghost use Rattle.hub_cli.specs.Serves as serves;
-ghost use Rattle.hub_cli.specs.Words.{split_serve};
-ghost use Rattle.hub_cli.specs.declared.words.ServeWords.{ServeWords as ServeWordsValue};
+ghost use Rattle.hub_words.specs.Words.{split_serve};
+ghost use Rattle.hub_words.specs.declared.words.ServeWords.{ServeWords as ServeWordsValue};
 
-use crate::lines::NO_MEMORY;
-use crate::publish::{end_of, end_of_error, told_line};
-use crate::words::{ServeWords, split_serve};
+use hub_commands::lines::NO_MEMORY;
+use hub_commands::publish::{end_of, end_of_error, told_line};
 use hub_server::{Ending, Notices, Served, serve_task};
 use hub_shared::FeedEnd;
+use hub_words::{ServeWords, split_serve};
 use keeper_memory::HubKeeper;
 use outside_ports::{Acceptor, Clock, Folder, Gate};
 use roster_base::{NoMemory, Refusal};

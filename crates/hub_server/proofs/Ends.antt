@@ -10,7 +10,7 @@ use Rattle.hub_server.specs.declared.jobs.Job.TheVariants as job
 use Rattle.hub_server.specs.declared.jobs.JobEnd.{JobEnd}
 use Rattle.hub_server.specs.declared.jobs.JobEnd.TheVariants as job_end
 use Rattle.hub_server.specs.declared.server.Results.{Results}
-use Rattle.hub_server.specs.declared.task.Feed.{Feed}
+use Rattle.hub_words.specs.declared.task.Feed.{Feed}
 use Rattle.keeper_memory.specs.Kept.{KeptState}
 use Rattle.outside_ports.specs.Files.{Stored}
 

@@ -8,7 +8,7 @@ use Rattle.hub_core.specs.declared.hub_error.HubError.TheVariants as error
 use Rattle.hub_history.specs.declared.entry.Entry.{Entry}
 use Rattle.hub_server.specs.Jobs.{Feeds, IsTurnedDown, ending_of, ending_of_fault}
 use Rattle.hub_server.specs.declared.ending.Ending.TheVariants as ending
-use Rattle.hub_server.specs.declared.task.Feed.{Feed}
+use Rattle.hub_words.specs.declared.task.Feed.{Feed}
 use Rattle.hub_shared.specs.Feeding as feeding
 use Rattle.hub_shared.specs.declared.feeding.FeedEnd.{FeedEnd}
 use Rattle.hub_shared.specs.declared.feeding.FeedEnd.TheVariants as feed_end

@@ -13,7 +13,7 @@ use Rattle.hub_server.specs.declared.jobs.Job.{Job}
 use Rattle.hub_server.specs.declared.jobs.Job.TheVariants as job
 use Rattle.hub_server.specs.declared.jobs.JobEnd.{JobEnd}
 use Rattle.hub_server.specs.declared.jobs.JobEnd.TheVariants as job_end
-use Rattle.hub_server.specs.declared.task.Feed.{Feed}
+use Rattle.hub_words.specs.declared.task.Feed.{Feed}
 use Rattle.hub_shared.specs.declared.feeding.FeedEnd.{FeedEnd}
 use Rattle.hub_shared.specs.declared.feeding.FeedEnd.TheVariants as feed_end
 use Rattle.keeper_memory.specs.Kept.{KeptState}

@@ -11,7 +11,7 @@ use Rattle.hub_server.specs.declared.jobs.Job.{Job}
 use Rattle.hub_server.specs.declared.jobs.Job.TheVariants as job
 use Rattle.hub_server.specs.declared.jobs.JobEnd.{JobEnd}
 use Rattle.hub_server.specs.declared.jobs.JobEnd.TheVariants as job_end
-use Rattle.hub_server.specs.declared.task.Feed.{Feed}
+use Rattle.hub_words.specs.declared.task.Feed.{Feed}
 use Rattle.keeper_memory.specs.Commits.{with_commit}
 use Rattle.keeper_memory.specs.Kept.{KeptState}
 use Rattle.keeper_memory.specs.declared.hub_commit.HubCommit.{HubCommit}

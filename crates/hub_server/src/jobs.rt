@@ -6,11 +6,11 @@ ghost use Rattle.hub_server.specs.Jobs as jobs;
 
 use crate::ending::Ending;
 use crate::notices::Notices;
-use crate::task::Feed;
 use csv_sets::SetFault;
 use hub_core::HubError;
 use hub_history::Naming;
 use hub_shared::{Desk, FeedEnd, ReadSeat, SharedHub, feed_shared, serve_shared};
+use hub_words::Feed;
 use keeper_memory::HubKeeper;
 use outside_ports::{Acceptor, Clock, Folder, Gate, IoError};
 use rest_paths::PathRouter;

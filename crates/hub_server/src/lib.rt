@@ -5,9 +5,7 @@ pub mod ending;
 mod jobs;
 pub mod notices;
 pub mod server;
-pub mod task;
 
 pub use ending::Ending;
 pub use notices::{NoNotices, Notices};
 pub use server::{Served, serve_task};
-pub use task::{Feed, ServeTask};

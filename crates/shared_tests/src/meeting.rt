@@ -75,11 +75,17 @@ pub struct MeetingHub<'a> {
 }
 
 impl<'a> HubKeeper for MeetingHub<'a> {
-    ghost use Rattle.std.specs.Prelude.{◌≡◌};
+    ghost use Rattle.std.specs.Prelude.{◌≡◌, ⊤};
 
     ghost stands_for = { λ h kept. kept ≡ h.hub.kept };
 
     ghost fault_count = { λ h. h.hub.plan.faults };
+
+    ghost leads = { λ _ _. ⊤ };
+
+    ghost stays = { λ _. tt };
+
+    ghost leads_on = { λ _ _ _ _ _. tt };
 
     fn load(&mut self, alloc: Global) -> Result<HubTables, KeeperError> {
         self.hub.load(alloc)

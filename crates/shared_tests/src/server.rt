@@ -1,8 +1,8 @@
 //! A server of a test: what it is given, and what it leaves.
 
 ghost use Rattle.std.specs.Prelude.{◌≡◌, Ok, length, map, string_bytes};
-ghost use Rattle.hub_cli.specs.Words.{split_serve};
-ghost use Rattle.hub_cli.specs.declared.words.ServeWords.{ServeWords as ServeWordsValue};
+ghost use Rattle.hub_words.specs.Words.{split_serve};
+ghost use Rattle.hub_words.specs.declared.words.ServeWords.{ServeWords as ServeWordsValue};
 
 use crate::lake::NOON;
 use hub_cli::{ServeEnd, serve_hub};

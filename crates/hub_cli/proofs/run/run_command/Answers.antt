@@ -1,9 +1,9 @@
 use Rattle.std.proofs.Common.{refl}
 use Rattle.consumer_commands.specs.Consumers.{copy_between, link_between}
 use Rattle.hub_cli.proofs.Ending.{leads-command, leads-entered, leads-listed, leads-outbox, leads-resting, leads-sent, leads-shown, leads-synchronised, leads-told}
-use Rattle.hub_cli.proofs.Telling.{writes_as}
-use Rattle.hub_cli.specs.Outside.{faults_between, outside_between}
-use Rattle.hub_cli.specs.declared.words.Command.TheVariants.{Ask, Grant, Publish}
+use Rattle.hub_commands.proofs.Telling.{writes_as}
+use Rattle.hub_commands.specs.Outside.{faults_between, outside_between}
+use Rattle.hub_words.specs.declared.words.Command.TheVariants.{Ask, Grant, Publish}
 use Rattle.hub_cli.proofs.run.run_command.Goals as goal
 
 pub returns-in-Show : goal.returns-in-Show

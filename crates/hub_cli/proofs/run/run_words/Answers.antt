@@ -1,9 +1,9 @@
 use Rattle.std.proofs.Common.{map, refl, string_bytes}
 use Rattle.consumer_commands.specs.Consumers.{copy_between, link_between}
 use Rattle.hub_cli.proofs.Ending.{leads-no-memory}
-use Rattle.hub_cli.proofs.Telling.{writes_as}
-use Rattle.hub_cli.specs.Outside.{faults_between, outside_between}
-use Rattle.hub_cli.specs.Words.{split}
+use Rattle.hub_commands.proofs.Telling.{writes_as}
+use Rattle.hub_commands.specs.Outside.{faults_between, outside_between}
+use Rattle.hub_words.specs.Words.{split}
 use Rattle.hub_cli.proofs.run.run_words.Goals as goal
 
 pub returns-in-Ok : goal.returns-in-Ok

@@ -1,0 +1,57 @@
+-- What a command answers: its status and its text are functions of the answer alone.
+use Rattle.std.specs.Prelude.{◌≡◌, ◌≢◌, ◌⊎◌, ℕ, ◌++◌, List, [], codes}
+use Rattle.consumer_commands.specs.SendLines.{enter_status, enter_text, send_status, send_text}
+use Rattle.consumer_commands.specs.SyncLines.{sync_status, sync_text}
+use Rattle.hub_commands.specs.declared.answer.Answer.{Answer}
+use Rattle.hub_commands.specs.declared.answer.End.{End}
+use Rattle.hub_commands.specs.declared.answer.End.TheVariants.{BadRow, BadWord, CopyFailed, Done, FileNotUtf8, FileTooLarge, FolderFailed, GrantsRefused, HubFailed, MissingFile, NoMemory, NotEntered, NotPublished, Refused, RequestRefused, ScriptRefused, Sent, Synced}
+use Rattle.hub_commands.specs.Lines.{bad_word_text, copy_failed, fault_text, folder_failed, grants_fault_text, hub_failed, named_file_text, no_memory, publish_fault_text, request_text, script_text}
+
+abbrev pub status_of : End → ℕ
+status_of Done = 0
+status_of (BadWord place) = 2
+status_of FolderFailed = 3
+status_of (Refused fault) = 4
+status_of (MissingFile name) = 4
+status_of (FileTooLarge name) = 4
+status_of (FileNotUtf8 name) = 4
+status_of (BadRow name) = 4
+status_of (GrantsRefused fault) = 4
+status_of (RequestRefused number fault) = 4
+status_of (ScriptRefused line) = 4
+status_of (NotPublished fault) = 4
+status_of HubFailed = 5
+status_of (Synced answer) = sync_status answer
+status_of (NotEntered error) = enter_status error
+status_of (Sent answer) = send_status answer
+status_of CopyFailed = 6
+status_of NoMemory = 17
+
+-- the line that an end is told by
+abbrev pub end_text : End → List ℕ
+end_text Done = []
+end_text (BadWord place) = bad_word_text place
+end_text FolderFailed = folder_failed
+end_text (Refused fault) = fault_text fault
+end_text (MissingFile name) = named_file_text name (codes ": missing file\n")
+end_text (FileTooLarge name) = named_file_text name (codes ": too large\n")
+end_text (FileNotUtf8 name) = named_file_text name (codes ": not UTF-8\n")
+end_text (BadRow name) = named_file_text name (codes ": bad row\n")
+end_text (GrantsRefused fault) = grants_fault_text fault
+end_text (RequestRefused number fault) = request_text number fault
+end_text (ScriptRefused line) = script_text line
+end_text (NotPublished fault) = publish_fault_text fault
+end_text HubFailed = hub_failed
+end_text (Synced answer) = sync_text answer
+end_text (NotEntered error) = enter_text error
+end_text (Sent answer) = send_text answer
+end_text CopyFailed = copy_failed
+end_text NoMemory = no_memory
+
+-- what was done, and how it ended
+abbrev pub text_of : Answer → List ℕ
+text_of answer = answer.done ++ end_text answer.end
+
+-- what is printed of an answer: itself, or what was done and that memory ran out for the lines of another end than Done
+abbrev pub IsPrinted : Answer → Answer → Type 0
+IsPrinted answer printed = (printed ≡ answer) ⊎ ((answer.end ≢ Done) × (printed ≡ record answer { end = NoMemory }))

@@ -1,0 +1,64 @@
+//! What is written of an answer.
+
+ghost use Rattle.std.specs.Prelude.{◌≡◌, ◌≢◌, ◌++◌};
+ghost use Rattle.std.specs.Io.KnownBytes.{Appends};
+ghost use Rattle.outside_ports.specs.Written.{AppendsPart};
+ghost use Rattle.roster_base.specs.Faults.{Rose};
+ghost use Rattle.hub_commands.specs.Answers.{IsPrinted};
+ghost use Rattle.hub_commands.specs.Runs.{WritesBetween};
+
+use crate::answer::Answer;
+use crate::lines::NO_MEMORY;
+use outside_ports::Sink;
+use roster_base::NoMemory;
+use std::alloc::Global;
+
+/// Writes a text, and gives its status, or 1 where the sink failed and a front of the text was written.
+pub fn print<O: Sink>(out: &mut O, status: u8, text: &str) -> u8
+    requires { status ≢ 1 }
+    ensures done { result ≢ 1 → (result ≡ status) × Appends (O.written out.old) (O.written out.new) text.now × (O.faults out.new ≡ O.faults out.old) }
+    ensures fault { result ≡ 1 → Rose (O.faults out.old) (O.faults out.new) × AppendsPart (O.written out.old) (O.written out.new) text.now }
+{
+    match out.write_all(text.as_bytes()) {
+        Ok(()) => status,
+        Err(_) => 1,
+    }
+}
+
+// Writes two texts, one behind the other, and gives the status likewise.
+fn print_both<O: Sink>(out: &mut O, status: u8, first: &str, second: &str) -> u8
+    requires { status ≢ 1 }
+    ensures done { result ≢ 1 → (result ≡ status) × Appends (O.written out.old) (O.written out.new) (first.now ++ second.now) × (O.faults out.new ≡ O.faults out.old) }
+    ensures fault { result ≡ 1 → Rose (O.faults out.old) (O.faults out.new) × AppendsPart (O.written out.old) (O.written out.new) (first.now ++ second.now) }
+{
+    if first.is_empty() {
+        return print(out, status, second);
+    }
+    if second.is_empty() {
+        return print(out, status, first);
+    }
+    if print(out, 0, first) == 1 {
+        return 1;
+    }
+    print(out, status, second)
+}
+
+// Writes what a command answers, or what it did and the line for want of memory.
+fn print_answer<O: Sink>(alloc: Global, answer: &Answer, out: &mut O) -> u8
+    ensures { WritesBetween O.written O.faults out.old out.new result (IsPrinted answer.now) }
+{
+    let done = answer.done.as_str();
+    match answer.end.lines(alloc) {
+        Ok(lines) => print_both(out, answer.end.status(), done, lines.as_str()),
+        Err(NoMemory) => print_both(out, 17, done, NO_MEMORY),
+    }
+}
+
+/// Writes what a command answers, or what it did and the line for want of memory, and gives the status.
+pub fn tell<O: Sink>(alloc: Global, answer: Answer, out: &mut O) -> u8
+    ensures { WritesBetween O.written O.faults out.old out.new result (IsPrinted answer) }
+{
+    let status = print_answer(alloc, &answer, out);
+    drop(answer);
+    status
+}

@@ -1,0 +1,3 @@
+mod FeedWords
+mod OptionWords
+mod SplitWords
