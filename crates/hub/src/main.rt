@@ -2,59 +2,118 @@
 #![tactic(auto)]
 
 use outside_ports::{IoSink, Sink};
-use real_run::{NO_MEMORY, print, run_real};
+use real_run::{NO_MEMORY, names_serve, print, run_real, serve_real};
 use std::env;
 use std::io::{self, ErrorKind};
 use std::process::ExitCode;
 use std::rt::Env;
+use std::sync::Wait;
+use std::thread::Threads;
 
 const HELP: &str = "\
 hub [--store DIR] [--folder DIR] [--peer HOST:PORT] [--keep N] COMMAND
 
-ask FILE      answers the HTTP requests in FILE, one behind another, and prints their replies
-enter put KIND ID FILE
-              puts a write into the outbox of the consumer's copy: that the row of KIND with this ID
-              be as the body in FILE says, of 131072 bytes at most; prints the number of the entry
-enter delete KIND ID
-              puts a write into the outbox: that the row be deleted; prints the number of the entry
-              KIND is one of categories, lineItems, results
-grant FILE    gives each caller what FILE asks for, in place of all grants, and prints the version
-              that this leads to
-list KIND     prints the rows of KIND that the consumer's copy holds, in order of id, as JSON
-outbox        prints the entries of the outbox: of each its number, and the status and the version of
-              the hub's reply, or that it waits
-publish FEED=DIR ..
-              publishes the set in each folder DIR as the feed FEED, one after another, and
-              prints the version that each leads to
-send TOKEN TRIES
-              sends the entries that wait to the hub at the peer's address, one after another, under
-              TOKEN, and tries each request TRIES times, 1 to 100; prints how many were settled
-show KIND     prints the rows of KIND.csv, in order of id, as JSON
-              KIND is one of orgs, academicSessions, courses, classes, users, enrollments,
-              demographics, categories, lineItems, results
-sync TOKEN LIMIT TRIES
-              copies what TOKEN sees of the hub at the peer's address, in pages of LIMIT rows, 1 to
-              1000, and tries each request TRIES times, 1 to 100; prints the version of the copy
+feeds
+  publish FEED=DIR ..   publishes the set in each folder DIR as the feed FEED, one after another, and
+                        prints the version that each leads to
+  show KIND             prints the rows of KIND.csv, in order of id, as JSON
 
---store DIR   the folder where the stores of the hub and of the copy are kept, in place of memory
---folder DIR  the folder where the command finds its files, in place of the working folder
---peer HOST:PORT
-              the address of the hub that is copied; without it each try fails
---keep N      how many versions a new store keeps beside the newest, 1 to 100000, in place of 10000
---help        prints this
---version     prints the version
+callers
+  grant FILE            gives each caller what FILE asks for, in place of all grants, and prints the
+                        version that this leads to
+  ask FILE              answers the HTTP requests in FILE, one behind another, and prints their replies
+  serve CONNECTIONS ADDRESS .. FEED=DIR ..
+                        serves the hub at each ADDRESS, a host and a port, until so many connections, 1
+                        to 1000000, were served there one after another, and beside them publishes the
+                        set in each folder DIR as the feed FEED; an ADDRESS that is named several times
+                        serves as many connections at once; prints nothing, and tells on standard error
+                        where it listens and what came of each feed
 
-The status is 0 where the command is done, 1 where the output could not be written, 2 where the
-words are no command, 3 where the folder failed, 4 where the input is refused, 5 where the hub's
-store failed, 6 where the copy's store failed and 17 where memory ran out. Where a copy isn't made, or
-an entry isn't settled, it is 7 where the peer wasn't reached, 8 where it keeps the version no longer,
-9 where it doesn't know the token, 10 where it doesn't open the write to the token, 11 where it has
-taken another write under the entry's number, 12 where its reply is none that a hub gives, 13 where it
-has too many rows, 14 where it failed, 15 where it had no memory and 16 at the last run or entry. All
-lines go to standard output.
+copies
+  sync TOKEN LIMIT TRIES
+                        copies what TOKEN sees of the hub at the peer's address, in pages of LIMIT rows,
+                        1 to 1000, and tries each request TRIES times, 1 to 100; prints the version of
+                        the copy
+  list KIND             prints the rows of KIND that the copy holds, in order of id, as JSON
+
+outbox
+  enter put KIND ID FILE
+                        puts a write into the outbox of the copy: that the row of KIND with this ID be as
+                        the body in FILE says, of 131072 bytes at most; prints the number of the entry
+  enter delete KIND ID  the same, that the row be deleted
+  send TOKEN TRIES      sends the entries that wait to the hub at the peer's address, one after another,
+                        under TOKEN, and tries each request TRIES times; prints how many were settled
+  outbox                prints the entries: of each its number, and the status and the version of the
+                        hub's reply, or that it waits
+
+KIND is one of orgs, academicSessions, courses, classes, users, enrollments, demographics, categories,
+lineItems, results; with enter one of the last three.
+
+--store DIR        the folder where the stores of the hub and of the copy are kept, in place of memory
+--folder DIR       the folder where the command finds its files, in place of the working folder
+--peer HOST:PORT   the address of the hub that is copied; without it each try fails
+--keep N           how many versions a new store keeps beside the newest, 1 to 100000, in place of 10000
+--help             prints this
+--version          prints the version and the format of its stores
+
+  hub --store st --folder examples publish sis=lake
+  hub --store copy --peer 127.0.0.1:8080 sync tok-e 1000 3
+
+status
+   0  done                               9  the hub doesn't know the token
+   1  the output could not be written   10  the token doesn't open that write
+   2  the words are no command          11  the hub has another write under the entry's number
+   3  the folder failed                 12  the reply is none that a hub gives
+   4  the input is refused              13  the hub has too many rows
+   5  the hub's store failed            14  the hub failed
+   6  the copy's store failed           15  the hub had no memory
+   7  the peer wasn't reached           16  the last run or entry
+   8  the version is kept no longer     17  memory ran out
+                                        18  a server can't listen
 ";
 
-const VERSION: &str = "hub 0.1.0\n";
+const VERSION: &str = "hub 0.1.0, stores of format 1\n";
+
+// The words of each command, as they are explained where a command's words are bad.
+static USAGES: [(&str, &str); 10] = [
+    (
+        "publish",
+        "[--store DIR] [--folder DIR] [--keep N] publish FEED=DIR ..",
+    ),
+    ("show", "[--folder DIR] show KIND"),
+    (
+        "grant",
+        "[--store DIR] [--folder DIR] [--keep N] grant FILE",
+    ),
+    ("ask", "[--store DIR] [--folder DIR] [--keep N] ask FILE"),
+    (
+        "serve",
+        "[--store DIR] [--folder DIR] [--keep N] serve CONNECTIONS ADDRESS .. FEED=DIR ..",
+    ),
+    (
+        "sync",
+        "[--store DIR] [--peer HOST:PORT] sync TOKEN LIMIT TRIES",
+    ),
+    ("list", "[--store DIR] list KIND"),
+    (
+        "enter",
+        "[--store DIR] [--folder DIR] enter put KIND ID FILE\n   or: hub [--store DIR] enter delete KIND ID",
+    ),
+    ("send", "[--store DIR] [--peer HOST:PORT] send TOKEN TRIES"),
+    ("outbox", "[--store DIR] outbox"),
+];
+
+// The usage of the command that the words name first, or of any.
+fn usage_of(words: &[String]) -> &'static str {
+    for word in words {
+        for (command, usage) in &USAGES {
+            if word.as_str() == *command {
+                return usage;
+            }
+        }
+    }
+    "[--store DIR] [--folder DIR] [--peer HOST:PORT] [--keep N] COMMAND .."
+}
 
 // The words behind the program's name.
 fn words_of<R: Env + AllocGlobal>(rt: &R) -> io::Result<Vec<String>> {
@@ -70,28 +129,43 @@ fn answer_unread(error: &io::Error, out: &mut impl Sink) -> u8 {
 }
 
 // Runs the words, of which two are the program's own.
-fn run(rt: HostRuntime, words: &[String], out: &mut impl Sink) -> u8 {
+fn run<R: Threads + Wait + Sync>(
+    threads: &R,
+    rt: HostRuntime,
+    words: &[String],
+    out: &mut impl Sink,
+) -> u8 {
     match words {
         [word] if word.as_str() == "--help" => print(out, 0, HELP),
         [word] if word.as_str() == "--version" => print(out, 0, VERSION),
+        _ if names_serve(rt.alloc(), words) => serve_real(threads, rt, rt.alloc(), words, out),
         _ => run_real(rt, rt.alloc(), words, out),
     }
 }
 
-// Says where the words are explained, where they are bad. Standard output has the line that names the place.
-fn hint(rt: &impl Eprint, status: u8) {
+// Says what was wanted, where the words are bad. Standard output has the line that names the place.
+fn hint(rt: &impl Eprint, status: u8, words: &[String]) {
     if status == 2 {
+        let usage = usage_of(words);
         // A hint that can't be written changes nothing.
-        let _ = eprintln!(rt; "hub --help lists the commands");
+        let _ = eprintln!(rt;
+            "usage: hub {usage}\nwords are counted from 0; options stand before the command; hub --help explains all"
+        );
     }
 }
 
 fn main(rt: HostRuntime) -> ExitCode {
     let mut out = IoSink::new(io::writer(&rt));
-    let status = match words_of(&rt) {
-        Ok(words) => run(rt, words.as_slice(), &mut out),
-        Err(error) => answer_unread(&error, &mut out),
-    };
-    hint(&rt, status);
-    ExitCode::from(status)
+    match words_of(&rt) {
+        Ok(words) => {
+            let status = run(&rt, rt, words.as_slice(), &mut out);
+            hint(&rt, status, words.as_slice());
+            ExitCode::from(status)
+        }
+        Err(error) => {
+            let status = answer_unread(&error, &mut out);
+            hint(&rt, status, &[]);
+            ExitCode::from(status)
+        }
+    }
 }

@@ -2,8 +2,8 @@
 use Rattle.std.proofs.Common.{◌≡◌, ◌≢◌, ℕ, List, [], Option, None, Some, Result, Ok, Err, IfNone, IsErr, IsSome, refl, sym, ◌∙◌, ap, subst, inl, inr, arith}
 use Rattle.std.specs.Io.KnownBytes.{Appends}
 use Rattle.std.specs.Bool.{⊤}
-use Rattle.hub_cli.specs.ConsumerAnswers.{CopyRun, IsSyncOf, LinkRun, Task, copy_run, link_run}
-use Rattle.hub_cli.specs.OutboxAnswers.{IsEnterOf, IsSendOf, Sending}
+use Rattle.hub_commands.specs.ConsumerAnswers.{CopyRun, IsSyncOf, LinkRun, Task, copy_run, link_run}
+use Rattle.hub_commands.specs.OutboxAnswers.{IsEnterOf, IsSendOf, Sending}
 use Rattle.keeper_memory.specs.copy.Copies.{Copy, IsCopy}
 use Rattle.keeper_memory.specs.copy.HeldCopy.{HeldCopy, empty_copy}
 use Rattle.exchange_link.specs.Causes.{Caused}
@@ -20,18 +20,19 @@ use Rattle.version_core.proofs.MarkLemmas.{no_marks}
 use Rattle.outside_ports.specs.Written.{AppendsPart}
 use Rattle.roster_base.specs.Faults.{Rose}
 use Rattle.roster_values.specs.declared.kind.Kind.{Kind}
-use Rattle.hub_cli.proofs.Telling.{told_count, told_done, told_part}
-use Rattle.hub_cli.specs.Answers.{status_of, text_of}
-use Rattle.hub_cli.specs.ConsumerAnswers.{CopyStays, IsListAnswer}
-use Rattle.hub_cli.specs.OutboxAnswers.{IsOutboxAnswer}
-use Rattle.hub_cli.specs.Outside.{Faults, Outside, faults_of, outside_of}
-use Rattle.hub_cli.specs.Runs.{ConsumerRests, IsAnswer, IsCommandAnswer, LeadsFrom, Writes}
-use Rattle.hub_cli.specs.Words.{keep_in, store_in}
-use Rattle.hub_cli.specs.declared.answer.Answer.{Answer}
-use Rattle.hub_cli.specs.declared.answer.End.TheVariants as ends
-use Rattle.hub_cli.specs.declared.words.Command.{Command}
-use Rattle.hub_cli.specs.declared.words.Command.TheVariants.{Ask, Enter, Grant, ListHeld, Outbox, Publish, Send, Show, Sync}
-use Rattle.hub_cli.specs.declared.words.Parsed.{Parsed}
+use Rattle.hub_commands.proofs.Telling.{told_count, told_done, told_part}
+use Rattle.hub_commands.specs.Answers.{status_of, text_of}
+use Rattle.hub_commands.specs.ConsumerAnswers.{CopyStays, IsListAnswer}
+use Rattle.hub_commands.specs.OutboxAnswers.{IsOutboxAnswer}
+use Rattle.hub_commands.specs.Outside.{Faults, Outside, faults_of, outside_of}
+use Rattle.hub_commands.specs.Runs.{LeadsFrom, Writes}
+use Rattle.hub_cli.specs.Runs.{ConsumerRests, IsAnswer, IsCommandAnswer}
+use Rattle.hub_words.specs.Words.{keep_in, store_in}
+use Rattle.hub_commands.specs.declared.answer.Answer.{Answer}
+use Rattle.hub_commands.specs.declared.answer.End.TheVariants as ends
+use Rattle.hub_words.specs.declared.words.Command.{Command}
+use Rattle.hub_words.specs.declared.words.Command.TheVariants.{Ask, Enter, Grant, ListHeld, Outbox, Publish, Send, Show, Sync}
+use Rattle.hub_words.specs.declared.words.Parsed.{Parsed}
 use Rattle.real_run.specs.RealRuns.{AnswersFrom, AnswersOver, IsRealAnswer, RealCopy, RealLink, Runs, new_copy_run, new_hub, real_copy_run, silent_link_run, stored_copy_run}
 
 -- ---- what is told of copy and link, said more weakly

@@ -1,25 +1,24 @@
 //! Runs over the real folder, clock and store.
 
 ghost use Rattle.std.specs.Prelude.{◌≡◌, ◌≢◌, IsErr, IsSome, None, map, string_bytes};
-ghost use Rattle.hub_cli.specs.ConsumerAnswers.{copy_between, link_between};
-ghost use Rattle.hub_cli.specs.Words.{split, store_in};
+ghost use Rattle.hub_commands.specs.ConsumerAnswers.{copy_between, link_between};
+ghost use Rattle.hub_words.specs.Words.{split, store_in};
 ghost use Rattle.real_run.specs.RealRuns.{AnswersFrom, AnswersOver, IsRealAnswer, RunsBetween, Tells, TellsPart};
 ghost use Rattle.roster_base.specs.Faults.{Rose};
 
-use crate::store::{COPY_FILE, HUB_FILE, OpenStore, open_store};
+use crate::telling::{tell_before, tell_behind};
 use exchange_link::{Link, NoLink, SocketLink};
 use hub_cli::lines::NO_MEMORY;
 use hub_cli::{
     Command, Spelled, keep_of, peer_of, print, read_words, root_of, run_spelled, store_of,
 };
 use keeper_memory::{CopyKeeper, HubKeeper, MemCopy, MemHub};
-use keeper_sqlite::{ClosedStore, ItemCopy, ItemHub, SqlItems};
+use keeper_sqlite::{ClosedStore, ItemCopy, ItemHub};
 use outside_ports::{DirFolder, Sink, SystemClock};
 use roster_base::NoMemory;
-use sqlite::{Connection, FileStore};
-use sqlite_disk::Disk;
 use std::alloc::Global;
 use std::mem::forget;
+use store_files::{COPY_FILE, HUB_FILE, OpenStore, open_store};
 
 // The system that a run works with, the folder of its files, and the address of the hub that it copies.
 #[derive(Drop)]
@@ -142,8 +141,7 @@ fn run_with_copy<C: CopyKeeper, O: Sink>(
     status
 }
 
-// Runs words over what an open store keeps, and closes the store. This goes over any store: a proof over the files of the system takes
-// long for each call that names their types.
+// Runs words over what an open store keeps, and closes the store.
 fn run_over_items<S: OpenStore, O: Sink>(
     system: System,
     spelled: &Spelled,
@@ -164,19 +162,6 @@ fn run_over_items<S: OpenStore, O: Sink>(
         keeper.release().close();
         status
     }
-}
-
-// Runs words over what a database keeps, and closes the database.
-fn run_connected<D: Disk + Drop, O: Sink>(
-    system: System,
-    spelled: &Spelled,
-    connection: Connection<FileStore<D>>,
-    out: &mut O,
-) -> u8
-    requires { IsSome (store_in spelled.now) }
-    ensures { RunsBetween O.written O.faults out.old out.new result spelled.now (IsRealAnswer spelled.now) }
-{
-    run_over_items(system, spelled, SqlItems::adopt(connection), out)
 }
 
 // Runs words over a store that couldn't be opened.
@@ -203,7 +188,7 @@ fn run_stored<O: Sink>(system: System, spelled: &Spelled, folder: &str, out: &mu
         HUB_FILE
     };
     match open_store(system.rt, system.alloc, folder, file) {
-        Ok(Some(connection)) => run_connected(system, spelled, connection, out),
+        Ok(Some(items)) => run_over_items(system, spelled, items, out),
         Ok(None) => run_closed(system, spelled, out),
         Err(NoMemory) => {
             drop(system);
@@ -249,7 +234,9 @@ fn run_words<O: Sink>(rt: HostRuntime, alloc: Global, words: &[String], out: &mu
 {
     match read_words(alloc, words) {
         Ok(spelled) => {
+            tell_before(rt, alloc, &spelled);
             let status = run_set(rt, alloc, &spelled, out);
+            tell_behind(rt, &spelled, status);
             drop(spelled);
             status
         }

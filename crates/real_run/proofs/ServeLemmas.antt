@@ -1,0 +1,38 @@
+-- What is written where memory runs out.
+use Rattle.std.proofs.Common.{◌≡◌, ◌≢◌, ℕ, List, Option, Result, Ok, Err, refl, sym, subst}
+use Rattle.std.specs.Io.KnownBytes.{Appends}
+use Rattle.hub_commands.specs.Lines.{no_memory}
+use Rattle.hub_words.specs.declared.words.ServeWords.{ServeWords}
+use Rattle.outside_ports.specs.Written.{AppendsPart}
+use Rattle.real_run.specs.RealServes.{Serves, serve_text}
+use Rattle.roster_base.specs.Faults.{Rose}
+
+-- behind bad words
+pub bad_without_memory : (place : ℕ) (old new : Option (List ℕ)) (before now result : ℕ) → (result ≢ 1 → (result ≡ 17) × Appends old new no_memory × (now ≡ before))
+    → (result ≡ 1 → Rose before now × AppendsPart old new no_memory) → (parsed : Result ServeWords ℕ) → parsed ≡ Err place → Serves parsed result old new before now
+bad_without_memory place old new before now result done failed parsed bad = rw bad record {
+  done = λ other. let d = done other in subst (λ (s : ℕ). Appends old new (serve_text (Err place) s)) (sym d.0) d.1;
+  part = λ one. (17, (failed one).1);
+  words_are_bad = λ two. refl;
+  bad_words = λ is other without. absurd (without (done other).0);
+  sink_failed = λ one. (failed one).0;
+  sink_stood = λ other. (done other).2;
+}
+
+-- behind good ones
+pub good_without_memory : (old new : Option (List ℕ)) (before now result : ℕ) → (result ≢ 1 → (result ≡ 17) × Appends old new no_memory × (now ≡ before))
+    → (result ≡ 1 → Rose before now × AppendsPart old new no_memory) → (words : ServeWords) → Serves (Ok words) result old new before now
+good_without_memory old new before now result done failed words = record {
+  done = λ other. let d = done other in subst (λ (s : ℕ). Appends old new (serve_text (Ok words) s)) (sym d.0) d.1;
+  part = λ one. (17, (failed one).1);
+  words_are_bad = λ two. let is = (done (λ one. cc)).0 in cc;
+  bad_words = λ is other without. absurd (without (done other).0);
+  sink_failed = λ one. (failed one).0;
+  sink_stood = λ other. (done other).2;
+}
+
+-- behind any
+pub without_memory : (old new : Option (List ℕ)) (before now result : ℕ) → (result ≢ 1 → (result ≡ 17) × Appends old new no_memory × (now ≡ before))
+    → (result ≡ 1 → Rose before now × AppendsPart old new no_memory) → (parsed : Result ServeWords ℕ) → Serves parsed result old new before now
+without_memory old new before now result done failed (Ok words) = good_without_memory old new before now result done failed words
+without_memory old new before now result done failed (Err place) = bad_without_memory place old new before now result done failed (Err place) refl

@@ -1,0 +1,59 @@
+//! What standard error is told of a run, for people: that a folder or an address isn't there. It decides nothing, and a line that can't
+//! be written changes nothing.
+
+use hub_cli::{Command, Spelled, peer_of, root_of};
+use hub_words::Feed;
+use roster_base::NoMemory;
+use std::alloc::Global;
+use std::path::Path;
+
+// Says that the folder of a feed isn't there.
+fn tell_folder(
+    rt: HostRuntime,
+    alloc: Global,
+    root: &str,
+    feed: &str,
+    folder: &str,
+) -> Result<(), NoMemory> {
+    let path = Path::new(root).join(alloc, folder)?.into_string();
+    if !Path::new(path.as_str()).exists(&rt) {
+        let _ = eprintln!(rt; "feed {feed}: no folder {path}");
+    }
+    Ok(())
+}
+
+// Says which feeds have no folder. Where memory runs out, the run will say so.
+fn tell_folders(rt: HostRuntime, alloc: Global, root: &str, feeds: &[Feed]) {
+    for feed in feeds {
+        let _ = tell_folder(rt, alloc, root, feed.name.as_str(), feed.dir.as_str());
+    }
+}
+
+/// Says before a run what it will miss: the folder of a feed, or the address of the peer.
+pub(crate) fn tell_before(rt: HostRuntime, alloc: Global, spelled: &Spelled) {
+    let Ok(parsed) = spelled else {
+        return;
+    };
+    match &parsed.command {
+        Command::Publish { feeds } => {
+            tell_folders(rt, alloc, root_of(spelled), feeds.as_slice());
+        }
+        Command::Sync { .. } | Command::Send { .. } if peer_of(spelled).is_none() => {
+            let _ = eprintln!(rt; "no --peer HOST:PORT is named, so each try fails");
+        }
+        _ => {}
+    }
+}
+
+/// The status of a run that didn't reach its peer.
+const INTERRUPTED: u8 = 7;
+
+/// Says behind a run at which address its peer wasn't reached.
+pub(crate) fn tell_behind(rt: HostRuntime, spelled: &Spelled, status: u8) {
+    if status == INTERRUPTED {
+        if let Some(peer) = peer_of(spelled) {
+            let address = peer.as_str();
+            let _ = eprintln!(rt; "{address}: no try brought a whole reply to the request");
+        }
+    }
+}
