@@ -6,6 +6,7 @@ use crate::acceptor::Acceptor;
 use crate::failed::IoError;
 use crate::io_sink::IoSink;
 use crate::io_source::IoSource;
+use crate::lingering::Lingering;
 use crate::timed_end::TimedEnd;
 use std::alloc::Global;
 use std::io::{self, ErrorKind};
@@ -84,7 +85,7 @@ impl<R> TcpAcceptor<R> {
 }
 
 /// What comes over a connection.
-pub type TcpInput<R> = IoSource<TimedEnd<TcpStream, R>>;
+pub type TcpInput<R> = IoSource<TimedEnd<Lingering<TcpStream>, R>>;
 
 /// What goes over a connection.
 pub type TcpOutput<R> = IoSink<TimedEnd<TcpStream, R>>;
@@ -100,7 +101,7 @@ fn ends_of<R: Clock + Copy>(
     stream.set_write_timeout(patience)?;
     stream.set_nodelay(true)?;
     let other = stream.try_clone()?;
-    let (input, output) = TimedEnd::pair(alloc, rt, stream, other)?;
+    let (input, output) = TimedEnd::pair(alloc, rt, Lingering::new(stream), other)?;
     Ok((IoSource::new(input), IoSink::new(output)))
 }
 

@@ -32,12 +32,12 @@ fn seconds(rt: &impl Clock) -> io::Result<u64> {
 
 impl<S: Drop, R: Clock + Copy> TimedEnd<S, R> {
     /// The two ends over these streams. They fail where there is no memory for what they share, and where the clock does.
-    pub fn pair(
+    pub fn pair<O: Drop>(
         alloc: Global,
         rt: R,
         input: S,
-        output: S,
-    ) -> io::Result<(TimedEnd<S, R>, TimedEnd<S, R>)> {
+        output: O,
+    ) -> io::Result<(TimedEnd<S, R>, TimedEnd<O, R>)> {
         let turn = Turn {
             began: AtomicU64::new(seconds(&rt)?),
             is_answered: AtomicBool::new(true),
