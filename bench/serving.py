@@ -59,10 +59,11 @@ class Server:
     def ended(self, seconds=60):
         """Its status and what it wrote to standard output, where it ends by itself."""
         try:
-            output, _ = self.child.communicate(timeout=seconds)
-        except (ValueError, subprocess.TimeoutExpired):
+            self.child.wait(timeout=seconds)
+        except subprocess.TimeoutExpired:
             return None, b""
-        return self.child.returncode, output
+        self.reader.join()
+        return self.child.returncode, self.child.stdout.read()
 
     def stop(self):
         self.child.kill()
