@@ -1,3 +1,5 @@
+pub mod AskLemmas
+pub mod DoneLemmas
 pub mod ExchangeLemmas
 pub mod ListLemmas
 pub mod ReadingLemmas
@@ -5,3 +7,8 @@ pub mod RowLemmas
 pub mod StepLemmas
 pub mod SyncLemmas
 pub mod WholeLemmas
+pub mod ActLemmas
+pub mod WalkLemmas
+pub mod TrafficLemmas
+pub mod DeliveryLemmas
+pub mod AgreeingLemmas

@@ -34,7 +34,7 @@ use Rattle.sync_world.proofs.StepLemmas.{read_stays, step_adds}
 use Rattle.sync_world.specs.Worlds.{IsWhole, all_of, whole_state, with_oldest}
 
 -- the first of the kept versions has the oldest number
-oldest_is : (state : HubState) → IsHubState state → (kept : KeptState) → IsPartOf kept state → (oldest_kept kept.versions).number ≡ oldest_number state
+pub oldest_is : (state : HubState) → IsHubState state → (kept : KeptState) → IsPartOf kept state → (oldest_kept kept.versions).number ≡ oldest_number state
 oldest_is state is kept part = sym (read_of state is kept part (record { keep = kept.keep; versions = kept.versions; room = None }) refl).oldest
 
 -- ---- the beginning: all is kept
@@ -151,10 +151,10 @@ module _ (gone : List BaseVersion) (kept kept' : KeptState) (whole : IsWhole gon
       ∙ ap (λ versions. take (oldest_number next) next.published ++ versions) part.versions
       ∙ take-append-drop (oldest_number next) next.published
 
-  is_next : whole_state gone kept' ≡ next
+  pub is_next : whole_state gone kept' ≡ next
   is_next = λ i. record { keep = part.keep i; published = all_published i; marks = part.marks i }
 
-  whole_next : IsWhole gone kept'
+  pub whole_next : IsWhole gone kept'
   whole_next =
       let number = first_number in
       record {

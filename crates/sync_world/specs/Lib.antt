@@ -1,4 +1,12 @@
+pub mod Acts
+pub mod Asking
+pub mod Deliveries
+pub mod Given
+pub mod Happenings
 pub mod Links
 pub mod Own
+pub mod Planned
 pub mod Rows
+pub mod Traffic
+pub mod Walks
 pub mod Worlds

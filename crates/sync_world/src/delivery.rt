@@ -1,28 +1,26 @@
 //! A request on its way to a world, and the reply on its way back.
 
-ghost use Rattle.std.specs.Prelude.{◌≡◌, ◌⊎◌, ◌≤◌, ◌<◌, ◌++◌, ◌∷◌, [], List, IfOk, IsErr, IsTrue, Err, vec_capacity, vec_len};
-ghost use Rattle.exchange_link.specs.Exchanges.{IsOwn, IsSentText, IsTextOf};
+ghost use Rattle.std.specs.Prelude.{◌≡◌, ◌⊎◌, ◌≤◌, ◌<◌, ◌++◌, ◌∷◌, [], ℕ, List, None, Option, Some, IfOk, IsErr, IsOkAnd, Err, false, true, vec_capacity, vec_len};
+ghost use Rattle.exchange_link.specs.Exchanges.{IsLate, IsOwn, IsSentText, IsTextOf};
 ghost use Rattle.http_wire.specs.Sending.{CanSend};
-ghost use Rattle.hub_spec.specs.rules.Growth.{Grew};
 ghost use Rattle.outside_ports.specs.declared.failed.IoError.TheVariants as io_error;
 ghost use Rattle.status_info.specs.declared.request.Request.{Request as Asked};
+ghost use Rattle.sync_world.specs.Deliveries.{Becomes, Delivered, Gives, IsCome, Notes, OnCome, coming};
+ghost use Rattle.sync_world.specs.Given.{AreGiven, is_stale, requests_in};
 ghost use Rattle.sync_world.specs.Links.{told_world};
+ghost use Rattle.sync_world.specs.Planned.{IsLost, MayFail, past_at, reply_of};
+ghost use Rattle.sync_world.specs.Walks.{Walks};
 
 use crate::own_text::own_text;
+use crate::past::{Past, reply_at};
 use crate::reading::request_of;
+use crate::traffic::Fate;
 use crate::world::World;
 use outside_ports::IoError;
 use roster_base::NoMemory;
 use roster_texts::Moment;
 use status_info::Request;
 use std::alloc::Global;
-
-/// Whether an exchange fails before the hub takes its request, and behind it.
-#[derive(Clone, Copy)]
-pub struct Losses {
-    pub request: bool,
-    pub reply: bool,
-}
 
 // Has the world take a request, and gives the text of the reply.
 fn answered(
@@ -32,8 +30,8 @@ fn answered(
     at: Moment,
 ) -> Result<Vec<u8>, NoMemory>
     requires { CanSend request.now }
-    ensures grew { Grew world.old.state world.new.state }
-    ensures counts { world.old.faults ≤ world.new.faults }
+    ensures walks { Walks world.old world.new }
+    ensures gives { IfOk result (λ text. Gives request.now at world.old world.new text.items) }
     ensures own { (xs ys : List Asked) → IfOk result (λ text. IsOwn (told_world xs world.old) (told_world ys world.new) request.now text.items) }
 {
     // Read for what it keeps.
@@ -44,63 +42,154 @@ fn answered(
     text
 }
 
-// The same, where request or reply may be lost.
-fn delivered(
-    alloc: Global,
-    world: &mut World,
-    request: &Request,
-    at: Moment,
-    losses: Losses,
-) -> Result<Vec<u8>, IoError>
-    requires { CanSend request.now }
-    ensures grew { Grew world.old.state world.new.state }
-    ensures counts { world.old.faults ≤ world.new.faults }
-    ensures own { (xs ys : List Asked) → IfOk result (λ text. IsOwn (told_world xs world.old) (told_world ys world.new) request.now text.items) }
-    ensures request { IsTrue losses.request → (result ≡ Err io_error.Failed) × (world.new ≡ world.old) }
-    ensures reply { IsTrue losses.reply → IsErr result }
-    ensures failed { result ≡ Err io_error.Failed → IsTrue losses.request ⊎ IsTrue losses.reply }
+// The reply of an earlier exchange.
+fn stale(alloc: Global, past: &[Past], exchange: u64) -> Result<Vec<u8>, IoError>
+    requires { AreGiven past.now }
+    ensures late { IfOk result (λ text. IsLate (requests_in past.now) text.items) }
+    ensures exact { result ≡ Err io_error.Failed → reply_of (past_at exchange past.now) ≡ None }
+    ensures same { OnCome (λ text. text.items) (λ came. came ≡ reply_of (past_at exchange past.now)) result }
 {
-    if losses.request {
-        return Err(IoError::Failed);
+    match reply_at(past, exchange) {
+        Some(reply) => Ok(reply.to_vec(alloc)?),
+        None => Err(IoError::Failed),
     }
-    let text = answered(alloc, world, request, at)?;
-    if losses.reply {
-        return Err(IoError::Failed);
-    }
-    Ok(text)
 }
 
-// Adds a request where there is room for it.
-fn push_in_room(requests: &mut Vec<Request>, request: Request)
-    requires { vec_len requests.old < vec_capacity requests.old }
-    ensures { requests.new.items ≡ requests.old.items ++ request ∷ [] }
+// The reply that comes, or would come where it isn't lost.
+fn reply_to(
+    alloc: Global,
+    world: &mut World,
+    past: &[Past],
+    request: &Request,
+    at: Moment,
+    fate: Fate,
+) -> Result<Vec<u8>, IoError>
+    requires given { AreGiven past.now }
+    requires can { CanSend request.now }
+    ensures walks { Walks world.old world.new }
+    ensures own { is_stale fate ≡ false → (xs ys : List Asked) → IfOk result (λ text. IsOwn (told_world xs world.old) (told_world ys world.new) request.now text.items) }
+    ensures late { is_stale fate ≡ true → IfOk result (λ text. IsLate (requests_in past.now) text.items) }
+    ensures lost { fate ≡ Fate.RequestLost → IsErr result × (world.new ≡ world.old) }
+    ensures exact { result ≡ Err io_error.Failed → MayFail fate past.now }
+    ensures becomes { OnCome (λ text. text.items) (Becomes fate past.now request.now at world.old world.new) result }
 {
-    if requests.push(request).is_err() {
+    match fate {
+        Fate::RequestLost => Err(IoError::Failed),
+        Fate::Stale { reply } => stale(alloc, past, reply),
+        Fate::Whole | Fate::ReplyLost => Ok(answered(alloc, world, request, at)?),
+    }
+}
+
+// Adds an exchange where there is room for it.
+fn push_in_room(past: &mut Vec<Past>, made: Past)
+    requires { vec_len past.old < vec_capacity past.old }
+    ensures { past.new.items ≡ past.old.items ++ made ∷ [] }
+{
+    if past.push(made).is_err() {
         unreachable!();
     }
 }
 
-/// Hands the request of a text to a world, and notes that it was sent.
+// A reply that isn't lost.
+fn comes(reply: Vec<u8>, fate: Fate) -> Result<Vec<u8>, IoError>
+    ensures same { IfOk result (λ text. text.items ≡ reply.items) }
+    ensures lost { fate ≡ Fate.ReplyLost → IsErr result }
+    ensures exact { result ≡ Err io_error.Failed → fate ≡ Fate.ReplyLost }
+    ensures came { OnCome (λ text. text.items) (λ came. came ≡ coming fate (Some reply.items)) result }
+{
+    match fate {
+        Fate::ReplyLost => Err(IoError::Failed),
+        _ => Ok(reply),
+    }
+}
+
+fn copy_of(alloc: Global, bytes: &[u8]) -> Result<Vec<u8>, NoMemory>
+    ensures { IfOk result (λ copy. copy.items ≡ bytes.now) }
+{
+    Ok(bytes.to_vec(alloc)?)
+}
+
+// Notes an exchange with a copy of its reply, and gives the reply where it comes.
+fn note(
+    alloc: Global,
+    past: &mut Vec<Past>,
+    exchange: u64,
+    request: Request,
+    reply: Result<Vec<u8>, IoError>,
+    fate: Fate,
+) -> Result<Vec<u8>, IoError>
+    requires room { vec_len past.old < vec_capacity past.old }
+    requires given { AreGiven past.old.items }
+    requires late { IfOk reply (λ text. IsLate (request ∷ requests_in past.old.items) text.items) }
+    ensures sent { requests_in past.new.items ≡ request ∷ requests_in past.old.items }
+    ensures given { AreGiven past.new.items }
+    ensures same { IfOk result (λ text. IsOkAnd reply (λ own. text.items ≡ own.items)) }
+    ensures lost { fate ≡ Fate.ReplyLost → IsErr result }
+    ensures exact { result ≡ Err io_error.Failed → (reply ≡ Err io_error.Failed) ⊎ (fate ≡ Fate.ReplyLost) }
+    ensures noted { OnCome (λ text. text.items) (λ came. (would : Option (List ℕ)) × IsCome (λ text. text.items) would reply × Notes exchange request would past.old.items past.new.items × (came ≡ coming fate would)) result }
+{
+    match reply {
+        Err(error) => {
+            push_in_room(
+                past,
+                Past {
+                    exchange,
+                    request,
+                    reply: None,
+                },
+            );
+            Err(error)
+        }
+        Ok(reply) => match copy_of(alloc, reply.as_slice()) {
+            Ok(copy) => {
+                push_in_room(
+                    past,
+                    Past {
+                        exchange,
+                        request,
+                        reply: Some(copy),
+                    },
+                );
+                comes(reply, fate)
+            }
+            Err(NoMemory) => {
+                push_in_room(
+                    past,
+                    Past {
+                        exchange,
+                        request,
+                        reply: None,
+                    },
+                );
+                Err(IoError::NoMemory)
+            }
+        },
+    }
+}
+
+/// Hands the request of a text to a world, where it isn't lost, and notes that it was sent.
 pub fn deliver(
     alloc: Global,
     world: &mut World,
-    sent: &mut Vec<Request>,
+    past: &mut Vec<Past>,
     text: &[u8],
+    exchange: u64,
     at: Moment,
-    losses: Losses,
+    fate: Fate,
 ) -> Result<Vec<u8>, IoError>
-    requires { IsSentText text.now }
-    ensures grew { Grew world.old.state world.new.state }
-    ensures counts { world.old.faults ≤ world.new.faults }
-    ensures sent { (q : Asked) → IsTextOf q text.now → (sent.new.items ≡ sent.old.items ++ q ∷ []) ⊎ ((result ≡ Err io_error.NoMemory) × (sent.new.items ≡ sent.old.items)) }
-    ensures own { (q : Asked) → IsTextOf q text.now → (xs ys : List Asked) → IfOk result (λ reply. IsOwn (told_world xs world.old) (told_world ys world.new) q reply.items) }
-    ensures request { IsTrue losses.request → IsErr result × (world.new ≡ world.old) }
-    ensures reply { IsTrue losses.reply → IsErr result }
-    ensures failed { result ≡ Err io_error.Failed → IsTrue losses.request ⊎ IsTrue losses.reply }
+    requires text { IsSentText text.now }
+    requires given { AreGiven past.old.items }
+    ensures walks { Walks world.old world.new }
+    ensures given { AreGiven past.new.items }
+    ensures sent { (q : Asked) → IsTextOf q text.now → (requests_in past.new.items ≡ q ∷ requests_in past.old.items) ⊎ ((result ≡ Err io_error.NoMemory) × (past.new.items ≡ past.old.items)) }
+    ensures own { is_stale fate ≡ false → (q : Asked) → IsTextOf q text.now → (xs ys : List Asked) → IfOk result (λ reply. IsOwn (told_world xs world.old) (told_world ys world.new) q reply.items) }
+    ensures late { is_stale fate ≡ true → IfOk result (λ reply. IsLate (requests_in past.old.items) reply.items) }
+    ensures lost { IsLost fate → IsErr result }
+    ensures exact { result ≡ Err io_error.Failed → MayFail fate past.old.items }
+    ensures delivered { (q : Asked) → IsTextOf q text.now → OnCome (λ reply. reply.items) (Delivered fate exchange q at past.old.items past.new.items world.old world.new) result }
 {
     let request = request_of(alloc, text)?;
-    sent.reserve(1)?;
-    let reply = delivered(alloc, world, &request, at, losses);
-    push_in_room(sent, request);
-    reply
+    past.reserve(1)?;
+    let reply = reply_to(alloc, world, past.as_slice(), &request, at, fate);
+    note(alloc, past, exchange, request, reply, fate)
 }

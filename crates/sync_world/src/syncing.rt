@@ -1,6 +1,7 @@
 //! The synchronisation over a world.
 
-ghost use Rattle.std.specs.Prelude.{◌≡◌, ◌≢◌, ℕ, ◌+◌, ◌<◌, ◌≤◌, Some};
+ghost use Rattle.std.specs.Prelude.{◌≡◌, ◌≢◌, ℕ, ℤ, ◌+◌, ◌<◌, ◌≤◌, Some};
+ghost use Rattle.keeper_memory.specs.Failures.{FailurePlan};
 ghost use Rattle.keeper_memory.specs.copy.HeldCopy.{empty_copy};
 ghost use Rattle.keeper_memory.specs.copy.States.{stage_of};
 ghost use Rattle.consumer_sync.specs.Faulted.{FaultLaw};
@@ -61,5 +62,5 @@ pub fn sync_over(
 
 /// An empty copy agrees with a link over which nothing was sent.
 pub fn nothing_sent_agrees()
-    ensures { (hub : HubState) (hub_faults : ℕ) → Agree empty_copy (told_by (fresh_link hub hub_faults)) }
+    ensures { (clock : ℤ) (hub : HubState) (hub_faults : ℕ) (plan : FailurePlan) → Agree empty_copy (told_by (fresh_link clock hub hub_faults plan)) }
 {}

@@ -1,28 +1,34 @@
 //! A hub over its keeper in memory.
 
-ghost use Rattle.std.specs.Prelude.{◌≡◌, ℕ, [], IfOk, OnOk, false, true};
+ghost use Rattle.std.specs.Prelude.{◌≡◌, ℕ, [], IfOk, OnErr, OnOk, false, true};
 ghost use Rattle.hub_spec.specs.requests.Requests.{wanted_by};
-ghost use Rattle.hub_spec.specs.rules.Runs.{Replied, Steps, Take};
+ghost use Rattle.hub_spec.specs.rules.Runs.{Publish, Replied, SetGrants, Steps, Take};
 ghost use Rattle.hub_spec.specs.rules.States.{IsHub};
 ghost use Rattle.hub_spec.specs.rules.Wanted.{is_write};
+ghost use Rattle.keeper_memory.specs.Calls.{CallsLead};
+ghost use Rattle.keeper_memory.specs.Failures.{with_listed};
 ghost use Rattle.keeper_memory.specs.Kept.{oldest_kept};
 ghost use Rattle.keeper_memory.specs.Parts.{IsPartOf};
 ghost use Rattle.rest_provider.specs.Steps.{CountsFailed};
 ghost use Rattle.sync_world.specs.Worlds.{IsWhole, all_of};
-ghost use Rattle.hub_core.specs.Steps.{CountsFault};
+ghost use Rattle.hub_core.specs.Steps.{CountsFault, RefusesNothing};
+ghost use Rattle.sync_world.specs.Acts.{Makes};
 
 use crate::gone::hold_oldest;
-use crate::rows::read_tables;
-use hub_core::{Hub, HubError};
+use crate::rows::{read_set, read_tables};
+use grant_scopes::GrantList;
+use hub_core::{Hub, HubError, Published};
 use keeper_memory::{HubKeeper, MemHub};
 use rest_paths::PathRouter;
 use rest_provider::answer;
 use rest_provider::answering::failing;
-use roster_base::KeeperError;
+use roster_base::{KeeperError, NoMemory};
 use roster_texts::Moment;
+use roster_types::set::RosterSet;
 use status_info::{Reply, Request, Verb};
 use std::alloc::Global;
 use std::marker::Model;
+use std::mem::replace;
 use version_core::change::BaseVersion;
 use version_core::hub_tables::tables_stand_for_states;
 
@@ -62,6 +68,7 @@ fn read_keeper(alloc: Global, keeper: &mut MemHub) -> Result<(), HubError>
     ensures kept { keeper.new.kept ≡ keeper.old.kept }
     ensures whole { OnOk result (IsWhole [] keeper.old.kept) }
     ensures cause { CountsFault keeper.old.plan.faults keeper.new.plan.faults result }
+    ensures calls { CallsLead keeper.old.plan keeper.new.plan }
 {
     let tables = keeper.load(alloc)?;
     read_tables(&tables);
@@ -74,7 +81,9 @@ impl World {
     /// A hub of what this keeper keeps, which is all that was ever published.
     pub fn over(alloc: Global, keeper: MemHub) -> Result<World, HubError>
         requires { (oldest_kept keeper.kept.versions).number ≡ 0 }
-        ensures { IfOk result (λ world. world.state ≡ all_of keeper.kept) }
+        ensures state { IfOk result (λ world. world.state ≡ all_of keeper.kept) }
+        ensures faults { IfOk result (λ world. world.faults ≡ world.plan.faults) }
+        ensures calls { IfOk result (λ world. CallsLead keeper.plan world.plan) }
     {
         let mut keeper = keeper;
         let router = PathRouter::new(alloc)?;
@@ -91,7 +100,8 @@ impl World {
     // The hub's reply to a read.
     fn take_read(&mut self, alloc: Global, request: &Request, at: Moment) -> Reply
         requires { is_write request.now.verb ≡ false }
-        ensures { (failed : ℕ) × CountsFailed self.old.faults self.new.faults failed × Steps (Take (wanted_by request.now) at) self.old.state (Replied result) self.new.state failed }
+        ensures step { (failed : ℕ) × CountsFailed self.old.faults self.new.faults failed × Steps (Take (wanted_by request.now) at) self.old.state (Replied result) self.new.state failed }
+        ensures calls { CallsLead self.old.plan self.new.plan }
     {
         answer(
             alloc,
@@ -105,7 +115,8 @@ impl World {
 
     // The hub's reply to a write. The oldest version is held before, which the keeper may let go then.
     fn take_write(&mut self, alloc: Global, request: &Request, at: Moment) -> Reply
-        ensures { (failed : ℕ) × CountsFailed self.old.faults self.new.faults failed × Steps (Take (wanted_by request.now) at) self.old.state (Replied result) self.new.state failed }
+        ensures step { (failed : ℕ) × CountsFailed self.old.faults self.new.faults failed × Steps (Take (wanted_by request.now) at) self.old.state (Replied result) self.new.state failed }
+        ensures calls { CallsLead self.old.plan self.new.plan }
     {
         match hold_oldest(alloc, &mut self.keeper, &mut self.gone) {
             Err(error) => failing(alloc, request, HubError::from(error)),
@@ -122,13 +133,79 @@ impl World {
 
     /// Has the hub take a request at a moment, and gives its reply.
     pub fn take(&mut self, alloc: Global, request: &Request, at: Moment) -> Reply
-        ensures { (failed : ℕ) × CountsFailed self.old.faults self.new.faults failed × Steps (Take (wanted_by request.now) at) self.old.state (Replied result) self.new.state failed }
+        ensures step { (failed : ℕ) × CountsFailed self.old.faults self.new.faults failed × Steps (Take (wanted_by request.now) at) self.old.state (Replied result) self.new.state failed }
+        ensures calls { CallsLead self.old.plan self.new.plan }
     {
         if is_write(request.verb) {
             self.take_write(alloc, request, at)
         } else {
             self.take_read(alloc, request, at)
         }
+    }
+
+    /// Publishes a set at a moment: one step of the hub.
+    pub fn publish(
+        &mut self,
+        alloc: Global,
+        set: RosterSet,
+        at: Moment,
+    ) -> Result<Published, HubError>
+        ensures { Makes (Publish set at) result self.old self.new }
+    {
+        // Read for what they keep.
+        read_set(&set);
+        let _ = at.milliseconds();
+        match hold_oldest(alloc, &mut self.keeper, &mut self.gone) {
+            Ok(()) => self.hub.publish(alloc, &mut self.keeper, set, at),
+            Err(error) => {
+                drop(set);
+                Err(HubError::from(error))
+            }
+        }
+    }
+
+    /// Gives each caller of a list what it asks for, and takes all other grants away, at a moment: one step of the hub.
+    pub fn set_grants(
+        &mut self,
+        alloc: Global,
+        list: &GrantList,
+        at: Moment,
+    ) -> Result<Published, HubError>
+        ensures { Makes (SetGrants list.now at) result self.old self.new }
+    {
+        // Read for what they keep.
+        let _ = list.entries();
+        let _ = at.milliseconds();
+        match hold_oldest(alloc, &mut self.keeper, &mut self.gone) {
+            Ok(()) => self.hub.set_grants(alloc, &mut self.keeper, list, at),
+            Err(error) => Err(HubError::from(error)),
+        }
+    }
+
+    /// Drops the hub, and opens it again from its keeper, which leaves the state. Where that fails, the hub goes on as it was.
+    pub fn reopen(&mut self, alloc: Global) -> Result<(), HubError>
+        ensures state { self.new.state ≡ self.old.state }
+        ensures cause { CountsFault self.old.faults self.new.faults result }
+        ensures refused { RefusesNothing result }
+        ensures calls { CallsLead self.old.plan self.new.plan }
+    {
+        match Hub::open(alloc, &mut self.keeper) {
+            Ok(hub) => {
+                drop(replace(&mut self.hub, hub));
+                Ok(())
+            }
+            Err(error) => Err(error),
+        }
+    }
+
+    /// Lists one commit more of the keeper that fails, behind what it does or before that.
+    pub fn list_commit(&mut self, acted: bool, commit: u64) -> Result<(), NoMemory>
+        ensures state { self.new.state ≡ self.old.state }
+        ensures faults { self.new.faults ≡ self.old.faults }
+        ensures ok { OnOk result (self.new.plan ≡ with_listed acted commit self.old.plan) }
+        ensures err { OnErr result (self.new ≡ self.old) }
+    {
+        self.keeper.list_commit(acted, commit)
     }
 
     /// How many calls of the keeper failed.

@@ -1,89 +1,124 @@
 //! A link to a world.
 
-ghost use Rattle.std.specs.Prelude.{◌≡◌, ◌⊎◌, ◌≤◌, ℕ, ◌+◌, ◌-◌, ◌^◌, [], min, IfOk, IsErr, IsTrue, OnErr, OnOk, Err};
-ghost use Rattle.exchange_link.specs.Exchanges.{Carries, Exchanged, IsSentText, IsTextOf, Misses, Told};
+ghost use Rattle.std.specs.Prelude.{◌≡◌, ◌⊎◌, ◌≤◌, ◌∷◌, ℕ, ◌+◌, ◌-◌, ◌^◌, [], List, min, IfOk, IsErr, OnErr, OnOk, Err, false, true};
+ghost use Rattle.exchange_link.specs.Exchanges.{Carries, Exchanged, IsLate, IsOwn, IsSentText, IsTextOf, Misses, Told};
 ghost use Rattle.hub_spec.specs.rules.States.{IsHub};
-ghost use Rattle.keeper_memory.specs.Failures.{is_among, one_more};
+ghost use Rattle.keeper_memory.specs.Calls.{CallsLead};
+ghost use Rattle.keeper_memory.specs.Failures.{one_more};
 ghost use Rattle.keeper_memory.specs.Kept.{oldest_kept};
 ghost use Rattle.keeper_memory.specs.Parts.{IsPartOf};
 ghost use Rattle.outside_ports.specs.declared.failed.IoError.TheVariants as io_error;
 ghost use Rattle.roster_base.specs.Faults.{Rose};
 ghost use Rattle.status_info.specs.declared.request.Request.{Request as Asked};
-ghost use Rattle.sync_world.specs.Links.{fresh_link, told_by};
+ghost use Rattle.sync_world.specs.Acts.{Acted, IsAct};
+ghost use Rattle.sync_world.specs.Deliveries.{Carried, OnCome};
+ghost use Rattle.sync_world.specs.Given.{AreGiven, is_stale, requests_in};
+ghost use Rattle.sync_world.specs.Links.{fresh_link, told_by, told_world, with_event, with_failure, with_fate, world_of};
+ghost use Rattle.sync_world.specs.Planned.{IsLost, MayFail, fate_at};
 ghost use Rattle.sync_world.specs.Worlds.{all_of};
+ghost use Rattle.sync_world.specs.Walks.{Walks};
 
-use crate::delivery::{Losses, deliver};
+use crate::acts::{HubAct, Saying, act};
+use crate::delivery::deliver;
+use crate::past::Past;
+use crate::traffic::{Event, Fate, Happening, Planned, come_to_pass, fate_of};
 use crate::world::World;
 use exchange_link::{Link, Tally};
 use hub_core::HubError;
 use keeper_memory::MemHub;
 use outside_ports::IoError;
+use roster_base::NoMemory;
 use roster_texts::Moment;
-use status_info::Request;
 use std::alloc::Global;
 use std::marker::Model;
+use std::mem::replace;
 
-/// A link to a hub in the same program, which takes each request at one moment, and the exchanges that are to be lost. It tells the hub's
-/// whole state and all requests that were handed to it.
+/// A link to a hub in the same program, its clock, what is to come to pass at exchanges, and what is told of it. It tells the hub's whole
+/// state and all requests that were handed to it.
 #[derive(Drop)]
 pub struct WorldLink {
     world: World,
     at: Moment,
     // The oldest first.
-    sent: Vec<Request>,
+    past: Vec<Past>,
     kept: Vec<u8>,
     tally: Tally,
-    lost_requests: Vec<u64>,
-    lost_replies: Vec<u64>,
+    events: Vec<Event>,
+    fates: Vec<Planned>,
+    // What is told of what others did since it was taken last.
+    said: Vec<Saying>,
+    // Whether an exchange wanted memory.
+    wanted: bool,
 }
 
 impl Model for WorldLink {
-    ghost use Rattle.sync_world.specs.Links.{HeldLink, link_in};
+    ghost use Rattle.sync_world.specs.Links.{HeldLink, IsLink, link_in};
 
     ghost Value = { HeldLink };
 
     ghost view = { link_in };
+
+    ghost invariant = { IsLink };
+}
+
+// Has the events of an exchange come to pass, and carries its request.
+fn carry(
+    alloc: Global,
+    world: &mut World,
+    past: &mut Vec<Past>,
+    events: &mut Vec<Event>,
+    said: &mut Vec<Saying>,
+    request: &[u8],
+    exchange: u64,
+    at: Moment,
+    fate: Fate,
+) -> Result<Vec<u8>, IoError>
+    requires text { IsSentText request.now }
+    requires given { AreGiven past.old.items }
+    ensures walks { Walks world.old world.new }
+    ensures given { AreGiven past.new.items }
+    ensures sent { (q : Asked) → IsTextOf q request.now → (requests_in past.new.items ≡ q ∷ requests_in past.old.items) ⊎ ((result ≡ Err io_error.NoMemory) × (past.new.items ≡ past.old.items)) }
+    ensures own { is_stale fate ≡ false → (q : Asked) → IsTextOf q request.now → (xs ys : List Asked) → IfOk result (λ reply. IsOwn (told_world xs world.old) (told_world ys world.new) q reply.items) }
+    ensures late { is_stale fate ≡ true → IfOk result (λ reply. IsLate (requests_in past.old.items) reply.items) }
+    ensures lost { IsLost fate → IsErr result }
+    ensures exact { result ≡ Err io_error.Failed → MayFail fate past.old.items }
+    ensures carried { (q : Asked) → IsTextOf q request.now → OnCome (λ reply. reply.items)
+        (Carried fate exchange q at past.old.items past.new.items events.old.items events.new.items world.old world.new said.old.items said.new.items) result }
+{
+    match come_to_pass(alloc, world, past.as_slice(), events, exchange, at, said) {
+        Ok(()) => deliver(alloc, world, past, request, exchange, at, fate),
+        Err(NoMemory) => Err(IoError::NoMemory),
+    }
+}
+
+// Whether the reply of another exchange comes.
+fn is_stale(fate: Fate) -> bool
+    ensures { result ≡ is_stale fate }
+{
+    match fate {
+        Fate::Stale { .. } => true,
+        _ => false,
+    }
 }
 
 impl WorldLink {
     /// A link to the hub of what this keeper keeps, which is all that was ever published. Nothing was sent yet.
     pub fn over(alloc: Global, keeper: MemHub, at: Moment) -> Result<WorldLink, HubError>
         requires { (oldest_kept keeper.kept.versions).number ≡ 0 }
-        ensures { IfOk result (λ link. link ≡ fresh_link (all_of keeper.kept) link.hub_faults) }
+        ensures fresh { IfOk result (λ link. link ≡ fresh_link at (all_of keeper.kept) link.hub_faults link.plan) }
+        ensures calls { IfOk result (λ link. CallsLead keeper.plan link.plan) }
     {
         Ok(WorldLink {
             world: World::over(alloc, keeper)?,
             at,
-            sent: Vec::new(alloc),
+            past: Vec::new(alloc),
             kept: Vec::new(alloc),
             tally: Tally::new(),
-            lost_requests: Vec::new(alloc),
-            lost_replies: Vec::new(alloc),
+            events: Vec::new(alloc),
+            fates: Vec::new(alloc),
+            said: Vec::new(alloc),
+            wanted: false,
         })
-    }
-
-    /// The same link, of which these exchanges fail, by their numbers from 1: before the hub takes the request, and behind it.
-    pub fn with_losses(self, requests: Vec<u64>, replies: Vec<u64>) -> WorldLink
-        ensures { result ≡ record self { lost_requests = requests.items; lost_replies = replies.items } }
-    {
-        let WorldLink {
-            world,
-            at,
-            sent,
-            kept,
-            tally,
-            lost_requests: _,
-            lost_replies: _,
-        } = self;
-        WorldLink {
-            world,
-            at,
-            sent,
-            kept,
-            tally,
-            lost_requests: requests,
-            lost_replies: replies,
-        }
     }
 
     /// How many exchanges were made.
@@ -93,11 +128,82 @@ impl WorldLink {
         self.tally.asked
     }
 
+    /// Whether an exchange wanted memory, since the link was made. What came to pass at that one isn't told in full.
+    pub fn wanted_memory(&self) -> bool
+        ensures { result ≡ self.now.wanted }
+    {
+        self.wanted
+    }
+
     /// How many calls of the hub's keeper failed.
     pub fn hub_faults(&self) -> u64
         ensures { result ≡ self.now.hub_faults }
     {
         self.world.faults()
+    }
+
+    /// Sets the clock.
+    pub fn set_clock(&mut self, at: Moment)
+        ensures { self.new ≡ record self.old { clock = at } }
+    {
+        self.at = at;
+    }
+
+    /// The clock's moment.
+    pub fn clock(&self) -> Moment
+        ensures { result ≡ self.now.clock }
+    {
+        self.at
+    }
+
+    /// Does something to the hub now, and notes what is told of it.
+    pub fn act(&mut self, alloc: Global, done: HubAct) -> Result<(), NoMemory>
+        ensures walks { Walks (world_of self.old) (world_of self.new) }
+        ensures acted { OnOk result (Acted (IsAct done self.old.clock) (world_of self.old) (world_of self.new) self.old.said self.new.said) }
+        ensures rest { self.new ≡ record self.old { hub = self.new.hub; hub_faults = self.new.hub_faults; plan = self.new.plan; said = self.new.said } }
+    {
+        act(alloc, &mut self.world, done, self.at, &mut self.said)
+    }
+
+    /// Has something happen just before an exchange; nothing where that has passed.
+    pub fn plan(&mut self, exchange: u64, happening: Happening) -> Result<(), NoMemory>
+        ensures ok { OnOk result (self.new ≡ with_event exchange happening self.old) }
+        ensures err { OnErr result (self.new ≡ self.old) }
+    {
+        if exchange <= self.tally.asked {
+            drop(happening);
+            return Ok(());
+        }
+        self.events.push(Event {
+            exchange,
+            happening,
+        })?;
+        Ok(())
+    }
+
+    /// Has this become of an exchange, in place of what was planned for it before.
+    pub fn meet(&mut self, exchange: u64, fate: Fate) -> Result<(), NoMemory>
+        ensures ok { OnOk result (self.new ≡ with_fate exchange fate self.old) }
+        ensures err { OnErr result (self.new ≡ self.old) }
+    {
+        self.fates.push(Planned { exchange, fate })?;
+        Ok(())
+    }
+
+    /// Lists one commit more of the hub's keeper that fails, behind what it does or before that.
+    pub fn list_commit(&mut self, acted: bool, commit: u64) -> Result<(), NoMemory>
+        ensures ok { OnOk result (self.new ≡ with_failure acted commit self.old) }
+        ensures err { OnErr result (self.new ≡ self.old) }
+    {
+        self.world.list_commit(acted, commit)
+    }
+
+    /// What is told of what others did since it was taken last.
+    pub fn take_said(&mut self, alloc: Global) -> Vec<Saying>
+        ensures said { result.items ≡ self.old.said }
+        ensures rest { self.new ≡ record self.old { said = [] } }
+    {
+        replace(&mut self.said, Vec::new(alloc))
     }
 
     /// The hub's keeper, which keeps its part of the state.
@@ -107,38 +213,23 @@ impl WorldLink {
         let WorldLink {
             world,
             at: _,
-            sent: _,
+            past: _,
             kept: _,
             tally: _,
-            lost_requests: _,
-            lost_replies: _,
+            events: _,
+            fates: _,
+            said: _,
+            wanted: _,
         } = self;
         world.into_keeper()
-    }
-
-    // What is to be lost of the next exchange.
-    fn losses(&self) -> Losses
-        ensures request { result.request ≡ is_among (one_more self.now.asked) self.now.lost_requests }
-        ensures reply { result.reply ≡ is_among (one_more self.now.asked) self.now.lost_replies }
-    {
-        let number = self.tally.asked.saturating_add(1);
-        Losses {
-            request: self.lost_requests.contains(&number),
-            reply: self.lost_replies.contains(&number),
-        }
     }
 }
 
 impl Link for WorldLink {
     ghost use Rattle.hub_spec.specs.rules.States.{IsHub};
-    ghost use Rattle.std.specs.Prelude.{◌≡◌, ⊤};
+    ghost use Rattle.std.specs.Prelude.{◌≡◌};
     ghost use Rattle.sync_world.specs.Links.{told_by};
-
-    ghost leads = { λ _ _. ⊤ };
-
-    ghost stays = { λ _. tt };
-
-    ghost leads_on = { λ _ _ _ _ _. tt };
+    ghost use Rattle.sync_world.specs.Traffic.{LinkLeads, link_leads_on, link_stays};
 
     ghost asked = { λ link. link.asked };
 
@@ -152,36 +243,47 @@ impl Link for WorldLink {
 
     ghost is_hub = { λ link told tells. tells.1 };
 
+    ghost leads = { LinkLeads };
+
+    ghost stays = { link_stays };
+
+    ghost leads_on = { link_leads_on };
+
     fn exchange(&mut self, alloc: Global, request: &[u8]) -> Result<(), IoError>
         requires { IsSentText request.now }
         ensures asked { self.new.asked ≡ min (self.old.asked + 1) (2 ^ 64 - 1) }
         ensures missed { Misses (Rose self.old.faults self.new.faults) self.old.missed self.new.missed }
         ensures later { self.old.faults ≤ self.new.faults }
+        ensures leads { LinkLeads self.old self.new }
         ensures failed { result ≡ Err io_error.Failed → Rose self.old.faults self.new.faults }
         ensures kept { OnErr result (self.new.kept ≡ []) }
         ensures own { (q : Asked) → IsTextOf q request.now → OnOk result (Carries self.new.kept q.echo ⊎ Rose self.old.faults self.new.faults) }
         ensures told { (q : Asked) → IsTextOf q request.now → (after : Told) → (after ≡ told_by self.new) × IsHub after.hub
             → (before : Told) × ((before ≡ told_by self.old) × IsHub before.hub)
             × Exchanged q result (Rose self.old.faults self.new.faults) self.new.kept before after }
-        // It fails exactly where it is listed, but for want of memory; and where it doesn't fail it counts nothing.
-        ensures lost_request { IsTrue (is_among (one_more self.old.asked) self.old.lost_requests) → IsErr result × (self.new.hub ≡ self.old.hub) }
-        ensures lost_reply { IsTrue (is_among (one_more self.old.asked) self.old.lost_replies) → IsErr result }
-        ensures exact { result ≡ Err io_error.Failed → IsTrue (is_among (one_more self.old.asked) self.old.lost_requests) ⊎ IsTrue (is_among (one_more self.old.asked) self.old.lost_replies) }
-        ensures quiet { OnOk result (self.new.faults ≡ self.old.faults) }
+        // What was planned for it comes of it: it fails where something is lost, and only there or where no other reply is there.
+        ensures lost { IsLost (fate_at self.old.fates (one_more self.old.asked)) → IsErr result }
+        ensures exact { result ≡ Err io_error.Failed → MayFail (fate_at self.old.fates (one_more self.old.asked)) self.old.past }
+        ensures quiet { OnOk result (is_stale (fate_at self.old.fates (one_more self.old.asked)) ≡ false → self.new.faults ≡ self.old.faults) }
     {
         let _ = self.world.faults();
-        let losses = self.losses();
+        let number = self.tally.asked.saturating_add(1);
+        let fate = fate_of(self.fates.as_slice(), number);
         self.kept = Vec::new(alloc);
-        match deliver(
+        let came = carry(
             alloc,
             &mut self.world,
-            &mut self.sent,
+            &mut self.past,
+            &mut self.events,
+            &mut self.said,
             request,
+            number,
             self.at,
-            losses,
-        ) {
+            fate,
+        );
+        match came {
             Ok(reply) => {
-                self.tally.count(false);
+                self.tally.count(is_stale(fate));
                 self.kept = reply;
                 Ok(())
             }
@@ -190,6 +292,7 @@ impl Link for WorldLink {
                 Err(IoError::Failed)
             }
             Err(IoError::NoMemory) => {
+                self.wanted = true;
                 self.tally.count(false);
                 Err(IoError::NoMemory)
             }

@@ -10,8 +10,8 @@ use roster_texts::{Moment, Token};
 use std::alloc::Global;
 use std::process::Abort;
 use std::test::Fail;
-use sync_world::WorldLink;
 use sync_world::world::keeps_all;
+use sync_world::{Fate, WorldLink};
 
 // Rows in version 1, grants in version 2.
 fn fill(rt: &impl Abort, alloc: Global, keeper: &mut MemHub) -> Result<(), Fail> {
@@ -54,6 +54,31 @@ fn filled(rt: &impl Abort, alloc: Global) -> Result<MemHub, Fail>
     }
 }
 
+// Plans that these exchanges fail, before the hub takes the request and behind that.
+fn plan_losses(link: &mut WorldLink, requests: &[u64], replies: &[u64]) -> Result<(), Fail> {
+    for exchange in requests {
+        link.meet(*exchange, Fate::RequestLost)?;
+    }
+    for exchange in replies {
+        link.meet(*exchange, Fate::ReplyLost)?;
+    }
+    Ok(())
+}
+
+fn with_losses(
+    mut link: WorldLink,
+    requests: Vec<u64>,
+    replies: Vec<u64>,
+) -> Result<WorldLink, Fail> {
+    match plan_losses(&mut link, requests.as_slice(), replies.as_slice()) {
+        Ok(()) => Ok(link),
+        Err(fail) => {
+            drop(link);
+            Err(fail)
+        }
+    }
+}
+
 /// A world of the district, of whose exchanges these are lost.
 pub fn world(
     rt: &impl Abort,
@@ -62,7 +87,7 @@ pub fn world(
     replies: Vec<u64>,
 ) -> Result<WorldLink, Fail> {
     match WorldLink::over(alloc, filled(rt, alloc)?, noon(rt)) {
-        Ok(link) => Ok(link.with_losses(requests, replies)),
+        Ok(link) => with_losses(link, requests, replies),
         Err(_) => panic!(rt; "no world"),
     }
 }

@@ -1,0 +1,59 @@
+-- What becomes of the request of an exchange.
+use Rattle.std.proofs.Common.{◌≡◌, ℕ, ℤ, ◌-◌, ◌^◌, ◌≤◌, List, Option, Some, None, Result, Ok, Err, sym, subst}
+use Rattle.hub_spec.specs.requests.Requests.{wanted_by}
+use Rattle.hub_spec.specs.rules.Runs.{Replied, Steps, Take}
+use Rattle.keeper_memory.specs.Calls.{CallsLead}
+use Rattle.outside_ports.specs.declared.failed.IoError.{IoError}
+use Rattle.outside_ports.specs.declared.failed.IoError.TheVariants as io_error
+use Rattle.rest_provider.specs.Steps.{CountsFailed}
+use Rattle.status_info.specs.declared.reply.Reply.{Reply}
+use Rattle.status_info.specs.declared.request.Request.{Request}
+use Rattle.sync_world.proofs.WalkLemmas.{by_step}
+use Rattle.sync_world.specs.Deliveries.{Becomes, Carried, Delivered, Gives, IsCome, Notes, OnCome, coming}
+use Rattle.sync_world.specs.Happenings.{Passed}
+use Rattle.sync_world.specs.Own.{IsOwnText}
+use Rattle.sync_world.specs.Planned.{events_aside, events_at}
+use Rattle.sync_world.specs.Worlds.{HeldWorld}
+use Rattle.sync_world.specs.declared.acts.Saying.{Saying}
+use Rattle.sync_world.specs.declared.past.Past.{Past}
+use Rattle.sync_world.specs.declared.traffic.Event.{Event}
+use Rattle.sync_world.specs.declared.traffic.Fate.{Fate}
+
+-- the hub's own reply to a request that it took
+pub gives : (request : Request) (at : ℤ) (reply : Reply) (text : List ℕ) (before after : HeldWorld) → before.faults ≤ 2 ^ 64 - 1
+    → (failed : ℕ) × CountsFailed before.faults after.faults failed × Steps (Take (wanted_by request) at) before.state (Replied reply) after.state failed → CallsLead before.plan after.plan → IsOwnText reply text
+    → Gives request at before after text
+gives request at reply text before after fits (failed, count, step) calls own = (reply, by_step (Take (wanted_by request) at) (Replied reply) before after failed fits count step calls, own.text_is)
+
+-- ---- what came
+
+module _ {T : Type 0} (items : T → List ℕ) where
+  pub on_come_each : (P Q : Option (List ℕ) → Type 0) (r : Result T IoError) → ((came : Option (List ℕ)) → P came → Q came) → OnCome items P r → OnCome items Q r
+  on_come_each P Q (Ok text) each here = each (Some (items text)) here
+  on_come_each P Q (Err io_error.Failed) each here = each None here
+  on_come_each P Q (Err io_error.NoMemory) each here = tt
+
+  pub come_is : (P : Option (List ℕ) → Type 0) (would : Option (List ℕ)) (r : Result T IoError) → IsCome items would r → OnCome items P r → P would
+  come_is P would (Ok text) is here = subst P (sym is) here
+  come_is P would (Err io_error.Failed) is here = subst P (sym is) here
+  come_is P would (Err io_error.NoMemory) is here = absurd is
+
+-- ---- one exchange
+
+-- it was delivered, by the reply that came or would have come
+pub is_delivered : {T S : Type 0} (items : T → List ℕ) (shown : S → List ℕ) (r : Result T IoError) (reply : Result S IoError) (f : Fate) (number : ℕ) (q request : Request) (at : ℤ) (told past past' : List Past) (before after : HeldWorld)
+    → request ≡ q → told ≡ past → OnCome shown (Becomes f told request at before after) reply
+    → OnCome items (λ came. (would : Option (List ℕ)) × IsCome shown would reply × Notes number request would past past' × (came ≡ coming f would)) r
+    → OnCome items (Delivered f number q at past past' before after) r
+is_delivered items shown r reply f number q request at told past past' before after same here becomes noted =
+    subst (λ (x : Request). OnCome items (Delivered f number x at past past' before after) r) same
+    (on_come_each items (λ came. (would : Option (List ℕ)) × IsCome shown would reply × Notes number request would past past' × (came ≡ coming f would)) (Delivered f number request at past past' before after) r
+    (λ came is. record { would = is.0; becomes = come_is shown (Becomes f past request at before after) is.0 reply is.1 (subst (λ (p : List Past). OnCome shown (Becomes f p request at before after) reply) here becomes); noted = is.2; comes = is.3 }) noted)
+
+-- and what was planned came to pass before
+pub is_carried : {T : Type 0} (items : T → List ℕ) (r : Result T IoError) (f : Fate) (number : ℕ) (q : Request) (at : ℤ) (past past' : List Past) (events events' : List Event) (before mid after : HeldWorld) (said said' : List Saying)
+    → Passed past at (events_at number events) before mid said said' → events' ≡ events_aside number events → OnCome items (Delivered f number q at past past' mid after) r
+    → OnCome items (Carried f number q at past past' events events' before after said said') r
+is_carried items r f number q at past past' events events' before mid after said said' passed aside delivered =
+    on_come_each items (Delivered f number q at past past' mid after) (Carried f number q at past past' events events' before after said said') r
+    (λ came is. record { mid = mid; passed = passed; aside = aside; delivered = is }) delivered
