@@ -30,6 +30,7 @@ pub fn held_text<C: CopyKeeper>(
 ) -> Result<String, KeeperError>
     ensures text { IfOk result (λ t. IsHeldText kind (C.stands_for copy.new) (string_bytes t)) }
     ensures same { (c : Copy) → C.stands_for copy.new c → C.stands_for copy.old c }
+    ensures copy_leads { C.leads copy.old copy.new }
     ensures cause { CountsFailure (C.fault_count copy.old) (C.fault_count copy.new) result }
 {
     let rows = copy.held(alloc, kind)?;

@@ -23,6 +23,7 @@ fn push_entry(alloc: Global, mut text: String, entry: &OutEntry) -> Result<Strin
 pub fn outbox_text<C: CopyKeeper>(alloc: Global, copy: &mut C) -> Result<String, KeeperError>
     ensures text { IfOk result (λ t. IsOutboxText (C.stands_for copy.new) (string_bytes t)) }
     ensures same { (c : Copy) → C.stands_for copy.new c → C.stands_for copy.old c }
+    ensures copy_leads { C.leads copy.old copy.new }
     ensures cause { CountsFailure (C.fault_count copy.old) (C.fault_count copy.new) result }
 {
     let mut text = String::new(alloc);

@@ -17,9 +17,11 @@ pub fn synchronise<C: CopyKeeper, L: Link>(
     copy: &mut C,
     link: &mut L,
 ) -> SyncAnswer
-    ensures { IsSyncOf task.now result
+    ensures sync { IsSyncOf task.now result
         (copy_between C.stands_for C.fault_count copy.old copy.new)
         (link_between L.tells L.asked L.missed L.kept L.fault_count link.old link.new) }
+    ensures copy_leads { C.leads copy.old copy.new }
+    ensures link_leads { L.leads link.old link.new }
 {
     sync(alloc, copy, link, task.token(), task.limit(), task.tries())
 }

@@ -19,7 +19,8 @@ pub fn enter_write<C: CopyKeeper>(
     copy: &mut C,
 ) -> Result<u64, EnterError>
     requires { IsOutWrite write }
-    ensures { IsEnterOf write result (copy_between C.stands_for C.fault_count copy.old copy.new) }
+    ensures entered { IsEnterOf write result (copy_between C.stands_for C.fault_count copy.old copy.new) }
+    ensures copy_leads { C.leads copy.old copy.new }
 {
     enter(alloc, copy, write)
 }
@@ -31,9 +32,11 @@ pub fn send_writes<C: CopyKeeper, L: Link>(
     copy: &mut C,
     link: &mut L,
 ) -> SendAnswer
-    ensures { IsSendOf task.now result
+    ensures sent { IsSendOf task.now result
         (copy_between C.stands_for C.fault_count copy.old copy.new)
         (link_between L.tells L.asked L.missed L.kept L.fault_count link.old link.new) }
+    ensures copy_leads { C.leads copy.old copy.new }
+    ensures link_leads { L.leads link.old link.new }
 {
     send(alloc, copy, link, task.token(), task.tries())
 }

@@ -11,6 +11,7 @@ entries-init g c = record {
   last = omega arith;
   done = ([], omega arith, c.new-text.ensures.bytes, λ d stands. sym (none_up_to 0 0 d.entries (omega arith) (g.met.C.CopyKeeper.is_copy c.args.copy.now d stands).entries.rise));
   same = λ d stands. stands;
+  leads = g.met.C.CopyKeeper.stays c.args.copy.now;
   faults = refl;
 }
 
@@ -44,5 +45,6 @@ entries-preserved g c =
             ∙ sym (next_up_to c.entries.after 0 d.entries entry rise (sym (c.in_ok-entry.ensures.shown d stands) ∙ c.in-Some.is)),
       );
       same = λ d stands. c.entries.invariant.same d (c.in_ok-entry.ensures.same d stands);
+      leads = g.met.C.CopyKeeper.leads_on _ _ _ c.entries.invariant.leads c.in_ok-entry.ensures.leads;
       faults = c.in_ok-entry.ensures.cause ∙ c.entries.invariant.faults;
     }

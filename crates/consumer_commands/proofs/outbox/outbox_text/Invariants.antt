@@ -14,6 +14,7 @@ invariant-entries g l =
       last : l.after ≤ LAST;
       done : (done : List OutEntry) × RiseTo 0 done l.after × (string_bytes l.text ≡ flat_map entry_text done) × ((c : Copy) → S l.copy c → done ≡ up_to l.after c.entries);
       same : (c : Copy) → S l.copy c → S l.fn.copy c;
+      leads : g.C.CopyKeeper.leads l.fn.copy l.copy;
       faults : g.C.CopyKeeper.fault_count l.copy ≡ g.C.CopyKeeper.fault_count l.fn.copy;
     }
 

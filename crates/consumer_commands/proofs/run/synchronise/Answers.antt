@@ -1,8 +1,8 @@
 use Rattle.consumer_commands.proofs.SameTasks.{synced_as}
 use Rattle.consumer_commands.proofs.run.synchronise.Goals as goal
 
-pub returns : goal.returns
-returns g c =
+pub returns-clause-sync : goal.returns-clause-sync
+returns-clause-sync g c =
     synced_as c.args.task.now c.token.result.now c.limit.result c.tries.result c.token.ensures c.limit.ensures.value c.tries.ensures.value _ _ _
     (record {
       copy = c.sync.ensures.copy;
