@@ -2,7 +2,7 @@
 #![tactic(auto)]
 
 use outside_ports::{IoSink, Sink};
-use real_run::{NO_MEMORY, names_serve, print, run_real, serve_real};
+use real_run::{NO_MEMORY, bad_place, names_serve, print, run_real, serve_real};
 use std::env;
 use std::io::{self, ErrorKind};
 use std::process::ExitCode;
@@ -46,6 +46,12 @@ outbox
   outbox                prints the entries: of each its number, and the status and the version of the
                         hub's reply, or that it waits
 
+rehearsals, in a world of their own: a hub and a copy that hold nothing, and no store
+  rehearse FILE         runs the script in FILE line by line, with lost replies, late requests, commits
+                        that fail and restarts at the numbers that it names, and prints what each does
+  make SCHOOLS          makes a district of so many schools, 1 to 200, publishes it, copies it and prints
+                        how many rows of each kind the copy holds
+
 KIND is one of orgs, academicSessions, courses, classes, users, enrollments, demographics, categories,
 lineItems, results; with enter one of the last three.
 
@@ -75,7 +81,7 @@ status
 const VERSION: &str = "hub 0.1.0, stores of format 1\n";
 
 // The words of each command, as they are explained where a command's words are bad.
-static USAGES: [(&str, &str); 10] = [
+static USAGES: [(&str, &str); 12] = [
     (
         "publish",
         "[--store DIR] [--folder DIR] [--keep N] publish FEED=DIR ..",
@@ -101,6 +107,8 @@ static USAGES: [(&str, &str); 10] = [
     ),
     ("send", "[--store DIR] [--peer HOST:PORT] send TOKEN TRIES"),
     ("outbox", "[--store DIR] outbox"),
+    ("rehearse", "[--folder DIR] rehearse FILE"),
+    ("make", "make SCHOOLS"),
 ];
 
 // The usage of the command that the words name first, or of any.
@@ -143,15 +151,22 @@ fn run<R: Threads + Wait + Sync>(
     }
 }
 
-// Says what was wanted, where the words are bad. Standard output has the line that names the place.
-fn hint(rt: &impl Eprint, status: u8, words: &[String]) {
-    if status == 2 {
-        let usage = usage_of(words);
-        // A hint that can't be written changes nothing.
-        let _ = eprintln!(rt;
-            "usage: hub {usage}\nwords are counted from 0; options stand before the command; hub --help explains all"
-        );
+// Says which word is bad, and what was wanted. Standard output has the line that names the place, and what can't be written here
+// changes nothing.
+fn hint(rt: HostRuntime, status: u8, words: &[String]) {
+    if status != 2 {
+        return;
     }
+    if let Some(place) = bad_place(rt.alloc(), words) {
+        let _ = match words.get(place) {
+            Some(word) => eprintln!(rt; "the word {word} can't stand there"),
+            None => eprintln!(rt; "a word is missing at the end"),
+        };
+    }
+    let usage = usage_of(words);
+    let _ = eprintln!(rt;
+        "usage: hub {usage}\nwords are counted from 0; options stand before the command; hub --help explains all"
+    );
 }
 
 fn main(rt: HostRuntime) -> ExitCode {
@@ -159,12 +174,12 @@ fn main(rt: HostRuntime) -> ExitCode {
     match words_of(&rt) {
         Ok(words) => {
             let status = run(&rt, rt, words.as_slice(), &mut out);
-            hint(&rt, status, words.as_slice());
+            hint(rt, status, words.as_slice());
             ExitCode::from(status)
         }
         Err(error) => {
             let status = answer_unread(&error, &mut out);
-            hint(&rt, status, &[]);
+            hint(rt, status, &[]);
             ExitCode::from(status)
         }
     }

@@ -1,5 +1,5 @@
 -- What an answer's status says, and answers for want of memory.
-use Rattle.std.proofs.Common.{◌≡◌, ◌≢◌, ◌⊎◌, ℕ, ℤ, List, [], Option, Some, None, Result, Ok, Err, IsErr, refl, sym, ap, subst, ◌∙◌, inl, inr}
+use Rattle.std.proofs.Common.{◌≡◌, ◌≢◌, ◌⊎◌, ℕ, ℤ, List, [], ◌++◌, Option, Some, None, Result, Ok, Err, IsErr, append-nil, length, refl, sym, ap, subst, ◌∙◌, inl, inr}
 use Rattle.consumer_commands.specs.Consumers.{CopyRun, LinkRun}
 use Rattle.consumer_commands.specs.SyncLines.{sync_status, sync_text}
 use Rattle.consumer_commands.specs.Syncs.{IsSyncOf}
@@ -41,7 +41,7 @@ use Rattle.hub_commands.specs.declared.answer.Answer.{Answer}
 use Rattle.hub_commands.specs.declared.answer.End.{End}
 use Rattle.hub_commands.specs.declared.answer.End.TheVariants as ends
 use Rattle.hub_words.specs.declared.words.Command.{Command}
-use Rattle.hub_words.specs.declared.words.Command.TheVariants.{Ask, Enter, Grant, ListHeld, Outbox, Publish, Send, Show, Sync}
+use Rattle.hub_words.specs.declared.words.Command.TheVariants.{Ask, Enter, Grant, ListHeld, Make, Outbox, Publish, Rehearse, Send, Show, Sync}
 use Rattle.hub_words.specs.declared.words.EnterTask.{EnterTask}
 use Rattle.hub_words.specs.declared.words.EnterTask.TheVariants.{Delete, Put}
 use Rattle.hub_words.specs.declared.words.Parsed.{Parsed}
@@ -49,6 +49,12 @@ use Rattle.hub_commands.proofs.Asking.{ask-says, ask-wants}
 use Rattle.hub_commands.proofs.Granting.{grant-says, grant-wants}
 use Rattle.hub_commands.proofs.Leading.{leads-nowhere, leads-on}
 use Rattle.hub_commands.proofs.Publishing.{Says, run-says, run-wants}
+use Rattle.script_runs.proofs.Making.{make_done, make_wants}
+use Rattle.script_runs.proofs.Rehearsing.{rehearse_done, rehearse_says, rehearse_wants}
+use Rattle.script_runs.specs.Makings.{IsMakeAnswer, MakesDistrict}
+use Rattle.script_runs.specs.Rehearsals.{IsRehearseAnswer, IsScriptOf}
+use Rattle.script_runs.specs.Runs.{RunsFirst, printed}
+use Rattle.world_scripts.specs.declared.script.Line.{Line}
 
 abbrev pub out_of_memory : Answer
 out_of_memory = record { done = []; end = ends.NoMemory }
@@ -104,6 +110,8 @@ module _ (copy : CopyRun) (link : LinkRun) where
   command-wants (Send task) o a before after is other = inl (is.0, is.1, send-wants task a is.2)
   command-wants Outbox o a before after is other = inl (is.0, is.1, is.2, (is.3.0, read-wants (IsOutboxText copy.stands) a is.3.1 other))
   command-wants (ListHeld kind) o a before after is other = inl (is.0, is.1, is.2, (is.3.0, read-wants (IsHeldText kind copy.stands) a is.3.1 other))
+  command-wants (Rehearse file) o a before after is other = inl (is.0, is.1, is.2, rehearse_wants o.files o.folder file a.done a.end is.3 other)
+  command-wants (Make count) o a before after is other = inl (is.0, is.1, is.2, make_wants count a.done a.end is.3)
 
   answer-wants : (r : Result Parsed ℕ) (o : Outside) (a : Answer) (before after : KeptState) → IsAnswer r o copy link a before after → a.end ≢ ends.Done → IsAnswer r o copy link (record a { end = ends.NoMemory }) before after
   answer-wants (Err place) o a before after (rests, same, inl bad) other = (rests, same, inr (ap (λ (x : Answer). x.done) bad.0, refl))
@@ -192,18 +200,22 @@ module _ (o : Outside) (copy : CopyRun) (link : LinkRun) where
   tells_sync : (end : End) (n : ℕ) → status_of end ≡ n → n ≢ 2 → n ≢ 3 → n ≢ 5 → n ≢ 6 → Tells end
   tells_sync end n is a b d f = record { words = λ e. a (sym is ∙ e); folder = λ e. absurd (b (sym is ∙ e)); keeper = λ e. absurd (d (sym is ∙ e)); copy_says = λ e. absurd (f (sym is ∙ e)) }
 
+  own-tells : (s : SyncAnswer) → s ≢ sync.KeeperFault → Tells (ends.Synced s)
+  own-tells (sync.Complete version) other = tells_sync _ 0 refl (λ e. cc e) (λ e. cc e) (λ e. cc e) (λ e. cc e)
+  own-tells (sync.Interrupted kind offset) other = tells_sync _ 7 refl (λ e. cc e) (λ e. cc e) (λ e. cc e) (λ e. cc e)
+  own-tells (sync.PinGone pin oldest) other = tells_sync _ 8 refl (λ e. cc e) (λ e. cc e) (λ e. cc e) (λ e. cc e)
+  own-tells sync.UnknownToken other = tells_sync _ 9 refl (λ e. cc e) (λ e. cc e) (λ e. cc e) (λ e. cc e)
+  own-tells (sync.BadReply kind offset) other = tells_sync _ 12 refl (λ e. cc e) (λ e. cc e) (λ e. cc e) (λ e. cc e)
+  own-tells (sync.TooLarge kind total) other = tells_sync _ 13 refl (λ e. cc e) (λ e. cc e) (λ e. cc e) (λ e. cc e)
+  own-tells sync.HubFault other = tells_sync _ 14 refl (λ e. cc e) (λ e. cc e) (λ e. cc e) (λ e. cc e)
+  own-tells sync.HubNoMemory other = tells_sync _ 15 refl (λ e. cc e) (λ e. cc e) (λ e. cc e) (λ e. cc e)
+  own-tells sync.LastRun other = tells_sync _ 16 refl (λ e. cc e) (λ e. cc e) (λ e. cc e) (λ e. cc e)
+  own-tells sync.NoMemory other = tells_sync _ 17 refl (λ e. cc e) (λ e. cc e) (λ e. cc e) (λ e. cc e)
+  own-tells sync.KeeperFault other = absurd (other refl)
+
   synced-tells : (task : Task) (s : SyncAnswer) → IsSyncOf task s copy link → Tells (ends.Synced s)
-  synced-tells task (sync.Complete version) is = tells_sync _ 0 refl (λ e. cc e) (λ e. cc e) (λ e. cc e) (λ e. cc e)
-  synced-tells task (sync.Interrupted kind offset) is = tells_sync _ 7 refl (λ e. cc e) (λ e. cc e) (λ e. cc e) (λ e. cc e)
-  synced-tells task (sync.PinGone pin oldest) is = tells_sync _ 8 refl (λ e. cc e) (λ e. cc e) (λ e. cc e) (λ e. cc e)
-  synced-tells task sync.UnknownToken is = tells_sync _ 9 refl (λ e. cc e) (λ e. cc e) (λ e. cc e) (λ e. cc e)
-  synced-tells task (sync.BadReply kind offset) is = tells_sync _ 12 refl (λ e. cc e) (λ e. cc e) (λ e. cc e) (λ e. cc e)
-  synced-tells task (sync.TooLarge kind total) is = tells_sync _ 13 refl (λ e. cc e) (λ e. cc e) (λ e. cc e) (λ e. cc e)
-  synced-tells task sync.HubFault is = tells_sync _ 14 refl (λ e. cc e) (λ e. cc e) (λ e. cc e) (λ e. cc e)
-  synced-tells task sync.HubNoMemory is = tells_sync _ 15 refl (λ e. cc e) (λ e. cc e) (λ e. cc e) (λ e. cc e)
-  synced-tells task sync.LastRun is = tells_sync _ 16 refl (λ e. cc e) (λ e. cc e) (λ e. cc e) (λ e. cc e)
-  synced-tells task sync.NoMemory is = tells_sync _ 17 refl (λ e. cc e) (λ e. cc e) (λ e. cc e) (λ e. cc e)
   synced-tells task sync.KeeperFault is = record { words = λ e. cc e; folder = λ e. cc e; keeper = λ e. cc e; copy_says = λ e. is.cause.only }
+  synced-tells task s is = own-tells s (λ e. cc e)
 
   sync-tells : (task : Task) (a : Answer) → IsSyncAnswer task copy link a → Tells a.end
   sync-tells task a (none, s, is, inl same) = subst Tells (sym same) (synced-tells task s is)
@@ -251,6 +263,11 @@ module _ (o : Outside) (copy : CopyRun) (link : LinkRun) where
   enter-tells task a (inl (end, same, reads, is)) = subst (λ (x : Answer). Tells x.end) (sym is) (stop-tells task end reads)
   enter-tells task a (inr (write, r, reads, is, entered)) = entered-tells write r a is entered
 
+  make-tells : (count : ℕ) (done : List ℕ) (end : End) → IsMakeAnswer count done end → Tells end
+  make-tells count done (ends.Synced s) is = own-tells s is.copied.keeper
+  make-tells count done ends.NoMemory is = tells ends.NoMemory (says_memory o ends.NoMemory refl)
+  make-tells count done end is = absurd is
+
   command-tells : (command : Command) (a : Answer) (before after : KeptState) → IsCommandAnswer command o copy link a before after → Tells a.end
   command-tells (Show kind) a before after is = tells a.end (show-says o kind a is.2)
   command-tells (Publish feeds) a before after (rests, inl failed) =
@@ -263,6 +280,10 @@ module _ (o : Outside) (copy : CopyRun) (link : LinkRun) where
   command-tells (Send task) a before after is = send-tells task a is.2
   command-tells Outbox a before after is = read-tells (IsOutboxText copy.stands) a is.3.1
   command-tells (ListHeld kind) a before after is = read-tells (IsHeldText kind copy.stands) a is.3.1
+  command-tells (Rehearse file) a before after is =
+      let says = rehearse_says o.files o.folder file a.done a.end is.3 in
+      record { words = says.words; folder = says.folder_rose; keeper = λ e. absurd (says.keeper e); copy_says = λ e. absurd (says.copy e) }
+  command-tells (Make count) a before after is = make-tells count a.done a.end is.3
 
   -- status 2 comes only with bad words
   answer-words : (r : Result Parsed ℕ) (a : Answer) (before after : KeptState) → IsAnswer r o copy link a before after → status_of a.end ≡ 2 → IsErr r
@@ -321,6 +342,40 @@ module _ (o : Outside) (copy : CopyRun) (link : LinkRun) where
       → (s : SyncAnswer) × IsSyncOf task s copy link × (status_of a.end ≡ sync_status s) × (text_of a ≡ sync_text s)
   leads-synced old new task r a same from other = answer-synced task r a from.before from.after same from.some other
 
+  -- ---- a rehearsal, and a district
+
+  rehearsed : (file : List ℕ) (parsed : Parsed) (a : Answer) (before after : KeptState) → parsed.command ≡ Rehearse file → IsCommandAnswer parsed.command o copy link a before after → IsRehearseAnswer o.files o.folder file a.done a.end
+  rehearsed file parsed a before after same is = let told : IsCommandAnswer (Rehearse file) o copy link a before after = subst (λ (c : Command). IsCommandAnswer c o copy link a before after) same is in told.3
+
+  answer-rehearsed : (file : List ℕ) (r : Result Parsed ℕ) (a : Answer) (before after : KeptState) → command_in r ≡ Some (Rehearse file) → IsAnswer r o copy link a before after → status_of a.end ≡ 0
+      → (lines : List Line) × IsScriptOf o.files file lines × (run : RunsFirst o.files lines (length lines)) × (text_of a ≡ printed run.stages)
+  answer-rehearsed file (Err place) a before after same is zero = absurd (cc same)
+  answer-rehearsed file (Ok parsed) a before after same (inl is) zero =
+      let (ends_so, lines, of, run, prints) = rehearse_done o.files o.folder file a.done a.end (rehearsed file parsed a before after (cc same) is) zero in
+      (lines, of, run, ap (λ (e : End). text_of (record { done = a.done; end = e })) ends_so ∙ append-nil a.done ∙ prints)
+  answer-rehearsed file (Ok parsed) a before after same (inr wants) zero = absurd (cc (sym (ap status_of wants.2.1) ∙ zero))
+
+  -- what is told with status 0 of words that spell `rehearse` is what a run prints
+  pub leads-rehearsed : (old new : KeptState → Type 0) (file : List ℕ) (r : Result Parsed ℕ) (a : Answer) → command_in r ≡ Some (Rehearse file) → LeadsFrom old new (IsAnswer r o copy link a) → status_of a.end ≡ 0
+      → (lines : List Line) × IsScriptOf o.files file lines × (run : RunsFirst o.files lines (length lines)) × (text_of a ≡ printed run.stages)
+  leads-rehearsed old new file r a same from zero = answer-rehearsed file r a from.before from.after same from.some zero
+
+  made : (count : ℕ) (parsed : Parsed) (a : Answer) (before after : KeptState) → parsed.command ≡ Make count → IsCommandAnswer parsed.command o copy link a before after → IsMakeAnswer count a.done a.end
+  made count parsed a before after same is = let told : IsCommandAnswer (Make count) o copy link a before after = subst (λ (c : Command). IsCommandAnswer c o copy link a before after) same is in told.3
+
+  answer-made : (count : ℕ) (r : Result Parsed ℕ) (a : Answer) (before after : KeptState) → command_in r ≡ Some (Make count) → IsAnswer r o copy link a before after → status_of a.end ≡ 0
+      → (version : ℕ) × (done : List ℕ) × MakesDistrict count (sync.Complete version) done × (text_of a ≡ done ++ sync_text (sync.Complete version))
+  answer-made count (Err place) a before after same is zero = absurd (cc same)
+  answer-made count (Ok parsed) a before after same (inl is) zero =
+      let (version, ends_so, makes) = make_done count a.done a.end (made count parsed a before after (cc same) is) zero in
+      (version, a.done, makes, ap (λ (e : End). text_of (record { done = a.done; end = e })) ends_so)
+  answer-made count (Ok parsed) a before after same (inr wants) zero = absurd (cc (sym (ap status_of wants.2.1) ∙ zero))
+
+  -- and of words that spell `make`, the summary of a district
+  pub leads-made : (old new : KeptState → Type 0) (count : ℕ) (r : Result Parsed ℕ) (a : Answer) → command_in r ≡ Some (Make count) → LeadsFrom old new (IsAnswer r o copy link a) → status_of a.end ≡ 0
+      → (version : ℕ) × (done : List ℕ) × MakesDistrict count (sync.Complete version) done × (text_of a ≡ done ++ sync_text (sync.Complete version))
+  leads-made old new count r a same from zero = answer-made count r a from.before from.after same from.some zero
+
   -- ---- what is written
 
   -- a command's answer is one to the words that spell the command
@@ -368,6 +423,16 @@ module _ (o : Outside) (copy : CopyRun) (link : LinkRun) where
       → LeadsFrom stands stands (IsAnswer (Ok parsed) o copy link a)
   leads-listed stands parsed kind same nothing rests answer is =
       leads-told stands stands parsed (ListHeld kind) same answer (leads-nowhere stands (IsCommandAnswer (ListHeld kind) o copy link answer) (λ kept. (refl, nothing, rests, is)))
+
+  pub leads-made-answer : (stands : KeptState → Type 0) (parsed : Parsed) (count : ℕ) → parsed.command ≡ Make count → ConsumerRests copy link → NothingFailed o → (answer : Answer) → IsMakeAnswer count answer.done answer.end → (a : Answer) → IsPrinted answer a
+      → LeadsFrom stands stands (IsAnswer (Ok parsed) o copy link a)
+  leads-made-answer stands parsed count same rests nothing answer is =
+      leads-told stands stands parsed (Make count) same answer (leads-nowhere stands (IsCommandAnswer (Make count) o copy link answer) (λ kept. (rests, refl, nothing, is)))
+
+  pub leads-rehearsed-answer : (stands : KeptState → Type 0) (parsed : Parsed) (file : List ℕ) → parsed.command ≡ Rehearse file → ConsumerRests copy link → HaveStood o.keeper → (a : Answer) → IsRehearseAnswer o.files o.folder file a.done a.end
+      → LeadsFrom stands stands (IsAnswer (Ok parsed) o copy link a)
+  leads-rehearsed-answer stands parsed file same rests stood a is =
+      leads-command stands stands parsed (Rehearse file) same a (leads-nowhere stands (IsCommandAnswer (Rehearse file) o copy link a) (λ kept. (rests, refl, stood, is)))
 
   -- want of memory before anything is done
   pub leads-no-memory : (stands : KeptState → Type 0) (r : Result Parsed ℕ) → ConsumerRests copy link → (a : Answer) → IsPrinted out_of_memory a → LeadsFrom stands stands (IsAnswer r o copy link a)

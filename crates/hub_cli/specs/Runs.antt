@@ -10,9 +10,11 @@ use Rattle.hub_commands.specs.Runs.{IsPublishAnswer, IsShowAnswer, WantsMemory}
 use Rattle.hub_commands.specs.declared.answer.Answer.{Answer}
 use Rattle.hub_commands.specs.declared.answer.End.TheVariants.{BadWord}
 use Rattle.hub_words.specs.declared.words.Command.{Command}
-use Rattle.hub_words.specs.declared.words.Command.TheVariants.{Ask, Enter, Grant, ListHeld, Outbox, Publish, Send, Show, Sync}
+use Rattle.hub_words.specs.declared.words.Command.TheVariants.{Ask, Enter, Grant, ListHeld, Make, Outbox, Publish, Rehearse, Send, Show, Sync}
 use Rattle.hub_words.specs.declared.words.Parsed.{Parsed}
 use Rattle.keeper_memory.specs.Kept.{KeptState}
+use Rattle.script_runs.specs.Makings.{IsMakeAnswer}
+use Rattle.script_runs.specs.Rehearsals.{IsRehearseAnswer}
 
 -- the consumer's copy and its link are as they were
 abbrev pub ConsumerRests : CopyRun → LinkRun → Type 0
@@ -29,6 +31,10 @@ IsCommandAnswer (Enter task) outside copy link answer before after = (after ≡ 
 IsCommandAnswer (Send task) outside copy link answer before after = (after ≡ before) × NothingFailed outside × IsSendAnswer task copy link answer
 IsCommandAnswer Outbox outside copy link answer before after = (after ≡ before) × NothingFailed outside × link.same × IsOutboxAnswer copy answer
 IsCommandAnswer (ListHeld kind) outside copy link answer before after = (after ≡ before) × NothingFailed outside × link.same × IsListAnswer kind copy answer
+IsCommandAnswer (Rehearse file) outside copy link answer before after =
+    ConsumerRests copy link × (after ≡ before) × HaveStood outside.keeper × IsRehearseAnswer outside.files outside.folder file answer.done answer.end
+IsCommandAnswer (Make count) outside copy link answer before after =
+    ConsumerRests copy link × (after ≡ before) × NothingFailed outside × IsMakeAnswer count answer.done answer.end
 
 -- the answer to words
 abbrev pub IsAnswer : Result Parsed ℕ → Outside → CopyRun → LinkRun → Answer → KeptState → KeptState → Type 0

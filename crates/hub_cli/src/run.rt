@@ -1,12 +1,13 @@
 //! The program's top call.
 
-ghost use Rattle.std.specs.Prelude.{◌≡◌, ◌≢◌, IsErr, Ok, Some, map, string_bytes};
+ghost use Rattle.std.specs.Prelude.{◌≡◌, ◌≢◌, ◌++◌, ℕ, IsErr, List, Ok, Some, length, map, string_bytes};
 ghost use Rattle.std.specs.Io.KnownBytes.{Appends};
 ghost use Rattle.consumer_commands.specs.Consumers.{copy_between, link_between};
 ghost use Rattle.consumer_commands.specs.SyncLines.{sync_status, sync_text};
 ghost use Rattle.consumer_commands.specs.Syncs.{IsSyncOf};
 ghost use Rattle.hub_words.specs.Tasks.{Task};
 ghost use Rattle.exchange_link.specs.declared.answer.SyncAnswer.{SyncAnswer as SyncAnswerValue};
+ghost use Rattle.exchange_link.specs.declared.answer.SyncAnswer.TheVariants.{Complete};
 ghost use Rattle.outside_ports.specs.Written.{AppendsPart};
 ghost use Rattle.roster_base.specs.Faults.{Rose};
 ghost use Rattle.hub_commands.specs.Answers.{status_of, text_of};
@@ -15,7 +16,11 @@ ghost use Rattle.hub_commands.specs.Runs.{IsShowAnswer, LeadsBetween, WritesBetw
 ghost use Rattle.hub_cli.specs.Runs.{IsAnswer};
 ghost use Rattle.hub_words.specs.Words.{command_in, split};
 ghost use Rattle.hub_commands.specs.declared.answer.Answer.{Answer as AnswerValue};
-ghost use Rattle.hub_words.specs.declared.words.Command.TheVariants.{Sync};
+ghost use Rattle.hub_words.specs.declared.words.Command.TheVariants.{Make, Rehearse, Sync};
+ghost use Rattle.script_runs.specs.Makings.{MakesDistrict};
+ghost use Rattle.script_runs.specs.Rehearsals.{IsScriptOf};
+ghost use Rattle.script_runs.specs.Runs.{RunsFirst, printed};
+ghost use Rattle.world_scripts.specs.declared.script.Line.{Line};
 
 use exchange_link::Link;
 use hub_commands::ask::ask;
@@ -34,6 +39,8 @@ use keeper_memory::{CopyKeeper, HubKeeper};
 use outside_ports::{Clock, Folder, Sink};
 use roster_base::NoMemory;
 use roster_values::Kind;
+use script_runs::make::make;
+use script_runs::rehearse::rehearse;
 use std::alloc::Global;
 
 // The answer of `show`.
@@ -75,6 +82,8 @@ fn run_command<F: Folder, H: HubKeeper, C: CopyKeeper, L: Link, K: Clock, O: Sin
         Command::Send { task } => tell(alloc, send(alloc, task, copy, link), out),
         Command::Outbox => tell(alloc, outbox(alloc, copy), out),
         Command::ListHeld { kind } => tell(alloc, list(alloc, *kind, copy), out),
+        Command::Rehearse { file } => rehearse(alloc, file, folder, out),
+        Command::Make { task } => tell(alloc, make(alloc, task), out),
     }
 }
 
@@ -175,6 +184,15 @@ pub fn run_hub<F: Folder, H: HubKeeper, C: CopyKeeper, L: Link, K: Clock, O: Sin
         (copy_between C.stands_for C.fault_count copy.old copy.new)
         (link_between L.tells L.asked L.missed L.kept L.fault_count link.old link.new)
         × (result ≡ sync_status a) × Appends (O.written out.old) (O.written out.new) (sync_text a) }
+    // Where the words spell `rehearse` and the status is 0, the file is a script, and what is written is what a run of a world over all its
+    // lines prints, which begins with an empty hub and an empty copy.
+    ensures rehearsed { (file : List ℕ) → command_in (split (map string_bytes words.now)) ≡ Some (Rehearse file) → result ≡ 0
+        → (lines : List Line) × IsScriptOf (F.files folder.old) file lines × (run : RunsFirst (F.files folder.old) lines (length lines))
+        × Appends (O.written out.old) (O.written out.new) (printed run.stages) }
+    // Where they spell `make` and the status is 0, what is written sums up a district that was made, published, granted and copied whole.
+    ensures made { (count : ℕ) → command_in (split (map string_bytes words.now)) ≡ Some (Make count) → result ≡ 0
+        → (version : ℕ) × (done : List ℕ) × MakesDistrict count (Complete version) done
+        × Appends (O.written out.old) (O.written out.new) (done ++ sync_text (Complete version)) }
     ensures words_are_bad { result ≡ 2 → IsErr (split (map string_bytes words.now)) }
     ensures bad_words { IsErr (split (map string_bytes words.now)) → result ≢ 1 → result ≢ 17 → result ≡ 2 }
     ensures folder_failed { result ≡ 3 → Rose (F.faults folder.old) (F.faults folder.new) }

@@ -44,18 +44,21 @@ fn status_of(ending: Ending) -> u8
     }
 }
 
-/// The lines that tell what came of a feed: its version, or behind its name why it was refused.
+/// The lines that tell what came of a feed: its version, or behind its name on each line why it was refused.
 pub fn feed_lines(alloc: Global, feed: &Name, end: FeedEnd) -> Result<String, NoMemory> {
+    let feed = feed.as_str();
     let end = match end {
-        FeedEnd::Published(published) => return told_line(alloc, feed.as_str(), published),
+        FeedEnd::Published(published) => return told_line(alloc, feed, published),
         FeedEnd::Set(Refusal::Fault(fault)) => end_of(fault),
         FeedEnd::Hub(error) => end_of_error(error),
         FeedEnd::Set(Refusal::NoMemory) => return Ok(String::from_str(alloc, NO_MEMORY)?),
     };
-    let mut lines = String::from_str(alloc, feed.as_str())?;
-    lines.push_str(": ")?;
-    lines.push_str(end.lines(alloc)?.as_str())?;
-    Ok(lines)
+    let lines = end.lines(alloc)?;
+    let mut told = String::new(alloc);
+    for line in lines.as_str().lines() {
+        told.push_str(format!(in alloc; "{feed}: {line}\n")?.as_str())?;
+    }
+    Ok(told)
 }
 
 /// Serves the hub that a keeper keeps, as the words of `serve` say: for each acceptor the stated number of connections, one after another,

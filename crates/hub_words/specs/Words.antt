@@ -11,7 +11,7 @@ use Rattle.roster_texts.specs.Texts.{is_id, is_name, is_token}
 use Rattle.roster_values.specs.Kinds.{kind_of_word}
 use Rattle.roster_values.specs.declared.kind.Kind.{Kind}
 use Rattle.hub_words.specs.declared.words.Command.{Command}
-use Rattle.hub_words.specs.declared.words.Command.TheVariants.{Ask, Enter, Grant, ListHeld, Outbox, Publish, Send, Show, Sync}
+use Rattle.hub_words.specs.declared.words.Command.TheVariants.{Ask, Enter, Grant, ListHeld, Make, Outbox, Publish, Rehearse, Send, Show, Sync}
 use Rattle.hub_words.specs.declared.words.EnterTask.TheVariants.{Delete, Put}
 use Rattle.hub_words.specs.declared.words.OptionWord.{OptionWord}
 use Rattle.hub_words.specs.declared.words.OptionWord.TheVariants.{Folder, Keep, Peer, Store}
@@ -70,7 +70,7 @@ publish_words place (word ∷ words) = do
   feeds ← feed_words place (word ∷ words)
   Ok (Publish feeds)
 
--- a file's name, behind `grant` or `ask`
+-- a file's name, behind `grant`, `ask` or `rehearse`
 abbrev pub file_words : ℕ → (List ℕ → Command) → List (List ℕ) → Result Command ℕ
 file_words place command [] = Err place
 file_words place command (word ∷ words) = if is_file_word word then ended (place + 1) (command word) words else Err place
@@ -173,6 +173,18 @@ abbrev pub send_words : ℕ → List (List ℕ) → Result Command ℕ
 send_words place [] = Err place
 send_words place (word ∷ words) = if is_token word then send_tries_words (place + 1) word words else Err place
 
+-- ---- a district
+
+abbrev pub largest_count : ℕ
+largest_count = 200
+
+-- how many schools are made, behind `make`
+abbrev pub make_words : ℕ → List (List ℕ) → Result Command ℕ
+make_words place [] = Err place
+make_words place (word ∷ words) = do
+  count ← or_bad place (number_to largest_count word)
+  ended (place + 1) (Make count) words
+
 -- ---- the command
 
 -- the command from a place on
@@ -188,6 +200,8 @@ command_words place (word ∷ words) =
     else if bytes_eq word (codes "send") then send_words (place + 1) words
     else if bytes_eq word (codes "outbox") then ended (place + 1) Outbox words
     else if bytes_eq word (codes "list") then kind_words (place + 1) ListHeld words
+    else if bytes_eq word (codes "rehearse") then file_words (place + 1) Rehearse words
+    else if bytes_eq word (codes "make") then make_words (place + 1) words
     else Err place
 
 -- ---- options

@@ -1,4 +1,4 @@
-//! What a synchronisation, an outbox, a publication and a server are asked to do.
+//! What a synchronisation, an outbox, a publication, a server and the making of a district are asked to do.
 
 ghost use Rattle.std.specs.Prelude.{◌≡◌, ◌<◌, ◌≤◌, true};
 ghost use Rattle.keeper_memory.specs.copy.Copies.{IsGradebook};
@@ -102,6 +102,38 @@ impl SendTask {
         ensures bounds { (0 < result) × (result ≤ 100) }
     {
         self.tries
+    }
+}
+
+/// How many schools a district is made of, 1 to 200.
+#[derive(Drop)]
+pub struct MakeTask {
+    schools: u32,
+}
+
+impl Model for MakeTask {
+    ghost use Rattle.std.specs.Prelude.{◌<◌, ◌≤◌, ℕ};
+
+    ghost Value = { ℕ };
+
+    ghost view = { λ t. t.schools };
+
+    ghost invariant = { λ t. (0 < t.schools) × (t.schools ≤ 200) };
+}
+
+impl MakeTask {
+    pub fn new(schools: u32) -> MakeTask
+        requires { (0 < schools) × (schools ≤ 200) }
+        ensures { result ≡ schools }
+    {
+        MakeTask { schools }
+    }
+
+    pub fn schools(&self) -> u32
+        ensures value { result ≡ self.now }
+        ensures bounds { (0 < result) × (result ≤ 200) }
+    {
+        self.schools
     }
 }
 

@@ -6,9 +6,9 @@ ghost use Rattle.keeper_memory.specs.copy.Copies.{IsGradebook};
 ghost use Rattle.roster_base.specs.Reading.{Gives};
 ghost use Rattle.hub_words.specs.Words as spec;
 ghost use Rattle.hub_words.specs.declared.words.Command.{Command as CommandValue};
-ghost use Rattle.hub_words.specs.declared.words.Command.TheVariants.{Ask, Grant, ListHeld, Show};
+ghost use Rattle.hub_words.specs.declared.words.Command.TheVariants.{Ask, Grant, ListHeld, Rehearse, Show};
 
-use crate::task::{Feed, GradebookObject, SendTask, ServeTask, SyncTask, is_gradebook};
+use crate::task::{Feed, GradebookObject, MakeTask, SendTask, ServeTask, SyncTask, is_gradebook};
 use roster_base::{Items, NoMemory, Refusal, Text};
 use roster_texts::digits::number;
 use roster_texts::{Id, Name, Token};
@@ -45,6 +45,10 @@ pub enum Command {
     Outbox,
     /// Prints the rows of a kind that the copy holds.
     ListHeld { kind: Kind },
+    /// Runs the script of a file, in a world of its own.
+    Rehearse { file: Text },
+    /// Makes a district, and copies it, in a world of its own.
+    Make { task: MakeTask },
 }
 
 /// An option, whose value is the word behind it.
@@ -100,6 +104,9 @@ pub const USUAL_KEEP: u32 = 10_000;
 const LARGEST_LIMIT: u32 = 1_000;
 
 const LARGEST_TRIES: u32 = 100;
+
+/// How many schools are made at most.
+const LARGEST_COUNT: u32 = 200;
 
 /// How many connections are served at an address at most.
 const LARGEST_CONNECTIONS: u32 = 1_000_000;
@@ -418,6 +425,30 @@ fn send(alloc: Global, place: usize, words: &[String]) -> Result<Command, WordEr
     }
 }
 
+fn rehearse(alloc: Global, place: usize, words: &[String]) -> Result<Command, WordError>
+    requires { place + length words.now < 2 ^ 63 }
+    ensures { Gives (λ c. c) result (spec.file_words place Rehearse (map string_bytes words.now)) }
+{
+    let file = file_at(alloc, place, words)?;
+    Ok(Command::Rehearse { file })
+}
+
+fn make(place: usize, words: &[String]) -> Result<Command, WordError>
+    requires { place + length words.now < 2 ^ 63 }
+    ensures { Gives (λ c. c) result (spec.make_words place (map string_bytes words.now)) }
+{
+    let Some((word, words)) = words.split_first() else {
+        return Err(Refusal::Fault(place));
+    };
+    match number_to(LARGEST_COUNT, word.as_str()) {
+        Some(count) => {
+            let task = MakeTask::new(count);
+            end(place + 1, Command::Make { task }, words)
+        }
+        None => Err(Refusal::Fault(place)),
+    }
+}
+
 /// The command of the words from a place on, or the place of the first word that no command continues.
 pub fn command_at(alloc: Global, place: usize, words: &[String]) -> Result<Command, WordError>
     requires { place + length words.now < 2 ^ 63 }
@@ -435,6 +466,8 @@ pub fn command_at(alloc: Global, place: usize, words: &[String]) -> Result<Comma
             end(place + 1, Command::Outbox, words)
         }
         Some((word, words)) if word.as_str() == "list" => list(place + 1, words),
+        Some((word, words)) if word.as_str() == "rehearse" => rehearse(alloc, place + 1, words),
+        Some((word, words)) if word.as_str() == "make" => make(place + 1, words),
         _ => Err(Refusal::Fault(place)),
     }
 }

@@ -31,7 +31,7 @@ use Rattle.hub_words.specs.Words.{keep_in, store_in}
 use Rattle.hub_commands.specs.declared.answer.Answer.{Answer}
 use Rattle.hub_commands.specs.declared.answer.End.TheVariants as ends
 use Rattle.hub_words.specs.declared.words.Command.{Command}
-use Rattle.hub_words.specs.declared.words.Command.TheVariants.{Ask, Enter, Grant, ListHeld, Outbox, Publish, Send, Show, Sync}
+use Rattle.hub_words.specs.declared.words.Command.TheVariants.{Ask, Enter, Grant, ListHeld, Make, Outbox, Publish, Rehearse, Send, Show, Sync}
 use Rattle.hub_words.specs.declared.words.Parsed.{Parsed}
 use Rattle.real_run.specs.RealRuns.{AnswersFrom, AnswersOver, IsRealAnswer, RealCopy, RealLink, Runs, new_copy_run, new_hub, real_copy_run, silent_link_run, stored_copy_run}
 
@@ -138,6 +138,8 @@ module _ (stood stands stood_more stands_more : Copy → Type 0) (before now : �
   command-more (Send task) o a from to (same, nothing, (none, s, is, how)) = (same, nothing, (none, s, send-more task s is, how))
   command-more Outbox o a from to is = (is.0, is.1, l is.2, outbox-more a is.3)
   command-more (ListHeld kind) o a from to is = (is.0, is.1, l is.2, list-more kind a is.3)
+  command-more (Rehearse file) o a from to is = (rests-more is.0, is.1, is.2, is.3)
+  command-more (Make count) o a from to is = (rests-more is.0, is.1, is.2, is.3)
 
   answer-more : (r : Result Parsed ℕ) (o : Outside) (a : Answer) (from to : KeptState) → IsAnswer r o copy_old link_old a from to → IsAnswer r o copy_new link_new a from to
   answer-more (Err place) o a from to is = (rests-more is.0, is.1, is.2)

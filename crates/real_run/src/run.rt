@@ -209,7 +209,9 @@ fn is_of_consumer(spelled: &Spelled) -> bool {
             Command::Show { .. }
             | Command::Publish { .. }
             | Command::Grant { .. }
-            | Command::Ask { .. } => false,
+            | Command::Ask { .. }
+            | Command::Rehearse { .. }
+            | Command::Make { .. } => false,
         },
         Err(_) => false,
     }

@@ -1,9 +1,9 @@
 //! What standard error is told of a run, for people: that a folder or an address isn't there. It decides nothing, and a line that can't
 //! be written changes nothing.
 
-use hub_cli::{Command, Spelled, peer_of, root_of};
+use hub_cli::{Command, Spelled, names_serve, peer_of, read_words, root_of, split_serve};
 use hub_words::Feed;
-use roster_base::NoMemory;
+use roster_base::{NoMemory, Refusal};
 use std::alloc::Global;
 use std::path::Path;
 
@@ -42,6 +42,20 @@ pub(crate) fn tell_before(rt: HostRuntime, alloc: Global, spelled: &Spelled) {
             let _ = eprintln!(rt; "no --peer HOST:PORT is named, so each try fails");
         }
         _ => {}
+    }
+}
+
+/// The place of the first word that no command continues, where the words are none.
+pub fn bad_place(alloc: Global, words: &[String]) -> Option<usize> {
+    if names_serve(alloc, words) {
+        return match split_serve(alloc, words) {
+            Err(Refusal::Fault(place)) => Some(place),
+            _ => None,
+        };
+    }
+    match read_words(alloc, words) {
+        Ok(Err(place)) => Some(place),
+        _ => None,
     }
 }
 

@@ -1,6 +1,6 @@
 use Rattle.std.proofs.Common.{refl}
 use Rattle.consumer_commands.specs.Consumers.{copy_between, link_between}
-use Rattle.hub_cli.proofs.Ending.{leads-command, leads-entered, leads-listed, leads-outbox, leads-resting, leads-sent, leads-shown, leads-synchronised, leads-told}
+use Rattle.hub_cli.proofs.Ending.{leads-command, leads-entered, leads-listed, leads-made-answer, leads-outbox, leads-rehearsed-answer, leads-resting, leads-sent, leads-shown, leads-synchronised, leads-told}
 use Rattle.hub_commands.proofs.Telling.{writes_as}
 use Rattle.hub_commands.specs.Outside.{faults_between, outside_between}
 use Rattle.hub_words.specs.declared.words.Command.TheVariants.{Ask, Grant, Publish}
@@ -110,3 +110,23 @@ returns-in-ListHeld g c =
     (link_between g.L.Link.tells g.L.Link.asked g.L.Link.missed g.L.Link.kept g.L.Link.fault_count c.args.link.now c.args.link.now)
     (g.H.HubKeeper.stands_for c.args.keeper.now) c.args.parsed.now c.in-ListHeld.kind c.in-ListHeld.is (record { folder = refl; keeper = refl }) refl c.list.result c.list.ensures)
     c.tell-in-ListHeld.ensures
+
+pub returns-in-Rehearse : goal.returns-in-Rehearse
+returns-in-Rehearse g c =
+    writes_as _ _ _ _ _ _ _
+    (leads-rehearsed-answer
+    (outside_between g.F.Folder.files g.F.Folder.faults c.args.folder.now c.rehearse.new.folder (g.K.Clock.moment c.args.clock.now) (faults_between g.H.HubKeeper.fault_count c.args.keeper.now c.args.keeper.now))
+    (copy_between g.C.CopyKeeper.stands_for g.C.CopyKeeper.fault_count c.args.copy.now c.args.copy.now)
+    (link_between g.L.Link.tells g.L.Link.asked g.L.Link.missed g.L.Link.kept g.L.Link.fault_count c.args.link.now c.args.link.now)
+    (g.H.HubKeeper.stands_for c.args.keeper.now) c.args.parsed.now c.in-Rehearse.file c.in-Rehearse.is (refl, refl) refl)
+    c.rehearse.ensures
+
+pub returns-in-Make : goal.returns-in-Make
+returns-in-Make g c =
+    writes_as _ _ _ _ _ _ _
+    (leads-made-answer
+    (outside_between g.F.Folder.files g.F.Folder.faults c.args.folder.now c.args.folder.now (g.K.Clock.moment c.args.clock.now) (faults_between g.H.HubKeeper.fault_count c.args.keeper.now c.args.keeper.now))
+    (copy_between g.C.CopyKeeper.stands_for g.C.CopyKeeper.fault_count c.args.copy.now c.args.copy.now)
+    (link_between g.L.Link.tells g.L.Link.asked g.L.Link.missed g.L.Link.kept g.L.Link.fault_count c.args.link.now c.args.link.now)
+    (g.H.HubKeeper.stands_for c.args.keeper.now) c.args.parsed.now c.in-Make.task c.in-Make.is (refl, refl) (record { folder = refl; keeper = refl }) c.make.result c.make.ensures)
+    c.tell-in-Make.ensures

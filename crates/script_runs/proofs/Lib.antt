@@ -1,0 +1,6 @@
+mod Consuming
+pub mod Making
+mod Refusals
+pub mod Rehearsing
+mod Walking
+pub mod Sounding

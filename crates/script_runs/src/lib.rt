@@ -1,0 +1,13 @@
+//! Runs of scripts: a hub, a copy and the link between them, line by line.
+#![tactic(auto)]
+
+pub mod make;
+pub mod play;
+pub mod rehearse;
+mod run;
+mod sayings;
+mod sources;
+
+pub use play::Play;
+pub use run::{ScriptEnd, run_script};
+pub use sources::Stop;
