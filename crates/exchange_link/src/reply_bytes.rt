@@ -1,7 +1,7 @@
 //! The bytes of a reply, as they come.
 
 ghost use Rattle.std.specs.Prelude.{◌≡◌, ◌+◌, ◌≤◌, ◌++◌, [], IfOk, IfSome, IsSome, IsSomeAnd, None, vec_len};
-ghost use Rattle.exchange_link.specs.Coming.{EndsAt, without_more};
+ghost use Rattle.exchange_link.specs.Coming.{EndsAt};
 
 use http_wire::reply_length;
 use std::alloc::{AllocError, Global};
@@ -40,17 +40,18 @@ impl ReplyBytes {
         }
     }
 
-    /// How many bytes are wanted next, at most a chunk: none once the reply is whole.
+    /// How many bytes are wanted next, at most a chunk: none once the reply is whole, and else one more than it lacks, so that a byte behind
+    /// it is seen where it comes with it.
     pub(crate) fn wanted(&self) -> usize
         ensures most { result ≤ CHUNK }
         ensures whole { result ≡ 0 → IsSomeAnd self.now.length (λ n. n ≤ vec_len self.now.bytes) }
-        ensures rest { IfSome self.now.length (λ n. vec_len self.now.bytes ≤ n → vec_len self.now.bytes + result ≤ n) }
+        ensures rest { IfSome self.now.length (λ n. vec_len self.now.bytes ≤ n → vec_len self.now.bytes + result ≤ n + 1) }
     {
         match self.length {
-            Some(length) => {
-                let rest = length.saturating_sub(self.bytes.len() as u64);
-                rest.min(CHUNK as u64) as usize
-            }
+            Some(length) => match length.saturating_sub(self.bytes.len() as u64) {
+                0 => 0,
+                rest => rest.saturating_add(1).min(CHUNK as u64) as usize,
+            },
             None => CHUNK,
         }
     }
@@ -68,14 +69,11 @@ impl ReplyBytes {
         Ok(())
     }
 
-    /// The bytes of the reply, without those that came behind it.
+    /// The bytes that came. Those behind the reply are left there: with them it is none.
     pub(crate) fn into_bytes(self) -> Vec<u8>
-        ensures { result.items ≡ without_more self.length self.bytes.items }
+        ensures { result.items ≡ self.bytes.items }
     {
-        let ReplyBytes { mut bytes, length } = self;
-        if let Some(length) = length {
-            bytes.truncate(usize::try_from(length).unwrap_or(usize::MAX));
-        }
+        let ReplyBytes { bytes, length: _ } = self;
         bytes
     }
 }
