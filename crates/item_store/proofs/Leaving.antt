@@ -1,5 +1,5 @@
 -- What each statement leaves in the files.
-use Rattle.std.proofs.Common.{◌≡◌, ◌≢◌, ℕ, pos, ◌⊎◌, inl, inr, List, [], ◌∷◌, true, false, Some, None, Option, Ok, Err, Result, OnOk, OnErr, IfOk, IfErr, Vec, IsTrue, IsSome, sym, ap, ◌∙◌, subst}
+use Rattle.std.proofs.Common.{◌≡◌, ◌≢◌, ℕ, pos, ◌⊎◌, inl, inr, List, [], ◌∷◌, true, false, Some, None, Option, Ok, Err, Result, OnOk, OnErr, IfOk, IfErr, Vec, IsTrue, IsSome, refl, sym, ap, ◌∙◌, subst}
 use Rattle.std.specs.declared.alloc.Global.{Global}
 use Rattle.sqlite.specs.declared.error.Error.{Error}
 use Rattle.sqlite.specs.declared.types.Value.TheVariants.{Int}
@@ -18,12 +18,12 @@ use Rattle.sqlite_resolve.specs.declared.compiled.Compiled.{Compiled}
 use Rattle.sqlite_schema.specs.declared.command.Command.{Command}
 use Rattle.sqlite_schema.specs.declared.command.Returning.{Returning}
 use Rattle.sqlite_schema.specs.declared.command.Conflict.TheVariants.{Abort}
-use Rattle.item_store.specs.Table.{no_schema, item_schema, make_text, begin_text, commit_text, rollback_text, delete_text, upsert_text, select_text}
+use Rattle.item_store.specs.Table.{no_schema, item_schema, make_text, begin_text, commit_text, rollback_text, delete_text, upsert_text, select_text, no_text}
 use Rattle.item_maps.specs.Items.{Items, no_items}
 use Rattle.item_store.specs.Items.{Holds, params_of, put_params}
 use Rattle.item_store.specs.Left.{IsLeft, Leaves, WasOpen}
 use Rattle.item_store.specs.Stands.{IsTold, StandsFor, IsReady, IsWithin, GoesBackTo, Earlier}
-use Rattle.item_store.proofs.Texts.{begin_is, begin_plain, commit_is, commit_plain, delete_is, delete_query, make_first, make_first_plain, make_again, put_terms, rollback_is, select_plain, upsert, upsert_is}
+use Rattle.item_store.proofs.Texts.{begin_is, begin_plain, commit_is, commit_plain, delete_is, delete_query, make_first, make_first_plain, make_again, nothing_any, put_terms, rollback_is, select_plain, upsert, upsert_is}
 use Rattle.item_store.proofs.States.{Stops, execute_stops, on_err, query_stops, shown_open, stops_open}
 use Rattle.item_store.proofs.Steps.{clears_state, made_again, makes_db, makes_state, none_held, puts_state}
 
@@ -57,6 +57,9 @@ nothing_begun s limit params old after text (Some what) tally h = cc
 nothing_made : (s : State) (limit : Option ℕ) (params : Row) (old after : Database) (text : List ℕ) (r : Option Returning) (tally : Tally) → Does limit (mode_of s) params old text r Nothing (Ok (tally, after)) → ⊥
 nothing_made s limit params old after text None tally h = cc
 nothing_made s limit params old after text (Some what) tally h = cc
+
+pub nothing_commits : (s : State) (db : Trees) → CommitsBy no_text [] s db → ⊥
+nothing_commits s = none_outside no_text [] s s.now.schema refl Nothing (nothing_any s.now.schema) (nothing_made s) (λ e. cc) (λ name e. cc)
 
 -- ---- what calls leave
 

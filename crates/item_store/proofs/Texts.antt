@@ -1,6 +1,7 @@
 -- What the checker makes of the texts.
 use Rattle.std.proofs.Common.{◌≡◌, pos, negsuc, List, [], ◌∷◌, codes, false, Some, None, Ok, refl}
 use Rattle.sqlite.specs.declared.types.Value.TheVariants.{Null, Int}
+use Rattle.sqlite.specs.Schema.{Schema}
 use Rattle.sqlite.specs.Term.{Term, lit, col, op2}
 use Rattle.sqlite.specs.Query.{Query, inner, end}
 use Rattle.sqlite.specs.Collation.TheVariants.{Binary}
@@ -15,7 +16,7 @@ use Rattle.sqlite.specs.Compile.{table_defined_by}
 use Rattle.sqlite_tied.specs.Compute.{everything}
 use Rattle.sqlite.specs.Listing.{understood, reads_listing}
 use Rattle.sqlite.proofs.Callers.{command_of, IsPlain, statement_of}
-use Rattle.item_store.specs.Table.{no_schema, item_schema, make_text, select_text, delete_text, upsert_text, begin_text, commit_text, rollback_text, item_table}
+use Rattle.item_store.specs.Table.{no_schema, item_schema, make_text, select_text, delete_text, upsert_text, begin_text, commit_text, rollback_text, no_text, item_table}
 
 -- the filter of a range: its parameters are the area and the two ends
 abbrev pub in_range_terms : List Term
@@ -131,3 +132,20 @@ commit_plain = (refl, refl)
 pub rollback_is : command_of (understood item_schema rollback_text) ≡ Rollback
 unfolding understood everything
 rollback_is = refl
+
+-- of any schema
+pub commit_any : (s : Schema) → command_of (understood s commit_text) ≡ Commit
+unfolding understood everything
+commit_any s = refl
+
+pub commit_any_plain : (s : Schema) → IsPlain (understood s commit_text)
+unfolding understood everything
+commit_any_plain s = (refl, refl)
+
+pub nothing_any : (s : Schema) → command_of (understood s no_text) ≡ Nothing
+unfolding understood everything
+nothing_any s = refl
+
+pub nothing_any_plain : (s : Schema) → IsPlain (understood s no_text)
+unfolding understood everything
+nothing_any_plain s = (refl, refl)

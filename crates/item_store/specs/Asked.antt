@@ -7,10 +7,10 @@ use Rattle.sqlite.specs.Order.{Row}
 use Rattle.sqlite.specs.State.{State, Executes, Shown, FailsToQuery}
 use Rattle.sqlite_rules.specs.Lists.{Has}
 use Rattle.item_store.specs.Stands.{Earlier}
-use Rattle.item_store.specs.Table.{make_text, select_text, delete_text, upsert_text, begin_text, commit_text}
+use Rattle.item_store.specs.Table.{make_text, select_text, delete_text, upsert_text, begin_text, commit_text, no_text}
 
 abbrev pub texts : List (List ℕ)
-texts = make_text ∷ begin_text ∷ upsert_text ∷ delete_text ∷ commit_text ∷ select_text ∷ []
+texts = make_text ∷ begin_text ∷ upsert_text ∷ delete_text ∷ commit_text ∷ select_text ∷ no_text ∷ []
 
 -- one of them was run
 abbrev pub Ran : State → State → Type 0

@@ -1,5 +1,5 @@
 -- What a stop leaves in the files, also where a fault has shut the connection.
-use Rattle.std.specs.Prelude.{◌≡◌, ◌⊎◌, false, List, [], ◌∷◌, Result, OnOk, OnErr, IsTrue}
+use Rattle.std.specs.Prelude.{◌≡◌, ◌<◌, ◌≤◌, ◌-◌, ◌^◌, ◌⊎◌, ℕ, false, List, [], ◌∷◌, Result, OnOk, OnErr, IsTrue}
 use Rattle.sqlite.specs.declared.error.Error.{Error}
 use Rattle.sqlite.specs.Effect.{IsDatabase}
 use Rattle.sqlite.specs.Schema.{Schema}
@@ -37,3 +37,21 @@ pub record LeavesAs {T : Type 0} (old new : State) (result : Result T Error) (Ad
 -- the same where the disk is clean and the connection was open
 abbrev pub Leaves : {T : Type 0} → State → State → Result T Error → (Trees → Type 0) → Type 0
 Leaves old new result Adds = HasCleanDisk new → IsTrue old.is_open → LeavesAs old new result Adds
+
+-- a fault has shut the connection over a clean disk, and an open may find a database of these items
+pub record MayFind (s : State) (m : Items) : Type 0 where
+  pub clean : HasCleanDisk s
+  pub shut : s.is_open ≡ false
+  pub db : Trees
+  pub may : s.may_leave db
+  pub is : IsLeft db m
+
+-- a clean disk under a connection that is shut, though the disk has failed at most so often, or that has failed less often
+pub record IsDown (times : ℕ) (s : State) : Type 0 where
+  pub clean : HasCleanDisk s
+  pub counted : times < 2 ^ 64 - 1
+  pub which : ((s.is_open ≡ false) × (s.faults ≤ times)) ⊎ (s.faults < times)
+
+-- only a fault of the disk shuts a connection: what is down behind a call was so before it
+abbrev pub Lasts : State → State → Type 0
+Lasts old new = (times : ℕ) → IsDown times new → IsDown times old

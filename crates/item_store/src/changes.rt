@@ -6,7 +6,7 @@ ghost use Rattle.sqlite.specs.State.{HasCleanDisk, Executes, CommitsBy, Survives
 ghost use Rattle.item_store.specs.Asked.{Asks};
 ghost use Rattle.item_maps.specs.Items.{Items, cleared, put as put_in};
 ghost use Rattle.item_store.specs.Items.{params_of, put_params};
-ghost use Rattle.item_store.specs.Left.{Leaves, WasOpen};
+ghost use Rattle.item_store.specs.Left.{Lasts, Leaves, WasOpen};
 ghost use Rattle.item_store.specs.Stands.{IsWithin, GoesBackTo, Earlier};
 ghost use Rattle.item_store.specs.Table.{delete_text, upsert_text};
 
@@ -22,6 +22,7 @@ fn run_clear<S: Alter>(
         → Executes delete_text (params_of area from.now to.now []) (state S.Store conn.old) (state S.Store conn.new) result }
     ensures survives { Survives (state S.Store conn.old) (state S.Store conn.new) (CommitsBy delete_text (params_of area from.now to.now []) (state S.Store conn.old)) }
     ensures honest { Earlier (state S.Store conn.old) (state S.Store conn.new) }
+    ensures lasts { Lasts (state S.Store conn.old) (state S.Store conn.new) }
 {
     conn.execute(
         "DELETE FROM item WHERE area = ?1 AND label >= ?2 AND label < ?3",
@@ -39,6 +40,7 @@ fn run_put<S: Alter>(
         → Executes upsert_text (put_params area label.now body.now) (state S.Store conn.old) (state S.Store conn.new) result }
     ensures survives { Survives (state S.Store conn.old) (state S.Store conn.new) (CommitsBy upsert_text (put_params area label.now body.now) (state S.Store conn.old)) }
     ensures honest { Earlier (state S.Store conn.old) (state S.Store conn.new) }
+    ensures lasts { Lasts (state S.Store conn.old) (state S.Store conn.new) }
 {
     conn.execute(
         "INSERT INTO item (area, label, body) VALUES (?1, ?2, ?3) ON CONFLICT (area, label) DO UPDATE SET body = excluded.body",
@@ -60,6 +62,7 @@ pub fn clear<S: Alter>(
     ensures left { (base m : Items) → IsWithin (state S.Store conn.old) base m → Leaves (state S.Store conn.old) (state S.Store conn.new) result (λ _. ⊥) }
     ensures was_open { WasOpen (state S.Store conn.old) (state S.Store conn.new) }
     ensures honest { Earlier (state S.Store conn.old) (state S.Store conn.new) }
+    ensures lasts { Lasts (state S.Store conn.old) (state S.Store conn.new) }
 {
     run_clear(conn, area, from, to)?;
     Ok(())
@@ -79,6 +82,7 @@ pub fn put<S: Alter>(
     ensures left { (base m : Items) → IsWithin (state S.Store conn.old) base m → Leaves (state S.Store conn.old) (state S.Store conn.new) result (λ _. ⊥) }
     ensures was_open { WasOpen (state S.Store conn.old) (state S.Store conn.new) }
     ensures honest { Earlier (state S.Store conn.old) (state S.Store conn.new) }
+    ensures lasts { Lasts (state S.Store conn.old) (state S.Store conn.new) }
 {
     run_put(conn, area, label, body)?;
     Ok(())

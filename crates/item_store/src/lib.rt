@@ -5,6 +5,7 @@
 mod changes;
 mod commit_edits;
 mod listing;
+mod probe;
 mod read_items;
 mod store;
 mod table;

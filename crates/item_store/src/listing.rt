@@ -1,13 +1,13 @@
 //! The statement that lists items.
 
-ghost use Rattle.std.specs.Prelude.{◌≡◌, ◌≤◌, ◌∷◌, [], pos, map, take, IfOk, IfErr};
+ghost use Rattle.std.specs.Prelude.{◌≡◌, ◌≤◌, ◌∷◌, [], pos, map, take, IfOk, IfErr, IsTrue, OnOk};
 ghost use Rattle.sqlite.specs.declared.types.Value.TheVariants.{Int};
 ghost use Rattle.sqlite.specs.Held.{state};
 ghost use Rattle.sqlite.specs.State.{HasCleanDisk, Shown, FailsToQuery, CommitsShowing, Survives};
 ghost use Rattle.item_store.specs.Asked.{Asks};
 ghost use Rattle.item_maps.specs.Items.{Items, listed};
 ghost use Rattle.item_store.specs.Items.{shown, params_of};
-ghost use Rattle.item_store.specs.Left.{Leaves, WasOpen};
+ghost use Rattle.item_store.specs.Left.{Lasts, Leaves, WasOpen};
 ghost use Rattle.item_store.specs.Stands.{StandsFor, IsReady, Earlier};
 ghost use Rattle.item_store.specs.Table.{select_text};
 
@@ -28,6 +28,7 @@ fn run_select<S: Alter>(
     ensures survives { Survives (state S.Store conn.old) (state S.Store conn.new)
         (CommitsShowing select_text (params_of area from.now to.now (Int (pos limit) ∷ [])) (state S.Store conn.old)) }
     ensures honest { Earlier (state S.Store conn.old) (state S.Store conn.new) }
+    ensures lasts { Lasts (state S.Store conn.old) (state S.Store conn.new) }
 {
     conn.query_all(
         "SELECT label, body FROM item WHERE area = ?1 AND label >= ?2 AND label < ?3 ORDER BY label LIMIT ?4",
@@ -52,6 +53,8 @@ pub fn select<S: Alter>(
     ensures left { (m : Items) → IsReady (state S.Store conn.old) m → Leaves (state S.Store conn.old) (state S.Store conn.new) result (λ _. ⊥) }
     ensures was_open { WasOpen (state S.Store conn.old) (state S.Store conn.new) }
     ensures honest { Earlier (state S.Store conn.old) (state S.Store conn.new) }
+    ensures lasts { Lasts (state S.Store conn.old) (state S.Store conn.new) }
+    ensures live { HasCleanDisk (state S.Store conn.new) → OnOk result (IsTrue (state S.Store conn.new).is_open) }
 {
     run_select(conn, area, from, to, limit)
 }

@@ -1,17 +1,18 @@
 //! Items read back.
 
-ghost use Rattle.std.specs.Prelude.{◌≡◌, ◌≢◌, ◌≤◌, ◌⊎◌, IsTrue, map, take, IfOk, IfErr};
+ghost use Rattle.std.specs.Prelude.{◌≡◌, ◌≢◌, ◌≤◌, ◌⊎◌, IsErr, IsTrue, OnOk, false, map, take, IfOk, IfErr};
 ghost use Rattle.sqlite.specs.Held.{state};
 ghost use Rattle.sqlite.specs.State.{HasCleanDisk};
 ghost use Rattle.sqlite.specs.Tree.{Trees};
 ghost use Rattle.item_store.specs.Asked.{IsRefused};
 ghost use Rattle.item_maps.specs.Items.{Items, listed};
 ghost use Rattle.item_store.specs.Items.{shown};
-ghost use Rattle.item_store.specs.Left.{IsLeft, WasOpen};
+ghost use Rattle.item_store.specs.Left.{IsLeft, Lasts, WasOpen};
 ghost use Rattle.item_store.specs.Stands.{StandsFor, Earlier};
 ghost use Rattle.item_maps.specs.Edits.{entry_of};
 ghost use Rattle.item_store.specs.Causes.{no_memory};
 
+use crate::probe::answers;
 use item_maps::Item;
 use roster_base::Bytes;
 use sqlite::{Alter, Connection, Error, ErrorCode, Row};
@@ -42,6 +43,34 @@ fn items_of(alloc: Global, rows: &[Row]) -> Result<Vec<Item>, Error>
     Ok(items)
 }
 
+// The first `limit` items of the area whose label is at least `from` and below `to`, in the order of label bytes, over a connection that
+// answers.
+fn read_answering<S: Alter>(
+    alloc: Global,
+    conn: &mut Connection<S>,
+    area: u32,
+    from: &[u8],
+    to: &[u8],
+    limit: u64,
+) -> Result<Vec<Item>, Error>
+    requires { limit ≤ 1000000000000000 }
+    ensures items { (m : Items) → StandsFor (state S.Store conn.old) m → HasCleanDisk (state S.Store conn.new)
+        → IfOk result (λ items. map entry_of items.items ≡ take limit (listed area from.now to.now m)) }
+    ensures same { (m : Items) → StandsFor (state S.Store conn.old) m → StandsFor (state S.Store conn.new) m }
+    ensures asks { (m : Items) → StandsFor (state S.Store conn.old) m → HasCleanDisk (state S.Store conn.new) → IsTrue (state S.Store conn.old).is_open
+        → IfErr result (λ e. e ≢ no_memory → IsRefused (state S.Store) conn.old conn.new e) }
+    ensures left { (m : Items) → StandsFor (state S.Store conn.old) m → HasCleanDisk (state S.Store conn.new) → IsTrue (state S.Store conn.old).is_open
+        → (db : Trees) → (state S.Store conn.new).may_leave db → (state S.Store conn.old).may_leave db ⊎ IsLeft db m }
+    ensures was_open { WasOpen (state S.Store conn.old) (state S.Store conn.new) }
+    ensures honest { Earlier (state S.Store conn.old) (state S.Store conn.new) }
+    ensures lasts { Lasts (state S.Store conn.old) (state S.Store conn.new) }
+    ensures live { HasCleanDisk (state S.Store conn.new) → OnOk result (IsTrue (state S.Store conn.new).is_open) }
+{
+    crate::table::make(conn)?;
+    let rows = crate::listing::select(conn, area, from, to, limit)?;
+    items_of(alloc, rows.as_slice())
+}
+
 /// The first `limit` items of the area whose label is at least `from` and below `to`, in the order of label bytes. Inside a
 /// transaction of the caller it is refused.
 pub fn read_items<S: Alter>(
@@ -62,11 +91,13 @@ pub fn read_items<S: Alter>(
         → (db : Trees) → (state S.Store conn.new).may_leave db → (state S.Store conn.old).may_leave db ⊎ IsLeft db m }
     ensures was_open { WasOpen (state S.Store conn.old) (state S.Store conn.new) }
     ensures honest { Earlier (state S.Store conn.old) (state S.Store conn.new) }
+    ensures lasts { Lasts (state S.Store conn.old) (state S.Store conn.new) }
+    ensures live { HasCleanDisk (state S.Store conn.new) → OnOk result (IsTrue (state S.Store conn.new).is_open) }
+    ensures shut { HasCleanDisk (state S.Store conn.new) → (state S.Store conn.old).is_open ≡ false → IsErr result × ((db : Trees) → (state S.Store conn.new).may_leave db → (state S.Store conn.old).may_leave db) }
 {
     if !conn.is_autocommit() {
         return Err(Error::SqliteFailure(ErrorCode::TransactionState));
     }
-    crate::table::make(conn)?;
-    let rows = crate::listing::select(conn, area, from, to, limit)?;
-    items_of(alloc, rows.as_slice())
+    answers(conn)?;
+    read_answering(alloc, conn, area, from, to, limit)
 }

@@ -1,12 +1,12 @@
 //! The store.
 
-ghost use Rattle.std.specs.Prelude.{◌≡◌, ◌≤◌, ◌∷◌, [], IsTrue, map, take, OnOk, OnErr, IfOk, IfErr};
+ghost use Rattle.std.specs.Prelude.{◌≡◌, ◌≤◌, ◌∷◌, ◌⊎◌, [], IsErr, IsTrue, false, map, take, OnOk, OnErr, IfOk, IfErr};
 ghost use Rattle.sqlite.specs.Held.{state};
 ghost use Rattle.sqlite.specs.State.{HasCleanDisk};
 ghost use Rattle.roster_base.specs.Faults.{CountsError, CountsFailure};
 ghost use Rattle.roster_base.specs.declared.keeper.KeeperError.TheVariants as keeper;
 ghost use Rattle.item_maps.specs.Items.{Items, listed};
-ghost use Rattle.item_store.specs.Left.{MayHold, WasOpen};
+ghost use Rattle.item_store.specs.Left.{Lasts, MayFind, MayHold, WasOpen};
 ghost use Rattle.item_store.specs.Stands.{StandsFor, Earlier};
 ghost use Rattle.item_maps.specs.Edits.{after, entry_of};
 ghost use Rattle.item_store.specs.Causes.{IsFailed, IsCaused};
@@ -102,6 +102,14 @@ impl<S: Alter> ItemStore<S> {
         ensures left { (m : Items) → StandsFor (state S.Store self.old.connection) m → HasCleanDisk (state S.Store self.new.connection)
             → IsTrue (state S.Store self.old.connection).is_open → MayHold (state S.Store self.new.connection) (m ∷ []) }
         ensures honest { Earlier (state S.Store self.old.connection) (state S.Store self.new.connection) }
+        ensures lasts { Lasts (state S.Store self.old.connection) (state S.Store self.new.connection) }
+        // Where the call shuts the connection, an open finds these items.
+        ensures found { (m n : Items) → StandsFor (state S.Store self.old.connection) m → IsTrue (state S.Store self.old.connection).is_open
+            → MayFind (state S.Store self.new.connection) n → n ≡ m }
+        // A call that succeeds leaves the connection open.
+        ensures live { HasCleanDisk (state S.Store self.new.connection) → OnOk result (IsTrue (state S.Store self.new.connection).is_open) }
+        // Over a connection that was shut before the call nothing is changed.
+        ensures shut { (n : Items) → MayFind (state S.Store self.new.connection) n → (state S.Store self.old.connection).is_open ≡ false → IsErr result × MayFind (state S.Store self.old.connection) n }
         ensures was_open { WasOpen (state S.Store self.old.connection) (state S.Store self.new.connection) }
     {
         // Read for its clause `live`: what is committed is a database.
@@ -124,6 +132,14 @@ impl<S: Alter> ItemStore<S> {
         ensures left { (m : Items) → StandsFor (state S.Store self.old.connection) m → HasCleanDisk (state S.Store self.new.connection)
             → IsTrue (state S.Store self.old.connection).is_open → MayHold (state S.Store self.new.connection) (m ∷ after edits.now m ∷ []) }
         ensures honest { Earlier (state S.Store self.old.connection) (state S.Store self.new.connection) }
+        ensures lasts { Lasts (state S.Store self.old.connection) (state S.Store self.new.connection) }
+        // Where the call shuts the connection, an open finds the items before the call, or those after it.
+        ensures found { (m n : Items) → StandsFor (state S.Store self.old.connection) m → IsTrue (state S.Store self.old.connection).is_open
+            → MayFind (state S.Store self.new.connection) n → (n ≡ m) ⊎ (n ≡ after edits.now m) }
+        // A call that succeeds leaves the connection open.
+        ensures live { HasCleanDisk (state S.Store self.new.connection) → OnOk result (IsTrue (state S.Store self.new.connection).is_open) }
+        // Over a connection that was shut before the call nothing is changed.
+        ensures shut { (n : Items) → MayFind (state S.Store self.new.connection) n → (state S.Store self.old.connection).is_open ≡ false → IsErr result × MayFind (state S.Store self.old.connection) n }
         ensures was_open { WasOpen (state S.Store self.old.connection) (state S.Store self.new.connection) }
     {
         // Read for its clause `live`: what is committed is a database.

@@ -5,7 +5,7 @@ ghost use Rattle.sqlite.specs.Held.{state};
 ghost use Rattle.sqlite.specs.State.{HasCleanDisk};
 ghost use Rattle.item_store.specs.Asked.{Asks, AsksInTurn};
 ghost use Rattle.item_maps.specs.Items.{Items};
-ghost use Rattle.item_store.specs.Left.{IsLeft, Leaves, WasOpen};
+ghost use Rattle.item_store.specs.Left.{IsLeft, Lasts, Leaves, WasOpen};
 ghost use Rattle.item_store.specs.Stands.{StandsFor, IsReady, Earlier};
 
 use sqlite::{Alter, Connection, Error};
@@ -25,6 +25,7 @@ fn create<S: Alter>(conn: &mut Connection<S>) -> Result<(), Error>
     ensures left { (m : Items) → StandsFor (state S.Store conn.old) m → Leaves (state S.Store conn.old) (state S.Store conn.new) result (λ db. IsLeft db m) }
     ensures was_open { WasOpen (state S.Store conn.old) (state S.Store conn.new) }
     ensures honest { Earlier (state S.Store conn.old) (state S.Store conn.new) }
+    ensures lasts { Lasts (state S.Store conn.old) (state S.Store conn.new) }
 {
     conn.execute(
         "CREATE TABLE IF NOT EXISTS item (area INTEGER NOT NULL, label BLOB NOT NULL, body BLOB NOT NULL, PRIMARY KEY (area, label)) STRICT",
@@ -41,6 +42,7 @@ pub fn make<S: Alter>(conn: &mut Connection<S>) -> Result<(), Error>
     ensures left { (m : Items) → StandsFor (state S.Store conn.old) m → Leaves (state S.Store conn.old) (state S.Store conn.new) result (λ db. IsLeft db m) }
     ensures was_open { WasOpen (state S.Store conn.old) (state S.Store conn.new) }
     ensures honest { Earlier (state S.Store conn.old) (state S.Store conn.new) }
+    ensures lasts { Lasts (state S.Store conn.old) (state S.Store conn.new) }
 {
     if has_table(conn) {
         return Ok(());

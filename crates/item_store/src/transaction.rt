@@ -6,7 +6,7 @@ ghost use Rattle.sqlite.specs.State.{HasCleanDisk};
 ghost use Rattle.sqlite.specs.Tree.{Trees};
 ghost use Rattle.item_store.specs.Asked.{Asks};
 ghost use Rattle.item_maps.specs.Items.{Items};
-ghost use Rattle.item_store.specs.Left.{IsLeft, Leaves, WasOpen};
+ghost use Rattle.item_store.specs.Left.{IsLeft, Lasts, Leaves, WasOpen};
 ghost use Rattle.item_store.specs.Stands.{StandsFor, IsReady, IsWithin, GoesBackTo, Earlier};
 
 use sqlite::{Alter, Connection, Error};
@@ -19,6 +19,7 @@ pub fn begin<S: Alter>(conn: &mut Connection<S>) -> Result<(), Error>
     ensures left { (m : Items) → IsReady (state S.Store conn.old) m → Leaves (state S.Store conn.old) (state S.Store conn.new) result (λ _. ⊥) }
     ensures was_open { WasOpen (state S.Store conn.old) (state S.Store conn.new) }
     ensures honest { Earlier (state S.Store conn.old) (state S.Store conn.new) }
+    ensures lasts { Lasts (state S.Store conn.old) (state S.Store conn.new) }
 {
     conn.execute("BEGIN", &[])?;
     Ok(())
@@ -32,6 +33,8 @@ pub fn commit<S: Alter>(conn: &mut Connection<S>) -> Result<(), Error>
     ensures left { (base m : Items) → IsWithin (state S.Store conn.old) base m → Leaves (state S.Store conn.old) (state S.Store conn.new) result (λ db. IsLeft db m) }
     ensures was_open { WasOpen (state S.Store conn.old) (state S.Store conn.new) }
     ensures honest { Earlier (state S.Store conn.old) (state S.Store conn.new) }
+    ensures lasts { Lasts (state S.Store conn.old) (state S.Store conn.new) }
+    ensures live { HasCleanDisk (state S.Store conn.new) → OnOk result (IsTrue (state S.Store conn.new).is_open × ((state S.Store conn.new).in_transaction ≡ false)) }
 {
     // Read for its clause `live`: what is committed is a database.
     let _ = conn.schema();
@@ -47,6 +50,8 @@ pub fn roll_back<S: Alter>(conn: &mut Connection<S>)
         → (db : Trees) → (state S.Store conn.new).may_leave db → (state S.Store conn.old).may_leave db }
     ensures was_open { WasOpen (state S.Store conn.old) (state S.Store conn.new) }
     ensures honest { Earlier (state S.Store conn.old) (state S.Store conn.new) }
+    ensures lasts { Lasts (state S.Store conn.old) (state S.Store conn.new) }
+    ensures outside { (state S.Store conn.old).in_transaction ≡ false → conn.new ≡ conn.old }
 {
     if !conn.is_autocommit() {
         let _ = conn.execute("ROLLBACK", &[]);

@@ -1,5 +1,5 @@
 -- The trees determine the schema: what a file was closed with, an open finds again.
-use Rattle.std.proofs.Common.{inl, inr, zero, suc, ◌≡◌, ◌+◌, ℕ, pos, List, [], ◌∷◌, slice_get, Some, Ok, Err, Result, IfOk, IfSome, refl, sym, ap, ap₂, ◌∙◌, subst, arith}
+use Rattle.std.proofs.Common.{inl, inr, zero, suc, ◌≡◌, ◌+◌, ℕ, pos, List, [], ◌∷◌, slice_get, Some, Ok, Err, Result, IfOk, IfSome, IsTrue, refl, sym, ap, ap₂, ◌∙◌, subst, arith}
 use Rattle.std.specs.List.{AllZip}
 use Rattle.std.specs.Result.{result_ok}
 use Rattle.sqlite_disk.specs.declared.Disk.{Ghosts}
@@ -134,3 +134,7 @@ pub some_again : {D E : Type 0} {g : Ghosts D} (old : Held (FileStore D g)) (fil
     → IfOk r (λ c. HasCleanDisk (file_state c) → IsOpened c) → IfOk r (λ c. HasCleanDisk (file_state c) → Finds files c) → StandsFor (file_state old) m → IfSome (result_ok r) (λ again. StandsFor (file_state again) m)
 some_again old files m (Ok again) live closed opened found h = stands_again old again files m live closed opened found h
 some_again old files m (Err left) live closed opened found h = tt
+
+pub open_again : {D E : Type 0} {g : Ghosts D} (r : Result (Held (FileStore D g)) E) → IfOk r (λ c. HasCleanDisk (file_state c) → IsOpened c) → IfSome (result_ok r) (λ again. HasCleanDisk (file_state again) → IsTrue (file_state again).is_open)
+open_again (Ok again) opened = λ clean. (opened clean).0.is_open
+open_again (Err left) opened = tt

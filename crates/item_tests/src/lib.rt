@@ -11,4 +11,4 @@ mod samples;
 mod stops;
 mod store_laws;
 
-pub use store_laws::opened;
+pub use store_laws::{opened, reopen};

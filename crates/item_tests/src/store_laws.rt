@@ -63,7 +63,8 @@ pub fn reopen<D: Disk + Drop>(
     conn: Connection<FileStore<D>>,
     options: Options,
 ) -> Option<Connection<FileStore<D>>>
-    ensures { (m : Items) → StandsFor (file_state conn) m → IfSome result (λ again. StandsFor (file_state again) m) }
+    ensures same { (m : Items) → StandsFor (file_state conn) m → IfSome result (λ again. StandsFor (file_state again) m) }
+    ensures is_open { IfSome result (λ again. HasCleanDisk (file_state again) → IsTrue (file_state again).is_open) }
 {
     let _schema = conn.schema();
     let files = match conn.close_files() {

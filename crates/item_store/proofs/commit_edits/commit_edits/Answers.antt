@@ -1,90 +1,45 @@
-use Rattle.std.proofs.lemmas.Result.{err_from_is_err_and}
+use Rattle.std.proofs.Common.{inl, inr, refl}
+use Rattle.std.proofs.lemmas.Result.{IfErr-weaker, err_from_is_err_and}
 use Rattle.sqlite.specs.Held.{state}
-use Rattle.item_store.specs.Stands.{StandsFor, GoesBackTo}
-use Rattle.item_store.proofs.Asking.{one, joined, late, at_once, in_turn, rolled}
+use Rattle.item_store.specs.Stands.{StandsFor}
 use Rattle.item_store.proofs.States.{on_err}
-use Rattle.item_maps.specs.Edits.{after}
-use Rattle.item_store.proofs.EditLemmas.{ok_then, err_then, stands_back}
-use Rattle.std.proofs.Common.{inl, inr}
-use Rattle.item_store.proofs.LeftLemmas.{ended_or_live, goes_back}
+use Rattle.item_store.proofs.Asking.{at_once, late, one}
 use Rattle.item_store.proofs.commit_edits.commit_edits.Goals as goal
 
-pub returns-in_err-begin-clause-err : goal.returns-in_err-begin-clause-err
-returns-in_err-begin-clause-err g c m h =
-    on_err {P = StandsFor (state g.S.Store c.begin.new.conn) m} c.from_residual-in_err-begin.result (c.in_err-begin.ensures.err m (c.in_ok-make.ensures.ok m h))
-
-pub returns-clause-ok : goal.returns-clause-ok
-returns-clause-ok g c m h =
-    let done = after c.args.edits.now m in
-    let mid = state g.S.Store c.finish-ended.new.conn in
-    let last = state g.S.Store c.roll_back.new.conn in
-    ok_then (StandsFor mid done) (StandsFor last done) c.finish-ended.result (λ stands. c.roll_back.ensures.back done (stands_back mid done stands))
-    (c.finish-ended.ensures.ok m m (c.in_ok-begin.ensures.ok m (c.in_ok-make.ensures.ok m h)))
-
-pub returns-clause-err : goal.returns-clause-err
-returns-clause-err g c m h =
-    let mid = state g.S.Store c.finish-ended.new.conn in
-    let last = state g.S.Store c.roll_back.new.conn in
-    err_then (GoesBackTo mid m) (StandsFor last m) c.finish-ended.result (c.roll_back.ensures.back m)
-    (c.finish-ended.ensures.err m m (c.in_ok-begin.ensures.ok m (c.in_ok-make.ensures.ok m h)))
-
-pub returns-in_err-make-clause-asks : goal.returns-in_err-make-clause-asks
-returns-in_err-make-clause-asks g c clean out =
+pub returns-in_err-answers-clause-asks : goal.returns-in_err-answers-clause-asks
+returns-in_err-answers-clause-asks g c clean out =
     let p = err_from_is_err_and c.from_residual.result c.from_residual.ensures.1 in
-    rw (p.1, p.2) (c.in_err-make.ensures.asks clean)
-
-pub returns-in_err-begin-clause-asks : goal.returns-in_err-begin-clause-asks
-returns-in_err-begin-clause-asks g c clean out =
-    let view = state g.S.Store in
-    let p = err_from_is_err_and c.from_residual-in_err-begin.result c.from_residual-in_err-begin.ensures.1 in
-    rw (p.1, p.2) (λ cause. late view {mid = c.make.new.conn} c.in_err-begin.field-0.0 (c.in_ok-make.ensures.asks (c.begin.ensures.honest clean)) (at_once view c.in_err-begin.field-0.0 (c.in_err-begin.ensures.asks clean)))
+    rw (p.1, p.2) (λ cause. at_once (state g.S.Store) c.in_err-answers.field-0.0 (c.in_err-answers.ensures.asks clean))
 
 pub returns-clause-asks : goal.returns-clause-asks
 returns-clause-asks g c clean out =
     let view = state g.S.Store in
-    let ended = c.roll_back.ensures.honest clean in
-    let begun = c.finish-ended.ensures.honest ended in
-    let inside = joined view {mid = c.make.new.conn} (c.in_ok-make.ensures.asks (c.begin.ensures.honest begun)) (one view (c.in_ok-begin.ensures.asks begun)) in
-    rolled view c.args.conn.now c.finish-ended.new.conn c.roll_back.new.conn c.finish-ended.result c.roll_back.ensures.honest
-    (in_turn view c.args.conn.now c.begin.new.conn c.finish-ended.new.conn c.finish-ended.result inside (c.finish-ended.ensures.asks ended))
+    IfErr-weaker c.commit_answering.result _ _ (λ e refused cause. late view {mid = c.answers.new.conn} e (one view (c.in_ok-answers.ensures.asks (c.commit_answering.ensures.honest clean))) (refused cause)) (c.commit_answering.ensures.asks clean)
 
-pub returns-in_err-make-clause-left : goal.returns-in_err-make-clause-left
-returns-in_err-make-clause-left g c m h clean live db may = elim ((c.in_err-make.ensures.left m h clean live).left db may) [ inl was ↦ inl was | inr is ↦ inr (inl is) ]
-
-pub returns-in_err-begin-clause-left : goal.returns-in_err-begin-clause-left
-returns-in_err-begin-clause-left g c m h clean live db may =
-    let made = c.in_ok-make.ensures.left m h (c.begin.ensures.honest clean) live in
-    let begun = c.in_err-begin.ensures.left m (c.in_ok-make.ensures.ok m h) clean made.live in
-    elim (begun.left db may) [
-      | inl mid ↦ elim (made.left db mid) [ inl was ↦ inl was | inr is ↦ inr (inl is) ]
-      | inr none ↦ absurd none
-    ]
+pub returns-in_err-answers-clause-left : goal.returns-in_err-answers-clause-left
+returns-in_err-answers-clause-left g c m h clean live db may = inl (c.in_err-answers.ensures.left clean db may)
 
 pub returns-clause-left : goal.returns-clause-left
 returns-clause-left g c m h clean live db may =
-    let ended = c.roll_back.ensures.honest clean in
-    let opened = c.finish-ended.ensures.honest ended in
-    let ready = c.in_ok-make.ensures.ok m h in
-    let inside = c.in_ok-begin.ensures.ok m ready in
-    let made = c.in_ok-make.ensures.left m h (c.begin.ensures.honest opened) live in
-    let begun = c.in_ok-begin.ensures.left m ready opened made.live in
-    let done = c.finish-ended.ensures.left m m inside ended begun.live in
-    let s = state g.S.Store c.finish-ended.new.conn in
-    let r = c.finish-ended.result in
-    let back = goes_back s r (after c.args.edits.now m) m (c.finish-ended.ensures.ok m m inside) (c.finish-ended.ensures.err m m inside) in
-    elim (done.left db (c.roll_back.ensures.left back.0 back.1 clean (ended_or_live s r done.live done.ended) db may)) [
-      | inl before ↦ elim (begun.left db before) [
-        | inl mid ↦ elim (made.left db mid) [ inl was ↦ inl was | inr is ↦ inr (inl is) ]
-        | inr none ↦ absurd none
-      ]
-      | inr is ↦ inr (inr is)
-    ]
+    let was = c.commit_answering.ensures.honest clean in
+    elim (c.commit_answering.ensures.left m (c.in_ok-answers.ensures.same m h) clean (c.in_ok-answers.ensures.live was).1 db may) [ inl mid ↦ inl (c.in_ok-answers.ensures.left was db mid) | inr is ↦ inr is ]
 
-pub returns-in_err-begin-clause-was_open : goal.returns-in_err-begin-clause-was_open
-returns-in_err-begin-clause-was_open g c clean live = c.make.ensures.was_open (c.begin.ensures.honest clean) (c.begin.ensures.was_open clean live)
+pub returns-in_err-answers-clause-shut : goal.returns-in_err-answers-clause-shut
+returns-in_err-answers-clause-shut g c clean shut =
+    let p = err_from_is_err_and c.from_residual.result c.from_residual.ensures.1 in
+    (rw p.1 refl, λ db may. c.in_err-answers.ensures.left clean db may)
 
-pub returns-clause-was_open : goal.returns-clause-was_open
-returns-clause-was_open g c clean live =
-    let ended = c.roll_back.ensures.honest clean in
-    let opened = c.finish-ended.ensures.honest ended in
-    c.make.ensures.was_open (c.begin.ensures.honest opened) (c.begin.ensures.was_open opened (c.finish-ended.ensures.was_open ended (c.roll_back.ensures.was_open clean live)))
+pub returns-clause-shut : goal.returns-clause-shut
+returns-clause-shut g c clean shut = absurd (let live = (c.in_ok-answers.ensures.live (c.commit_answering.ensures.honest clean)).0 in cc)
+
+pub returns-clause-lasts : goal.returns-clause-lasts
+returns-clause-lasts g c times h = c.answers.ensures.lasts times (c.commit_answering.ensures.lasts times h)
+
+pub returns-in_err-answers-clause-err : goal.returns-in_err-answers-clause-err
+returns-in_err-answers-clause-err g c m h = on_err {P = StandsFor (state g.S.Store c.answers.new.conn) m} c.from_residual.result (c.in_err-answers.ensures.same m h)
+
+pub returns-clause-ok : goal.returns-clause-ok
+returns-clause-ok g c m h = c.commit_answering.ensures.ok m (c.in_ok-answers.ensures.same m h)
+
+pub returns-clause-err : goal.returns-clause-err
+returns-clause-err g c m h = c.commit_answering.ensures.err m (c.in_ok-answers.ensures.same m h)

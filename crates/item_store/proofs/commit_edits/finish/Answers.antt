@@ -39,3 +39,6 @@ returns-clause-left g c base m h =
 
 pub returns-clause-was_open : goal.returns-clause-was_open
 returns-clause-was_open g c clean live = c.make_edits.ensures.was_open (c.commit.ensures.honest clean) (c.commit.ensures.was_open clean live)
+
+pub returns-clause-lasts : goal.returns-clause-lasts
+returns-clause-lasts g c times h = c.make_edits.ensures.lasts times (c.commit.ensures.lasts times h)

@@ -12,7 +12,7 @@ use Rattle.item_store.proofs.commit_edits.make_edits.Goals as goal
 
 pub loop-edit-init : goal.loop-edit-init
 loop-edit-init g c =
-    (λ clean. clean, λ base m h. (m, h, refl), λ clean. ([], refl), λ base m h. no_calls (state g.S.Store c.args.conn.now), λ clean live. live)
+    (λ clean. clean, λ base m h. (m, h, refl), λ clean. ([], refl), λ base m h. no_calls (state g.S.Store c.args.conn.now), λ clean live. live, λ times h. h)
 
 pub loop-edit-preserved : goal.loop-edit-preserved
 loop-edit-preserved g c = (
@@ -28,6 +28,7 @@ loop-edit-preserved g c = (
       let last = state g.S.Store c.make_edit.new.conn in
       nothing_then (state g.S.Store c.args.conn.now) mid last c.make_edit.ensures.honest (c.loop-edit.invariant.3 base m h) (nothing_ok mid last _ (c.in_ok-make_edit.ensures.left base was.0 was.1)),
   λ clean live. c.loop-edit.invariant.4 (c.make_edit.ensures.honest clean) (c.make_edit.ensures.was_open clean live),
+  λ times h. c.loop-edit.invariant.5 times (c.make_edit.ensures.lasts times h),
 )
 
 pub returns-in_err-make_edit-clause-err : goal.returns-in_err-make_edit-clause-err
@@ -71,3 +72,9 @@ returns-clause-left g c base m h clean live =
 
 pub returns-clause-was_open : goal.returns-clause-was_open
 returns-clause-was_open g c = c.loop-edit.invariant.4
+
+pub returns-in_err-make_edit-clause-lasts : goal.returns-in_err-make_edit-clause-lasts
+returns-in_err-make_edit-clause-lasts g c times h = c.loop-edit.invariant.5 times (c.make_edit.ensures.lasts times h)
+
+pub returns-clause-lasts : goal.returns-clause-lasts
+returns-clause-lasts g c = c.loop-edit.invariant.5

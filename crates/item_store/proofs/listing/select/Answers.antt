@@ -2,6 +2,7 @@ use Rattle.item_store.proofs.Asking.{asks_select}
 use Rattle.sqlite.specs.Held.{state}
 use Rattle.item_store.proofs.States.{select_rows, select_same}
 use Rattle.item_store.proofs.Leaving.{select_leaves, select_open}
+use Rattle.item_store.proofs.Lasting.{shown_live}
 use Rattle.item_store.proofs.listing.select.Goals as goal
 
 pub returns-clause-rows : goal.returns-clause-rows
@@ -29,3 +30,6 @@ returns-clause-left g c m h =
 pub returns-clause-was_open : goal.returns-clause-was_open
 returns-clause-was_open g c =
     select_open (state g.S.Store c.args.conn.now) (state g.S.Store c.run_select.new.conn) c.run_select.ensures.honest _ _ c.run_select.result c.run_select.ensures.ok c.run_select.ensures.err
+
+pub returns-clause-live : goal.returns-clause-live
+returns-clause-live g c clean = shown_live _ _ (state g.S.Store c.args.conn.now) (state g.S.Store c.run_select.new.conn) c.run_select.result (c.run_select.ensures.ok clean)

@@ -1,52 +1,40 @@
-use Rattle.std.proofs.Common.{take, ◌∙◌}
+use Rattle.std.proofs.Common.{inl, inr, refl}
 use Rattle.std.proofs.lemmas.Result.{IfErr-weaker, err_from_is_err_and}
 use Rattle.sqlite.specs.Held.{state}
-use Rattle.item_store.proofs.Asking.{late, at_once}
-use Rattle.item_maps.specs.Items.{listed}
-use Rattle.std.proofs.Common.{inl, inr}
+use Rattle.item_store.proofs.Asking.{at_once, late, one}
 use Rattle.item_store.proofs.read_items.read_items.Goals as goal
 
-pub returns-in_err-rows-clause-same : goal.returns-in_err-rows-clause-same
-returns-in_err-rows-clause-same g c m h = c.select.ensures.same m (c.in_ok-make.ensures.ok m h)
-
-pub returns-clause-items : goal.returns-clause-items
-returns-clause-items g c m h clean =
-    c.items_of.ensures.value (take c.args.limit (listed c.args.area c.args.from.now c.args.to.now m)) (c.as_slice.ensures.value ∙ c.in_ok-rows.ensures.rows m (c.in_ok-make.ensures.ok m h) clean)
-
-pub returns-clause-same : goal.returns-clause-same
-returns-clause-same g c m h = c.select.ensures.same m (c.in_ok-make.ensures.ok m h)
-
-pub returns-in_err-make-clause-asks : goal.returns-in_err-make-clause-asks
-returns-in_err-make-clause-asks g c m h clean live =
+pub returns-in_err-answers-clause-asks : goal.returns-in_err-answers-clause-asks
+returns-in_err-answers-clause-asks g c m h clean live =
     let p = err_from_is_err_and c.from_residual.result c.from_residual.ensures.1 in
-    rw (p.1, p.2) (c.in_err-make.ensures.asks clean)
-
-pub returns-in_err-rows-clause-asks : goal.returns-in_err-rows-clause-asks
-returns-in_err-rows-clause-asks g c m h clean live =
-    let view = state g.S.Store in
-    let p = err_from_is_err_and c.from_residual-in_err-rows.result c.from_residual-in_err-rows.ensures.1 in
-    rw (p.1, p.2) (λ cause. late view {mid = c.make.new.conn} c.in_err-rows.field-0.0 (c.in_ok-make.ensures.asks (c.select.ensures.honest clean)) (at_once view c.in_err-rows.field-0.0 (c.in_err-rows.ensures.asks clean)))
+    rw (p.1, p.2) (λ cause. at_once (state g.S.Store) c.in_err-answers.field-0.0 (c.in_err-answers.ensures.asks clean))
 
 pub returns-clause-asks : goal.returns-clause-asks
 returns-clause-asks g c m h clean live =
-    IfErr-weaker c.items_of.result _ _ (λ e never cause. absurd (never cause))
-    (c.items_of.ensures.memory (take c.args.limit (listed c.args.area c.args.from.now c.args.to.now m)) (c.as_slice.ensures.value ∙ c.in_ok-rows.ensures.rows m (c.in_ok-make.ensures.ok m h) clean))
+    let view = state g.S.Store in
+    IfErr-weaker c.read_answering.result _ _ (λ e refused cause. late view {mid = c.answers.new.conn} e (one view (c.in_ok-answers.ensures.asks (c.read_answering.ensures.honest clean))) (refused cause)) (c.read_answering.ensures.asks m (c.in_ok-answers.ensures.same m h) clean (c.in_ok-answers.ensures.live (c.read_answering.ensures.honest clean)).1)
 
-pub returns-in_err-make-clause-left : goal.returns-in_err-make-clause-left
-returns-in_err-make-clause-left g c m h clean live db may = (c.in_err-make.ensures.left m h clean live).left db may
-
-pub returns-in_err-rows-clause-left : goal.returns-in_err-rows-clause-left
-returns-in_err-rows-clause-left g c m h clean live db may =
-    let made = c.in_ok-make.ensures.left m h (c.select.ensures.honest clean) live in
-    elim ((c.select.ensures.left m (c.in_ok-make.ensures.ok m h) clean made.live).left db may) [ inl mid ↦ made.left db mid | inr none ↦ absurd none ]
+pub returns-in_err-answers-clause-left : goal.returns-in_err-answers-clause-left
+returns-in_err-answers-clause-left g c m h clean live db may = inl (c.in_err-answers.ensures.left clean db may)
 
 pub returns-clause-left : goal.returns-clause-left
 returns-clause-left g c m h clean live db may =
-    let made = c.in_ok-make.ensures.left m h (c.select.ensures.honest clean) live in
-    elim ((c.select.ensures.left m (c.in_ok-make.ensures.ok m h) clean made.live).left db may) [ inl mid ↦ made.left db mid | inr none ↦ absurd none ]
+    let was = c.read_answering.ensures.honest clean in
+    elim (c.read_answering.ensures.left m (c.in_ok-answers.ensures.same m h) clean (c.in_ok-answers.ensures.live was).1 db may) [ inl mid ↦ inl (c.in_ok-answers.ensures.left was db mid) | inr is ↦ inr is ]
 
-pub returns-in_err-rows-clause-was_open : goal.returns-in_err-rows-clause-was_open
-returns-in_err-rows-clause-was_open g c clean live = c.make.ensures.was_open (c.select.ensures.honest clean) (c.select.ensures.was_open clean live)
+pub returns-in_err-answers-clause-shut : goal.returns-in_err-answers-clause-shut
+returns-in_err-answers-clause-shut g c clean shut =
+    let p = err_from_is_err_and c.from_residual.result c.from_residual.ensures.1 in
+    (rw p.1 refl, λ db may. c.in_err-answers.ensures.left clean db may)
 
-pub returns-clause-was_open : goal.returns-clause-was_open
-returns-clause-was_open g c clean live = c.make.ensures.was_open (c.select.ensures.honest clean) (c.select.ensures.was_open clean live)
+pub returns-clause-shut : goal.returns-clause-shut
+returns-clause-shut g c clean shut = absurd (let live = (c.in_ok-answers.ensures.live (c.read_answering.ensures.honest clean)).0 in cc)
+
+pub returns-clause-lasts : goal.returns-clause-lasts
+returns-clause-lasts g c times h = c.answers.ensures.lasts times (c.read_answering.ensures.lasts times h)
+
+pub returns-clause-items : goal.returns-clause-items
+returns-clause-items g c m h = c.read_answering.ensures.items m (c.in_ok-answers.ensures.same m h)
+
+pub returns-clause-same : goal.returns-clause-same
+returns-clause-same g c m h = c.read_answering.ensures.same m (c.in_ok-answers.ensures.same m h)

@@ -7,6 +7,7 @@ use Rattle.std.proofs.lemmas.Result.{err_from_is_err_and}
 use Rattle.item_store.specs.Left.{IsLeft}
 use Rattle.item_store.proofs.Leaving.{make_commits, make_live, err_leaves, ok_leaves}
 use Rattle.item_store.proofs.States.{ran_open}
+use Rattle.item_store.proofs.Lasting.{lasts_by}
 use Rattle.item_store.proofs.table.create.Goals as goal
 
 pub returns-in_err-execute-clause-err : goal.returns-in_err-execute-clause-err
@@ -48,3 +49,9 @@ returns-in_err-execute-clause-was_open g c clean live = ran_open make_text [] (s
 
 pub returns-clause-was_open : goal.returns-clause-was_open
 returns-clause-was_open g c clean live = ran_open make_text [] (state g.S.Store c.args.conn.now) (state g.S.Store c.execute.new.self) _ (c.in_ok-execute.ensures.runs clean) live
+
+pub returns-in_err-execute-clause-lasts : goal.returns-in_err-execute-clause-lasts
+returns-in_err-execute-clause-lasts g c = lasts_by (state g.S.Store c.args.conn.now) (state g.S.Store c.execute.new.self) _ c.execute.ensures.survives
+
+pub returns-clause-lasts : goal.returns-clause-lasts
+returns-clause-lasts g c = lasts_by (state g.S.Store c.args.conn.now) (state g.S.Store c.execute.new.self) _ c.execute.ensures.survives

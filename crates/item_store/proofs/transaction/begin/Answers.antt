@@ -6,6 +6,7 @@ use Rattle.item_store.proofs.States.{begin_within, on_err, execute_stops, stands
 use Rattle.std.proofs.lemmas.Result.{err_from_is_err_and}
 use Rattle.item_store.proofs.Leaving.{begin_commits, begin_live, err_leaves, ok_leaves}
 use Rattle.item_store.proofs.States.{ran_open}
+use Rattle.item_store.proofs.Lasting.{lasts_by}
 use Rattle.item_store.proofs.transaction.begin.Goals as goal
 
 pub returns-in_err-execute-clause-err : goal.returns-in_err-execute-clause-err
@@ -47,3 +48,9 @@ returns-in_err-execute-clause-was_open g c clean live = ran_open begin_text [] (
 
 pub returns-clause-was_open : goal.returns-clause-was_open
 returns-clause-was_open g c clean live = ran_open begin_text [] (state g.S.Store c.args.conn.now) (state g.S.Store c.execute.new.self) _ (c.in_ok-execute.ensures.runs clean) live
+
+pub returns-in_err-execute-clause-lasts : goal.returns-in_err-execute-clause-lasts
+returns-in_err-execute-clause-lasts g c = lasts_by (state g.S.Store c.args.conn.now) (state g.S.Store c.execute.new.self) _ c.execute.ensures.survives
+
+pub returns-clause-lasts : goal.returns-clause-lasts
+returns-clause-lasts g c = lasts_by (state g.S.Store c.args.conn.now) (state g.S.Store c.execute.new.self) _ c.execute.ensures.survives

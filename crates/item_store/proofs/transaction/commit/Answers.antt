@@ -7,6 +7,7 @@ use Rattle.std.proofs.lemmas.Result.{err_from_is_err_and}
 use Rattle.item_store.specs.Left.{IsLeft}
 use Rattle.item_store.proofs.Leaving.{commit_commits, commit_live, err_leaves, ok_leaves}
 use Rattle.item_store.proofs.States.{ran_open}
+use Rattle.item_store.proofs.Lasting.{commit_ran, lasts_by}
 use Rattle.item_store.proofs.transaction.commit.Goals as goal
 
 pub returns-in_err-execute-clause-err : goal.returns-in_err-execute-clause-err
@@ -48,3 +49,12 @@ returns-in_err-execute-clause-was_open g c clean live = ran_open commit_text [] 
 
 pub returns-clause-was_open : goal.returns-clause-was_open
 returns-clause-was_open g c clean live = ran_open commit_text [] (state g.S.Store c.args.conn.now) (state g.S.Store c.execute.new.self) _ (c.in_ok-execute.ensures.runs clean) live
+
+pub returns-in_err-execute-clause-lasts : goal.returns-in_err-execute-clause-lasts
+returns-in_err-execute-clause-lasts g c = lasts_by (state g.S.Store c.args.conn.now) (state g.S.Store c.execute.new.self) _ c.execute.ensures.survives
+
+pub returns-clause-lasts : goal.returns-clause-lasts
+returns-clause-lasts g c = lasts_by (state g.S.Store c.args.conn.now) (state g.S.Store c.execute.new.self) _ c.execute.ensures.survives
+
+pub returns-clause-live : goal.returns-clause-live
+returns-clause-live g c clean = commit_ran (state g.S.Store c.args.conn.now) (state g.S.Store c.execute.new.self) _ (c.in_ok-execute.ensures.runs clean)

@@ -4,6 +4,7 @@ use Rattle.item_store.specs.Table.{rollback_text}
 use Rattle.item_store.specs.Stands.{Earlier}
 use Rattle.item_store.proofs.States.{rollback_stands, ran_open}
 use Rattle.item_store.proofs.Leaving.{back_commits}
+use Rattle.item_store.proofs.Lasting.{lasts_by}
 use Rattle.item_store.proofs.transaction.roll_back.Goals as goal
 
 from_not : (b r : Bool) → r ≡ not b → r ≡ false → b ≡ true
@@ -31,3 +32,10 @@ returns-then-not-is_autocommit-clause-left g c base h clean live db may =
 
 pub returns-then-not-is_autocommit-clause-was_open : goal.returns-then-not-is_autocommit-clause-was_open
 returns-then-not-is_autocommit-clause-was_open g c clean live = ran_open rollback_text [] (state g.S.Store c.args.conn.now) (state g.S.Store c.execute.new.self) c.execute.result (c.execute.ensures.runs clean) live
+
+pub returns-then-not-is_autocommit-clause-lasts : goal.returns-then-not-is_autocommit-clause-lasts
+returns-then-not-is_autocommit-clause-lasts g c = lasts_by (state g.S.Store c.args.conn.now) (state g.S.Store c.execute.new.self) _ c.execute.ensures.survives
+
+pub returns-then-not-is_autocommit-clause-outside : goal.returns-then-not-is_autocommit-clause-outside
+returns-then-not-is_autocommit-clause-outside g c outside =
+    absurd (let inside = from_not c.args.conn.now.in_transaction c.is_autocommit.result c.is_autocommit.ensures.value c.if-not-is_autocommit.true in cc)

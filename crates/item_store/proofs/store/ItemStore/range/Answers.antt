@@ -1,12 +1,13 @@
-use Rattle.std.proofs.Common.{sym, subst}
+use Rattle.std.proofs.Common.{refl, sym, subst}
 use Rattle.sqlite.specs.Held.{Held, state}
 use Rattle.item_store.specs.Stands.{StandsFor}
 use Rattle.sqlite.specs.State.{HasCleanDisk}
 use Rattle.item_store.proofs.EditLemmas.{caused}
 use Rattle.item_store.specs.Causes.{IsCaused}
 use Rattle.std.proofs.Common.{[], ◌∷◌}
-use Rattle.item_store.specs.Left.{MayHold, WasOpen}
+use Rattle.item_store.specs.Left.{Lasts, MayFind, MayHold, WasOpen}
 use Rattle.item_store.proofs.LeftLemmas.{held_by, held_open}
+use Rattle.item_store.proofs.OneMap.{found_one}
 use Rattle.item_store.proofs.store.ItemStore.range.Goals as goal
 
 pub returns-in-Err-clause-same : goal.returns-in-Err-clause-same
@@ -37,3 +38,20 @@ returns-in-Err-clause-left g c m h clean live =
 
 pub returns-in-Err-clause-was_open : goal.returns-in-Err-clause-was_open
 returns-in-Err-clause-was_open g c = subst (λ (x : Held g.row.S.Denot). WasOpen (state g.S.Store c.args.self.now.connection) (state g.S.Store x)) (sym c.refuse.ensures.same) c.read_items.ensures.was_open
+
+pub returns-in-Ok-clause-found : goal.returns-in-Ok-clause-found
+returns-in-Ok-clause-found g c m n h live may = found_one (state g.S.Store c.read_items.new.conn) m n (returns-in-Ok-clause-left g c m h may.clean live) may
+
+pub returns-in-Err-clause-found : goal.returns-in-Err-clause-found
+returns-in-Err-clause-found g c m n h live may = found_one (state g.S.Store c.refuse.new.self.connection) m n (returns-in-Err-clause-left g c m h may.clean live) may
+
+pub returns-in-Ok-clause-shut : goal.returns-in-Ok-clause-shut
+returns-in-Ok-clause-shut g c n may shut = absurd (let none = (c.in-Ok.ensures.shut may.clean shut).0 in cc)
+
+pub returns-in-Err-clause-shut : goal.returns-in-Err-clause-shut
+returns-in-Err-clause-shut g c n may shut =
+    let was = subst (λ (x : Held g.row.S.Denot). MayFind (state g.S.Store x) n) c.refuse.ensures.same may in
+    (refl, record { clean = c.read_items.ensures.honest was.clean; shut = shut; db = was.db; may = (c.in-Err.ensures.shut was.clean shut).1 was.db was.may; is = was.is })
+
+pub returns-in-Err-clause-lasts : goal.returns-in-Err-clause-lasts
+returns-in-Err-clause-lasts g c = subst (λ (x : Held g.row.S.Denot). Lasts (state g.S.Store c.args.self.now.connection) (state g.S.Store x)) (sym c.refuse.ensures.same) c.read_items.ensures.lasts
