@@ -65,20 +65,24 @@ one_copy items c other (inr a) (inl b) = absurd (not_both items other b a.0)
 one_copy items c other (inr a) (inr b) = a.1 ∙ sym b.1
 
 -- the first edits make a new store one that keeps the copy that holds nothing
+pub first_keeps : (c : Copy) (goes : List Edit) (items : Items) → goes ≡ first_edits → (items ≡ no_items) × (c ≡ empty_copy) → Keep (after goes items) c
+first_keeps c goes items is none =
+    let start : Keep (after first_edits no_items) c = subst (Keep (after first_edits no_items)) (sym none.1) first_kept in
+    subst (λ m. Keep m c) (sym (λ i. after (is i) (none.0 i))) start
+
 pub made_new : (new : Items → Type 0) (c : Copy) (goes : List Edit) (items : Items) → goes ≡ first_edits → (items ≡ no_items) × (c ≡ empty_copy) → new (after goes items) → Keeps Keep new c
-made_new new c goes items is none stands = record {
-  items = after first_edits no_items;
-  stands = subst new (λ i. after (is i) (none.0 i)) stands;
-  kept = subst (Keep (after first_edits no_items)) (sym none.1) first_kept;
-}
+made_new new c goes items is none stands = record { items = after goes items; stands = stands; kept = first_keeps c goes items is none }
 
 -- the edits of a change lead to the copy after it
+pub change_keeps : (items : Items) (c : Copy) (change : CopyChange) (kept : Keep items c) (goes : List Edit) → CanChange change c → AreEditsOf kept.side c change goes → Keep (after goes items) (copy_after change c)
+change_keeps items c change kept goes can are = subst (λ es. Keep (after es items) (copy_after change c)) (sym are.0) (Keep-change items c change kept can are.1)
+
 pub changed : (old new : Items → Type 0) (c : Copy) (change : CopyChange) (this : Keeps Keep old c) (goes : List Edit) → CanChange change c → AreEditsOf this.kept.side c change goes → new (after goes this.items)
     → Keeps Keep new (copy_after change c)
 changed old new c change this goes can are stands = record {
   items = after goes this.items;
   stands = stands;
-  kept = subst (λ es. Keep (after es this.items) (copy_after change c)) (sym are.0) (Keep-change this.items c change this.kept can are.1);
+  kept = change_keeps this.items c change this.kept goes can are;
 }
 
 -- what became of a change

@@ -63,21 +63,25 @@ is_kept keep items state told (inl kept) is some = kept
 is_kept keep items state told (inr new) is some = absurd (some (is ∙ ap (listed 0 [] (0 ∷ [])) new.0 ∙ none_listed))
 
 -- the first edits make a new store one that keeps version 0
-pub made_new : (keep : ℕ) (old new : Items → Type 0) (state : KeptState) (goes : List Edit) (items : Items) → keep < 2 ^ 64 → goes ≡ first_edits keep → (items ≡ no_items) × (state ≡ kept_by (new_tables keep))
+pub first_keeps : (keep : ℕ) (state : KeptState) (goes : List Edit) (items : Items) → keep < 2 ^ 64 → goes ≡ first_edits keep → (items ≡ no_items) × (state ≡ kept_by (new_tables keep)) → Keep (after goes items) state
+first_keeps keep state goes items fits is none =
+    let start : Keep (after (first_edits keep) no_items) state = subst (Keep (after (first_edits keep) no_items)) (sym none.1) (first_kept keep fits) in
+    subst (λ m. Keep m state) (sym (λ i. after (is i) (none.0 i))) start
+
+pub made_new : (keep : ℕ) (new : Items → Type 0) (state : KeptState) (goes : List Edit) (items : Items) → keep < 2 ^ 64 → goes ≡ first_edits keep → (items ≡ no_items) × (state ≡ kept_by (new_tables keep))
     → new (after goes items) → Keeps Keep new state
-made_new keep old new state goes items fits is none stands = record {
-  items = after (first_edits keep) no_items;
-  stands = subst new (λ i. after (is i) (none.0 i)) stands;
-  kept = subst (Keep (after (first_edits keep) no_items)) (sym none.1) (first_kept keep fits);
-}
+made_new keep new state goes items fits is none stands = record { items = after goes items; stands = stands; kept = first_keeps keep state goes items fits is none }
 
 -- the edits of a commit lead to what is kept after it
+pub commit_keeps : (items : Items) (state : KeptState) (commit : HubCommit) (kept : Keep items state) (goes : List Edit) → CanCommit state commit → FitsCommit commit → goes ≡ edits kept.tables commit → Keep (after goes items) (with_commit state commit)
+commit_keeps items state commit kept goes can fits is = subst (λ es. Keep (after es items) (with_commit state commit)) (sym is) (Keep-commit items state commit kept can fits)
+
 pub committed : (old new : Items → Type 0) (state : KeptState) (commit : HubCommit) (this : Keeps Keep old state) (goes : List Edit) → CanCommit state commit → FitsCommit commit → goes ≡ edits this.kept.tables commit
     → new (after goes this.items) → Keeps Keep new (with_commit state commit)
 committed old new state commit this goes can fits is stands = record {
   items = after goes this.items;
   stands = stands;
-  kept = subst (λ es. Keep (after es this.items) (with_commit state commit)) (sym is) (Keep-commit this.items state commit this.kept can fits);
+  kept = commit_keeps this.items state commit this.kept goes can fits is;
 }
 
 pub can_here : (stand : Items → Type 0) (state : KeptState) (commit : HubCommit) (this : Keeps Keep stand state) → CanCommit state commit → CanCommit (kept_by this.kept.tables) commit

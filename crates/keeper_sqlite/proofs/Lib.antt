@@ -6,3 +6,4 @@ pub mod TellingLemmas
 pub mod EntryLemmas
 pub mod CopyKeepingLemmas
 pub mod RangeLemmas
+pub mod HoldingLemmas

@@ -1,5 +1,5 @@
 -- A commit to items that are trusted, or not.
-use Rattle.std.proofs.Common.{◌≡◌, ◌⊎◌, ℕ, [], ◌∷◌, Result, Ok, Err, OnErr, OnOk, inl, inr, sym, ap, subst, ◌∙◌}
+use Rattle.std.proofs.Common.{◌≡◌, ◌⊎◌, ℕ, [], ◌∷◌, Result, Ok, Err, IsErr, OnErr, OnOk, inl, inr, refl, sym, ap, ◌∙◌}
 use Rattle.item_maps.specs.Items.{Items, listed, no_items}
 use Rattle.roster_base.specs.declared.keeper.KeeperError.{KeeperError}
 use Rattle.roster_base.specs.declared.keeper.KeeperError.TheVariants.{Failed, NoMemory}
@@ -9,7 +9,7 @@ use Rattle.keeper_memory.specs.declared.hub_commit.HubCommit.{HubCommit}
 use Rattle.hub_format.specs.Format.{Keep, format_entry}
 use Rattle.hub_format.proofs.Told.{format_told}
 use Rattle.hub_format.proofs.Unique.{kept_once}
-use Rattle.keeper_sqlite.specs.hub.Keeping.{KeepOrNew, Keeps}
+use Rattle.keeper_sqlite.specs.hub.Keeping.{Became, ComeOf, KeepOrNew, Keeps}
 use Rattle.keeper_sqlite.specs.hub.Telling.{KeepSome, StillKeep, Tells}
 use Rattle.keeper_sqlite.proofs.HubKeepingLemmas.{none_listed}
 
@@ -31,44 +31,46 @@ Came next (Ok done) before now = now ≡ next before
 Came next (Err Failed) before now = (now ≡ before) ⊎ (now ≡ next before)
 Came next (Err NoMemory) before now = now ≡ before
 
-module _ {X : Type 0} (keep : Items → X → Type 0) (at_first old new : Items → Type 0) (trusted trusted' : Type 0) (may : X → Type 0) (next : X → X)
-    (still : StillKeep keep at_first old trusted) (honest : trusted' → trusted) (can : (state : X) → Tells keep at_first old trusted state → may state)
-    (result : Result (Unit {0}) KeeperError)
-    (ok : (state : X) → Keeps keep old state → may state → trusted' → OnOk result (Keeps keep new (next state)))
-    (err : (state : X) → Keeps keep old state → trusted' → OnErr result (Keeps keep new state)) where
-  module _ (first : KeepSome keep at_first) (sure : trusted') where
+module _ {X : Type 0} (keep : Items → X → Type 0) (at_first old new there : Items → Type 0) (trusted : Type 0) (may : X → Type 0) (next : X → X) (still : StillKeep keep at_first old trusted)
+    (holds : (m : Items) → trusted → old m → there m) (can : (state : X) → Tells keep at_first there state → may state) (result : Result (Unit {0}) KeeperError) where
+  module _ (first : KeepSome keep at_first) (sure : trusted) where
     before : KeepSome keep old
-    before = still first (honest sure)
+    before = still first sure
 
-    before_tells : Tells keep at_first old trusted before.state
-    before_tells = record { sure = honest sure; first = first; this = before.this }
-
-    made : OnOk result (Keeps keep new (next before.state))
-    made = ok before.state before.this (can before.state before_tells) sure
-
-    left : OnErr result (Keeps keep new before.state)
-    left = err before.state before.this sure
+    before_tells : Tells keep at_first there before.state
+    before_tells = record { first = first; items = before.this.items; found = holds before.this.items sure before.this.stands; kept = before.this.kept }
 
   keeps_from : (r : Result (Unit {0}) KeeperError) (state : X) → OnOk r (Keeps keep new (next state)) → OnErr r (Keeps keep new state) → KeepSome keep new
   keeps_from (Ok done) state is other = record { state = next state; this = is }
   keeps_from (Err e) state other is = record { state = state; this = is }
 
-  pub still_keep : StillKeep keep at_first new trusted'
-  still_keep first sure = keeps_from result (before first sure).state (made first sure) (left first sure)
+  pub still_keep : (trusted' : Type 0) → (trusted' → trusted) → ((state : X) → Keeps keep old state → may state → trusted' → OnOk result (Keeps keep new (next state)))
+      → ((state : X) → Keeps keep old state → trusted' → OnErr result (Keeps keep new state)) → StillKeep keep at_first new trusted'
+  still_keep trusted' honest ok err first sure =
+      let was = before first (honest sure) in
+      keeps_from result was.state (ok was.state was.this (can was.state (before_tells first (honest sure))) sure) (err was.state was.this sure)
 
-  module _ (one : (m n : Items) → trusted' → new m → new n → m ≡ n) (unique : (m : Items) (state other : X) → keep m state → keep m other → state ≡ other) where
-    same_state : trusted' → (state other : X) → Keeps keep new state → Keeps keep new other → other ≡ state
-    same_state sure state other is also = unique also.items other state also.kept (subst (λ m. keep m state) (one is.items also.items sure is.stands also.stands) is.kept)
+  module _ (unique : (m : Items) (state other : X) → keep m state → keep m other → state ≡ other) where
+    came : (r : Result (Unit {0}) KeeperError) (state now : X) (n : Items) → keep n now → Became keep next r state n → Came next r state now
+    came (Ok done) state now n kept made = unique n now (next state) kept made
+    came (Err Failed) state now n kept made = elim made [ inl same ↦ inl (unique n now state kept same) | inr done ↦ inr (unique n now (next state) kept done) ]
+    came (Err NoMemory) state now n kept same = unique n now state kept same
 
-    came : (r : Result (Unit {0}) KeeperError) (state now : X) → OnOk r (Keeps keep new (next state)) → OnErr r (Keeps keep new state) → trusted' → Keeps keep new now → Came next r state now
-    came (Ok done) state now is other sure this = same_state sure (next state) now is this
-    came (Err Failed) state now other is sure this = inl (same_state sure state now is this)
-    came (Err NoMemory) state now other is sure this = same_state sure state now is this
+    nothing_came : (r : Result (Unit {0}) KeeperError) (state : X) → IsErr r → Came next r state state
+    nothing_came (Ok done) state err = cc
+    nothing_came (Err Failed) state err = inl refl
+    nothing_came (Err NoMemory) state err = refl
 
     -- what is told after the commit came of what was told before it
-    pub told_back : (now : X) → Tells keep at_first new trusted' now → (state : X) × Tells keep at_first old trusted state × Came next result state now
-    told_back now tells =
-        ((before tells.first tells.sure).state, before_tells tells.first tells.sure, came result (before tells.first tells.sure).state now (made tells.first tells.sure) (left tells.first tells.sure) tells.sure tells.this)
+    pub told_back : (found : Items → Type 0) → ((n : Items) → found n → ComeOf (λ m. IsErr result × there m) trusted old keep (λ state now. may state → Became keep next result state now) n)
+        → (now : X) → Tells keep at_first found now → (state : X) × Tells keep at_first there state × Came next result state now
+    told_back found made now tells = elim (made tells.items tells.found) [
+      | inl was ↦ (now, record { first = tells.first; items = tells.items; found = was.1; kept = tells.kept }, nothing_came result now was.0)
+      | inr came_of ↦
+          let was = before tells.first came_of.0 in
+          let told = before_tells tells.first came_of.0 in
+          (was.state, told, came result was.state now tells.items tells.kept (came_of.1 was.state was.this (can was.state told)))
+    ]
 
 -- a commit of a hub
 pub hub_came : (commit : HubCommit) (r : Result (Unit {0}) KeeperError) (before now : KeptState) → Came (λ state. with_commit state commit) r before now → Commits commit r before now

@@ -1,3 +1,4 @@
 pub mod hub
 pub mod copy
 pub mod Trust
+pub mod Stored

@@ -13,3 +13,9 @@ pub use copy::ItemCopy;
 pub use hub::ItemHub;
 pub use sql_items::SqlItems;
 pub use stored_items::StoredItems;
+
+/// The keeper of a hub's state in a database.
+pub type SqlHub<S> = ItemHub<SqlItems<S>>;
+
+/// The keeper of a consumer's copy in a database.
+pub type SqlCopy<S> = ItemCopy<SqlItems<S>>;

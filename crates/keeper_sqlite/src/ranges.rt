@@ -1,12 +1,14 @@
 //! Whole ranges of items.
 
-ghost use Rattle.std.specs.Prelude.{◌≡◌, IfOk, map, option_map, slice_get};
+ghost use Rattle.std.specs.Prelude.{◌≡◌, Bool, IfOk, OnOk, map, option_map, slice_get};
 ghost use Rattle.sqlite.specs.Held.{state};
+ghost use Rattle.sqlite.specs.State.{HasCleanDisk};
 ghost use Rattle.roster_base.specs.Faults.{CountsFailure};
 ghost use Rattle.item_maps.specs.Edits.{entry_of};
 ghost use Rattle.item_maps.specs.Items.{Items, listed};
 ghost use Rattle.item_store.specs.Stands.{StandsFor};
-ghost use Rattle.keeper_sqlite.specs.Trust.{IsTrusted};
+ghost use Rattle.keeper_sqlite.specs.Trust.{IsTrusted, MayHold, shown_by};
+ghost use Rattle.keeper_sqlite.specs.hub.Keeping.{Stay};
 
 use item_store::{Item, ItemStore};
 use roster_base::KeeperError;
@@ -29,6 +31,9 @@ pub fn all_of<S: Alter>(
     ensures same { (m : Items) → StandsFor (state S.Store store.old.connection) m → StandsFor (state S.Store store.new.connection) m }
     ensures cause { CountsFailure store.old.faults store.new.faults result }
     ensures trust { IsTrusted (state S.Store store.new.connection) → IsTrusted (state S.Store store.old.connection) }
+    ensures held { (lost : Bool) → Stay (MayHold (state S.Store store.new.connection) lost) (MayHold (state S.Store store.old.connection) lost) }
+    ensures signs { Stay (shown_by (state S.Store store.new.connection)) (shown_by (state S.Store store.old.connection)) }
+    ensures live { HasCleanDisk (state S.Store store.new.connection) → OnOk result (IsTrusted (state S.Store store.new.connection)) }
 {
     let items = store.range(alloc, area, from, to, MOST)?;
     if items.len() as u64 >= MOST {
@@ -50,6 +55,9 @@ pub fn first_of<S: Alter>(
     ensures same { (m : Items) → StandsFor (state S.Store store.old.connection) m → StandsFor (state S.Store store.new.connection) m }
     ensures cause { CountsFailure store.old.faults store.new.faults result }
     ensures trust { IsTrusted (state S.Store store.new.connection) → IsTrusted (state S.Store store.old.connection) }
+    ensures held { (lost : Bool) → Stay (MayHold (state S.Store store.new.connection) lost) (MayHold (state S.Store store.old.connection) lost) }
+    ensures signs { Stay (shown_by (state S.Store store.new.connection)) (shown_by (state S.Store store.old.connection)) }
+    ensures live { HasCleanDisk (state S.Store store.new.connection) → OnOk result (IsTrusted (state S.Store store.new.connection)) }
 {
     let mut items = store.range(alloc, area, from, to, 1)?;
     Ok(items.pop())

@@ -3,7 +3,7 @@
 ghost use Rattle.std.specs.Prelude.{◌≡◌};
 ghost use Rattle.sqlite.specs.Held.{state};
 ghost use Rattle.item_store.specs.Stands.{StandsFor};
-ghost use Rattle.keeper_sqlite.specs.Trust.{IsTrusted};
+ghost use Rattle.keeper_sqlite.specs.Trust.{IsLost, IsTrusted, MayHold, shown_by};
 
 use crate::ranges::{all_of, first_of};
 use crate::stored_items::StoredItems;
@@ -16,6 +16,8 @@ use std::alloc::Global;
 #[derive(Drop)]
 pub struct SqlItems<S: Alter> {
     store: ItemStore<S>,
+    // A commit wanted memory, and none succeeded since: if such a one shut the store, an open alone could tell whether it was made.
+    lost: bool,
 }
 
 impl<S: Alter> SqlItems<S> {
@@ -26,6 +28,7 @@ impl<S: Alter> SqlItems<S> {
     {
         SqlItems {
             store: ItemStore::adopt(connection),
+            lost: false,
         }
     }
 
@@ -33,21 +36,43 @@ impl<S: Alter> SqlItems<S> {
     pub fn release(self) -> Connection<S>
         ensures { result ≡ self.store.connection }
     {
-        let SqlItems { store } = self;
+        let SqlItems { store, lost: _ } = self;
         store.release()
     }
 }
 
+// Whether a store is lost behind a commit that ended so: want of memory alone may leave it saying nothing.
+fn is_lost(before: bool, ended: &Result<(), KeeperError>) -> bool
+    ensures { IsLost ended.now before result }
+{
+    match ended {
+        Ok(()) => false,
+        Err(KeeperError::NoMemory) => true,
+        Err(KeeperError::Failed) => before,
+    }
+}
+
 impl<S: Alter + Drop> StoredItems for SqlItems<S> {
-    ghost use Rattle.item_store.proofs.OneMap.{stands_once};
+    ghost use Rattle.std.proofs.Common.{inr};
+    ghost use Rattle.item_store.proofs.OneMap.{found_alone, found_clean, stands_once};
 
     ghost stands_for = { λ items m. StandsFor (state S.Store items.store.connection) m };
 
     ghost is_trusted = { λ items. IsTrusted (state S.Store items.store.connection) };
 
+    ghost may_hold = { λ items. MayHold (state S.Store items.store.connection) items.lost };
+
+    ghost shows = { λ items. shown_by (state S.Store items.store.connection) };
+
     ghost fault_count = { λ items. items.store.faults };
 
     ghost one = { λ items m n sure p q. stands_once _ m n sure.0 sure.1 p q };
+
+    ghost holds = { λ items m sure stands. inr (sure, λ n other. stands_once _ m n sure.0 sure.1 stands other) };
+
+    ghost alone = { λ items m n sure stands held. found_alone _ _ n m sure stands held };
+
+    ghost clean = { λ items n held. found_clean _ _ n held };
 
     fn all_of(
         &mut self,
@@ -70,7 +95,9 @@ impl<S: Alter + Drop> StoredItems for SqlItems<S> {
     }
 
     fn commit(&mut self, edits: &[Edit]) -> Result<(), KeeperError> {
-        self.store.commit(edits)
+        let ended = self.store.commit(edits);
+        self.lost = is_lost(self.lost, &ended);
+        ended
     }
 
     fn refuse(&mut self) -> KeeperError {

@@ -12,7 +12,7 @@ pub trait OpenStore: StoredItems {
     fn close(self);
 }
 
-/// The items in the database of a file of the system, which tells nothing of what it keeps.
+/// The items in the database of a file of the system.
 ///
 /// It has no type parameters: a call of a function over any store that may be sent to a thread can be proved at such a type, and can't at
 /// `SqlItems<FileStore<..>>`.
@@ -30,15 +30,29 @@ impl FileItems {
 }
 
 impl StoredItems for FileItems {
-    ghost use Rattle.std.specs.Prelude.{⊤};
+    ghost use Rattle.std.proofs.Common.{inr};
+    ghost use Rattle.sqlite.specs.Files.{file_state};
+    ghost use Rattle.item_store.proofs.OneMap.{found_alone, found_clean, stands_once};
+    ghost use Rattle.item_store.specs.Stands.{StandsFor};
+    ghost use Rattle.keeper_sqlite.specs.Trust.{IsTrusted, MayHold, shown_by};
 
-    ghost stands_for = { λ f m. ⊥ };
+    ghost stands_for = { λ f m. StandsFor (file_state f.items.store.connection) m };
 
-    ghost is_trusted = { λ f. ⊤ };
+    ghost is_trusted = { λ f. IsTrusted (file_state f.items.store.connection) };
+
+    ghost may_hold = { λ f. MayHold (file_state f.items.store.connection) f.items.lost };
+
+    ghost shows = { λ f. shown_by (file_state f.items.store.connection) };
 
     ghost fault_count = { λ f. f.items.store.faults };
 
-    ghost one = { λ f m n sure p q. absurd p };
+    ghost one = { λ f m n sure p q. stands_once _ m n sure.0 sure.1 p q };
+
+    ghost holds = { λ f m sure stands. inr (sure, λ n other. stands_once _ m n sure.0 sure.1 stands other) };
+
+    ghost alone = { λ f m n sure stands held. found_alone _ _ n m sure stands held };
+
+    ghost clean = { λ f n held. found_clean _ _ n held };
 
     fn all_of(
         &mut self,

@@ -7,6 +7,8 @@ use Rattle.keeper_memory.specs.copy.HeldCopy.{empty_copy}
 use Rattle.keeper_memory.specs.declared.copy.change.CopyChange.{CopyChange}
 use Rattle.copy_format.specs.Edits.{FitsChange, edits}
 use Rattle.copy_format.specs.Format.{AreItemsOf, Fit, Keep}
+use Rattle.keeper_sqlite.specs.Trust.{Sign}
+use Rattle.keeper_sqlite.specs.hub.Keeping.{Stay}
 use Rattle.keeper_sqlite.specs.hub.Telling.{Tells}
 
 -- no items keep the copy that holds nothing
@@ -26,5 +28,9 @@ abbrev pub AreEditsOf : ℕ → Copy → CopyChange → List Edit → Type 0
 AreEditsOf side c change es = (es ≡ edits side c change) × FitsChange change c
 
 -- what the keeper of a copy tells: of its store, and of the store as it was handed in
-abbrev pub CopyTells : {Store : Type 0} → (Store → Items → Type 0) → (Store → Type 0) → Store × Store → Copy → Type 0
-CopyTells stands_for is_trusted keeper c = Tells KeepOrNew (stands_for keeper.1) (stands_for keeper.0) (is_trusted keeper.0) c
+abbrev pub CopyTells : {Store : Type 0} → (Store → Items → Type 0) → (Store → Items → Type 0) → Store × Store → Copy → Type 0
+CopyTells stands_for may_hold keeper c = Tells KeepOrNew (stands_for keeper.1) (may_hold keeper.0) c
+
+-- what calls make of the keeper of a copy: what was handed in stays known, and the store shows its past
+abbrev pub CopyLeads : {Store : Type 0} → (Store → Sign → Type 0) → Store × Store → Store × Store → Type 0
+CopyLeads shows one two = (two.1 ≡ one.1) × Stay (shows two.0) (shows one.0)

@@ -6,8 +6,9 @@ ghost use Rattle.item_maps.specs.Items.{Items};
 ghost use Rattle.keeper_memory.specs.copy.Changes.{CanChange, copy_after};
 ghost use Rattle.keeper_memory.specs.copy.Copies.{Copy};
 ghost use Rattle.copy_format.specs.Format.{Keep};
-ghost use Rattle.keeper_sqlite.specs.hub.Keeping.{HasOtherFormat, Keeps};
+ghost use Rattle.keeper_sqlite.specs.hub.Keeping.{Became, ComeOf, HasOtherFormat, Keeps, Stay};
 ghost use Rattle.keeper_sqlite.specs.copy.Keeping.{KeepOrNew};
+ghost use Rattle.keeper_sqlite.specs.Trust.{Clean};
 
 use crate::copy::prepare::prepare;
 use crate::copy::wanted::edits_wanted;
@@ -27,6 +28,10 @@ fn commit_ready<S: StoredItems>(
     ensures err { (c : Copy) → Keeps Keep (S.stands_for store.old) c → OnErr result (Keeps Keep (S.stands_for store.new) c) }
     ensures cause { CountsFailure (S.fault_count store.old) (S.fault_count store.new) result }
     ensures trust { S.is_trusted store.new → S.is_trusted store.old }
+    ensures signs { Stay (S.shows store.new) (S.shows store.old) }
+    ensures made { (n : Items) → S.may_hold store.new n
+        → ComeOf (λ m. IsErr result × S.may_hold store.old m) (S.is_trusted store.old) (S.stands_for store.old) Keep (λ c now. CanChange change c → Became Keep (copy_after change) result c now) n }
+    ensures live { S.shows store.new Clean → OnOk result (S.is_trusted store.new) }
 {
     let edits = edits_wanted(alloc, store, change)?;
     store.commit(edits.as_slice())
@@ -44,6 +49,10 @@ pub(crate) fn commit_to<S: StoredItems>(
     ensures other { (m : Items) → S.stands_for store.old m → HasOtherFormat m → S.is_trusted store.new → IsErr result × S.stands_for store.new m }
     ensures cause { CountsFailure (S.fault_count store.old) (S.fault_count store.new) result }
     ensures trust { S.is_trusted store.new → S.is_trusted store.old }
+    ensures signs { Stay (S.shows store.new) (S.shows store.old) }
+    ensures made { (n : Items) → S.may_hold store.new n
+        → ComeOf (λ m. IsErr result × S.may_hold store.old m) (S.is_trusted store.old) (S.stands_for store.old) KeepOrNew (λ c now. CanChange change c → Became KeepOrNew (copy_after change) result c now) n }
+    ensures live { S.shows store.new Clean → OnOk result (S.is_trusted store.new) }
 {
     prepare(alloc, store)?;
     commit_ready(alloc, store, change)

@@ -5,8 +5,9 @@ ghost use Rattle.roster_base.specs.Faults.{CountsFailure};
 ghost use Rattle.item_maps.specs.Items.{Items};
 ghost use Rattle.keeper_memory.specs.copy.Copies.{Copy};
 ghost use Rattle.copy_format.specs.Format.{Keep};
-ghost use Rattle.keeper_sqlite.specs.hub.Keeping.{HasOtherFormat, Keeps};
+ghost use Rattle.keeper_sqlite.specs.hub.Keeping.{ComeOf, HasOtherFormat, Keeps, Stay};
 ghost use Rattle.keeper_sqlite.specs.copy.Keeping.{KeepOrNew};
+ghost use Rattle.keeper_sqlite.specs.Trust.{Clean};
 
 use crate::stored_items::StoredItems;
 use copy_format::{CopyArea, first_edits};
@@ -22,6 +23,10 @@ pub(crate) fn prepare<S: StoredItems>(alloc: Global, store: &mut S) -> Result<()
     ensures other { (m : Items) → S.stands_for store.old m → HasOtherFormat m → S.is_trusted store.new → IsErr result × S.stands_for store.new m }
     ensures cause { CountsFailure (S.fault_count store.old) (S.fault_count store.new) result }
     ensures trust { S.is_trusted store.new → S.is_trusted store.old }
+    ensures signs { Stay (S.shows store.new) (S.shows store.old) }
+    ensures made { (n : Items) → S.may_hold store.new n
+        → ComeOf (S.may_hold store.old) (S.is_trusted store.old) (S.stands_for store.old) KeepOrNew (λ c now. KeepOrNew now c) n }
+    ensures live { S.shows store.new Clean → OnOk result (S.is_trusted store.new) }
 {
     let items = store.all_of(alloc, CopyArea::Format.number(), &[], &[0])?;
     match format_of(items.as_slice()) {

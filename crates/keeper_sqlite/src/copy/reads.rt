@@ -1,14 +1,15 @@
 //! What a store keeps, read back.
 
-ghost use Rattle.std.specs.Prelude.{◌≡◌, ◌≤◌, IfOk, IfSome, IsErr, false};
+ghost use Rattle.std.specs.Prelude.{IfOk, IfSome, IsErr, OnOk, false, ◌≡◌, ◌≤◌};
 ghost use Rattle.roster_base.specs.Faults.{CountsFailure};
 ghost use Rattle.item_maps.specs.Items.{Items as Kept};
 ghost use Rattle.keeper_memory.specs.copy.Copies.{Copy, entry_after, held_list};
 ghost use Rattle.keeper_memory.specs.copy.Lists.{IsList};
 ghost use Rattle.keeper_memory.specs.copy.States.{CanBe, CanBeEntry, Shows};
 ghost use Rattle.copy_format.specs.Format.{Keep};
-ghost use Rattle.keeper_sqlite.specs.hub.Keeping.{HasOtherFormat, Keeps, Stay};
+ghost use Rattle.keeper_sqlite.specs.hub.Keeping.{ComeOf, HasOtherFormat, Keeps, Stay};
 ghost use Rattle.keeper_sqlite.specs.copy.Keeping.{KeepOrNew};
+ghost use Rattle.keeper_sqlite.specs.Trust.{Clean};
 
 use crate::copy::prepare::prepare;
 use crate::copy::stored::{stored_entry, stored_root, stored_rows, stored_stage};
@@ -26,6 +27,9 @@ fn ready_state<S: StoredItems>(alloc: Global, store: &mut S) -> Result<CopyState
     ensures same { Stay (S.stands_for store.old) (S.stands_for store.new) }
     ensures cause { CountsFailure (S.fault_count store.old) (S.fault_count store.new) result }
     ensures trust { S.is_trusted store.new → S.is_trusted store.old }
+    ensures held { Stay (S.may_hold store.new) (S.may_hold store.old) }
+    ensures signs { Stay (S.shows store.new) (S.shows store.old) }
+    ensures live { S.shows store.new Clean → OnOk result (S.is_trusted store.new) }
 {
     let root = stored_root(alloc, store)?;
     let stage = stored_stage(alloc, store)?;
@@ -48,6 +52,10 @@ pub(crate) fn state_from<S: StoredItems>(
     ensures other { (m : Kept) → S.stands_for store.old m → HasOtherFormat m → S.is_trusted store.new → IsErr result × S.stands_for store.new m }
     ensures cause { CountsFailure (S.fault_count store.old) (S.fault_count store.new) result }
     ensures trust { S.is_trusted store.new → S.is_trusted store.old }
+    ensures signs { Stay (S.shows store.new) (S.shows store.old) }
+    ensures made { (n : Kept) → S.may_hold store.new n
+        → ComeOf (S.may_hold store.old) (S.is_trusted store.old) (S.stands_for store.old) KeepOrNew (λ c now. KeepOrNew now c) n }
+    ensures live { S.shows store.new Clean → OnOk result (S.is_trusted store.new) }
 {
     prepare(alloc, store)?;
     ready_state(alloc, store)
@@ -64,6 +72,9 @@ fn ready_rows<S: StoredItems>(
     ensures same { Stay (S.stands_for store.old) (S.stands_for store.new) }
     ensures cause { CountsFailure (S.fault_count store.old) (S.fault_count store.new) result }
     ensures trust { S.is_trusted store.new → S.is_trusted store.old }
+    ensures held { Stay (S.may_hold store.new) (S.may_hold store.old) }
+    ensures signs { Stay (S.shows store.new) (S.shows store.old) }
+    ensures live { S.shows store.new Clean → OnOk result (S.is_trusted store.new) }
 {
     let root = stored_root(alloc, store)?;
     let rows = stored_rows(alloc, store, root.side, kind)?;
@@ -85,6 +96,10 @@ pub(crate) fn held_from<S: StoredItems>(
     ensures other { (m : Kept) → S.stands_for store.old m → HasOtherFormat m → S.is_trusted store.new → IsErr result × S.stands_for store.new m }
     ensures cause { CountsFailure (S.fault_count store.old) (S.fault_count store.new) result }
     ensures trust { S.is_trusted store.new → S.is_trusted store.old }
+    ensures signs { Stay (S.shows store.new) (S.shows store.old) }
+    ensures made { (n : Kept) → S.may_hold store.new n
+        → ComeOf (S.may_hold store.old) (S.is_trusted store.old) (S.stands_for store.old) KeepOrNew (λ c now. KeepOrNew now c) n }
+    ensures live { S.shows store.new Clean → OnOk result (S.is_trusted store.new) }
 {
     prepare(alloc, store)?;
     ready_rows(alloc, store, kind)
@@ -111,6 +126,9 @@ fn ready_entry<S: StoredItems>(
     ensures same { Stay (S.stands_for store.old) (S.stands_for store.new) }
     ensures cause { CountsFailure (S.fault_count store.old) (S.fault_count store.new) result }
     ensures trust { S.is_trusted store.new → S.is_trusted store.old }
+    ensures held { Stay (S.may_hold store.new) (S.may_hold store.old) }
+    ensures signs { Stay (S.shows store.new) (S.shows store.old) }
+    ensures live { S.shows store.new Clean → OnOk result (S.is_trusted store.new) }
 {
     let root = stored_root(alloc, store)?;
     let entry = stored_entry(alloc, store, after)?;
@@ -132,6 +150,10 @@ pub(crate) fn entry_from<S: StoredItems>(
     ensures other { (m : Kept) → S.stands_for store.old m → HasOtherFormat m → S.is_trusted store.new → IsErr result × S.stands_for store.new m }
     ensures cause { CountsFailure (S.fault_count store.old) (S.fault_count store.new) result }
     ensures trust { S.is_trusted store.new → S.is_trusted store.old }
+    ensures signs { Stay (S.shows store.new) (S.shows store.old) }
+    ensures made { (n : Kept) → S.may_hold store.new n
+        → ComeOf (S.may_hold store.old) (S.is_trusted store.old) (S.stands_for store.old) KeepOrNew (λ c now. KeepOrNew now c) n }
+    ensures live { S.shows store.new Clean → OnOk result (S.is_trusted store.new) }
 {
     prepare(alloc, store)?;
     ready_entry(alloc, store, after)

@@ -1,6 +1,6 @@
 //! What a store that is ready has of a copy.
 
-ghost use Rattle.std.specs.Prelude.{◌≡◌, ◌<◌, ◌+◌, ◌^◌, ℕ, IfOk, IfSome, option_map, slice_get};
+ghost use Rattle.std.specs.Prelude.{IfOk, IfSome, OnOk, option_map, slice_get, ℕ, ◌+◌, ◌<◌, ◌^◌, ◌≡◌};
 ghost use Rattle.roster_base.specs.Faults.{CountsFailure};
 ghost use Rattle.keeper_memory.specs.copy.Copies.{Copy, entry_after, held_list};
 ghost use Rattle.keeper_memory.specs.copy.Lists.{IsList};
@@ -14,6 +14,7 @@ ghost use Rattle.copy_format.specs.Format.{IsOut, out_entry};
 ghost use Rattle.copy_format.specs.Roots.{CanBeRoot, root_in};
 ghost use Rattle.keeper_sqlite.specs.hub.Keeping.{Stay};
 ghost use Rattle.keeper_sqlite.specs.copy.Keeping.{HasCopy};
+ghost use Rattle.keeper_sqlite.specs.Trust.{Clean};
 
 use crate::stored_items::StoredItems;
 use copy_format::{CopyArea, CopyRoot, out_of, root_of, rows_of, stage_of};
@@ -34,6 +35,9 @@ pub(crate) fn stored_root<S: StoredItems>(
     ensures same { Stay (S.stands_for store.old) (S.stands_for store.new) }
     ensures cause { CountsFailure (S.fault_count store.old) (S.fault_count store.new) result }
     ensures trust { S.is_trusted store.new → S.is_trusted store.old }
+    ensures held { Stay (S.may_hold store.new) (S.may_hold store.old) }
+    ensures signs { Stay (S.shows store.new) (S.shows store.old) }
+    ensures live { S.shows store.new Clean → OnOk result (S.is_trusted store.new) }
 {
     let items = store.all_of(alloc, CopyArea::State.number(), &[], &[0])?;
     match root_of(items.as_slice()) {
@@ -52,6 +56,9 @@ pub(crate) fn stored_stage<S: StoredItems>(
     ensures same { Stay (S.stands_for store.old) (S.stands_for store.new) }
     ensures cause { CountsFailure (S.fault_count store.old) (S.fault_count store.new) result }
     ensures trust { S.is_trusted store.new → S.is_trusted store.old }
+    ensures held { Stay (S.may_hold store.new) (S.may_hold store.old) }
+    ensures signs { Stay (S.shows store.new) (S.shows store.old) }
+    ensures live { S.shows store.new Clean → OnOk result (S.is_trusted store.new) }
 {
     let items = store.all_of(alloc, CopyArea::Stage.number(), &[], &[0])?;
     match stage_of(alloc, items.as_slice())? {
@@ -72,6 +79,9 @@ pub(crate) fn stored_rows<S: StoredItems>(
     ensures same { Stay (S.stands_for store.old) (S.stands_for store.new) }
     ensures cause { CountsFailure (S.fault_count store.old) (S.fault_count store.new) result }
     ensures trust { S.is_trusted store.new → S.is_trusted store.old }
+    ensures held { Stay (S.may_hold store.new) (S.may_hold store.old) }
+    ensures signs { Stay (S.shows store.new) (S.shows store.old) }
+    ensures live { S.shows store.new Clean → OnOk result (S.is_trusted store.new) }
 {
     let area = CopyArea::Rows { side, kind };
     let items = store.all_of(alloc, area.number(), &[], &[255])?;
@@ -104,6 +114,9 @@ fn item_above<S: StoredItems>(
     ensures same { Stay (S.stands_for store.old) (S.stands_for store.new) }
     ensures cause { CountsFailure (S.fault_count store.old) (S.fault_count store.new) result }
     ensures trust { S.is_trusted store.new → S.is_trusted store.old }
+    ensures held { Stay (S.may_hold store.new) (S.may_hold store.old) }
+    ensures signs { Stay (S.shows store.new) (S.shows store.old) }
+    ensures live { S.shows store.new Clean → OnOk result (S.is_trusted store.new) }
 {
     store.first_of(
         alloc,
@@ -125,6 +138,9 @@ fn entry_above<S: StoredItems>(
     ensures same { Stay (S.stands_for store.old) (S.stands_for store.new) }
     ensures cause { CountsFailure (S.fault_count store.old) (S.fault_count store.new) result }
     ensures trust { S.is_trusted store.new → S.is_trusted store.old }
+    ensures held { Stay (S.may_hold store.new) (S.may_hold store.old) }
+    ensures signs { Stay (S.shows store.new) (S.shows store.old) }
+    ensures live { S.shows store.new Clean → OnOk result (S.is_trusted store.new) }
 {
     let item = match item_above(alloc, store, after)? {
         Some(item) => item,
@@ -147,6 +163,9 @@ pub(crate) fn stored_entry<S: StoredItems>(
     ensures same { Stay (S.stands_for store.old) (S.stands_for store.new) }
     ensures cause { CountsFailure (S.fault_count store.old) (S.fault_count store.new) result }
     ensures trust { S.is_trusted store.new → S.is_trusted store.old }
+    ensures held { Stay (S.may_hold store.new) (S.may_hold store.old) }
+    ensures signs { Stay (S.shows store.new) (S.shows store.old) }
+    ensures live { S.shows store.new Clean → S.is_trusted store.old → OnOk result (S.is_trusted store.new) }
 {
     if after >= LAST {
         return Ok(None);

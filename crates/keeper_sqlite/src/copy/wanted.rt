@@ -30,6 +30,8 @@ fn run_wanted<S: StoredItems>(
     ensures same { Stay (S.stands_for store.old) (S.stands_for store.new) }
     ensures cause { CountsFailure (S.fault_count store.old) (S.fault_count store.new) result }
     ensures trust { S.is_trusted store.new → S.is_trusted store.old }
+    ensures held { Stay (S.may_hold store.new) (S.may_hold store.old) }
+    ensures signs { Stay (S.shows store.new) (S.shows store.old) }
 {
     let root = stored_root(alloc, store)?;
     Ok(run_edits(alloc, root, run)?)
@@ -48,6 +50,8 @@ fn page_wanted<S: StoredItems>(
     ensures same { Stay (S.stands_for store.old) (S.stands_for store.new) }
     ensures cause { CountsFailure (S.fault_count store.old) (S.fault_count store.new) result }
     ensures trust { S.is_trusted store.new → S.is_trusted store.old }
+    ensures held { Stay (S.may_hold store.new) (S.may_hold store.old) }
+    ensures signs { Stay (S.shows store.new) (S.shows store.old) }
 {
     let root = stored_root(alloc, store)?;
     let stage = match stored_stage(alloc, store)? {
@@ -65,6 +69,8 @@ fn drop_wanted<S: StoredItems>(alloc: Global, store: &mut S) -> Result<Vec<Edit>
     ensures same { Stay (S.stands_for store.old) (S.stands_for store.new) }
     ensures cause { CountsFailure (S.fault_count store.old) (S.fault_count store.new) result }
     ensures trust { S.is_trusted store.new → S.is_trusted store.old }
+    ensures held { Stay (S.may_hold store.new) (S.may_hold store.old) }
+    ensures signs { Stay (S.shows store.new) (S.shows store.old) }
 {
     let root = stored_root(alloc, store)?;
     Ok(drop_edits(alloc, root.side)?)
@@ -75,6 +81,8 @@ fn swap_wanted<S: StoredItems>(alloc: Global, store: &mut S) -> Result<Vec<Edit>
     ensures same { Stay (S.stands_for store.old) (S.stands_for store.new) }
     ensures cause { CountsFailure (S.fault_count store.old) (S.fault_count store.new) result }
     ensures trust { S.is_trusted store.new → S.is_trusted store.old }
+    ensures held { Stay (S.may_hold store.new) (S.may_hold store.old) }
+    ensures signs { Stay (S.shows store.new) (S.shows store.old) }
 {
     let root = stored_root(alloc, store)?;
     match stored_stage(alloc, store)? {
@@ -94,6 +102,8 @@ fn enter_wanted<S: StoredItems>(
     ensures same { Stay (S.stands_for store.old) (S.stands_for store.new) }
     ensures cause { CountsFailure (S.fault_count store.old) (S.fault_count store.new) result }
     ensures trust { S.is_trusted store.new → S.is_trusted store.old }
+    ensures held { Stay (S.may_hold store.new) (S.may_hold store.old) }
+    ensures signs { Stay (S.shows store.new) (S.shows store.old) }
 {
     let root = stored_root(alloc, store)?;
     if stored_entry(alloc, store, root.last_number)?.is_some() {
@@ -125,6 +135,8 @@ fn settle_wanted<S: StoredItems>(
     ensures same { Stay (S.stands_for store.old) (S.stands_for store.new) }
     ensures cause { CountsFailure (S.fault_count store.old) (S.fault_count store.new) result }
     ensures trust { S.is_trusted store.new → S.is_trusted store.old }
+    ensures held { Stay (S.may_hold store.new) (S.may_hold store.old) }
+    ensures signs { Stay (S.shows store.new) (S.shows store.old) }
 {
     let found = stored_entry(alloc, store, number.saturating_sub(1))?;
     match numbered(found, number) {
@@ -144,6 +156,8 @@ pub(crate) fn edits_wanted<S: StoredItems>(
     ensures same { Stay (S.stands_for store.old) (S.stands_for store.new) }
     ensures cause { CountsFailure (S.fault_count store.old) (S.fault_count store.new) result }
     ensures trust { S.is_trusted store.new → S.is_trusted store.old }
+    ensures held { Stay (S.may_hold store.new) (S.may_hold store.old) }
+    ensures signs { Stay (S.shows store.new) (S.shows store.old) }
 {
     match change {
         CopyChange::Run { run } => run_wanted(alloc, store, run),

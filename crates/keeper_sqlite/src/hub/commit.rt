@@ -8,7 +8,8 @@ ghost use Rattle.keeper_memory.specs.Kept.{KeptState, kept_by};
 ghost use Rattle.version_core.specs.declared.hub_tables.HubTables.{HubTables};
 ghost use Rattle.hub_format.specs.Edits.{edits as edits_of};
 ghost use Rattle.hub_format.specs.Format.{FitsCommit, Keep};
-ghost use Rattle.keeper_sqlite.specs.hub.Keeping.{HasOtherFormat, HasTables, KeepOrNew, Keeps, Stay};
+ghost use Rattle.keeper_sqlite.specs.hub.Keeping.{Became, ComeOf, HasOtherFormat, HasTables, KeepOrNew, Keeps, Stay};
+ghost use Rattle.keeper_sqlite.specs.Trust.{Clean};
 
 use crate::hub::oldest::oldest_for;
 use crate::hub::prepare::prepare;
@@ -32,6 +33,8 @@ fn edits_for<S: StoredItems>(
     ensures same { Stay (S.stands_for store.old) (S.stands_for store.new) }
     ensures cause { CountsFailure (S.fault_count store.old) (S.fault_count store.new) result }
     ensures trust { S.is_trusted store.new → S.is_trusted store.old }
+    ensures held { Stay (S.may_hold store.new) (S.may_hold store.old) }
+    ensures signs { Stay (S.shows store.new) (S.shows store.old) }
 {
     let (keep, base, _) = state_of_store(alloc, store)?;
     let oldest = oldest_for(alloc, store, keep, base, &commit.change)?;
@@ -52,6 +55,10 @@ fn commit_ready<S: StoredItems>(
     ensures err { (state : KeptState) → Keeps Keep (S.stands_for store.old) state → OnErr result (Keeps Keep (S.stands_for store.new) state) }
     ensures cause { CountsFailure (S.fault_count store.old) (S.fault_count store.new) result }
     ensures trust { S.is_trusted store.new → S.is_trusted store.old }
+    ensures signs { Stay (S.shows store.new) (S.shows store.old) }
+    ensures made { (n : Items) → S.may_hold store.new n
+        → ComeOf (λ m. IsErr result × S.may_hold store.old m) (S.is_trusted store.old) (S.stands_for store.old) Keep (λ state now. CanCommit state commit.now → Became Keep (λ s. with_commit s commit.now) result state now) n }
+    ensures live { S.shows store.new Clean → OnOk result (S.is_trusted store.new) }
 {
     let edits = edits_for(alloc, store, commit)?;
     store.commit(edits.as_slice())
@@ -71,6 +78,10 @@ pub(crate) fn commit_to<S: StoredItems>(
     ensures other { (m : Items) → S.stands_for store.old m → HasOtherFormat m → S.is_trusted store.new → IsErr result × S.stands_for store.new m }
     ensures cause { CountsFailure (S.fault_count store.old) (S.fault_count store.new) result }
     ensures trust { S.is_trusted store.new → S.is_trusted store.old }
+    ensures signs { Stay (S.shows store.new) (S.shows store.old) }
+    ensures made { (n : Items) → S.may_hold store.new n
+        → ComeOf (λ m. IsErr result × S.may_hold store.old m) (S.is_trusted store.old) (S.stands_for store.old) (KeepOrNew keep) (λ state now. CanCommit state commit.now → Became (KeepOrNew keep) (λ s. with_commit s commit.now) result state now) n }
+    ensures live { S.shows store.new Clean → OnOk result (S.is_trusted store.new) }
 {
     prepare(alloc, store, keep)?;
     commit_ready(alloc, store, commit)

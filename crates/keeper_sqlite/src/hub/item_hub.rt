@@ -1,13 +1,14 @@
 //! A keeper of a hub's state over a store of items.
 
-ghost use Rattle.std.specs.Prelude.{◌≡◌, IfOk, IsErr};
+ghost use Rattle.std.specs.Prelude.{IfOk, IsErr, OnOk, ◌≡◌};
 ghost use Rattle.roster_base.specs.Faults.{CountsFailure};
 ghost use Rattle.item_maps.specs.Items.{Items};
 ghost use Rattle.keeper_memory.specs.Commits.{CanCommit, Commits};
 ghost use Rattle.keeper_memory.specs.Kept.{KeptState, kept_by};
 ghost use Rattle.version_core.specs.Tables.{AreTables};
 ghost use Rattle.keeper_sqlite.specs.hub.Keeping.{HasOtherFormat, KeepOrNew, Keeps};
-ghost use Rattle.keeper_sqlite.specs.hub.Telling.{HubTells, Tells};
+ghost use Rattle.keeper_sqlite.specs.hub.Telling.{HubLeads, HubTells, StillKeep, Tells};
+ghost use Rattle.keeper_sqlite.specs.Trust.{Clean};
 
 use crate::hub::commit::commit_to;
 use crate::hub::tables::load_from;
@@ -46,7 +47,7 @@ impl<S: StoredItems> ItemHub<S> {
     pub fn adopt(store: S, keep: u32) -> ItemHub<S>
         ensures store { (result.0 ≡ store) × (result.1 ≡ store) × (result.2 ≡ keep) }
         ensures tells { (state : KeptState) → S.is_trusted store → Keeps (KeepOrNew keep) (S.stands_for store) state
-            → Tells (KeepOrNew result.2) (S.stands_for result.1) (S.stands_for result.0) (S.is_trusted result.0) state }
+            → Tells (KeepOrNew result.2) (S.stands_for result.1) (S.may_hold result.0) state }
     {
         let origin = Snapshot::of(&store);
         ItemHub {
@@ -54,6 +55,13 @@ impl<S: StoredItems> ItemHub<S> {
             origin,
             keep,
         }
+    }
+
+    /// While the store is trusted it stands for items that keep a state, if those that were handed in did. No memory is taken.
+    pub fn keeps(&self)
+        ensures { StillKeep (KeepOrNew self.now.2) (S.stands_for self.now.1) (S.stands_for self.now.0) (S.is_trusted self.now.0) }
+    {
+        let _ = &self.store;
     }
 
     /// The store, as the last call left it; no memory is taken.
@@ -70,23 +78,26 @@ impl<S: StoredItems> ItemHub<S> {
 }
 
 impl<S: StoredItems> HubKeeper for ItemHub<S> {
-    ghost use Rattle.std.specs.Prelude.{⊤};
+    ghost use Rattle.std.proofs.Common.{refl, ◌∙◌};
 
-    ghost stands_for = { HubTells S.stands_for S.is_trusted };
+    ghost stands_for = { HubTells S.stands_for S.may_hold };
 
     ghost fault_count = { λ hub. S.fault_count hub.0 };
 
-    ghost leads = { λ _ _. ⊤ };
+    ghost leads = { HubLeads S.shows };
 
-    ghost stays = { λ _. tt };
+    ghost stays = { λ _. (refl, refl, λ _ shown. shown) };
 
-    ghost leads_on = { λ _ _ _ _ _. tt };
+    ghost leads_on = { λ _ _ _ first then. (then.0 ∙ first.0, then.1 ∙ first.1, λ sign shown. first.2 sign (then.2 sign shown)) };
 
     fn load(&mut self, alloc: Global) -> Result<HubTables, KeeperError>
-        ensures shown { IfOk result (λ tables. (kept : KeptState) → HubTells S.stands_for S.is_trusted self.new kept → kept ≡ kept_by tables) }
+        ensures shown { IfOk result (λ tables. (kept : KeptState) → HubTells S.stands_for S.may_hold self.new kept → kept ≡ kept_by tables) }
         ensures tables { IfOk result AreTables }
-        ensures same { (kept : KeptState) → HubTells S.stands_for S.is_trusted self.new kept → HubTells S.stands_for S.is_trusted self.old kept }
+        ensures same { (kept : KeptState) → HubTells S.stands_for S.may_hold self.new kept → HubTells S.stands_for S.may_hold self.old kept }
         ensures cause { CountsFailure (S.fault_count self.old.0) (S.fault_count self.new.0) result }
+        ensures leads { HubLeads S.shows self.old self.new }
+        // Over a clean disk a call that succeeds leaves the store trusted, so that it tells what it keeps.
+        ensures live { S.shows self.new.0 Clean → OnOk result (S.is_trusted self.new.0) }
         // Items of another format are refused, and stay as they are.
         ensures other { (m : Items) → S.stands_for self.old.0 m → HasOtherFormat m → S.is_trusted self.new.0 → IsErr result × S.stands_for self.new.0 m }
     {
@@ -94,10 +105,13 @@ impl<S: StoredItems> HubKeeper for ItemHub<S> {
     }
 
     fn commit(&mut self, alloc: Global, commit: &HubCommit) -> Result<(), KeeperError>
-        requires { (kept : KeptState) → HubTells S.stands_for S.is_trusted self.old kept → CanCommit kept commit.now }
-        ensures told { (after : KeptState) → HubTells S.stands_for S.is_trusted self.new after
-            → (before : KeptState) × HubTells S.stands_for S.is_trusted self.old before × Commits commit.now result before after }
+        requires { (kept : KeptState) → HubTells S.stands_for S.may_hold self.old kept → CanCommit kept commit.now }
+        ensures told { (after : KeptState) → HubTells S.stands_for S.may_hold self.new after
+            → (before : KeptState) × HubTells S.stands_for S.may_hold self.old before × Commits commit.now result before after }
         ensures cause { CountsFailure (S.fault_count self.old.0) (S.fault_count self.new.0) result }
+        ensures leads { HubLeads S.shows self.old self.new }
+        // Over a clean disk a call that succeeds leaves the store trusted, so that it tells what it keeps.
+        ensures live { S.shows self.new.0 Clean → OnOk result (S.is_trusted self.new.0) }
         // Items of another format are refused, and stay as they are.
         ensures other { (m : Items) → S.stands_for self.old.0 m → HasOtherFormat m → S.is_trusted self.new.0 → IsErr result × S.stands_for self.new.0 m }
     {

@@ -14,6 +14,7 @@ ghost use Rattle.version_core.specs.declared.row_change.RowChange.{RowChange as 
 ghost use Rattle.hub_format.specs.Format.{Entry, FitsChange, FitsGrant, grants_under, own_grants, own_rows, own_version, rows_under, some_grants};
 ghost use Rattle.hub_format.specs.Pieces.{IsReadBack, has_grants, number};
 ghost use Rattle.keeper_sqlite.specs.hub.Keeping.{HasTables, Stay};
+ghost use Rattle.keeper_sqlite.specs.Trust.{Clean};
 
 use crate::hub::state::of_version;
 use crate::stored_items::StoredItems;
@@ -59,6 +60,8 @@ pub(crate) fn base_rows<S: StoredItems>(
     ensures same { Stay (S.stands_for store.old) (S.stands_for store.new) }
     ensures cause { CountsFailure (S.fault_count store.old) (S.fault_count store.new) result }
     ensures trust { S.is_trusted store.new → S.is_trusted store.old }
+    ensures held { Stay (S.may_hold store.new) (S.may_hold store.old) }
+    ensures signs { Stay (S.shows store.new) (S.shows store.old) }
 {
     let items = store.all_of(alloc, HubArea::BaseRows.number(), &[], &[255])?;
     match rows_in(alloc, 0, items.as_slice())? {
@@ -79,6 +82,8 @@ pub(crate) fn grants_at<S: StoredItems>(
     ensures same { Stay (S.stands_for store.old) (S.stands_for store.new) }
     ensures cause { CountsFailure (S.fault_count store.old) (S.fault_count store.new) result }
     ensures trust { S.is_trusted store.new → S.is_trusted store.old }
+    ensures held { Stay (S.may_hold store.new) (S.may_hold store.old) }
+    ensures signs { Stay (S.shows store.new) (S.shows store.old) }
 {
     let items = of_version(alloc, store, HubArea::Grants, version)?;
     match grants_of(alloc, items.as_slice())? {
@@ -96,6 +101,9 @@ pub(crate) fn marks_in<S: StoredItems>(
     ensures same { Stay (S.stands_for store.old) (S.stands_for store.new) }
     ensures cause { CountsFailure (S.fault_count store.old) (S.fault_count store.new) result }
     ensures trust { S.is_trusted store.new → S.is_trusted store.old }
+    ensures held { Stay (S.may_hold store.new) (S.may_hold store.old) }
+    ensures signs { Stay (S.shows store.new) (S.shows store.old) }
+    ensures live { S.shows store.new Clean → OnOk result (S.is_trusted store.new) }
 {
     let items = store.all_of(alloc, HubArea::Marks.number(), &[], &[255])?;
     match marks_of(alloc, items.as_slice())? {
@@ -117,6 +125,8 @@ fn own_grants_at<S: StoredItems>(
     ensures same { Stay (S.stands_for store.old) (S.stands_for store.new) }
     ensures cause { CountsFailure (S.fault_count store.old) (S.fault_count store.new) result }
     ensures trust { S.is_trusted store.new → S.is_trusted store.old }
+    ensures held { Stay (S.may_hold store.new) (S.may_hold store.old) }
+    ensures signs { Stay (S.shows store.new) (S.shows store.old) }
 {
     if flag == 0 {
         return Ok(None);
@@ -139,6 +149,8 @@ fn change_of<S: StoredItems>(
     ensures same { Stay (S.stands_for store.old) (S.stands_for store.new) }
     ensures cause { CountsFailure (S.fault_count store.old) (S.fault_count store.new) result }
     ensures trust { S.is_trusted store.new → S.is_trusted store.old }
+    ensures held { Stay (S.may_hold store.new) (S.may_hold store.old) }
+    ensures signs { Stay (S.shows store.new) (S.shows store.old) }
 {
     let (moment, flag) = match version_of(items) {
         Some(parts) => parts,
@@ -183,6 +195,8 @@ fn change_at<S: StoredItems>(
     ensures same { Stay (S.stands_for store.old) (S.stands_for store.new) }
     ensures cause { CountsFailure (S.fault_count store.old) (S.fault_count store.new) result }
     ensures trust { S.is_trusted store.new → S.is_trusted store.old }
+    ensures held { Stay (S.may_hold store.new) (S.may_hold store.old) }
+    ensures signs { Stay (S.shows store.new) (S.shows store.old) }
 {
     let items = of_version(alloc, store, HubArea::Versions, version)?;
     if has_none(items.as_slice()) {
@@ -212,6 +226,8 @@ pub(crate) fn changes_in<S: StoredItems>(
     ensures same { Stay (S.stands_for store.old) (S.stands_for store.new) }
     ensures cause { CountsFailure (S.fault_count store.old) (S.fault_count store.new) result }
     ensures trust { S.is_trusted store.new → S.is_trusted store.old }
+    ensures held { Stay (S.may_hold store.new) (S.may_hold store.old) }
+    ensures signs { Stay (S.shows store.new) (S.shows store.old) }
 {
     let mut found = Vec::new(alloc);
     for place in 0..keep {

@@ -22,6 +22,8 @@ fn oldest_of<S: StoredItems>(alloc: Global, store: &mut S, base: u64) -> Result<
     ensures same { Stay (S.stands_for store.old) (S.stands_for store.new) }
     ensures cause { CountsFailure (S.fault_count store.old) (S.fault_count store.new) result }
     ensures trust { S.is_trusted store.new → S.is_trusted store.old }
+    ensures held { Stay (S.may_hold store.new) (S.may_hold store.old) }
+    ensures signs { Stay (S.shows store.new) (S.shows store.old) }
 {
     let grants = of_version(alloc, store, HubArea::Grants, base)?;
     let version = of_version(alloc, store, HubArea::Versions, base + 1)?;
@@ -57,6 +59,8 @@ pub(crate) fn oldest_for<S: StoredItems>(
     ensures same { Stay (S.stands_for store.old) (S.stands_for store.new) }
     ensures cause { CountsFailure (S.fault_count store.old) (S.fault_count store.new) result }
     ensures trust { S.is_trusted store.new → S.is_trusted store.old }
+    ensures held { Stay (S.may_hold store.new) (S.may_hold store.old) }
+    ensures signs { Stay (S.shows store.new) (S.shows store.old) }
 {
     if goes(keep, base, change) {
         return oldest_of(alloc, store, base);

@@ -1,13 +1,14 @@
 //! The tables that a store keeps.
 
-ghost use Rattle.std.specs.Prelude.{◌≡◌, IfOk, IfSome, IsErr};
+ghost use Rattle.std.specs.Prelude.{IfOk, IfSome, IsErr, OnOk, ◌≡◌};
 ghost use Rattle.roster_base.specs.Faults.{CountsFailure};
 ghost use Rattle.item_maps.specs.Items.{Items};
 ghost use Rattle.keeper_memory.specs.Kept.{KeptState, kept_by};
 ghost use Rattle.version_core.specs.Tables.{AreTables};
 ghost use Rattle.version_core.specs.declared.hub_tables.HubTables.{HubTables as Tables};
 ghost use Rattle.hub_format.specs.Format.{Keep};
-ghost use Rattle.keeper_sqlite.specs.hub.Keeping.{HasOtherFormat, HasTables, KeepOrNew, Keeps, Stay};
+ghost use Rattle.keeper_sqlite.specs.hub.Keeping.{ComeOf, HasOtherFormat, HasTables, KeepOrNew, Keeps, Stay};
+ghost use Rattle.keeper_sqlite.specs.Trust.{Clean};
 
 use crate::hub::load::{base_rows, changes_in, grants_at, marks_in};
 use crate::hub::prepare::prepare;
@@ -25,6 +26,9 @@ fn read_tables<S: StoredItems>(alloc: Global, store: &mut S) -> Result<HubTables
     ensures same { Stay (S.stands_for store.old) (S.stands_for store.new) }
     ensures cause { CountsFailure (S.fault_count store.old) (S.fault_count store.new) result }
     ensures trust { S.is_trusted store.new → S.is_trusted store.old }
+    ensures held { Stay (S.may_hold store.new) (S.may_hold store.old) }
+    ensures signs { Stay (S.shows store.new) (S.shows store.old) }
+    ensures live { S.shows store.new Clean → OnOk result (S.is_trusted store.new) }
 {
     let (keep, number, moment) = state_of_store(alloc, store)?;
     let keep = match u32::try_from(keep) {
@@ -67,6 +71,9 @@ fn load_ready<S: StoredItems>(alloc: Global, store: &mut S) -> Result<HubTables,
     ensures same { Stay (S.stands_for store.old) (S.stands_for store.new) }
     ensures cause { CountsFailure (S.fault_count store.old) (S.fault_count store.new) result }
     ensures trust { S.is_trusted store.new → S.is_trusted store.old }
+    ensures held { Stay (S.may_hold store.new) (S.may_hold store.old) }
+    ensures signs { Stay (S.shows store.new) (S.shows store.old) }
+    ensures live { S.shows store.new Clean → OnOk result (S.is_trusted store.new) }
 {
     let tables = read_tables(alloc, store)?;
     match tested(tables) {
@@ -87,6 +94,10 @@ pub fn load_from<S: StoredItems>(
     ensures other { (m : Items) → S.stands_for store.old m → HasOtherFormat m → S.is_trusted store.new → IsErr result × S.stands_for store.new m }
     ensures cause { CountsFailure (S.fault_count store.old) (S.fault_count store.new) result }
     ensures trust { S.is_trusted store.new → S.is_trusted store.old }
+    ensures signs { Stay (S.shows store.new) (S.shows store.old) }
+    ensures made { (n : Items) → S.may_hold store.new n
+        → ComeOf (S.may_hold store.old) (S.is_trusted store.old) (S.stands_for store.old) (KeepOrNew keep) (λ state now. KeepOrNew keep now state) n }
+    ensures live { S.shows store.new Clean → OnOk result (S.is_trusted store.new) }
 {
     prepare(alloc, store, keep)?;
     load_ready(alloc, store)

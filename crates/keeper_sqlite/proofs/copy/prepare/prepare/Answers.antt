@@ -1,8 +1,9 @@
-use Rattle.std.proofs.Common.{map, ap, ◌∙◌}
+use Rattle.std.proofs.Common.{map, ap, ◌∙◌, inl, inr}
 use Rattle.item_maps.specs.Edits.{entry_of}
 use Rattle.keeper_sqlite.proofs.HubKeepingLemmas.{keeps_on, on_any, on_err, on_ok}
 use Rattle.keeper_sqlite.specs.copy.Keeping.{KeepOrNew}
-use Rattle.keeper_sqlite.proofs.CopyKeepingLemmas.{is_kept, is_new, made_new}
+use Rattle.keeper_sqlite.proofs.CopyKeepingLemmas.{first_keeps, is_kept, is_new, made_new}
+use Rattle.keeper_sqlite.proofs.HoldingLemmas.{made_either}
 use Rattle.keeper_sqlite.proofs.copy.prepare.prepare.Goals as goal
 
 pub returns-in-New-clause-ok : goal.returns-in-New-clause-ok
@@ -44,3 +45,30 @@ pub returns-clause-err : goal.returns-clause-err
 returns-clause-err g c copy this =
     keeps_on KeepOrNew (g.S.StoredItems.stands_for c.args.store.now) (g.S.StoredItems.stands_for c.refuse.new.self) copy this
     (c.refuse.ensures.same this.items (c.in_ok-items.ensures.same this.items this.stands))
+
+pub returns-in_err-items-clause-made : goal.returns-in_err-items-clause-made
+returns-in_err-items-clause-made g c n held = inl (c.all_of.ensures.held n held)
+
+pub returns-in_err-edits-in-New-clause-made : goal.returns-in_err-edits-in-New-clause-made
+returns-in_err-edits-in-New-clause-made g c n held = inl (c.in_ok-items.ensures.held n held)
+
+pub returns-in-New-clause-made : goal.returns-in-New-clause-made
+returns-in-New-clause-made g c n held = elim (c.commit.ensures.made n held) [
+  | inl was ↦ inl (c.in_ok-items.ensures.held n was.1)
+  | inr came ↦ inr (
+    c.in_ok-items.ensures.trust came.0,
+    λ state this.
+        let told = rw c.number.ensures at (c.in_ok-items.ensures.items this.items this.stands came.0) in
+        let seen = ap (map entry_of) c.as_slice.ensures.value in
+        let none = is_new this.items state (map entry_of c.in_ok-items.items.items) this.kept told (λ one. absurd (let other = c.in-New.ensures.one (seen ∙ one) in cc)) in
+        made_either KeepOrNew c.commit.result c.as_slice-in-New.result.now this.items n state this.kept
+        (inl (first_keeps state c.as_slice-in-New.result.now this.items (c.as_slice-in-New.ensures.value ∙ c.in_ok-edits-in-New.ensures) none))
+        (came.1 this.items (c.in_ok-items.ensures.same this.items this.stands)),
+  )
+]
+
+pub returns-in-One-clause-made : goal.returns-in-One-clause-made
+returns-in-One-clause-made g c n held = inl (c.in_ok-items.ensures.held n held)
+
+pub returns-clause-made : goal.returns-clause-made
+returns-clause-made g c n held = inl (c.in_ok-items.ensures.held n (c.refuse.ensures.held n held))

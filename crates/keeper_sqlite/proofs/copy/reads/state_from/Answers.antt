@@ -14,3 +14,9 @@ returns-clause-kept g c copy this sure =
 
 pub returns-in_err-prepare-clause-kept : goal.returns-in_err-prepare-clause-kept
 returns-in_err-prepare-clause-kept g c copy this sure = c.in_err-prepare.ensures.err copy this
+
+pub returns-in_err-prepare-clause-made : goal.returns-in_err-prepare-clause-made
+returns-in_err-prepare-clause-made g c = c.in_err-prepare.ensures.made
+
+pub returns-clause-made : goal.returns-clause-made
+returns-clause-made g c n held = c.in_ok-prepare.ensures.made n (c.ready_state.ensures.held n held)

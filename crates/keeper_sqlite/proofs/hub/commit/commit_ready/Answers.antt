@@ -1,6 +1,9 @@
-use Rattle.std.proofs.Common.{◌∙◌}
+use Rattle.std.proofs.Common.{◌∙◌, inl, inr, refl}
 use Rattle.hub_format.specs.Format.{Keep}
-use Rattle.keeper_sqlite.proofs.HubKeepingLemmas.{can_here, committed, keeps_on, on_any, on_err, on_ok, tables_of}
+use Rattle.keeper_sqlite.proofs.HubKeepingLemmas.{can_here, commit_keeps, committed, keeps_on, on_any, on_err, on_ok, tables_of}
+use Rattle.std.proofs.lemmas.Result.{err_from_is_err_and}
+use Rattle.keeper_sqlite.proofs.HoldingLemmas.{became}
+use Rattle.keeper_memory.specs.Commits.{with_commit}
 use Rattle.keeper_sqlite.proofs.hub.commit.commit_ready.Goals as goal
 
 pub returns-clause-ok : goal.returns-clause-ok
@@ -19,3 +22,19 @@ pub returns-clause-err : goal.returns-clause-err
 returns-clause-err g c state this =
     on_err c.commit.result (keeps_on Keep (g.S.StoredItems.stands_for c.args.store.now) (g.S.StoredItems.stands_for c.commit.new.self) state this)
     (c.commit.ensures.err this.items (c.in_ok-edits.ensures.same this.items this.stands))
+
+pub returns-in_err-edits-clause-made : goal.returns-in_err-edits-clause-made
+returns-in_err-edits-clause-made g c n held =
+    let p = err_from_is_err_and c.from_residual.result c.from_residual.ensures.1 in inl (rw p.1 refl, c.edits_for.ensures.held n held)
+
+pub returns-clause-made : goal.returns-clause-made
+returns-clause-made g c n held = elim (c.commit.ensures.made n held) [
+  | inl was ↦ inl (was.0, c.in_ok-edits.ensures.held n was.1)
+  | inr came ↦ inr (
+    c.in_ok-edits.ensures.trust came.0,
+    λ state this can.
+        let goes = c.in_ok-edits.ensures.edits this.kept.tables (tables_of (g.S.StoredItems.stands_for c.args.store.now) state this) (can_here (g.S.StoredItems.stands_for c.args.store.now) state c.args.commit.now this can) came.0 in
+        became Keep (λ state. with_commit state c.args.commit.now) c.commit.result c.as_slice.result.now this.items n state this.kept (commit_keeps this.items state c.args.commit.now this.kept c.as_slice.result.now can c.in_ok-edits.ensures.fits (c.as_slice.ensures.value ∙ goes))
+        (came.1 this.items (c.in_ok-edits.ensures.same this.items this.stands)),
+  )
+]

@@ -1,5 +1,10 @@
 use Rattle.keeper_sqlite.proofs.HubKeepingLemmas.{keeps_or_new, on_any, on_err, on_ok}
 use Rattle.keeper_memory.specs.Commits.{with_commit}
+use Rattle.std.proofs.Common.{inl, inr, refl}
+use Rattle.std.proofs.lemmas.Result.{err_from_is_err_and}
+use Rattle.keeper_sqlite.proofs.HoldingLemmas.{became_more, nothing_became}
+use Rattle.hub_format.specs.Format.{Keep}
+use Rattle.keeper_sqlite.specs.hub.Keeping.{KeepOrNew}
 use Rattle.keeper_sqlite.proofs.hub.commit.commit_to.Goals as goal
 
 pub returns-clause-ok : goal.returns-clause-ok
@@ -14,3 +19,24 @@ returns-clause-err g c state this sure =
 
 pub returns-in_err-prepare-clause-err : goal.returns-in_err-prepare-clause-err
 returns-in_err-prepare-clause-err g c state this sure = on_any c.from_residual.result (c.in_err-prepare.ensures.err state this)
+
+pub returns-in_err-prepare-clause-made : goal.returns-in_err-prepare-clause-made
+returns-in_err-prepare-clause-made g c n held =
+    let p = err_from_is_err_and c.from_residual.result c.from_residual.ensures.1 in
+    elim (c.in_err-prepare.ensures.made n held) [
+      | inl was ↦ inl (rw p.1 refl, was)
+      | inr came ↦ inr (came.0, λ state this can. nothing_became (KeepOrNew c.args.keep) (λ state. with_commit state c.args.commit.now) c.from_residual.result state n (rw p.1 refl) (came.1 state this))
+    ]
+
+pub returns-clause-made : goal.returns-clause-made
+returns-clause-made g c n held = elim (c.commit_ready.ensures.made n held) [
+  | inl was ↦ elim (c.in_ok-prepare.ensures.made n was.1) [
+    | inl there ↦ inl (was.0, there)
+    | inr came ↦ inr (came.0, λ state this can. nothing_became (KeepOrNew c.args.keep) (λ state. with_commit state c.args.commit.now) c.commit_ready.result state n was.0 (came.1 state this))
+  ]
+  | inr came ↦ inr (
+    c.in_ok-prepare.ensures.trust came.0,
+    λ state this can.
+        became_more Keep (λ state. with_commit state c.args.commit.now) (KeepOrNew c.args.keep) (λ m s kept. inl kept) c.commit_ready.result state n (came.1 state (c.in_ok-prepare.ensures.ok state this came.0) can),
+  )
+]

@@ -8,6 +8,8 @@ pub loop-place-preserved : goal.loop-place-preserved
 loop-place-preserved g c = record {
   same = λ m h. c.in_ok-change.ensures.same m (c.loop-place.invariant.same m h);
   trust = λ sure. c.loop-place.invariant.trust (c.in_ok-change.ensures.trust sure);
+  held = λ n h. c.loop-place.invariant.held n (c.in_ok-change.ensures.held n h);
+  signs = λ sign h. c.loop-place.invariant.signs sign (c.in_ok-change.ensures.signs sign h);
   faults = c.in_ok-change.ensures.cause ∙ c.loop-place.invariant.faults;
   found = λ t has bases sure.
       let m = items_of t in

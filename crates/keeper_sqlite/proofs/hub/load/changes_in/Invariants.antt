@@ -9,6 +9,8 @@ invariant-loop-place g l =
     record {
       same : Stay (s.stands_for l.fn.store) (s.stands_for l.store);
       trust : s.is_trusted l.store → s.is_trusted l.fn.store;
+      held : Stay (s.may_hold l.store) (s.may_hold l.fn.store);
+      signs : Stay (s.shows l.store) (s.shows l.fn.store);
       faults : s.fault_count l.store ≡ s.fault_count l.fn.store;
       found : (t : HubTables) → HasTables (s.stands_for l.fn.store) t → l.base ≡ t.base.number → s.is_trusted l.store → (l.found.items ≡ take l.place t.changes) × (l.place ≤ length t.changes);
     }

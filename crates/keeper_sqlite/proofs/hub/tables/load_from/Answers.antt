@@ -13,3 +13,9 @@ returns-clause-kept g c state this sure =
 
 pub returns-in_err-prepare-clause-kept : goal.returns-in_err-prepare-clause-kept
 returns-in_err-prepare-clause-kept g c state this sure = c.in_err-prepare.ensures.err state this
+
+pub returns-in_err-prepare-clause-made : goal.returns-in_err-prepare-clause-made
+returns-in_err-prepare-clause-made g c = c.in_err-prepare.ensures.made
+
+pub returns-clause-made : goal.returns-clause-made
+returns-clause-made g c n held = c.in_ok-prepare.ensures.made n (c.load_ready.ensures.held n held)

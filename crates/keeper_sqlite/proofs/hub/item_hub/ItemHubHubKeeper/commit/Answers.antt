@@ -1,5 +1,5 @@
+use Rattle.std.proofs.Common.{refl}
 use Rattle.keeper_memory.specs.Commits.{CanCommit, with_commit}
-use Rattle.keeper_memory.specs.Kept.{KeptState}
 use Rattle.keeper_sqlite.specs.hub.Keeping.{KeepOrNew}
 use Rattle.keeper_sqlite.proofs.TellingLemmas.{hub_came, one_state, still_keep, told_back}
 use Rattle.keeper_sqlite.proofs.hub.item_hub.ItemHubHubKeeper.commit.Goals as goal
@@ -9,9 +9,9 @@ invariant_of-self g c =
     let s = g.S.StoredItems in
     let old = c.self.inside in
     let commit = c.args.commit.now in
-    still_keep (KeepOrNew old.keep) (s.stands_for old.origin.value) (s.stands_for old.store) (s.stands_for c.commit_to.new.store) (s.is_trusted old.store) (s.is_trusted c.commit_to.new.store)
-    (λ state. CanCommit state commit) (λ state. with_commit state commit)
-    c.self.invariant c.commit_to.ensures.trust (rw (← c.self.view_is) at c.requires) c.commit_to.result c.commit_to.ensures.ok c.commit_to.ensures.err
+    still_keep (KeepOrNew old.keep) (s.stands_for old.origin.value) (s.stands_for old.store) (s.stands_for c.commit_to.new.store) (s.may_hold old.store) (s.is_trusted old.store)
+    (λ state. CanCommit state commit) (λ state. with_commit state commit) c.self.invariant (g.met.S.StoredItems.holds old.store) (rw (← c.self.view_is) at c.requires) c.commit_to.result
+    (s.is_trusted c.commit_to.new.store) c.commit_to.ensures.trust c.commit_to.ensures.ok c.commit_to.ensures.err
 
 pub returns-clause-told : goal.returns-clause-told
 returns-clause-told g c =
@@ -19,7 +19,10 @@ returns-clause-told g c =
     let old = c.self.inside in
     let commit = c.args.commit.now in
     rw (← c.self.view_is) (λ now tells.
-    let back = told_back (KeepOrNew old.keep) (s.stands_for old.origin.value) (s.stands_for old.store) (s.stands_for c.commit_to.new.store) (s.is_trusted old.store) (s.is_trusted c.commit_to.new.store)
-    (λ state. CanCommit state commit) (λ state. with_commit state commit)
-    c.self.invariant c.commit_to.ensures.trust (rw (← c.self.view_is) at c.requires) c.commit_to.result c.commit_to.ensures.ok c.commit_to.ensures.err (g.met.S.StoredItems.one c.commit_to.new.store) (one_state old.keep) now tells in
+    let back = told_back (KeepOrNew old.keep) (s.stands_for old.origin.value) (s.stands_for old.store) (s.stands_for c.commit_to.new.store) (s.may_hold old.store) (s.is_trusted old.store)
+    (λ state. CanCommit state commit) (λ state. with_commit state commit) c.self.invariant (g.met.S.StoredItems.holds old.store) (rw (← c.self.view_is) at c.requires) c.commit_to.result
+    (one_state old.keep) (s.may_hold c.commit_to.new.store) c.commit_to.ensures.made now tells in
     (back.0, back.1, hub_came commit c.commit_to.result back.0 now back.2))
+
+pub returns-clause-leads : goal.returns-clause-leads
+returns-clause-leads g c = rw (← c.self.view_is) (refl, refl, c.commit_to.ensures.signs)
