@@ -9,7 +9,7 @@ use std::process::Abort;
 use std::test::Fail;
 
 // The bytes of a file, the status of `ask`, and what it writes.
-static STREAMS: [(&str, u8, &str); 21] = [
+static STREAMS: [(&str, u8, &str); 22] = [
     ("", 0, ""),
     (
         "GET /ims/oneroster/v1p1/orgs?limit=1 HTTP/1.1\r\nHost: hub\r\nAuthorization: Bearer tok-e\r\n\r\n",
@@ -103,6 +103,11 @@ static STREAMS: [(&str, u8, &str); 21] = [
         "refused: request 1: cut\n",
     ),
     (
+        "GET /ims\0 HTTP/1.1\r\nHost: hub\r\n\r\n",
+        4,
+        "HTTP/1.1 400 Bad Request\r\nContent-Type: application/json\r\nConnection: close\r\nContent-Length: 124\r\n\r\n{\"imsx_codeMajor\":\"failure\",\"imsx_codeMinor\":\"invalid_data\",\"imsx_description\":\"request unreadable\",\"imsx_severity\":\"error\"}refused: request 1: head\n",
+    ),
+    (
         "GET / HTTP/1.1\r\na: b\r\na: b\r\na: b\r\na: b\r\na: b\r\na: b\r\na: b\r\na: b\r\na: b\r\na: b\r\na: b\r\na: b\r\na: b\r\na: b\r\na: b\r\na: b\r\na: b\r\na: b\r\na: b\r\na: b\r\na: b\r\na: b\r\na: b\r\na: b\r\na: b\r\na: b\r\na: b\r\na: b\r\na: b\r\na: b\r\na: b\r\na: b\r\na: b\r\na: b\r\na: b\r\na: b\r\na: b\r\na: b\r\na: b\r\na: b\r\na: b\r\na: b\r\na: b\r\na: b\r\na: b\r\na: b\r\na: b\r\na: b\r\na: b\r\na: b\r\na: b\r\na: b\r\na: b\r\na: b\r\na: b\r\na: b\r\na: b\r\na: b\r\na: b\r\na: b\r\na: b\r\na: b\r\na: b\r\na: b\r\na: b\r\n\r\n",
         4,
         "HTTP/1.1 400 Bad Request\r\nContent-Type: application/json\r\nConnection: close\r\nContent-Length: 124\r\n\r\n{\"imsx_codeMajor\":\"failure\",\"imsx_codeMinor\":\"invalid_data\",\"imsx_description\":\"request unreadable\",\"imsx_severity\":\"error\"}refused: request 1: head too long\n",
@@ -128,13 +133,13 @@ fn run_with(
     run_over(alloc, line, &mut folder, keeper, sink)
 }
 
-fn sink_of(alloc: Global, failing: &[u64]) -> Result<MemSink, Fail> {
-    Ok(MemSink::new(alloc, 8192, failing.to_vec(alloc)?)?)
+fn empty_sink(alloc: Global) -> Result<MemSink, Fail> {
+    Ok(MemSink::new(alloc, 8192, Vec::new(alloc))?)
 }
 
 // Publishes the example district, and its grants.
 fn fill_lake(alloc: Global, keeper: &mut MemHub) -> Result<(), Fail> {
-    let mut sink = sink_of(alloc, &[])?;
+    let mut sink = empty_sink(alloc)?;
     run_with(alloc, "publish sis=lake", "", keeper, &mut sink)?;
     run_with(alloc, "grant g.csv", "", keeper, &mut sink)?;
     Ok(())
@@ -160,7 +165,7 @@ fn assert_stream(
     case: &(&str, u8, &str),
 ) -> Result<(), Fail> {
     let (stream, status, want) = case;
-    let mut sink = sink_of(alloc, &[])?;
+    let mut sink = empty_sink(alloc)?;
     let answered = run_with(alloc, "ask r.http", stream, keeper, &mut sink)?;
     assert_eq!(rt;
         (answered, str::from_utf8(sink.written())),
@@ -199,44 +204,53 @@ fn streams_are_answered(rt: HostRuntime) -> Result<(), Fail> {
     assert_streams(&rt, rt.alloc(), &STREAMS)
 }
 
-// Whether the write with this number fails. A front of what is wanted is written then, and else all of it.
-fn assert_cut_off(
-    rt: &impl Abort,
-    alloc: Global,
-    keeper: &mut MemHub,
-    number: u64,
-    case: &(&str, u8, &str),
-) -> Result<bool, Fail> {
-    let (stream, status, want) = case;
-    let mut sink = sink_of(alloc, &[number])?;
-    let answered = run_with(alloc, "ask r.http", stream, keeper, &mut sink)?;
-    let is_front = want.as_bytes().starts_with(sink.written());
-    assert_eq!(rt;
-        (is_front, answered == 1 || answered == *status),
-        (true, true),
-        "{number}"
-    );
-    Ok(answered == 1)
+// Streams of texts, each with how often it stands there, the status of `ask`, and what it writes: a head of more than 16,384 bytes, and a
+// body with 200 arrays, one within another.
+static REPEATED: [(&[(&str, usize)], u8, &str); 2] = [
+    (
+        &[
+            ("GET /ims HTTP/1.1\r\na: ", 1),
+            ("b", 16_385),
+            ("\r\n\r\n", 1),
+        ],
+        4,
+        "HTTP/1.1 400 Bad Request\r\nContent-Type: application/json\r\nConnection: close\r\nContent-Length: 124\r\n\r\n{\"imsx_codeMajor\":\"failure\",\"imsx_codeMinor\":\"invalid_data\",\"imsx_description\":\"request unreadable\",\"imsx_severity\":\"error\"}refused: request 1: head too long\n",
+    ),
+    (
+        &[
+            (
+                "PUT /ims/oneroster/v1p1/categories/c2 HTTP/1.1\r\nHost: hub\r\nAuthorization: Bearer tok-e\r\nContent-Length: 413\r\n\r\n{\"category\":",
+                1,
+            ),
+            ("[", 200),
+            ("]", 200),
+            ("}", 1),
+        ],
+        0,
+        "HTTP/1.1 400 Bad Request\r\nContent-Type: application/json\r\nX-Hub-Version: 2\r\nContent-Length: 114\r\n\r\n{\"imsx_codeMajor\":\"failure\",\"imsx_codeMinor\":\"invalid_data\",\"imsx_description\":\"bad body\",\"imsx_severity\":\"error\"}",
+    ),
+];
+
+fn push_times(stream: &mut String, text: &str, times: usize) -> Result<(), Fail> {
+    for _ in 0..times {
+        stream.push_str(text)?;
+    }
+    Ok(())
 }
 
-// The number of the last write that fails, where each fails in turn.
-fn last_failed(rt: &impl Abort, alloc: Global, keeper: &mut MemHub) -> Result<u64, Fail> {
-    let mut failed = 0;
-    for number in 1..1_000 {
-        if !assert_cut_off(rt, alloc, keeper, number, &STREAMS[15])? {
-            break;
-        }
-        failed = number;
+fn repeated(alloc: Global, texts: &[(&str, usize)]) -> Result<String, Fail> {
+    let mut stream = String::new(alloc);
+    for (text, times) in texts {
+        push_times(&mut stream, text, *times)?;
     }
-    Ok(failed)
+    Ok(stream)
 }
 
 #[test]
-fn each_write_may_fail(rt: HostRuntime) -> Result<(), Fail> {
-    let mut keeper = lake_keeper(rt.alloc())?;
-    let failed = last_failed(&rt, rt.alloc(), &mut keeper);
-    drop(keeper);
-    // Each reply is one write, and the line of the refusal comes behind both.
-    assert!(rt; failed? > 2);
+fn long_heads_and_deep_bodies_are_answered(rt: HostRuntime) -> Result<(), Fail> {
+    for (texts, status, want) in &REPEATED {
+        let stream = repeated(rt.alloc(), texts)?;
+        assert_streams(&rt, rt.alloc(), &[(stream.as_str(), *status, *want)])?;
+    }
     Ok(())
 }

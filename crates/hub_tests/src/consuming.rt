@@ -20,7 +20,7 @@ struct Case {
 const NO_ORGS: &str =
     "HTTP/1.1 200 OK\r\nX-Total-Count: 0\r\nX-Hub-Version: 2\r\nX-Hub-Exchange: 1.1\r\nContent-Length: 11\r\n\r\n{\"orgs\":[]}";
 
-static CASES: [Case; 13] = [
+static CASES: [Case; 14] = [
     // without a version
     Case {
         first: "HTTP/1.1 200 OK\r\nX-Total-Count: 0\r\nX-Hub-Exchange: 1.1\r\nContent-Length: 11\r\n\r\n{\"orgs\":[]}",
@@ -31,6 +31,13 @@ static CASES: [Case; 13] = [
     // without a row that is due
     Case {
         first: "HTTP/1.1 200 OK\r\nX-Total-Count: 1\r\nX-Hub-Version: 2\r\nX-Hub-Exchange: 1.1\r\nContent-Length: 11\r\n\r\n{\"orgs\":[]}",
+        second: "",
+        status: 12,
+        line: "bad reply orgs 0\n",
+    },
+    // with one row of two
+    Case {
+        first: "HTTP/1.1 200 OK\r\nX-Total-Count: 2\r\nX-Hub-Version: 2\r\nX-Hub-Exchange: 1.1\r\nContent-Length: 125\r\n\r\n{\"orgs\":[{\"dateLastModified\":\"2024-08-01T12:00:00.000Z\",\"name\":\"Lake\",\"sourcedId\":\"d1\",\"status\":\"active\",\"type\":\"district\"}]}",
         second: "",
         status: 12,
         line: "bad reply orgs 0\n",
@@ -58,6 +65,12 @@ static CASES: [Case; 13] = [
     },
     // to another request
     Case {
+        first: "HTTP/1.1 200 OK\r\nX-Total-Count: 0\r\nX-Hub-Version: 2\r\nX-Hub-Exchange: 1.7\r\nContent-Length: 11\r\n\r\n{\"orgs\":[]}",
+        second: "",
+        status: 7,
+        line: "interrupted orgs 0\n",
+    },
+    Case {
         first: NO_ORGS,
         second: NO_ORGS,
         status: 7,
@@ -74,13 +87,6 @@ static CASES: [Case; 13] = [
         second: "",
         status: 9,
         line: "unknown token\n",
-    },
-    // with a status that says nothing
-    Case {
-        first: "HTTP/1.1 302 Found\r\nX-Hub-Exchange: 1.1\r\nContent-Length: 0\r\n\r\n",
-        second: "",
-        status: 12,
-        line: "bad reply orgs 0\n",
     },
     // of another version than the first
     Case {
@@ -172,7 +178,8 @@ fn page(alloc: Global, kind: Kind, count: usize) -> Result<Vec<u8>, Fail> {
     Ok(text.into_bytes())
 }
 
-fn pages(alloc: Global) -> Result<Vec<Option<Vec<u8>>>, Fail> {
+/// The pages of version 2 for the first run, one of each kind.
+pub fn pages(alloc: Global) -> Result<Vec<Option<Vec<u8>>>, Fail> {
     let mut replies = Vec::new(alloc);
     for place in 0..Kind::ALL.len() {
         replies.push(Some(page(alloc, Kind::ALL[place], place + 1)?))?;
@@ -198,13 +205,9 @@ static TURNS: [(&str, u8, &str); 6] = [
     ),
 ];
 
-fn numbers(alloc: Global, numbers: &[u64]) -> Result<Vec<u64>, Fail> {
-    Ok(numbers.to_vec(alloc)?)
-}
-
 // A keeper of a hub that fails when the hub is opened.
 fn failing_hub(alloc: Global) -> Result<MemHub, Fail> {
-    let loads = numbers(alloc, &[1])?;
+    let loads = vec![in alloc; 1]?;
     Ok(MemHub::new(alloc, 2).with_failures(Vec::new(alloc), Vec::new(alloc), loads))
 }
 
@@ -249,58 +252,6 @@ fn what_is_copied_is_listed(rt: HostRuntime) -> Result<(), Fail> {
     drop(copy);
     drop(keeper);
     asserted
-}
-
-// Which call of a copy's keeper fails: a commit before or after it acted, or a read.
-#[derive(Clone, Copy)]
-enum Call {
-    Before(u64),
-    After(u64),
-    Read(u64),
-}
-
-// An empty copy of which the call fails.
-fn copy_with(alloc: Global, call: Call) -> Result<MemCopy, Fail> {
-    let none = Vec::new(alloc);
-    let other = Vec::new(alloc);
-    let (before, after, reads) = match call {
-        Call::Before(n) => (numbers(alloc, &[n])?, none, other),
-        Call::After(n) => (none, numbers(alloc, &[n])?, other),
-        Call::Read(n) => (none, other, numbers(alloc, &[n])?),
-    };
-    Ok(MemCopy::new(alloc).with_failures(before, after, reads))
-}
-
-// What the words print over an empty copy of which the call fails.
-fn told_failing(alloc: Global, call: Call, line: &str) -> Result<(u8, String), Fail> {
-    let pages = pages(alloc)?;
-    let mut copy = copy_with(alloc, call)?;
-    let told = run_with_copy(alloc, line, &mut copy, pages);
-    drop(copy);
-    told
-}
-
-// Runs the words over an empty copy of which the call fails, and tells the status and the text that are wanted from others.
-fn assert_failing(rt: &impl Abort, alloc: Global, call: Call, line: &str) -> Result<(), Fail> {
-    let (status, text) = told_failing(alloc, call, line)?;
-    assert_eq!(rt;
-        (status, text.as_str()),
-        (6, "copy store failed\n"),
-        "{line}"
-    );
-    Ok(())
-}
-
-// A run's commits are that of the run, that of the stage, those of ten pages and the swap.
-#[test]
-fn each_call_of_the_copy_may_fail(rt: HostRuntime) -> Result<(), Fail> {
-    for number in 1..14 {
-        for call in &[Call::Before(number), Call::After(number)] {
-            assert_failing(&rt, rt.alloc(), *call, "sync tok-e 100 1")?;
-        }
-    }
-    assert_failing(&rt, rt.alloc(), Call::Read(1), "sync tok-e 100 1")?;
-    assert_failing(&rt, rt.alloc(), Call::Read(1), "list orgs")
 }
 
 // A copy whose run is the last one.

@@ -4,7 +4,11 @@
 #[cfg(test)]
 mod asking;
 #[cfg(test)]
+mod bytes;
+#[cfg(test)]
 mod consuming;
+#[cfg(test)]
+mod failing;
 #[cfg(test)]
 mod keeping;
 #[cfg(test)]
@@ -18,9 +22,13 @@ mod outside;
 #[cfg(test)]
 mod paging;
 #[cfg(test)]
+mod ports;
+#[cfg(test)]
 mod publishing;
 #[cfg(test)]
 mod showing;
+#[cfg(test)]
+mod standing;
 #[cfg(test)]
 mod words;
 #[cfg(test)]

@@ -3,7 +3,7 @@
 use exchange_link::{NoLink, PeerLink};
 use hub_cli::run_hub;
 use keeper_memory::{MemCopy, MemHub};
-use outside_ports::{FixedClock, MemFolder, MemSink};
+use outside_ports::{FixedClock, Folder, MemFolder, MemSink};
 use std::alloc::Global;
 use std::process::Abort;
 use std::test::Fail;
@@ -38,10 +38,10 @@ pub fn push_file(
 }
 
 /// Runs the words between spaces over a folder, a keeper and a sink, at noon, with a new copy and no hub to be copied.
-pub fn run_over(
+pub fn run_over<F: Folder>(
     alloc: Global,
     line: &str,
-    folder: &mut MemFolder,
+    folder: &mut F,
     keeper: &mut MemHub,
     sink: &mut MemSink,
 ) -> Result<u8, Fail> {
@@ -129,10 +129,10 @@ pub fn run_with_copy(
 }
 
 /// The same, over a new keeper.
-pub fn run_line(
+pub fn run_line<F: Folder>(
     alloc: Global,
     line: &str,
-    folder: &mut MemFolder,
+    folder: &mut F,
     sink: &mut MemSink,
 ) -> Result<u8, Fail> {
     let mut keeper = MemHub::new(alloc, 10_000);

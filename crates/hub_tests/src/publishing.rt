@@ -6,7 +6,8 @@ use std::test::Fail;
 
 type File = (&'static str, &'static str, &'static str);
 
-const ORGS: &str =
+/// A manifest of a bulk file of orgs.
+pub const ORGS: &str =
     "propertyName,value\nmanifest.version,1.0\noneroster.version,1.1\nfile.orgs,bulk\n";
 
 const SOME_ORGS: &str =

@@ -5,8 +5,8 @@ use std::alloc::Global;
 use std::process::Abort;
 use std::test::Fail;
 
-// The requests of a caller in their order, and the reply that each gets.
-static WRITES: [(&str, &str); 11] = [
+/// The requests of a caller in their order, and the reply that each gets.
+pub static WRITES: [(&str, &str); 11] = [
     (
         "PUT /ims/oneroster/v1p1/categories/c2 HTTP/1.1\r\nHost: hub\r\nAuthorization: Bearer tok-e\r\nContent-Length: 29\r\n\r\n{\"category\":{\"title\":\"Quiz\"}}",
         "HTTP/1.1 201 Created\r\nContent-Type: application/json\r\nX-Hub-Version: 3\r\nContent-Length: 107\r\n\r\n{\"imsx_codeMajor\":\"success\",\"imsx_codeMinor\":\"full_success\",\"imsx_description\":\"\",\"imsx_severity\":\"status\"}",

@@ -135,7 +135,7 @@ fn assert_ended<H: HubKeeper>(
     Ok(())
 }
 
-// Each read gives one byte, and the one behind so many fails: what is whole by then is answered.
+// Each read gives one byte, and the one behind so many fails, where there is one: what is whole by then is answered.
 fn assert_failed<H: HubKeeper>(
     rt: &impl Abort,
     alloc: Global,
@@ -149,14 +149,16 @@ fn assert_failed<H: HubKeeper>(
 {
     let bytes = stream(alloc)?;
     let (requests, _, written) = answered(alloc, at)?;
+    // Behind the last byte one read finds the end.
+    let want = if at > bytes.len() {
+        ended(requests)
+    } else {
+        stopped(requests, WireFault::Source)
+    };
     let failing = vec![in alloc; (at as u64).saturating_add(1)]?;
     let source = MemSource::new(bytes, vec![in alloc; 1; at]?, failing);
     let (end, sink) = served(alloc, router, hub, keeper, source)?;
-    assert_eq!(rt;
-        (end, sink.written()),
-        (stopped(requests, WireFault::Source), written.as_slice()),
-        "{at}"
-    );
+    assert_eq!(rt; (end, sink.written()), (want, written.as_slice()), "{at}");
     Ok(())
 }
 
@@ -192,4 +194,50 @@ fn streams_may_be_cut_and_fail(rt: HostRuntime) -> Result<(), Fail> {
     let asserted = assert_over(&rt, rt.alloc(), &mut keeper);
     drop(keeper);
     asserted
+}
+
+// The newest version behind so many bytes of the requests, of which the first alone changes anything.
+fn newest_behind(bytes: usize) -> u64 {
+    if bytes < REPLIES[0].0.len() { 2 } else { 3 }
+}
+
+// The read behind so many bytes fails in a new hub: a write whose bytes are whole by then stands, and no other.
+fn assert_stands<H: HubKeeper>(
+    rt: &impl Abort,
+    alloc: Global,
+    router: &PathRouter,
+    keeper: &mut H,
+    at: usize,
+) -> Result<(), Fail> {
+    let mut hub = opened(rt, alloc, keeper)?;
+    let asserted = assert_failed(rt, alloc, router, &mut hub, keeper, at);
+    let newest = hub.table().newest();
+    drop(hub);
+    asserted?;
+    assert_eq!(rt; newest, newest_behind(at), "{at}");
+    Ok(())
+}
+
+fn assert_stands_anew(
+    rt: &impl Abort,
+    alloc: Global,
+    router: &PathRouter,
+    at: usize,
+) -> Result<(), Fail> {
+    let mut keeper = MemHub::new(alloc, 9);
+    let asserted = assert_stands(rt, alloc, router, &mut keeper, at);
+    drop(keeper);
+    asserted
+}
+
+// Up to the read that is never made.
+#[test]
+fn each_read_may_fail(rt: HostRuntime) -> Result<(), Fail> {
+    let alloc = rt.alloc();
+    let router = PathRouter::new(alloc)?;
+    let reads = stream(alloc)?.len().saturating_add(1);
+    for at in 0..reads.saturating_add(1) {
+        assert_stands_anew(&rt, alloc, &router, at)?;
+    }
+    Ok(())
 }

@@ -7,8 +7,8 @@ use script_runs::rehearse::rehearse;
 use std::alloc::Global;
 use std::test::Fail;
 
-// The status and the text of a rehearsal.
-fn rehearsed(alloc: Global, script: &str) -> Result<(u8, String), Fail> {
+/// The status and the text of a rehearsal.
+pub fn rehearsed(alloc: Global, script: &str) -> Result<(u8, String), Fail> {
     let mut folder = folder_of(alloc, script)?;
     let mut out = MemSink::new(alloc, 100_000, Vec::new(alloc))?;
     let name = Text::new(alloc, "script")?;

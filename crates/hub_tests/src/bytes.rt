@@ -1,0 +1,99 @@
+//! Files of the system that are no text, or have more bytes than are read.
+
+use crate::outside::run_line;
+use crate::publishing::ORGS;
+use outside_ports::{DirFolder, MemSink};
+use std::io::Write;
+use std::path::PathBuf;
+use std::process::Abort;
+use std::test::Fail;
+use std::{env, fs, process};
+
+// Words, their file, its first bytes, its length, and what is printed.
+struct Case {
+    line: &'static str,
+    file: &'static str,
+    bytes: &'static [u8],
+    length: u64,
+    want: &'static str,
+}
+
+static CASES: [Case; 4] = [
+    Case {
+        line: "show orgs",
+        file: "orgs.csv",
+        bytes: b"\xff",
+        length: 1,
+        want: "refused: orgs.csv: not UTF-8\n",
+    },
+    Case {
+        line: "show orgs",
+        file: "orgs.csv",
+        bytes: b"sourcedId",
+        length: 67_108_865,
+        want: "refused: orgs.csv: too large\n",
+    },
+    Case {
+        line: "publish a=one",
+        file: "one/orgs.csv",
+        bytes: b"\xff",
+        length: 1,
+        want: "refused: orgs.csv: not UTF-8\n",
+    },
+    Case {
+        line: "publish a=one",
+        file: "one/orgs.csv",
+        bytes: b"sourcedId",
+        length: 67_108_865,
+        want: "refused: orgs.csv: too large\n",
+    },
+];
+
+// A new folder of the system's for temporary files, with a manifest of orgs in `one`.
+fn new_folder(rt: HostRuntime) -> Result<PathBuf, Fail> {
+    let alloc = rt.alloc();
+    let id = process::id(rt.process());
+    let folder = env::temp_dir(&rt)?.join(alloc, format!(in alloc; "hub_tests_{id}")?)?;
+    let one = folder.join(alloc, "one")?;
+    fs::create_dir_all(&rt, &one)?;
+    fs::write(&rt, one.join(alloc, "manifest.csv")?, ORGS.as_bytes())?;
+    Ok(folder)
+}
+
+// Makes the file of a case. Zeros that fill it up take no room.
+fn make_file(rt: HostRuntime, folder: &PathBuf, case: &Case) -> Result<(), Fail> {
+    let mut file = fs::create(&rt, folder.join(rt.alloc(), case.file)?)?;
+    file.write_all(case.bytes)?;
+    file.set_len(case.length)?;
+    Ok(())
+}
+
+fn assert_refused(
+    abort: &impl Abort,
+    rt: HostRuntime,
+    folder: &PathBuf,
+    case: &Case,
+) -> Result<(), Fail> {
+    let alloc = rt.alloc();
+    make_file(rt, folder, case)?;
+    let mut files = DirFolder::new(rt, String::from_str(alloc, folder.as_str())?);
+    let mut sink = MemSink::new(alloc, 1024, Vec::new(alloc))?;
+    let status = run_line(alloc, case.line, &mut files, &mut sink)?;
+    assert_eq!(abort;
+        (status, str::from_utf8(sink.written())),
+        (4, Ok(case.want)),
+        "{}",
+        case.line
+    );
+    Ok(())
+}
+
+#[test]
+fn a_file_may_be_no_text_or_too_large(rt: HostRuntime) -> Result<(), Fail> {
+    let folder = new_folder(rt)?;
+    for case in &CASES {
+        assert_refused(&rt, rt, &folder, case)?;
+    }
+    fs::remove_dir_all(&rt, &folder)?;
+    Ok(())
+}
