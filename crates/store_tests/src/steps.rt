@@ -1,5 +1,7 @@
-//! Steps over a store: words over a hub, and words over a consumer's copy with the replies to their exchanges, which are given beforehand.
+//! Steps over a store: words over a hub, words over a consumer's copy with the replies to their exchanges, which are given beforehand, and
+//! looks at what the copy's store holds.
 
+use crate::stored::stored_in;
 use crate::words::{printed, told};
 use exchange_link::PeerLink;
 use item_tests::opened;
@@ -17,11 +19,12 @@ pub type Reply = (&'static str, &'static str);
 #[derive(Clone, Copy)]
 pub struct Turn(pub &'static str, pub u64, pub &'static [Reply]);
 
-/// Words over a hub, or a turn of a copy.
+/// Words over a hub, a turn of a copy, or a look at the copy's store.
 #[derive(Clone, Copy)]
 pub enum Step {
     Hub(&'static str),
     Copy(Turn),
+    Store,
 }
 
 fn reply_to(alloc: Global, run: u64, count: usize, reply: &Reply) -> Result<Vec<u8>, NoMemory> {
@@ -94,6 +97,7 @@ pub fn step_over<I: StoredItems>(
     match step {
         Step::Hub(line) => hub_over(alloc, items, keep, line),
         Step::Copy(turn) => copy_over(alloc, items, turn),
+        Step::Store => stored_in(alloc, items),
     }
 }
 

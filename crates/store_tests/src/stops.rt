@@ -10,10 +10,12 @@ use std::alloc::Global;
 use std::process::Abort;
 use std::test::Fail;
 
-// Steps that are taken before, the step that is cut off, and those that show what a store holds.
+// Steps that are taken before, the step that is cut off, what is shown between two of its commits, and the steps that show what a store
+// holds.
 struct Case {
     before: &'static [Step],
     step: Step,
+    between: &'static [&'static str],
     shown: &'static [Step],
 }
 
@@ -22,11 +24,13 @@ static HUBS: [Case; 2] = [
     Case {
         before: &[],
         step: Step::Hub("publish sis=lake"),
+        between: &[],
         shown: &[Step::Hub("show orgs")],
     },
     Case {
         before: &[Step::Hub("publish sis=lake"), Step::Hub("grant g.csv")],
         step: Step::Hub("publish sis=new"),
+        between: &[],
         shown: &[Step::Hub("show orgs")],
     },
 ];
@@ -48,17 +52,43 @@ static COPIES: [Case; 3] = [
     Case {
         before: &[],
         step: ENTER,
+        between: &[],
         shown: &[OUTBOX, ORGS],
     },
     Case {
         before: &[ENTER],
         step: Step::Copy(Turn("send tok-e 1", 1, &[CREATED])),
+        between: &[],
         shown: &[OUTBOX, ORGS],
     },
     Case {
         before: &[Step::Copy(Turn("sync tok-e 100 1", 1, MOST_ROWS))],
         step: Step::Copy(Turn("sync tok-e 100 1", 2, &[LATER_SHUT])),
+        between: &[],
         shown: &[OUTBOX, ORGS],
+    },
+];
+
+const FIRST_PAGE: Step = Step::Copy(Turn("sync tok-e 100 1", 1, &[LATER_ORG]));
+
+// A stage begins, and is let go.
+static STAGES: [Case; 2] = [
+    // It begins behind the run, and its first page follows.
+    Case {
+        before: &[],
+        step: FIRST_PAGE,
+        between: &[
+            "run 1, area 0: 1, area 1: 1",
+            "run 1, stage 5, kinds 0, area 0: 1, area 1: 1, area 2: 1",
+        ],
+        shown: &[Step::Store],
+    },
+    // Under another token it is let go behind the run.
+    Case {
+        before: &[FIRST_PAGE],
+        step: Step::Copy(Turn("sync tok-a 100 1", 2, &[])),
+        between: &["run 2, stage 5, kinds 1, area 0: 1, area 1: 1, area 2: 1, area 64: 1"],
+        shown: &[Step::Store],
     },
 ];
 
@@ -121,9 +151,23 @@ fn whole_run(alloc: Global, case: &Case) -> Result<Whole, NoMemory> {
     Ok(Whole { told, before, then })
 }
 
-// The files show what they showed before or what they are to show then, and the latter where the answer was that it was done.
-fn is_whole(whole: &Whole, told: &str, held: &str) -> bool {
-    held == whole.then.as_str() || (held == whole.before.as_str() && !told.starts_with('0'))
+fn is_among(texts: &[&str], text: &str) -> bool {
+    for known in texts {
+        if *known == text {
+            return true;
+        }
+    }
+    false
+}
+
+// The files show what they showed before, what they are to show between two commits, or what they are to show then, and the last where the
+// answer was that it was done.
+fn is_whole(case: &Case, whole: &Whole, told: &str, held: &str) -> bool {
+    if held == whole.then.as_str() {
+        return true;
+    }
+    let is_told = told.starts_with('0') || told == whole.told.as_str();
+    !is_told && (held == whole.before.as_str() || is_among(case.between, held))
 }
 
 // The stop at a call of the log, or of the database file.
@@ -145,7 +189,7 @@ fn calls_of(rt: &impl Abort, alloc: Global, case: &Case, in_log: bool) -> Result
         let files = files_after(alloc, case.before);
         let (told, held) = cut_off(alloc, files, case, place(at, in_log))?;
         assert!(rt;
-            is_whole(&whole, told.as_str(), held.as_str()),
+            is_whole(case, &whole, told.as_str(), held.as_str()),
             "{} stopped at {at}: {told}, {held}",
             whole.told
         );
@@ -177,6 +221,14 @@ fn stops_leave_a_hub_before_or_after(rt: HostRuntime) -> Result<(), Fail> {
 #[test]
 fn stops_leave_a_copy_before_or_after(rt: HostRuntime) -> Result<(), Fail> {
     for case in &COPIES {
+        assert_stops(&rt, rt.alloc(), case)?;
+    }
+    Ok(())
+}
+
+#[test]
+fn stops_leave_a_stage_before_or_after(rt: HostRuntime) -> Result<(), Fail> {
+    for case in &STAGES {
         assert_stops(&rt, rt.alloc(), case)?;
     }
     Ok(())
