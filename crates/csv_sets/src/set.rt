@@ -1,8 +1,9 @@
 //! Whole sets.
 
-ghost use Rattle.std.specs.Prelude.{◌≡◌, ◌==◌, bytes_eq, is_some, map, true, IfOk};
+ghost use Rattle.std.specs.Prelude.{◌≡◌, ◌==◌, Ok, bytes_eq, is_some, map, true, IfOk};
 ghost use Rattle.std.specs.List.{All};
 ghost use Rattle.csv.specs.Reading.{default_config, records, strip_bom};
+ghost use Rattle.csv_sets.specs.declared.fault.SetFile.TheVariants.{RowsOf};
 ghost use Rattle.csv_sets.specs.Manifests.{RisingFiles, manifest_of};
 ghost use Rattle.roster_base.specs.Reading.{Gives};
 ghost use Rattle.roster_types.specs.Sets.{AreParts, IsPart};
@@ -95,8 +96,27 @@ fn check_stands(kind: Kind, listed: bool, there: bool) -> Result<(), SetError>
     }
 }
 
+// Whether a kind's file is there. A read of no byte asks for it: `size` has no answer for want of memory.
+fn is_there<F: Folder>(
+    alloc: Global,
+    folder: &mut F,
+    dir: &str,
+    kind: Kind,
+) -> Result<bool, SetError>
+    ensures there { ReadsFolder (λ b. b) (F.files folder.old) (F.faults folder.old) (F.faults folder.new) result (λ fs. Ok (is_some (bytes_at fs dir.now (RowsOf kind)))) }
+    ensures files { F.files folder.new ≡ F.files folder.old }
+{
+    match folder.read(alloc, dir, kind.file_name(), 0) {
+        Ok(FileRead::Absent) => Ok(false),
+        Ok(FileRead::TooLong | FileRead::Bytes(_)) => Ok(true),
+        Err(IoError::Failed) => Err(Refusal::Fault(SetFault::Folder)),
+        Err(IoError::NoMemory) => Err(Refusal::NoMemory),
+    }
+}
+
 // Whether a kind's file is there as the manifest says.
 fn check_file<F: Folder>(
+    alloc: Global,
     folder: &mut F,
     dir: &str,
     listed: &[ListedFile],
@@ -105,14 +125,13 @@ fn check_file<F: Folder>(
     ensures stands { ReadsFolder (λ _. true) (F.files folder.old) (F.faults folder.old) (F.faults folder.new) result (stands_at dir.now listed.now kind) }
     ensures files { F.files folder.new ≡ F.files folder.old }
 {
-    let Ok(size) = folder.size(dir, kind.file_name()) else {
-        return Err(Refusal::Fault(SetFault::Folder));
-    };
-    check_stands(kind, is_listed(kind, listed), size.is_some())
+    let there = is_there(alloc, folder, dir, kind)?;
+    check_stands(kind, is_listed(kind, listed), there)
 }
 
 // Whether the file of each of these kinds is there as the manifest says.
 fn check_files<F: Folder>(
+    alloc: Global,
     folder: &mut F,
     dir: &str,
     listed: &[ListedFile],
@@ -122,7 +141,7 @@ fn check_files<F: Folder>(
     ensures files { F.files folder.new ≡ F.files folder.old }
 {
     for kind in kinds {
-        check_file(folder, dir, listed, *kind)?;
+        check_file(alloc, folder, dir, listed, *kind)?;
     }
     Ok(())
 }
@@ -191,7 +210,7 @@ pub fn read_set<F: Folder>(
 {
     let manifest = manifest_at(alloc, folder, dir)?;
     let listed = manifest.files.as_slice();
-    check_files(folder, dir, listed, &Kind::ALL)?;
+    check_files(alloc, folder, dir, listed, &Kind::ALL)?;
     let parts = read_parts(alloc, folder, dir, listed)?;
     let feed = feed.copy(alloc)?;
     Ok(RosterSet::new(feed, Items::from_vec(parts)))
