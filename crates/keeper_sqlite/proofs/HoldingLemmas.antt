@@ -12,7 +12,7 @@ use Rattle.item_store.specs.Stands.{StandsFor}
 use Rattle.item_store.proofs.OneMap.{found_alone, not_open, stands_once}
 use Rattle.keeper_sqlite.specs.hub.Keeping.{Became, CameOf, Keeps}
 use Rattle.keeper_sqlite.specs.hub.Telling.{KeepSome, Tells}
-use Rattle.keeper_sqlite.specs.Trust.{Clean, Down, IsLost, IsQuiet, IsTrusted, MayHold, Sign, shown_by}
+use Rattle.keeper_sqlite.specs.Trust.{Clean, Down, IsLost, IsQuiet, IsTrusted, KnownBehind, MayHold, Sign, shown_by}
 
 pub held_alone : (s : State) (lost : Bool) (m n : Items) → IsTrusted s → StandsFor s m → MayHold s lost n → n ≡ m
 held_alone s lost m n = found_alone s (lost ≡ false) n m
@@ -46,6 +46,11 @@ module _ (old new : State) (honest : HasCleanDisk new → HasCleanDisk old) (tru
   commit_made (Err Failed) before now lost live ok err found n (inr (sure, once)) = inr (trust sure, λ m stands. inl (once m (err m stands)))
   commit_made (Err NoMemory) before now lost live ok err found n (inl (find, told)) = absurd (let both : true ≡ false = sym lost ∙ told in cc)
   commit_made (Err NoMemory) before now lost live ok err found n (inr (sure, once)) = inr (trust sure, λ m stands. once m (err m stands))
+
+pub known_behind : (r : Result (Unit {0}) KeeperError) (before now : Bool) → IsLost r before now → KnownBehind r (before ≡ false) (now ≡ false)
+known_behind (Ok done) before now lost = lost
+known_behind (Err Failed) before now lost = λ known. lost ∙ known
+known_behind (Err NoMemory) before now lost = tt
 
 -- a connection that was trusted still is, where the disk gave no cause against it
 pub trusted_still : (old new : State) → IsTrusted old → IsQuiet old new → ((sign : Sign) → shown_by new sign → shown_by old sign) → IsTrusted new

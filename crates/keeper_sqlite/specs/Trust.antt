@@ -1,5 +1,5 @@
 -- When a store of items can be believed, and what it shows of its past.
-use Rattle.std.specs.Prelude.{◌≡◌, ◌<◌, ◌-◌, ◌^◌, ◌⊎◌, Bool, ℕ, false, true, Result, Ok, Err, IsTrue}
+use Rattle.std.specs.Prelude.{◌≡◌, ◌<◌, ◌-◌, ◌^◌, ◌⊎◌, Bool, ℕ, false, true, Result, Ok, Err, IsTrue, ⊤}
 use Rattle.sqlite.specs.State.{State, HasCleanDisk}
 use Rattle.roster_base.specs.declared.keeper.KeeperError.{KeeperError}
 use Rattle.roster_base.specs.declared.keeper.KeeperError.TheVariants.{Failed, NoMemory}
@@ -27,6 +27,12 @@ abbrev pub IsLost : Result (Unit {0}) KeeperError → Bool → Bool → Type 0
 IsLost (Ok done) before now = now ≡ false
 IsLost (Err Failed) before now = now ≡ before
 IsLost (Err NoMemory) before now = now ≡ true
+
+-- what an open may find stays known behind a commit that failed, and is known again behind one that succeeded
+abbrev pub KnownBehind : Result (Unit {0}) KeeperError → Type 0 → Type 0 → Type 0
+KnownBehind (Ok done) before now = now
+KnownBehind (Err Failed) before now = before → now
+KnownBehind (Err NoMemory) before now = ⊤
 
 -- The items that an open may find: while it is trusted those alone for which it stands, and once a fault has shut it those of a database
 -- that a stop may leave. Of a store that was shut by a call that wanted memory (`lost`) nothing is said.

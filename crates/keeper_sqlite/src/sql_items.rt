@@ -1,6 +1,6 @@
 //! Items in a table of a database.
 
-ghost use Rattle.std.specs.Prelude.{◌≡◌};
+ghost use Rattle.std.specs.Prelude.{◌≡◌, false};
 ghost use Rattle.sqlite.specs.Held.{state};
 ghost use Rattle.item_store.specs.Stands.{StandsFor};
 ghost use Rattle.keeper_sqlite.specs.Trust.{IsLost, IsTrusted, MayHold, shown_by};
@@ -25,6 +25,7 @@ impl<S: Alter> SqlItems<S> {
     pub fn adopt(connection: Connection<S>) -> SqlItems<S>
         ensures connection { result.store.connection ≡ connection }
         ensures faults { result.store.faults ≡ 0 }
+        ensures known { result.lost ≡ false }
     {
         SqlItems {
             store: ItemStore::adopt(connection),
@@ -53,6 +54,7 @@ fn is_lost(before: bool, ended: &Result<(), KeeperError>) -> bool
 }
 
 impl<S: Alter + Drop> StoredItems for SqlItems<S> {
+    ghost use Rattle.std.specs.Prelude.{◌≡◌, false};
     ghost use Rattle.std.proofs.Common.{inr};
     ghost use Rattle.item_store.proofs.OneMap.{found_alone, found_clean, stands_once};
 
@@ -61,6 +63,8 @@ impl<S: Alter + Drop> StoredItems for SqlItems<S> {
     ghost is_trusted = { λ items. IsTrusted (state S.Store items.store.connection) };
 
     ghost may_hold = { λ items. MayHold (state S.Store items.store.connection) items.lost };
+
+    ghost is_known = { λ items. items.lost ≡ false };
 
     ghost shows = { λ items. shown_by (state S.Store items.store.connection) };
 

@@ -5,7 +5,7 @@ ghost use Rattle.roster_base.specs.Faults.{CountsError, CountsFailure};
 ghost use Rattle.roster_base.specs.declared.keeper.KeeperError.TheVariants as keeper;
 ghost use Rattle.item_maps.specs.Edits.{after, entry_of};
 ghost use Rattle.item_maps.specs.Items.{Items, listed};
-ghost use Rattle.keeper_sqlite.specs.Trust.{Clean, Sign};
+ghost use Rattle.keeper_sqlite.specs.Trust.{Clean, KnownBehind, Sign};
 ghost use Rattle.keeper_sqlite.specs.hub.Keeping.{CameOf, Stay};
 
 use item_maps::{Edit, Item};
@@ -19,7 +19,7 @@ pub trait StoredItems: Drop {
     ghost use Rattle.roster_base.specs.declared.keeper.KeeperError.TheVariants as keeper;
     ghost use Rattle.item_maps.specs.Edits.{after, entry_of};
     ghost use Rattle.item_maps.specs.Items.{Items, listed};
-    ghost use Rattle.keeper_sqlite.specs.Trust.{Clean, Sign};
+    ghost use Rattle.keeper_sqlite.specs.Trust.{Clean, KnownBehind, Sign};
     ghost use Rattle.keeper_sqlite.specs.hub.Keeping.{CameOf, Stay};
 
     /// The items that it stands for.
@@ -30,6 +30,9 @@ pub trait StoredItems: Drop {
 
     /// The items that an open may find: those for which it stands, or, once a fault has shut it, those that a stop may leave.
     ghost may_hold: { Self → Items → Type 0 };
+
+    /// Some clause says what an open may find, also once a fault has shut it.
+    ghost is_known: { Self → Type 0 };
 
     /// What it shows of its past.
     ghost shows: { Self → Sign → Type 0 };
@@ -52,6 +55,7 @@ pub trait StoredItems: Drop {
         ensures trust { is_trusted self.new → is_trusted self.old }
         // Also where the call shuts it.
         ensures held { Stay (may_hold self.new) (may_hold self.old) }
+        ensures known { is_known self.old → is_known self.new }
         ensures signs { Stay (shows self.new) (shows self.old) }
         ensures live { shows self.new Clean → OnOk result (is_trusted self.new) };
 
@@ -70,6 +74,7 @@ pub trait StoredItems: Drop {
         ensures trust { is_trusted self.new → is_trusted self.old }
         // Also where the call shuts it.
         ensures held { Stay (may_hold self.new) (may_hold self.old) }
+        ensures known { is_known self.old → is_known self.new }
         ensures signs { Stay (shows self.new) (shows self.old) }
         ensures live { shows self.new Clean → OnOk result (is_trusted self.new) };
 
@@ -82,6 +87,8 @@ pub trait StoredItems: Drop {
         // Also where the call shuts it.
         ensures made { (n : Items) → may_hold self.new n
             → (IsErr result × may_hold self.old n) ⊎ (is_trusted self.old × ((m : Items) → stands_for self.old m → CameOf result edits.now m n)) }
+        // Want of memory alone may leave unknown what was made.
+        ensures known { KnownBehind result (is_known self.old) (is_known self.new) }
         ensures signs { Stay (shows self.new) (shows self.old) }
         ensures live { shows self.new Clean → OnOk result (is_trusted self.new) };
 
@@ -92,6 +99,7 @@ pub trait StoredItems: Drop {
         ensures failed { result ≡ keeper.Failed }
         ensures trust { is_trusted self.new → is_trusted self.old }
         ensures held { Stay (may_hold self.new) (may_hold self.old) }
+        ensures known { is_known self.old → is_known self.new }
         ensures signs { Stay (shows self.new) (shows self.old) };
 
     /// The number of calls that answered `Failed`.

@@ -30,6 +30,7 @@ impl FileItems {
 }
 
 impl StoredItems for FileItems {
+    ghost use Rattle.std.specs.Prelude.{◌≡◌, false};
     ghost use Rattle.std.proofs.Common.{inr};
     ghost use Rattle.sqlite.specs.Files.{file_state};
     ghost use Rattle.item_store.proofs.OneMap.{found_alone, found_clean, stands_once};
@@ -41,6 +42,8 @@ impl StoredItems for FileItems {
     ghost is_trusted = { λ f. IsTrusted (file_state f.items.store.connection) };
 
     ghost may_hold = { λ f. MayHold (file_state f.items.store.connection) f.items.lost };
+
+    ghost is_known = { λ f. f.items.lost ≡ false };
 
     ghost shows = { λ f. shown_by (file_state f.items.store.connection) };
 

@@ -11,6 +11,8 @@ mod kept;
 #[cfg(test)]
 mod real;
 #[cfg(test)]
+mod shut;
+#[cfg(test)]
 mod steps;
 #[cfg(test)]
 mod stops;

@@ -5,7 +5,7 @@ use crate::stored::stored_in;
 use crate::words::{printed, told};
 use exchange_link::PeerLink;
 use item_tests::opened;
-use keeper_memory::{CopyKeeper, MemHub};
+use keeper_memory::{CopyKeeper, HubKeeper, MemHub};
 use keeper_sqlite::{ItemCopy, ItemHub, SqlItems, StoredItems};
 use roster_base::NoMemory;
 use sqlite::{Connection, FileStore, Files, Options};
@@ -19,10 +19,11 @@ pub type Reply = (&'static str, &'static str);
 #[derive(Clone, Copy)]
 pub struct Turn(pub &'static str, pub u64, pub &'static [Reply]);
 
-/// Words over a hub, a turn of a copy, or a look at the copy's store.
+/// Words over a hub, the same once more over the same keeper where they fail, a turn of a copy, or a look at the copy's store.
 #[derive(Clone, Copy)]
 pub enum Step {
     Hub(&'static str),
+    HubAgain(&'static str),
     Copy(Turn),
     Store,
 }
@@ -76,6 +77,28 @@ fn hub_over<I: StoredItems>(
     (told, keeper.release())
 }
 
+// What the words tell over a keeper, or where they fail what they tell then.
+fn told_again<H: HubKeeper>(alloc: Global, line: &str, keeper: &mut H) -> Result<String, NoMemory> {
+    let first = told(alloc, line, keeper)?;
+    if first.starts_with('0') {
+        return Ok(first);
+    }
+    let second = told(alloc, line, keeper)?;
+    Ok(format!(in alloc; "again {second}")?)
+}
+
+// Runs the words over a hub that these items keep, once more where they fail, and gives the items back.
+fn hub_again<I: StoredItems>(
+    alloc: Global,
+    items: I,
+    keep: u32,
+    line: &str,
+) -> (Result<String, NoMemory>, I) {
+    let mut keeper = ItemHub::adopt(items, keep);
+    let told = told_again(alloc, line, &mut keeper);
+    (told, keeper.release())
+}
+
 // Runs a turn over a copy that these items keep, and gives them back.
 fn copy_over<I: StoredItems>(
     alloc: Global,
@@ -96,6 +119,7 @@ pub fn step_over<I: StoredItems>(
 ) -> (Result<String, NoMemory>, I) {
     match step {
         Step::Hub(line) => hub_over(alloc, items, keep, line),
+        Step::HubAgain(line) => hub_again(alloc, items, keep, line),
         Step::Copy(turn) => copy_over(alloc, items, turn),
         Step::Store => stored_in(alloc, items),
     }

@@ -1,5 +1,5 @@
 use Rattle.sqlite.specs.Held.{state}
-use Rattle.keeper_sqlite.proofs.HoldingLemmas.{commit_made, signs_by}
+use Rattle.keeper_sqlite.proofs.HoldingLemmas.{commit_made, known_behind, signs_by}
 use Rattle.keeper_sqlite.proofs.sql_items.SqlItemsStoredItems.commit.Goals as goal
 
 pub returns-clause-made : goal.returns-clause-made
@@ -10,3 +10,6 @@ returns-clause-made g c =
 
 pub returns-clause-signs : goal.returns-clause-signs
 returns-clause-signs g c = signs_by (state g.S.Store c.args.self.now.store.connection) (state g.S.Store c.commit-ended.new.self.connection) c.commit-ended.ensures.honest c.commit-ended.ensures.lasts
+
+pub returns-clause-known : goal.returns-clause-known
+returns-clause-known g c = known_behind c.commit-ended.result c.args.self.now.lost c.is_lost-self.result c.is_lost-self.ensures
