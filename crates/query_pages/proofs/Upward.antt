@@ -12,7 +12,7 @@ module _ (rows : List Record) (id school : List ℕ) where
   follows_more n current at = rw (add-one, at)
 
   -- what was reached stays so
-  reached : (n d : ℕ) → leads_up rows id n school ≡ true → leads_up rows id (d + n) school ≡ true
+  pub reached : (n d : ℕ) → leads_up rows id n school ≡ true → leads_up rows id (d + n) school ≡ true
   reached n zero up = rw zero-add up
   reached n (suc d) up = rw suc-add (or_left _ _ (reached n d up))
 

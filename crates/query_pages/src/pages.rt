@@ -177,7 +177,7 @@ pub fn seen_page<R: Refs>(
     ensures { IfOk result (λ o. o ≡ page_of (seen schools.now (R.rows rows.now)) version path.now query.now) }
 {
     let walk = seen_walk(alloc, rows, schools, path)?;
-    let seen = SeenRows::new(schools, rows);
+    let seen = SeenRows::with_ancestors(alloc, schools, rows)?;
     page_on(alloc, &seen, &walk, version, path, query)
 }
 

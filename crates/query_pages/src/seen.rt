@@ -1,7 +1,8 @@
-//! Which rows a grant sees. No call takes memory.
+//! Which rows a grant sees.
 
+mod ancestors;
 mod chains;
-mod counted;
+mod known;
 pub mod references;
 mod row_test;
 mod rows;

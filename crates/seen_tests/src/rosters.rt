@@ -2,12 +2,13 @@
 
 use crate::grants::{grant_of, id_of};
 use grant_scopes::Grant;
-use query_pages::sees;
+use query_pages::{SeenRows, sees};
 use roster_tests::samples::row_of;
 use roster_texts::Name;
 use roster_types::metadata::Metadata;
 use roster_types::owner::Owner;
 use roster_types::row::Row;
+use roster_types::rows::Rows;
 use roster_values::Kind;
 use std::alloc::Global;
 use std::process::Abort;
@@ -182,7 +183,7 @@ const RESULT_AT_WEST: Line = (
     &["r2", "", "", "i2", "u1", "submitted", "", "2024-08-03", ""],
 );
 
-static ROSTERS: [(&[Line], &[&str], &str); 9] = [
+static ROSTERS: [(&[Line], &[&str], &str); 10] = [
     (&[], &["s1"], ""),
     // Ancestors of a listed org are seen, and what stands beside it isn't.
     (&[DISTRICT, EAST, WEST], &["s1"], "d1 s1 "),
@@ -199,6 +200,30 @@ static ROSTERS: [(&[Line], &[&str], &str); 9] = [
         ],
         &["a", "e", "z"],
         "a b c e ",
+    ),
+    // Of two chains that meet the second ends where they meet, and a third is inside of it.
+    (
+        &[
+            (Kind::Orgs, &["a", "", "", "A", "state", "", ""]),
+            (Kind::Orgs, &["b", "", "", "B", "local", "", "a"]),
+            (Kind::Orgs, &["c", "", "", "C", "local", "", "b"]),
+            (Kind::Orgs, &["d", "", "", "D", "district", "", "c"]),
+            (Kind::Orgs, &["e", "", "", "E", "school", "", "d"]),
+            (Kind::Orgs, &["f", "", "", "F", "district", "", "c"]),
+            (Kind::Orgs, &["g", "", "", "G", "school", "", "f"]),
+            (Kind::Orgs, &["h", "", "", "H", "school", "", "f"]),
+            COURSE_OF_EAST,
+            (
+                Kind::Courses,
+                &["c3", "", "", "", "Logic", "", "", "f", "", ""],
+            ),
+            (
+                Kind::Courses,
+                &["c4", "", "", "", "Rhetoric", "", "", "h", "", ""],
+            ),
+        ],
+        &["d", "f", "g"],
+        "a b c d f g c3 ",
     ),
     // What is East's is seen, and what names it or is named by it: a course of West that East teaches, a user of both.
     (
@@ -411,7 +436,27 @@ fn seen(
     Ok(told)
 }
 
-// What is seen of a roster, by the code and by the plain program.
+// The same, by the code for many rows.
+fn seen_at_once(
+    rt: &impl Abort,
+    alloc: Global,
+    rows: &SortedRows,
+    grant: &Grant,
+    lines: &[Line],
+) -> Result<String, Fail> {
+    let seen = SeenRows::with_ancestors(alloc, &grant.schools, rows)?;
+    let mut told = String::new(alloc);
+    for line in lines {
+        let id = id_of(rt, alloc, cell(*line, 0))?;
+        if seen.row(line.0, &id).is_some() {
+            told.push_str(id.as_str())?;
+            told.push(' ')?;
+        }
+    }
+    Ok(told)
+}
+
+// What is seen of a roster, by the code, row by row and for many rows, and by the plain program.
 fn check_roster(
     rt: &impl Abort,
     alloc: Global,
@@ -422,8 +467,12 @@ fn check_roster(
     let rows = roster(rt, alloc, lines)?;
     let grant = grant_of(rt, alloc, Some(schools))?;
     let seen = seen(rt, alloc, &rows, &grant, lines)?;
+    let at_once = seen_at_once(rt, alloc, &rows, &grant, lines)?;
     let slowly = seen_slowly(alloc, lines, schools)?;
-    assert_eq!(rt; (seen.as_str(), slowly.as_str()), (want, want));
+    assert_eq!(rt;
+        (seen.as_str(), at_once.as_str(), slowly.as_str()),
+        (want, want, want)
+    );
     Ok(())
 }
 

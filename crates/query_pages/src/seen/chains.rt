@@ -20,8 +20,8 @@ fn parent_in(row: &Row) -> Option<&Id>
     }
 }
 
-// The parent of the org with this id.
-fn parent<'r, R: Rows>(rows: &'r R, id: &Id) -> Option<&'r Id>
+/// The parent of the org with this id.
+pub fn parent<'r, R: Rows>(rows: &'r R, id: &Id) -> Option<&'r Id>
     ensures { option_copied result ≡ parent_of (R.rows rows.now) Kind.Orgs id.now }
 {
     match rows.row(Kind::Orgs, id) {

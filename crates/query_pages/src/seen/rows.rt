@@ -1,25 +1,26 @@
 //! The rows that a grant sees, read as rows.
 
-ghost use Rattle.std.specs.Prelude.{◌≡◌, option_copied};
+ghost use Rattle.std.specs.Prelude.{◌≡◌, IfOk, option_copied};
 ghost use Rattle.hub_spec.specs.views.Seen.{seen};
 ghost use Rattle.roster_types.specs.Keys.{Ascends, count_of, next_of, row_key};
 ghost use Rattle.version_core.specs.References as spec;
 
-use crate::seen::counted::CountedRows;
+use crate::seen::known::KnownRows;
 use crate::seen::sight::sees_row;
 use grant_scopes::Schools;
+use roster_base::NoMemory;
 use roster_texts::Id;
 use roster_types::row::Row;
 use roster_types::rows::Rows;
 use roster_values::Kind;
+use std::alloc::Global;
 use std::marker::Model;
 use version_core::references::Refs;
 
 /// The rows that a grant at these schools sees among all. A clause sees those rows.
 #[derive(Drop)]
 pub struct SeenRows<'a, R: Refs> {
-    schools: &'a Schools,
-    known: CountedRows<'a, R>,
+    known: KnownRows<'a, R>,
 }
 
 impl<'a, R: Refs> Model for SeenRows<'a, R> {
@@ -29,7 +30,7 @@ impl<'a, R: Refs> Model for SeenRows<'a, R> {
 
     ghost Value = { List Record };
 
-    ghost view = { λ s. seen s.schools.now (R.rows s.known.rows.now) };
+    ghost view = { λ s. seen s.known.schools.now (R.rows s.known.rows.now) };
 }
 
 impl<'a, R: Refs> SeenRows<'a, R> {
@@ -38,24 +39,34 @@ impl<'a, R: Refs> SeenRows<'a, R> {
         ensures { result ≡ seen schools.now (R.rows rows.now) }
     {
         SeenRows {
-            schools,
-            known: CountedRows::new(rows),
+            known: KnownRows::new(schools, rows),
         }
+    }
+
+    /// The same, made for asking of many rows: the orgs that the listed schools lead up to are looked up once.
+    pub fn with_ancestors(
+        alloc: Global,
+        schools: &'a Schools,
+        rows: &'a R,
+    ) -> Result<SeenRows<'a, R>, NoMemory>
+        ensures { IfOk result (λ rows_seen. rows_seen ≡ seen schools.now (R.rows rows.now)) }
+    {
+        let known = KnownRows::with_ancestors(alloc, schools, rows)?;
+        Ok(SeenRows { known })
     }
 }
 
 // The seen row of this kind with the least id above `after`, or with the least of all.
 fn next_seen<'r, R: Refs>(
-    schools: &Schools,
-    known: &'r CountedRows<'_, R>,
+    known: &'r KnownRows<'_, R>,
     kind: Kind,
     after: Option<&Id>,
 ) -> Option<&'r Row>
-    ensures { option_copied result ≡ next_of kind (option_copied after.entry) (seen schools.now (R.rows known.now.rows.now)) }
+    ensures { option_copied result ≡ next_of kind (option_copied after.entry) (seen known.now.schools.now (R.rows known.now.rows.now)) }
 {
     let mut after = after;
     while let Some(row) = known.rows.next(kind, after) {
-        if sees_row(schools, known, row) {
+        if sees_row(known, row) {
             return Some(row);
         }
         after = Some(row.id());
@@ -65,18 +76,17 @@ fn next_seen<'r, R: Refs>(
 
 // The seen row of this kind with the least id above `after` whose field names the target.
 fn seen_referring<'r, R: Refs>(
-    schools: &Schools,
-    known: &'r CountedRows<'_, R>,
+    known: &'r KnownRows<'_, R>,
     kind: Kind,
     name: &str,
     target: &Id,
     after: Option<&Id>,
 ) -> Option<&'r Row>
-    ensures { option_copied result ≡ spec.next_referring kind name.now target.now (option_copied after.entry) (seen schools.now (R.rows known.now.rows.now)) }
+    ensures { option_copied result ≡ spec.next_referring kind name.now target.now (option_copied after.entry) (seen known.now.schools.now (R.rows known.now.rows.now)) }
 {
     let mut after = after;
     while let Some(row) = known.rows.referring(kind, name, target, after) {
-        if sees_row(schools, known, row) {
+        if sees_row(known, row) {
             return Some(row);
         }
         after = Some(row.id());
@@ -85,15 +95,15 @@ fn seen_referring<'r, R: Refs>(
 }
 
 // How many rows of this kind are seen.
-fn count_seen<R: Refs>(schools: &Schools, known: &CountedRows<'_, R>, kind: Kind) -> u64
-    ensures count { result ≡ count_of kind (seen schools.now (R.rows known.now.rows.now)) }
-    ensures order { Ascends row_key (seen schools.now (R.rows known.now.rows.now)) }
+fn count_seen<R: Refs>(known: &KnownRows<'_, R>, kind: Kind) -> u64
+    ensures count { result ≡ count_of kind (seen known.now.schools.now (R.rows known.now.rows.now)) }
+    ensures order { Ascends row_key (seen known.now.schools.now (R.rows known.now.rows.now)) }
 {
     // Not fewer than are seen, so that the count doesn't wrap.
     let _all = known.rows.count(kind);
     let mut count = 0;
     let mut after = None;
-    while let Some(row) = next_seen(schools, known, kind, after) {
+    while let Some(row) = next_seen(known, kind, after) {
         count += 1;
         after = Some(row.id());
     }
@@ -107,7 +117,7 @@ impl<'a, R: Refs> Rows for SeenRows<'a, R> {
         match self.known.rows.row(kind, id) {
             None => None,
             Some(row) => {
-                if sees_row(self.schools, &self.known, row) {
+                if sees_row(&self.known, row) {
                     Some(row)
                 } else {
                     None
@@ -117,17 +127,17 @@ impl<'a, R: Refs> Rows for SeenRows<'a, R> {
     }
 
     fn next(&self, kind: Kind, after: Option<&Id>) -> Option<&Row> {
-        next_seen(self.schools, &self.known, kind, after)
+        next_seen(&self.known, kind, after)
     }
 
     fn count(&self, kind: Kind) -> u64 {
-        count_seen(self.schools, &self.known, kind)
+        count_seen(&self.known, kind)
     }
 }
 
 impl<'a, R: Refs> Refs for SeenRows<'a, R> {
     fn referring(&self, kind: Kind, name: &str, target: &Id, after: Option<&Id>) -> Option<&Row> {
-        seen_referring(self.schools, &self.known, kind, name, target, after)
+        seen_referring(&self.known, kind, name, target, after)
     }
 
     fn ascend(&self) {

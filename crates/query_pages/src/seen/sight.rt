@@ -1,10 +1,11 @@
 //! What a grant sees.
 
 ghost use Rattle.std.specs.Prelude.{◌≡◌};
+ghost use Rattle.grant_scopes.specs.declared.schools.Schools.TheVariants.{Listed};
 ghost use Rattle.hub_spec.specs.views.Seen as spec;
 
 use crate::seen::chains::leads_up;
-use crate::seen::counted::CountedRows;
+use crate::seen::known::KnownRows;
 use crate::seen::references::{is_named_by, leads_to, names_one_of, stands_where};
 use crate::seen::row_test::RowTest;
 use grant_scopes::{Grant, Schools};
@@ -33,7 +34,8 @@ impl<'a> RowTest for IsAtSchool<'a> {
 #[derive(Drop)]
 struct SeesOrg<'a, R: Refs> {
     schools: &'a [Id],
-    known: &'a CountedRows<'a, R>,
+    known: &'a KnownRows<'a, R>,
+    ghost listed: { known.now.schools.now ≡ Listed schools.now },
 }
 
 impl<'a, R: Refs> RowTest for SeesOrg<'a, R> {
@@ -41,9 +43,12 @@ impl<'a, R: Refs> RowTest for SeesOrg<'a, R> {
 
     #[tactic(auto, unfolding(hub_spec::specs::views::Seen::sees_org))]
     fn passes(&self, org: &Row) -> bool {
+        let id = org.id();
+        if let Some(ancestors) = &self.known.ancestors {
+            return ancestors.contains(id.as_str());
+        }
         let rows = self.known.rows;
         let turns = self.known.orgs;
-        let id = org.id();
         self.schools
             .iter()
             .any(|school| leads_up(rows, id, turns, school))
@@ -99,7 +104,8 @@ impl<'a, R: Refs> RowTest for SeesLineItem<'a, R> {
 
 // The org of the course is seen, or a class that is seen names the course.
 #[tactic(auto, unfolding(hub_spec::specs::views::Seen::sees_course))]
-fn sees_course<R: Refs>(schools: &[Id], known: &CountedRows<'_, R>, course: &Row) -> bool
+fn sees_course<R: Refs>(schools: &[Id], known: &KnownRows<'_, R>, course: &Row) -> bool
+    requires { known.now.schools.now ≡ Listed schools.now }
     ensures { result ≡ spec.sees_course schools.now (R.rows known.now.rows.now) course.now }
 {
     leads_to(
@@ -118,7 +124,8 @@ fn sees_course<R: Refs>(schools: &[Id], known: &CountedRows<'_, R>, course: &Row
 }
 
 // What is seen of each kind under a list of schools.
-fn sees_at<R: Refs>(schools: &[Id], known: &CountedRows<'_, R>, row: &Row) -> bool
+fn sees_at<R: Refs>(schools: &[Id], known: &KnownRows<'_, R>, row: &Row) -> bool
+    requires { known.now.schools.now ≡ Listed schools.now }
     ensures { result ≡ spec.sees_at schools.now (R.rows known.now.rows.now) row.now.kind row.now }
 {
     let rows = known.rows;
@@ -142,12 +149,12 @@ fn sees_at<R: Refs>(schools: &[Id], known: &CountedRows<'_, R>, row: &Row) -> bo
     }
 }
 
-/// Whether a grant at these schools sees the row among the others.
+/// Whether a grant at the schools sees the row among the others.
 #[tactic(auto, unfolding(hub_spec::specs::views::Seen::sees_row))]
-pub fn sees_row<R: Refs>(schools: &Schools, known: &CountedRows<'_, R>, row: &Row) -> bool
-    ensures { result ≡ spec.sees_row schools.now (R.rows known.now.rows.now) row.now }
+pub fn sees_row<R: Refs>(known: &KnownRows<'_, R>, row: &Row) -> bool
+    ensures { result ≡ spec.sees_row known.now.schools.now (R.rows known.now.rows.now) row.now }
 {
-    match schools {
+    match known.schools {
         Schools::All => true,
         Schools::Listed(list) => sees_at(list.ids(), known, row),
     }
@@ -157,9 +164,9 @@ pub fn sees_row<R: Refs>(schools: &Schools, known: &CountedRows<'_, R>, row: &Ro
 pub fn sees<R: Refs>(rows: &R, grant: &Grant, kind: Kind, id: &Id) -> bool
     ensures { result ≡ spec.sees grant.now.schools (R.rows rows.now) kind id.now }
 {
-    let known = CountedRows::new(rows);
+    let known = KnownRows::new(&grant.schools, rows);
     match rows.row(kind, id) {
-        Some(row) => sees_row(&grant.schools, &known, row),
+        Some(row) => sees_row(&known, row),
         None => false,
     }
 }

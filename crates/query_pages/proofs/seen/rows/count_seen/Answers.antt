@@ -9,35 +9,35 @@ use Rattle.query_pages.proofs.seen.rows.count_seen.Goals as goal
 
 pub loop-row-init : goal.loop-row-init
 loop-row-init g c =
-    let rows = seen c.args.schools.now (g.R.Rows.rows c.args.known.now.rows.now) in
+    let rows = seen c.args.known.now.schools.now (g.R.Rows.rows c.args.known.now.rows.now) in
     zero-add _ ∙ ap length (rest_start c.args.kind rows) ∙ length-filter (is_of_kind c.args.kind) rows
 
 pub loop-row-preserved : goal.loop-row-preserved
 loop-row-preserved g c =
     let all = g.R.Rows.rows c.args.known.now.rows.now in
-    let e = ap length (rest_at c.args.kind (option_copied c.loop-row.after) (seen c.args.schools.now all) c.in-Some.row.now (ascends_kept (sees_row c.args.schools.now all) all c.args.known.now.order) (sym c.in-Some.ensures)) in
+    let e = ap length (rest_at c.args.kind (option_copied c.loop-row.after) (seen c.args.known.now.schools.now all) c.in-Some.row.now (ascends_kept (sees_row c.args.known.now.schools.now all) all c.args.known.now.order) (sym c.in-Some.ensures)) in
     rw c.id.ensures (omega (arith, e, c.loop-row.invariant))
 
 pub loop-row-smaller : goal.loop-row-smaller
 loop-row-smaller g c =
     let all = g.R.Rows.rows c.args.known.now.rows.now in
-    let e = ap length (rest_at c.args.kind (option_copied c.loop-row.after) (seen c.args.schools.now all) c.in-Some.row.now (ascends_kept (sees_row c.args.schools.now all) all c.args.known.now.order) (sym c.in-Some.ensures)) in
+    let e = ap length (rest_at c.args.kind (option_copied c.loop-row.after) (seen c.args.known.now.schools.now all) c.in-Some.row.now (ascends_kept (sees_row c.args.known.now.schools.now all) all c.args.known.now.order) (sym c.in-Some.ensures)) in
     rw c.id.ensures (omega (arith, e))
 
 -- no more are seen than there are
 pub overflow_add-count : goal.overflow_add-count
 overflow_add-count g c =
     let all = g.R.Rows.rows c.args.known.now.rows.now in
-    let e = ap length (rest_at c.args.kind (option_copied c.loop-row.after) (seen c.args.schools.now all) c.in-Some.row.now (ascends_kept (sees_row c.args.schools.now all) all c.args.known.now.order) (sym c.in-Some.ensures)) in
-    let few : count_of c.args.kind (seen c.args.schools.now all) ≤ count_of c.args.kind all = count_kept (sees_row c.args.schools.now all) (is_of_kind c.args.kind) all in
+    let e = ap length (rest_at c.args.kind (option_copied c.loop-row.after) (seen c.args.known.now.schools.now all) c.in-Some.row.now (ascends_kept (sees_row c.args.known.now.schools.now all) all c.args.known.now.order) (sym c.in-Some.ensures)) in
+    let few : count_of c.args.kind (seen c.args.known.now.schools.now all) ≤ count_of c.args.kind all = count_kept (sees_row c.args.known.now.schools.now all) (is_of_kind c.args.kind) all in
     omega (arith, e, few, c.loop-row.invariant, c.count-all.ensures.count)
 
 pub returns-clause-count : goal.returns-clause-count
 returns-clause-count g c =
-    let left = ap length (rest_none c.args.kind (option_copied c.loop-row.after) (seen c.args.schools.now (g.R.Rows.rows c.args.known.now.rows.now)) (sym c.in_default.ensures)) in
+    let left = ap length (rest_none c.args.kind (option_copied c.loop-row.after) (seen c.args.known.now.schools.now (g.R.Rows.rows c.args.known.now.rows.now)) (sym c.in_default.ensures)) in
     omega (arith, left, c.loop-row.invariant)
 
 pub returns-clause-order : goal.returns-clause-order
 returns-clause-order g c =
     let all = g.R.Rows.rows c.args.known.now.rows.now in
-    ascends_kept (sees_row c.args.schools.now all) all c.args.known.now.order
+    ascends_kept (sees_row c.args.known.now.schools.now all) all c.args.known.now.order

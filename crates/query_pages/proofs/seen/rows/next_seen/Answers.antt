@@ -7,13 +7,13 @@ use Rattle.query_pages.proofs.seen.rows.next_seen.Goals as goal
 pub loop-row-init : goal.loop-row-init
 loop-row-init g c =
     let rows = g.R.Rows.rows c.args.known.now.rows.now in
-    find_swap (sees_row c.args.schools.now rows) (is_next c.args.kind (option_copied c.args.after)) rows
+    find_swap (sees_row c.args.known.now.schools.now rows) (is_next c.args.kind (option_copied c.args.after)) rows
 
 pub returns-then-sees_row : goal.returns-then-sees_row
 returns-then-sees_row g c =
     let rows = g.R.Rows.rows c.args.known.now.rows.now in
     let row = c.in-Some.row.now in
-    let test = sees_row c.args.schools.now rows in
+    let test = sees_row c.args.known.now.schools.now rows in
     let e = rest_at c.args.kind (option_copied c.loop-row.after) rows row c.args.known.now.order (sym c.in-Some.ensures) in
     sym (c.loop-row.invariant ∙ ap (find test) e ∙ ap (λ b. cond b (Some row) (find test (rest_of c.args.kind (Some row.id) rows))) (sym c.sees_row.ensures ∙ c.if-sees_row.true))
 
@@ -21,7 +21,7 @@ pub loop-row-preserved : goal.loop-row-preserved
 loop-row-preserved g c =
     let rows = g.R.Rows.rows c.args.known.now.rows.now in
     let row = c.in-Some.row.now in
-    let test = sees_row c.args.schools.now rows in
+    let test = sees_row c.args.known.now.schools.now rows in
     let e = rest_at c.args.kind (option_copied c.loop-row.after) rows row c.args.known.now.order (sym c.in-Some.ensures) in
     rw c.id.ensures (c.loop-row.invariant ∙ ap (find test) e ∙ ap (λ b. cond b (Some row) (find test (rest_of c.args.kind (Some row.id) rows))) (sym c.sees_row.ensures ∙ c.if-sees_row.false))
 
@@ -33,4 +33,4 @@ loop-row-smaller g c =
 pub returns : goal.returns
 returns g c =
     let rows = g.R.Rows.rows c.args.known.now.rows.now in
-    sym (c.loop-row.invariant ∙ ap (find (sees_row c.args.schools.now rows)) (rest_none c.args.kind (option_copied c.loop-row.after) rows (sym c.in_default.ensures)))
+    sym (c.loop-row.invariant ∙ ap (find (sees_row c.args.known.now.schools.now rows)) (rest_none c.args.kind (option_copied c.loop-row.after) rows (sym c.in_default.ensures)))

@@ -10,7 +10,7 @@ pub loop-row-init : goal.loop-row-init
 loop-row-init g c =
     let rows = g.R.Rows.rows c.args.known.now.rows.now in
     let after = option_copied c.args.after in
-    let test = sees_row c.args.schools.now rows in
+    let test = sees_row c.args.known.now.schools.now rows in
     find_swap test (λ row. refers c.args.kind c.args.name.now c.args.target.now row && is_after after row.id) rows
     ∙ ap (find test) (all_in_rest c.args.kind c.args.name.now c.args.target.now after rows)
 
@@ -18,7 +18,7 @@ pub returns-then-sees_row : goal.returns-then-sees_row
 returns-then-sees_row g c =
     let rows = g.R.Rows.rows c.args.known.now.rows.now in
     let row = c.in-Some.row.now in
-    let test = sees_row c.args.schools.now rows in
+    let test = sees_row c.args.known.now.schools.now rows in
     let e = referring_at c.args.kind c.args.name.now c.args.target.now (option_copied c.loop-row.after) rows row c.in-Some.ensures.order (sym c.in-Some.ensures.next) in
     sym (c.loop-row.invariant ∙ ap (find test) e ∙ ap (λ b. cond b (Some row) (find test (referring_rest c.args.kind c.args.name.now c.args.target.now (Some row.id) rows))) (sym c.sees_row.ensures ∙ c.if-sees_row.true))
 
@@ -26,7 +26,7 @@ pub loop-row-preserved : goal.loop-row-preserved
 loop-row-preserved g c =
     let rows = g.R.Rows.rows c.args.known.now.rows.now in
     let row = c.in-Some.row.now in
-    let test = sees_row c.args.schools.now rows in
+    let test = sees_row c.args.known.now.schools.now rows in
     let e = referring_at c.args.kind c.args.name.now c.args.target.now (option_copied c.loop-row.after) rows row c.in-Some.ensures.order (sym c.in-Some.ensures.next) in
     rw c.id.ensures (c.loop-row.invariant ∙ ap (find test) e ∙ ap (λ b. cond b (Some row) (find test (referring_rest c.args.kind c.args.name.now c.args.target.now (Some row.id) rows))) (sym c.sees_row.ensures ∙ c.if-sees_row.false))
 
@@ -39,4 +39,4 @@ loop-row-smaller g c =
 pub returns : goal.returns
 returns g c =
     let rows = g.R.Rows.rows c.args.known.now.rows.now in
-    sym (c.loop-row.invariant ∙ ap (find (sees_row c.args.schools.now rows)) (referring_none c.args.kind c.args.name.now c.args.target.now (option_copied c.loop-row.after) rows (sym c.in_default.ensures.next)))
+    sym (c.loop-row.invariant ∙ ap (find (sees_row c.args.known.now.schools.now rows)) (referring_none c.args.kind c.args.name.now c.args.target.now (option_copied c.loop-row.after) rows (sym c.in_default.ensures.next)))

@@ -6,4 +6,4 @@ pub returns-clause-order : goal.returns-clause-order
 returns-clause-order g c =
     let known = c.self.inside.known in
     let rows = g.R.Rows.rows known.rows.now in
-    rw (← c.self.view_is) (ascends_kept (sees_row c.self.inside.schools.now rows) rows known.order)
+    rw (← c.self.view_is) (ascends_kept (sees_row c.self.inside.known.schools.now rows) rows known.order)

@@ -9,7 +9,7 @@ pub returns-in-None : goal.returns-in-None
 returns-in-None g c =
     let known = c.self.inside.known in
     let rows = g.R.Rows.rows known.rows.now in
-    let test = sees_row c.self.inside.schools.now rows in
+    let test = sees_row c.self.inside.known.schools.now rows in
     let k : Key = (place_of_kind c.args.kind, c.args.id.now) in
     rw (← c.self.view_is) (sym (look_up-kept test k rows known.order ∙ ap (option_and_then (if_kept test)) (sym c.in-None.ensures)))
 
@@ -17,7 +17,7 @@ pub returns-then-sees_row : goal.returns-then-sees_row
 returns-then-sees_row g c =
     let known = c.self.inside.known in
     let rows = g.R.Rows.rows known.rows.now in
-    let test = sees_row c.self.inside.schools.now rows in
+    let test = sees_row c.self.inside.known.schools.now rows in
     let k : Key = (place_of_kind c.args.kind, c.args.id.now) in
     rw (← c.self.view_is) (sym (look_up-kept test k rows known.order ∙ ap (option_and_then (if_kept test)) (sym c.in-Some.ensures) ∙ ap (λ b. cond b (Some c.in-Some.row.now) None) (sym c.sees_row.ensures ∙ c.if-sees_row.true)))
 
@@ -25,6 +25,6 @@ pub returns-else-sees_row : goal.returns-else-sees_row
 returns-else-sees_row g c =
     let known = c.self.inside.known in
     let rows = g.R.Rows.rows known.rows.now in
-    let test = sees_row c.self.inside.schools.now rows in
+    let test = sees_row c.self.inside.known.schools.now rows in
     let k : Key = (place_of_kind c.args.kind, c.args.id.now) in
     rw (← c.self.view_is) (sym (look_up-kept test k rows known.order ∙ ap (option_and_then (if_kept test)) (sym c.in-Some.ensures) ∙ ap (λ b. cond b (Some c.in-Some.row.now) None) (sym c.sees_row.ensures ∙ c.if-sees_row.false)))
