@@ -17,6 +17,7 @@ pub mod send_answer;
 mod socket_exchange;
 pub mod socket_link;
 pub mod tally;
+mod unreached;
 
 pub use answer::SyncAnswer;
 pub use asking::{Outcome, ask};
@@ -27,3 +28,4 @@ pub use peer_link::PeerLink;
 pub use send_answer::{EnterError, SendAnswer};
 pub use socket_link::SocketLink;
 pub use tally::Tally;
+pub use unreached::Unreached;

@@ -1,7 +1,6 @@
 //! One exchange over a connection of its own.
 
 use crate::reply_bytes::{CHUNK, ReplyBytes};
-use outside_ports::IoError;
 use std::alloc::Global;
 use std::io::{self, ErrorKind, Read, Write};
 use std::net::{Net, OpenStream, TcpStream, ToSocketAddrs};
@@ -34,13 +33,6 @@ impl<'r, R: Clock> Watch<'r, R> {
             return Err(io::Error::from(ErrorKind::TimedOut));
         }
         Ok(())
-    }
-}
-
-fn error_of(error: &io::Error) -> IoError {
-    match error.kind() {
-        ErrorKind::OutOfMemory => IoError::NoMemory,
-        _ => IoError::Failed,
     }
 }
 
@@ -97,7 +89,8 @@ fn answer_over<R: Clock, S: Read + Write + OpenStream>(
     read_reply(alloc, watch, stream)
 }
 
-fn exchange_over<R: Net + Clock>(
+/// The bytes that the peer at an address answers a request with.
+pub(crate) fn bytes_from<R: Net + Clock>(
     alloc: Global,
     rt: &R,
     address: &str,
@@ -106,17 +99,4 @@ fn exchange_over<R: Net + Clock>(
     let watch = Watch::start(rt)?;
     let mut stream = connect(&watch, address)?;
     answer_over(alloc, &watch, &mut stream, request)
-}
-
-/// The bytes that the peer at an address answers a request with.
-pub(crate) fn bytes_from<R: Net + Clock>(
-    alloc: Global,
-    rt: &R,
-    address: &str,
-    request: &[u8],
-) -> Result<Vec<u8>, IoError> {
-    match exchange_over(alloc, rt, address, request) {
-        Ok(reply) => Ok(reply),
-        Err(error) => Err(error_of(&error)),
-    }
 }

@@ -6,9 +6,12 @@ use crate::came::Came;
 use crate::inbox::Inbox;
 use crate::link::Link;
 use crate::socket_exchange::bytes_from;
+use crate::unreached::Unreached;
 use http_wire::WireReply;
 use outside_ports::IoError;
+use roster_base::NoMemory;
 use std::alloc::Global;
+use std::io::{self, ErrorKind};
 use std::net::Net;
 use std::time::Clock;
 
@@ -19,6 +22,7 @@ pub struct SocketLink<R> {
     rt: R,
     address: String,
     inbox: Inbox,
+    why: Option<Unreached>,
 }
 
 impl<R: Net> SocketLink<R> {
@@ -28,6 +32,38 @@ impl<R: Net> SocketLink<R> {
             rt,
             address,
             inbox: Inbox::new(alloc),
+            why: None,
+        }
+    }
+
+    /// The address.
+    pub fn address(&self) -> &str {
+        self.address.as_str()
+    }
+
+    /// Why the last exchange that brought no reply brought none.
+    pub fn unreached(&self) -> Option<Unreached> {
+        self.why
+    }
+}
+
+// What an exchange ends with that brings no reply.
+enum Missed {
+    NoMemory,
+    Unreached(Unreached),
+}
+
+impl From<NoMemory> for Missed {
+    fn from(_error: NoMemory) -> Missed {
+        Missed::NoMemory
+    }
+}
+
+impl From<io::Error> for Missed {
+    fn from(error: io::Error) -> Missed {
+        match error.kind() {
+            ErrorKind::OutOfMemory => Missed::NoMemory,
+            kind => Missed::Unreached(Unreached::by(kind)),
         }
     }
 }
@@ -38,12 +74,24 @@ fn reply_from<R: Net + Clock>(
     rt: &R,
     address: &str,
     request: &[u8],
-) -> Result<Came, IoError> {
+) -> Result<Came, Missed> {
     let came = Came::read(alloc, bytes_from(alloc, rt, address, request)?)?;
     if came.reply().is_none() {
-        return Err(IoError::Failed);
+        return Err(Missed::Unreached(Unreached::NoHttp));
     }
     Ok(came)
+}
+
+// Keeps why an exchange brought no reply.
+fn noted(why: &mut Option<Unreached>, came: Result<Came, Missed>) -> Result<Came, IoError> {
+    match came {
+        Ok(came) => Ok(came),
+        Err(Missed::NoMemory) => Err(IoError::NoMemory),
+        Err(Missed::Unreached(unreached)) => {
+            *why = Some(unreached);
+            Err(IoError::Failed)
+        }
+    }
 }
 
 impl<R: Net + Clock> Link for SocketLink<R> {
@@ -69,6 +117,7 @@ impl<R: Net + Clock> Link for SocketLink<R> {
 
     fn exchange(&mut self, alloc: Global, request: &[u8]) -> Result<(), IoError> {
         let came = reply_from(alloc, &self.rt, self.address.as_str(), request);
+        let came = noted(&mut self.why, came);
         self.inbox.take(alloc, request, came)
     }
 

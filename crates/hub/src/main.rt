@@ -59,7 +59,7 @@ lineItems, results; with enter one of the last three.
 --folder DIR       the folder where the command finds its files, in place of the working folder
 --peer HOST:PORT   the address of the hub that is copied; without it each try fails
 --keep N           how many versions a new store keeps beside the newest, 1 to 100000, in place of 10000
---help             prints this
+--help             prints this; behind a command, the words of that command
 --version          prints the version and the format of its stores
 
   hub --store st --folder examples publish sis=lake
@@ -80,47 +80,77 @@ status
 
 const VERSION: &str = "hub 0.1.0, stores of format 1\n";
 
-// The words of each command, as they are explained where a command's words are bad.
+// The words of each command.
 static USAGES: [(&str, &str); 12] = [
     (
         "publish",
-        "[--store DIR] [--folder DIR] [--keep N] publish FEED=DIR ..",
+        "usage: hub [--store DIR] [--folder DIR] [--keep N] publish FEED=DIR ..\n",
     ),
-    ("show", "[--folder DIR] show KIND"),
+    ("show", "usage: hub [--folder DIR] show KIND\n"),
     (
         "grant",
-        "[--store DIR] [--folder DIR] [--keep N] grant FILE",
+        "usage: hub [--store DIR] [--folder DIR] [--keep N] grant FILE\n",
     ),
-    ("ask", "[--store DIR] [--folder DIR] [--keep N] ask FILE"),
+    (
+        "ask",
+        "usage: hub [--store DIR] [--folder DIR] [--keep N] ask FILE\n",
+    ),
     (
         "serve",
-        "[--store DIR] [--folder DIR] [--keep N] serve CONNECTIONS ADDRESS .. FEED=DIR ..",
+        "usage: hub [--store DIR] [--folder DIR] [--keep N] serve CONNECTIONS ADDRESS .. FEED=DIR ..\n",
     ),
     (
         "sync",
-        "[--store DIR] [--peer HOST:PORT] sync TOKEN LIMIT TRIES",
+        "usage: hub [--store DIR] [--peer HOST:PORT] sync TOKEN LIMIT TRIES\n",
     ),
-    ("list", "[--store DIR] list KIND"),
+    ("list", "usage: hub [--store DIR] list KIND\n"),
     (
         "enter",
-        "[--store DIR] [--folder DIR] enter put KIND ID FILE\n   or: hub [--store DIR] enter delete KIND ID",
+        "usage: hub [--store DIR] [--folder DIR] enter put KIND ID FILE\n   or: hub [--store DIR] enter delete KIND ID\n",
     ),
-    ("send", "[--store DIR] [--peer HOST:PORT] send TOKEN TRIES"),
-    ("outbox", "[--store DIR] outbox"),
-    ("rehearse", "[--folder DIR] rehearse FILE"),
-    ("make", "make SCHOOLS"),
+    (
+        "send",
+        "usage: hub [--store DIR] [--peer HOST:PORT] send TOKEN TRIES\n",
+    ),
+    ("outbox", "usage: hub [--store DIR] outbox\n"),
+    ("rehearse", "usage: hub [--folder DIR] rehearse FILE\n"),
+    ("make", "usage: hub make SCHOOLS\n"),
 ];
 
-// The usage of the command that the words name first, or of any.
-fn usage_of(words: &[String]) -> &'static str {
-    for word in words {
-        for (command, usage) in &USAGES {
-            if word.as_str() == *command {
-                return usage;
-            }
+const ANY_USAGE: &str =
+    "usage: hub [--store DIR] [--folder DIR] [--peer HOST:PORT] [--keep N] COMMAND ..\n";
+
+// The usage of a command.
+fn usage_of(command: &str) -> Option<&'static str> {
+    for (name, usage) in &USAGES {
+        if command == *name {
+            return Some(usage);
         }
     }
-    "[--store DIR] [--folder DIR] [--peer HOST:PORT] [--keep N] COMMAND .."
+    None
+}
+
+// The usage of the command that the words name first, or of any.
+fn usage_among(words: &[String]) -> &'static str {
+    for word in words {
+        if let Some(usage) = usage_of(word.as_str()) {
+            return usage;
+        }
+    }
+    ANY_USAGE
+}
+
+fn asks_for_help(word: &str) -> bool {
+    word == "--help" || word == "-h" || word == "help"
+}
+
+// What words that ask for help alone, or behind a command, are answered with.
+fn help_for(words: &[String]) -> Option<&'static str> {
+    match words {
+        [word] if asks_for_help(word.as_str()) => Some(HELP),
+        [command, word] if asks_for_help(word.as_str()) => usage_of(command.as_str()),
+        _ => None,
+    }
 }
 
 // The words behind the program's name.
@@ -136,15 +166,17 @@ fn answer_unread(error: &io::Error, out: &mut impl Sink) -> u8 {
     }
 }
 
-// Runs the words, of which two are the program's own.
+// Runs the words, unless they ask for help or for the version.
 fn run<R: Threads + Wait + Sync>(
     threads: &R,
     rt: HostRuntime,
     words: &[String],
     out: &mut impl Sink,
 ) -> u8 {
+    if let Some(help) = help_for(words) {
+        return print(out, 0, help);
+    }
     match words {
-        [word] if word.as_str() == "--help" => print(out, 0, HELP),
         [word] if word.as_str() == "--version" => print(out, 0, VERSION),
         _ if names_serve(rt.alloc(), words) => serve_real(threads, rt, rt.alloc(), words, out),
         _ => run_real(rt, rt.alloc(), words, out),
@@ -163,9 +195,9 @@ fn hint(rt: HostRuntime, status: u8, words: &[String]) {
             None => eprintln!(rt; "a word is missing at the end"),
         };
     }
-    let usage = usage_of(words);
+    let usage = usage_among(words);
     let _ = eprintln!(rt;
-        "usage: hub {usage}\nwords are counted from 0; options stand before the command; hub --help explains all"
+        "{usage}words are counted from 0; options stand before the command; hub --help explains all"
     );
 }
 

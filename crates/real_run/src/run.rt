@@ -6,7 +6,8 @@ ghost use Rattle.hub_words.specs.Words.{split, store_in};
 ghost use Rattle.real_run.specs.RealRuns.{AnswersFrom, AnswersOver, IsRealAnswer, RunsBetween, Tells, TellsPart};
 ghost use Rattle.roster_base.specs.Faults.{Rose};
 
-use crate::telling::{tell_before, tell_behind};
+use crate::progress::{Progress, ShownFolder, ShownLink};
+use crate::telling::{tell_before, tell_unreached};
 use exchange_link::{Link, NoLink, SocketLink};
 use hub_cli::lines::NO_MEMORY;
 use hub_cli::{
@@ -65,7 +66,7 @@ fn run_between<H: HubKeeper, C: CopyKeeper, L: Link, O: Sink>(
         peer,
     } = system;
     drop(peer);
-    let mut folder = DirFolder::new(rt, root);
+    let mut folder = ShownFolder::new(DirFolder::new(rt, root), Progress::new(rt));
     let clock = SystemClock::new(rt);
     run_spelled(alloc, spelled, &mut folder, keeper, copy, link, &clock, out)
 }
@@ -87,8 +88,11 @@ fn run_over<H: HubKeeper, C: CopyKeeper, O: Sink>(
             run_between(system, spelled, keeper, copy, &mut link, out)
         }
         Some(address) => {
-            let mut link = SocketLink::to(system.alloc, system.rt, address);
+            let rt = system.rt;
+            let socket = SocketLink::to(system.alloc, rt, address);
+            let mut link = ShownLink::new(socket, Progress::new(rt));
             let status = run_between(system, spelled, keeper, copy, &mut link, out);
+            tell_unreached(rt, status, &link);
             drop(link);
             status
         }
@@ -238,7 +242,6 @@ fn run_words<O: Sink>(rt: HostRuntime, alloc: Global, words: &[String], out: &mu
         Ok(spelled) => {
             tell_before(rt, alloc, &spelled);
             let status = run_set(rt, alloc, &spelled, out);
-            tell_behind(rt, &spelled, status);
             drop(spelled);
             status
         }

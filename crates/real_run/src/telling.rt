@@ -1,6 +1,8 @@
 //! What standard error is told of a run, for people: that a folder or an address isn't there. It decides nothing, and a line that can't
 //! be written changes nothing.
 
+use crate::progress::ShownLink;
+use exchange_link::{Link, SocketLink};
 use hub_cli::{Command, Spelled, names_serve, peer_of, read_words, root_of, split_serve};
 use hub_words::Feed;
 use roster_base::{NoMemory, Refusal};
@@ -62,12 +64,20 @@ pub fn bad_place(alloc: Global, words: &[String]) -> Option<usize> {
 /// The status of a run that didn't reach its peer.
 const INTERRUPTED: u8 = 7;
 
-/// Says behind a run at which address its peer wasn't reached.
-pub(crate) fn tell_behind(rt: HostRuntime, spelled: &Spelled, status: u8) {
-    if status == INTERRUPTED {
-        if let Some(peer) = peer_of(spelled) {
-            let address = peer.as_str();
-            let _ = eprintln!(rt; "{address}: no try brought a whole reply to the request");
-        }
+/// Says behind a run why its peer wasn't reached.
+pub(crate) fn tell_unreached(
+    rt: HostRuntime,
+    status: u8,
+    link: &ShownLink<SocketLink<HostRuntime>>,
+) {
+    if status != INTERRUPTED {
+        return;
     }
+    let why = match link.link().unreached() {
+        Some(why) => why.text(),
+        None => "the replies are to other requests",
+    };
+    let address = link.link().address();
+    let missed = link.missed();
+    let _ = eprintln!(rt; "{address}: {why}, {missed} tries one after another");
 }
