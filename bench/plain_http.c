@@ -57,25 +57,41 @@ static long read_head(int fd, char *buffer, size_t room, size_t *held, size_t *h
     return field && field < buffer + *head ? atol(field + 17) : 0;
 }
 
+static int connected(void) {
+    struct timeval patience = {30, 0};
+    int one = 1, fd = socket(AF_INET, SOCK_STREAM, 0);
+    setsockopt(fd, SOL_SOCKET, SO_RCVTIMEO, &patience, sizeof patience);
+    if (connect(fd, (struct sockaddr *)&at, sizeof at)) fail("connect");
+    setsockopt(fd, IPPROTO_TCP, TCP_NODELAY, &one, sizeof one);
+    return fd;
+}
+
+/* Asks once over a connection, and says whether the peer keeps it open. */
+static int asks(int fd, char *buffer) {
+    size_t held = 0, head;
+    send_all(fd, text, length);
+    long body = read_head(fd, buffer, 1 << 16, &held, &head);
+    if (body < 0 || strncmp(buffer, "HTTP/1.1 200", 12)) fail("reply");
+    char *ends = strcasestr(buffer, "\r\nconnection: close");
+    int keeps = !ends || ends > buffer + head;
+    for (size_t left = head + body - held; left;) {
+        ssize_t got = read(fd, buffer, left < 1 << 16 ? left : 1 << 16);
+        if (got <= 0) fail("read");
+        left -= got;
+    }
+    return keeps;
+}
+
 static void *load(void *found) {
     char *buffer = malloc(1 << 16);
     double end = now() + seconds;
     long count = 0;
-    int one = 1, fd = socket(AF_INET, SOCK_STREAM, 0);
-    if (connect(fd, (struct sockaddr *)&at, sizeof at)) fail("connect");
-    setsockopt(fd, IPPROTO_TCP, TCP_NODELAY, &one, sizeof one);
-    while (now() < end) {
-        size_t held = 0, head;
-        send_all(fd, text, length);
-        long body = read_head(fd, buffer, 1 << 16, &held, &head);
-        if (body < 0 || strncmp(buffer, "HTTP/1.1 200", 12)) fail("reply");
-        for (size_t left = head + body - held; left;) {
-            ssize_t got = read(fd, buffer, left < 1 << 16 ? left : 1 << 16);
-            if (got <= 0) fail("read");
-            left -= got;
+    int fd = connected();
+    for (; now() < end; count++)
+        if (!asks(fd, buffer)) {
+            close(fd);
+            fd = connected();
         }
-        count++;
-    }
     close(fd);
     *(long *)found = count;
     return 0;
