@@ -1,6 +1,8 @@
 pub mod CellBack
 pub mod Collecting
+pub mod EntriesRise
 pub mod FieldSteps
+pub mod Guesses
 pub mod ItemSteps
 pub mod MetadataSteps
 pub mod PutRows

@@ -3,12 +3,14 @@
 
 mod cell_texts;
 mod fault;
+mod guess;
 mod members;
 mod order;
 mod put;
 mod read;
 mod text;
 mod values;
+mod written;
 
 pub use fault::{JsonError, JsonFault};
 pub use put::read_put;

@@ -14,6 +14,7 @@ ghost use Rattle.row_json.specs.Reading.{are_objects, collection_in, data_of, en
 
 use crate::cell_texts::text_of;
 use crate::fault::{JsonError, JsonFault};
+use crate::written::{written_row, written_rows};
 use roster_base::{NoMemory, Refusal, Text};
 use roster_texts::trim::trim_spaces;
 use roster_texts::{Id, ValueFault};
@@ -257,6 +258,9 @@ pub fn read_row(alloc: Global, kind: Kind, bytes: &[u8]) -> Result<Row, JsonErro
     ensures row { Gives (λ r. r) result (row_of kind bytes.now) }
     ensures kind { IfOk result (λ r. r.kind ≡ kind) }
 {
+    if let Some(row) = written_row(alloc, kind, bytes)? {
+        return Ok(row);
+    }
     let value = read_data(alloc, bytes)?;
     read_single(alloc, Mode::Delta, kind, &value)
 }
@@ -272,6 +276,9 @@ pub fn read_collection(alloc: Global, kind: Kind, bytes: &[u8]) -> Result<Vec<Ro
     ensures rows { Gives (λ v. v.items) result (rows_of kind bytes.now) }
     ensures kinds { IfOk result (λ v. All (λ r. r.kind ≡ kind) v.items) }
 {
+    if let Some(rows) = written_rows(alloc, kind, bytes)? {
+        return Ok(rows);
+    }
     let value = read_data(alloc, bytes)?;
     read_rows(alloc, Mode::Delta, kind, &value)
 }
