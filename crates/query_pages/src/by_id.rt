@@ -11,12 +11,11 @@ use crate::list_test::ListTest;
 use filter_grammar::Query;
 use roster_base::{Items, NoMemory, TryCopy};
 use roster_types::row::Row;
-use row_walks::Walk;
+use row_walks::{Steps, Walk};
 use std::alloc::Global;
-use version_core::references::Refs;
 
 /// The part that a query asks for of a list by id, all on a way through the rows. Rows outside of it are counted, and not copied.
-pub fn part_by_id<R: Refs, T: ListTest>(
+pub fn part_by_id<R: Steps, T: ListTest>(
     alloc: Global,
     rows: &R,
     test: &T,
@@ -32,8 +31,9 @@ pub fn part_by_id<R: Refs, T: ListTest>(
     rows.ascend();
     let mut found = Vec::new(alloc);
     let mut total: u64 = 0;
+    let mut near = 0;
     let mut after = None;
-    while let Some(row) = walk.next(rows, after) {
+    while let Some(row) = walk.next(rows, after, &mut near) {
         after = Some(row.id());
         if !test.passes(alloc, row)? {
             continue;

@@ -12,9 +12,8 @@ use crate::sorting::{Sorting, directed};
 use filter_grammar::SortKey;
 use roster_base::{Items, NoMemory, TryCopy};
 use roster_types::row::Row;
-use row_walks::Walk;
+use row_walks::{Steps, Walk};
 use std::alloc::Global;
-use version_core::references::Refs;
 
 /// A row with its key.
 #[derive(Drop)]
@@ -24,7 +23,7 @@ pub struct Placed<'r> {
 }
 
 /// The rows of a list, all on a way through the rows, as they stand, each with its key.
-pub fn gathered<'r, R: Refs, T: ListTest>(
+pub fn gathered<'r, R: Steps, T: ListTest>(
     alloc: Global,
     rows: &'r R,
     test: &T,
@@ -38,8 +37,9 @@ pub fn gathered<'r, R: Refs, T: ListTest>(
     // For the order of the rows.
     rows.ascend();
     let mut found = Vec::new(alloc);
+    let mut near = 0;
     let mut after = None;
-    while let Some(row) = walk.next(rows, after) {
+    while let Some(row) = walk.next(rows, after, &mut near) {
         after = Some(row.id());
         if !test.passes(alloc, row)? {
             continue;

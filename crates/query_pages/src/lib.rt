@@ -4,6 +4,7 @@
 
 pub mod belonging;
 mod by_id;
+mod filter_test;
 mod in_order;
 mod links;
 pub mod list_part;
@@ -13,6 +14,7 @@ mod row_tests;
 pub mod seen;
 mod sorting;
 mod target;
+mod text_test;
 mod whole;
 
 pub use list_part::{Part, part_of};

@@ -14,9 +14,8 @@ use crate::sorting::Sorting;
 use filter_grammar::{Order, Query};
 use roster_base::{Items, NoMemory};
 use roster_types::row::Row;
-use row_walks::Walk;
+use row_walks::{Steps, Walk};
 use std::alloc::Global;
-use version_core::references::Refs;
 
 /// Rows of a list from an offset on, at most a limit of them, and the length of the whole list.
 #[derive(Drop)]
@@ -26,7 +25,7 @@ pub struct Part {
 }
 
 // The part that a query asks for of a list in another order than by ascending id.
-fn part_sorted<R: Refs, T: ListTest>(
+fn part_sorted<R: Steps, T: ListTest>(
     alloc: Global,
     rows: &R,
     test: &T,
@@ -47,7 +46,7 @@ fn part_sorted<R: Refs, T: ListTest>(
 }
 
 /// The part that a query asks for of the rows that pass a test, all on a way through the rows, in the order that it asks for.
-pub fn part_of<R: Refs, T: ListTest>(
+pub fn part_of<R: Steps, T: ListTest>(
     alloc: Global,
     rows: &R,
     test: &T,

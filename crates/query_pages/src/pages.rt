@@ -10,19 +10,20 @@ ghost use Rattle.roster_types.specs.Keys.{Ascends, is_of_kind, row_key};
 ghost use Rattle.version_core.specs.Changes.{rows_of};
 
 use crate::belonging::{belongs, has_objects, id_at};
+use crate::filter_test::FilterTest;
 use crate::links::links_of;
 use crate::list_part::{Part, part_of};
 use crate::list_test::ListTest;
 use crate::seen::SeenRows;
 use crate::whole::{kind_part, whole_kind};
-use filter_grammar::{Query, passes};
+use filter_grammar::Query;
 use grant_scopes::Schools;
 use hub_spec::Page;
 use rest_paths::{Path, Route};
 use roster_base::NoMemory;
 use roster_types::row::Row;
 use roster_values::Kind;
-use row_walks::{Walk, walk_at_schools, walk_of};
+use row_walks::{Steps, Walk, walk_at_schools, walk_of};
 use std::alloc::Global;
 use version_core::references::Refs;
 use version_core::view::VersionView;
@@ -33,6 +34,9 @@ pub struct Listed<'a, R: Refs> {
     rows: &'a R,
     path: &'a Path,
     query: &'a Query,
+    // The query's filter.
+    test: FilterTest<'a>,
+    ghost same: { test.filter.now ≡ query.now.test },
 }
 
 impl<'a, R: Refs> ListTest for Listed<'a, R> {
@@ -52,14 +56,14 @@ impl<'a, R: Refs> ListTest for Listed<'a, R> {
         if !belongs(self.rows, self.path, row) {
             return Ok(false);
         }
-        passes(alloc, row, &self.query.test)
+        self.test.passes(alloc, row)
     }
 }
 
 // The part that a query asks for of the list of a path, all on a way through the rows; nothing where an object that the path
 // names isn't among the rows.
 #[tactic(auto, unfolding(hub_spec::specs::views::Lists::list_of))]
-fn part<R: Refs>(
+fn part<R: Steps>(
     alloc: Global,
     rows: &R,
     walk: &Walk<'_>,
@@ -72,7 +76,14 @@ fn part<R: Refs>(
     if !has_objects(rows, path) {
         return Ok(None);
     }
-    let part = part_of(alloc, rows, &Listed { rows, path, query }, walk, query)?;
+    let test = FilterTest::new(path.route().lists().kind(), &query.test);
+    let listed = Listed {
+        rows,
+        path,
+        query,
+        test,
+    };
+    let part = part_of(alloc, rows, &listed, walk, query)?;
     Ok(Some(part))
 }
 
@@ -105,7 +116,7 @@ fn linked(
 }
 
 // The page that a query asks for of the list of a path, all on a way through the rows.
-fn page_on<R: Refs>(
+fn page_on<R: Steps>(
     alloc: Global,
     rows: &R,
     walk: &Walk<'_>,
@@ -123,6 +134,21 @@ fn page_on<R: Refs>(
     }
 }
 
+// The page that a query asks for of the list of a path among rows.
+fn walked_page<R: Steps>(
+    alloc: Global,
+    rows: &R,
+    version: u64,
+    path: &Path,
+    query: &Query,
+) -> Result<Option<Page>, NoMemory>
+    requires { 1 ≤ query.now.limit }
+    ensures { IfOk result (λ o. o ≡ page_of (R.rows rows.now) version path.now query.now) }
+{
+    let walk = walk_of(alloc, rows, path)?;
+    page_on(alloc, rows, &walk, version, path, query)
+}
+
 /// The page that a query asks for of the list of a path among the rows of a version, which the links name; nothing where an
 /// object that the path names isn't among the rows.
 pub fn page<R: Refs>(
@@ -135,8 +161,9 @@ pub fn page<R: Refs>(
     requires { 1 ≤ query.now.limit }
     ensures { IfOk result (λ o. o ≡ page_of (R.rows rows.now) version path.now query.now) }
 {
-    let walk = walk_of(alloc, rows, path)?;
-    page_on(alloc, rows, &walk, version, path, query)
+    // All are seen, one after another.
+    let seen = SeenRows::new(&Schools::All, rows);
+    walked_page(alloc, &seen, version, path, query)
 }
 
 // Whether the rows of a route are all of a kind, or of one type.
@@ -211,7 +238,7 @@ fn whole_page(
 {
     match whole_kind(path, query) {
         Some(kind) => Ok(Some(kind_page(alloc, view, kind, version, path, query)?)),
-        None => page(alloc, view, version, path, query),
+        None => walked_page(alloc, view, version, path, query),
     }
 }
 

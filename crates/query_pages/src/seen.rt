@@ -1,4 +1,4 @@
-//! Which rows a grant sees.
+//! Which rows a grant sees. Of the calls only `SeenRows::with_ancestors` takes memory.
 
 mod ancestors;
 mod chains;

@@ -3,17 +3,17 @@
 ghost use Rattle.std.specs.Prelude.{◌≡◌, true, IfOk, IfSome, Some, filter, length, option_copied, take};
 ghost use Rattle.hub_spec.specs.views.Pages.{IsPlain, slice, whole};
 ghost use Rattle.query_pages.specs.Whole.{rows_from};
-ghost use Rattle.roster_types.specs.Keys.{Ascends, is_of_kind, next_of, row_key};
+ghost use Rattle.roster_types.specs.Keys.{Ascends, is_of_kind, row_key};
 ghost use Rattle.version_core.specs.Changes.{rows_of};
 
 use crate::list_part::Part;
 use filter_grammar::Query;
 use rest_paths::{Collection, Path, Route};
 use roster_base::{Items, NoMemory, TryCopy};
-use roster_texts::Id;
 use roster_types::row::Row;
 use roster_types::rows::Rows;
 use roster_values::Kind;
+use row_walks::Steps;
 use std::alloc::Global;
 use version_core::view::VersionView;
 
@@ -38,22 +38,6 @@ pub fn whole_kind(path: &Path, query: &Query) -> Option<Kind>
     }
 }
 
-// The row of a kind behind another one. It is looked for at the place `near`, where the last look-up ended.
-#[tactic(auto, using(version_core::proofs::RowsOf::rows_of_look_ups))]
-fn next_near<'v>(
-    view: &'v VersionView<'_>,
-    kind: Kind,
-    after: &Id,
-    near: &mut usize,
-) -> Option<&'v Row>
-    ensures { option_copied result ≡ next_of kind (Some after.now) (rows_of view.now.rows) }
-{
-    match view.next_change_near(kind, Some(after), near) {
-        Some(change) => Some(&change.row),
-        None => None,
-    }
-}
-
 // Copies of a row and of those of its kind behind it, at most so many.
 fn copied_from(
     alloc: Global,
@@ -73,7 +57,7 @@ fn copied_from(
             break;
         }
         found.push(row.copy(alloc)?)?;
-        next = next_near(view, kind, row.id(), &mut near);
+        next = view.next_near(kind, Some(row.id()), &mut near);
     }
     Ok(Items::from_vec(found))
 }

@@ -17,8 +17,8 @@ use std::collections::HashSet;
 /// Ids that stand in rows or in a list of schools.
 pub type OrgIds<'a> = HashSet<&'a str>;
 
-// Adds the school's id and those above it. The chain is followed only to an id that an earlier one came to, so that all schools take
-// as many steps as there are orgs. It comes to an id twice where it has more steps than there are orgs.
+// Adds the school's id and those above it. A chain is followed only to an id that is in already, so that all chains together take no
+// more steps than there are schools and orgs.
 fn add_chain<'a, R: Rows>(
     rows: &'a R,
     turns: u64,

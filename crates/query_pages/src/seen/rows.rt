@@ -13,6 +13,7 @@ use roster_texts::Id;
 use roster_types::row::Row;
 use roster_types::rows::Rows;
 use roster_values::Kind;
+use row_walks::Steps;
 use std::alloc::Global;
 use std::marker::Model;
 use version_core::references::Refs;
@@ -142,5 +143,12 @@ impl<'a, R: Refs> Refs for SeenRows<'a, R> {
 
     fn ascend(&self) {
         self.known.rows.ascend();
+    }
+}
+
+// Each row is looked for anew.
+impl<'a, R: Refs> Steps for SeenRows<'a, R> {
+    fn next_near(&self, kind: Kind, after: Option<&Id>, _near: &mut usize) -> Option<&Row> {
+        next_seen(&self.known, kind, after)
     }
 }
