@@ -11,7 +11,7 @@ use Rattle.roster_texts.specs.Texts.{is_id}
 use Rattle.roster_texts.specs.Trim.{trimmed}
 use Rattle.roster_values.specs.declared.kind.Kind.{Kind}
 use Rattle.roster_values.specs.declared.kind.Kind.TheVariants.{Orgs, AcademicSessions, Courses, Classes, Users, Enrollments, Demographics, Categories, LineItems, Results}
-use Rattle.roster_values.specs.declared.mode.Mode.TheVariants.{Delta}
+use Rattle.roster_values.specs.declared.mode.Mode.{Mode}
 use Rattle.roster_values.specs.Table.{Info, info_in, table}
 use Rattle.std.proofs.lemmas.Bool.{and_parts}
 use Rattle.roster_texts.specs.Texts.{has_plain_ends}
@@ -36,12 +36,17 @@ abbrev pub count_from : ℕ → List Info → List (Option ℕ)
 count_from n [] = []
 count_from n (i ∷ is) = Some n ∷ count_from (n + 1) is
 
+-- each field has its column
+abbrev all_there : List (List ℕ) → List Info → Bool
+all_there columns [] = true
+all_there columns (i ∷ is) = has_column columns i.column && all_there columns is
+
 -- what holds of the columns of each kind
 pub record Plain (kind : Kind) : Type 0 where
   pub trims : map trimmed (columns kind) ≡ columns kind
   pub other : list_any is_metadata (columns kind) ≡ false
   pub once : columns_checked kind [] (columns kind) ≡ Ok true
-  pub whole : required_checked kind Delta (columns kind) 0 (table kind) ≡ Ok true
+  pub whole : all_there (columns kind) (table kind) ≡ true
   pub places : map (λ i. place_of (columns kind) i.column) (table kind) ≡ count_from 0 (table kind)
 
 plain : (kind : Kind) → Plain kind
@@ -127,16 +132,13 @@ has_on (c ∷ cs) more name h = by (bytes_eq c name) (λ h2. has_on cs more name
     by true on h2 = refl
     by false on h2 = on h2
 
-required_on : (kind : Kind) (cs more : List (List ℕ)) (place : ℕ) (is : List Info) → required_checked kind Delta cs place is ≡ Ok true → required_checked kind Delta (cs ++ more) place is ≡ Ok true
+-- so none is missing, whatever a mode requires and whatever stands behind
+required_on : (kind : Kind) (mode : Mode) (cs more : List (List ℕ)) (place : ℕ) (is : List Info) → all_there cs is ≡ true → required_checked kind mode (cs ++ more) place is ≡ Ok true
 unfolding required_checked
-required_on kind cs more place [] h = refl
-required_on kind cs more place (i ∷ is) h = by (info_in Delta place i).required (has_column cs i.column) refl refl (λ h2. required_on kind cs more (place + 1) is h2) h
-  where
-    by : (a b : Bool) → (info_in Delta place i).required ≡ a → has_column cs i.column ≡ b → (required_checked kind Delta cs (place + 1) is ≡ Ok true → required_checked kind Delta (cs ++ more) (place + 1) is ≡ Ok true)
-        → required_checked kind Delta cs place (i ∷ is) ≡ Ok true → required_checked kind Delta (cs ++ more) place (i ∷ is) ≡ Ok true
-    by false b ea eb on h2 = rw ea (on (rw ea at h2))
-    by true true ea eb on h2 = rw (ea, has_on cs more i.column eb) (on (rw (ea, eb) at h2))
-    by true false ea eb on h2 = cc (rw (ea, eb) at h2)
+required_on kind mode cs more place [] h = refl
+required_on kind mode cs more place (i ∷ is) h =
+    let parts = and_parts (has_column cs i.column) (all_there cs is) h in
+    rw (has_on cs more i.column parts.0, and_false (info_in mode place i).required) (required_on kind mode cs more (place + 1) is parts.1)
 
 -- a place is that of the first columns, whatever stands behind them
 len_on : (p : List ℕ → Bool) (xs more : List (List ℕ)) → position_or_len p xs < length xs → position_or_len p (xs ++ more) ≡ position_or_len p xs
@@ -229,11 +231,11 @@ header_is kind ks rise =
     let ordered = kept_order (numbered (length (table kind)) ks) (rw (same_keys (length (table kind)) ks) rise) in
     rw (places_on (columns kind) (map key_column ks) 0 (table kind) p.places, keys, ordered, length-append (columns kind) (map key_column ks), length-map (table kind) (λ i. i.column), length-map ks key_column) refl
 
-pub header_back : (kind : Kind) (ks : List MetadataKey) → AllByRecursion (λ k. is_id k.key ≡ true) ks → RiseBy (λ k. k.key) ks → header_of kind Delta (written_header kind ks) ≡ Ok (read_header kind ks)
+pub header_back : (kind : Kind) (mode : Mode) (ks : List MetadataKey) → AllByRecursion (λ k. is_id k.key ≡ true) ks → RiseBy (λ k. k.key) ks → header_of kind mode (written_header kind ks) ≡ Ok (read_header kind ks)
 unfolding header_of
-header_back kind ks good rise =
+header_back kind mode ks good rise =
     let p = plain kind in
     let names : columns_of (written_header kind ks) ≡ columns kind ++ map key_column ks = map_append trimmed (columns kind) (map key_column ks) ∙ rw (p.trims, trimmed_keys ks good) refl in
     let once = checked_on kind [] (columns kind) (map key_column ks) p.once ∙ keys_checked kind (onto (columns kind) []) ks good rise (new_all (onto (columns kind) []) ks (any_onto (columns kind) [] p.other refl)) in
-    let whole = required_on kind (columns kind) (map key_column ks) 0 (table kind) p.whole in
+    let whole = required_on kind mode (columns kind) (map key_column ks) 0 (table kind) p.whole in
     rw (names, once, whole, header_is kind ks rise) refl

@@ -1,6 +1,5 @@
 -- What a file is written of is read back from it.
 use Rattle.std.proofs.Common.{◌≡◌, ◌≤◌, ◌+◌, ◌==◌, ℕ, suc, List, [], ◌∷◌, ◌++◌, map, drop, length, Bool, true, false, Option, Some, None, Result, Ok, Err, not, refl, sym, ap, ◌∙◌, append_assoc, arith, bytes_eq, codes, nat_lt, Global, Vec, IfOk}
-use Rattle.std.specs.Prelude.{◌||◌}
 use Rattle.std.proofs.lemmas.Bool.{and_parts, eq-eqb}
 use Rattle.std.proofs.lemmas.Bool.Decides.{nat_tests}
 use Rattle.std.proofs.lemmas.List.{append-nil, length-append, length-map, map_push}
@@ -22,10 +21,11 @@ use Rattle.roster_types.specs.declared.status.Status.{Status}
 use Rattle.roster_types.specs.declared.status.Status.TheVariants.{Active, ToBeDeleted}
 use Rattle.roster_values.proofs.CellLaws.{cell_reads}
 use Rattle.roster_values.specs.declared.kind.Kind.{Kind}
-use Rattle.roster_values.specs.declared.mode.Mode.TheVariants.{Delta}
+use Rattle.roster_values.specs.declared.mode.Mode.{Mode}
+use Rattle.roster_values.specs.declared.mode.Mode.TheVariants.{Bulk, Delta}
 use Rattle.roster_values.specs.declared.value.Value.{Value}
 use Rattle.roster_values.specs.Fit.{fits}
-use Rattle.roster_values.specs.Table.{Info, info_in, table}
+use Rattle.roster_values.specs.Table.{Info, info_in, is_required_in, table}
 use Rattle.roster_values.specs.Values.{value_of}
 use Rattle.roster_types.proofs.Sums.{fields-values}
 use Rattle.csv_sets.specs.declared.keys.MetadataKey.{MetadataKey}
@@ -37,7 +37,7 @@ use Rattle.csv_sets.proofs.HeaderBack.{count_from, header_back, read_header}
 use Rattle.csv_sets.proofs.KeyLaws.{AllHave, cell_from, metadata_back, picks, rows_have}
 use Rattle.csv_sets.proofs.TextBack.{AllFilled, lines_read, lines_utf8, no_mark}
 
--- a value is required only where there is one, in a file of changes too
+-- a value is required only where there is one, in both modes
 abbrev AllGiven : ℕ → List (Option Value) → Type 0
 AllGiven n [] = Unit {0}
 AllGiven n (v ∷ vs) = (v ≡ None → 3 ≤ n) × AllGiven (n + 1) vs
@@ -49,25 +49,26 @@ past_common n (v ∷ vs) h = (λ e. h, past_common (n + 1) vs (omega (arith, h))
 given_values : (r : Record) → AllGiven 0 (all_values r)
 given_values r = (λ e. cc e, (λ e. cc e, (λ e. cc e, past_common 3 r.values (omega arith))))
 
-not_asked : (required : Bool) (place : ℕ) → not required ≡ true → 3 ≤ place → (required || nat_lt place 3) ≡ false
-not_asked true place h k = cc h
-not_asked false place h k = grind (arith, nat_tests)
+not_asked : (mode : Mode) (required : Bool) (place : ℕ) → not required ≡ true → 3 ≤ place → is_required_in mode place required ≡ false
+not_asked mode true place h k = cc h
+not_asked Bulk false place h k = refl
+not_asked Delta false place h k = grind (arith, nat_tests)
 
-cell_back : (place : ℕ) (i : Info) (v : Option Value) → fits i v ≡ true → (v ≡ None → 3 ≤ place) → value_of (info_in Delta place i) (field_cell v) ≡ Ok v
+cell_back : (mode : Mode) (place : ℕ) (i : Info) (v : Option Value) → fits i v ≡ true → (v ≡ None → 3 ≤ place) → value_of (info_in mode place i) (field_cell v) ≡ Ok v
 unfolding value_of trimmed
-cell_back place i (Some v) h given = cell_reads (info_in Delta place i) v h
-cell_back place i None h given = rw (not_asked i.required place h (given refl)) refl
+cell_back mode place i (Some v) h given = cell_reads (info_in mode place i) v h
+cell_back mode place i None h given = rw (not_asked mode i.required place h (given refl)) refl
 
-values_back : (place : ℕ) (is : List Info) (vs : List (Option Value)) (more cells : List (List ℕ)) → fits_all is vs ≡ true → AllGiven place vs → drop place cells ≡ map field_cell vs ++ more
-    → values_at Delta place is (count_from place is) cells ≡ Ok vs
+values_back : (mode : Mode) (place : ℕ) (is : List Info) (vs : List (Option Value)) (more cells : List (List ℕ)) → fits_all is vs ≡ true → AllGiven place vs → drop place cells ≡ map field_cell vs ++ more
+    → values_at mode place is (count_from place is) cells ≡ Ok vs
 unfolding values_at
-values_back place [] [] more cells h given d = refl
-values_back place [] (v ∷ vs) more cells h given d = cc h
-values_back place (i ∷ is) [] more cells h given d = cc h
-values_back place (i ∷ is) (v ∷ vs) more cells h given d =
+values_back mode place [] [] more cells h given d = refl
+values_back mode place [] (v ∷ vs) more cells h given d = cc h
+values_back mode place (i ∷ is) [] more cells h given d = cc h
+values_back mode place (i ∷ is) (v ∷ vs) more cells h given d =
     let parts = and_parts (fits i v) (fits_all is vs) h in
     let c = cell_from cells place (field_cell v) (map field_cell vs ++ more) d in
-    rw (c.0, cell_back place i v parts.0 given.0, values_back (place + 1) is vs more cells parts.1 given.1 c.1) refl
+    rw (c.0, cell_back mode place i v parts.0 given.0, values_back mode (place + 1) is vs more cells parts.1 given.1 c.1) refl
 
 drop_front : (xs ys : List (List ℕ)) (n : ℕ) → n ≡ length xs → drop n (xs ++ ys) ≡ ys
 drop_front [] ys n e = rw e refl
@@ -82,15 +83,15 @@ row_back r h =
     let short : nat_lt longest (row_length r) ≡ false = grind (arith, nat_tests, h.short) in
     ap unless_long (status_back r r.status refl) ∙ rw short refl
 
-record_back : (kind : Kind) (ks : List MetadataKey) (r : Record) → r.kind ≡ kind → IsRow r → RiseBy (λ k. k.key) ks → AllHave ks r.metadata → row_at kind Delta (read_header kind ks) (written_cells ks r) ≡ Ok (dated r)
+record_back : (kind : Kind) (mode : Mode) (ks : List MetadataKey) (r : Record) → r.kind ≡ kind → IsRow r → RiseBy (λ k. k.key) ks → AllHave ks r.metadata → row_at kind mode (read_header kind ks) (written_cells ks r) ≡ Ok (dated r)
 unfolding row_at
-record_back kind ks r k h rise have =
+record_back kind mode ks r k h rise have =
     let front = map field_cell (all_values r) in
     let behind = map (λ (k2 : MetadataKey). metadata_cell r.metadata k2.key) ks in
     let size = fields-values r h.fitting in
     let long : length front ≡ length (table r.kind) = length-map (all_values r) field_cell ∙ sym size in
     let width : (length (front ++ behind) == (length (table r.kind) + length ks)) ≡ true = eq-eqb _ _ (length-append front behind ∙ omega (arith, long, length-map ks (λ (k2 : MetadataKey). metadata_cell r.metadata k2.key))) in
-    let values = values_back 0 (table r.kind) (all_values r) behind (front ++ behind) h.fitting.values (given_values r) refl in
+    let values = values_back mode 0 (table r.kind) (all_values r) behind (front ++ behind) h.fitting.values (given_values r) refl in
     let metadata = metadata_back (front ++ behind) (length (table r.kind)) r.metadata ks (picks r.metadata ks h.fitting.metadata.rise rise have) rise h.fitting.metadata.plain (drop_front front behind (length (table r.kind)) (sym long)) in
     rw (← k, width, values, metadata, row_back r h) refl
 
@@ -103,14 +104,14 @@ other_ids front row (r ∷ rows) h d = (one_more front r.id h.0 d.0, other_ids f
     one_more : (front2 : List Record) (id : List ℕ) → has_id id (map dated front2) ≡ false → bytes_eq row.id id ≡ false → has_id id (map dated (front2 ++ row ∷ [])) ≡ false
     one_more front2 id h2 d2 = rw (map_push dated front2 row, list_any-append (λ (r2 : SetRow). bytes_eq r2.row.id id) (map dated front2) (dated row ∷ []), h2, d2) refl
 
-rows_back : (kind : Kind) (ks : List MetadataKey) (front rows : List Record) (number : ℕ) → RiseBy (λ k. k.key) ks → AllByRecursion (λ (r : Record). r.kind ≡ kind) rows → AllByRecursion IsRow rows
+rows_back : (kind : Kind) (mode : Mode) (ks : List MetadataKey) (front rows : List Record) (number : ℕ) → RiseBy (λ k. k.key) ks → AllByRecursion (λ (r : Record). r.kind ≡ kind) rows → AllByRecursion IsRow rows
     → AllByRecursion (λ (r : Record). AllHave ks r.metadata) rows → IsDistinct bytes_eq (map (λ (r : Record). r.id) rows) → AllByRecursion (λ (r : Record). has_id r.id (map dated front) ≡ false) rows
-    → rows_after kind Delta (read_header kind ks) (map dated front) number (map (written_cells ks) rows) ≡ Ok (map dated (front ++ rows))
+    → rows_after kind mode (read_header kind ks) (map dated front) number (map (written_cells ks) rows) ≡ Ok (map dated (front ++ rows))
 unfolding rows_after IsDistinct
-rows_back kind ks front [] number rise kinds good have differ fresh = ap (λ rs. Ok (map dated rs)) (sym (append-nil front))
-rows_back kind ks front (r ∷ rows) number rise kinds good have differ fresh =
-    let more = rows_back kind ks (front ++ r ∷ []) rows (number + 1) rise kinds.1 good.1 have.1 differ.1 (other_ids front r rows fresh.1 differ.0) in
-    rw (record_back kind ks r kinds.0 good.0 rise have.0, fresh.0, ← map_push dated front r) (more ∙ ap (λ rs. Ok (map dated rs)) (append_assoc front (r ∷ []) rows))
+rows_back kind mode ks front [] number rise kinds good have differ fresh = ap (λ rs. Ok (map dated rs)) (sym (append-nil front))
+rows_back kind mode ks front (r ∷ rows) number rise kinds good have differ fresh =
+    let more = rows_back kind mode ks (front ++ r ∷ []) rows (number + 1) rise kinds.1 good.1 have.1 differ.1 (other_ids front r rows fresh.1 differ.0) in
+    rw (record_back kind mode ks r kinds.0 good.0 rise have.0, fresh.0, ← map_push dated front r) (more ∙ ap (λ rs. Ok (map dated rs)) (append_assoc front (r ∷ []) rows))
 
 each : {X : Type 0} (P : X → Type 0) (xs : List X) → All P xs → AllByRecursion P xs
 each P [] h = tt
@@ -134,19 +135,19 @@ records_back header xs rest e filled = rw e (ap (λ t. records default_config t)
 small : (n : ℕ) → n ≤ largest → nat_lt largest n ≡ false
 small n h = grind (arith, nat_tests)
 
--- the rows of a file that was written
-pub read_back : (kind : Kind) (rows : List Record) → AllRowsText (written_records kind rows) → All (λ (k : MetadataKey). is_id k.key ≡ true) (keys_of rows) → RiseBy (λ (k : MetadataKey). k.key) (keys_of rows) → All IsRow rows
-    → All (λ (r : Record). r.kind ≡ kind) rows → IsDistinct bytes_eq (map (λ (r : Record). r.id) rows) → length (written_text kind rows) ≤ largest → file_of kind Delta (written_text kind rows) ≡ Ok (map dated rows)
+-- the rows of a file that was written, in both modes
+pub read_back : (kind : Kind) (mode : Mode) (rows : List Record) → AllRowsText (written_records kind rows) → All (λ (k : MetadataKey). is_id k.key ≡ true) (keys_of rows) → RiseBy (λ (k : MetadataKey). k.key) (keys_of rows) → All IsRow rows
+    → All (λ (r : Record). r.kind ≡ kind) rows → IsDistinct bytes_eq (map (λ (r : Record). r.id) rows) → length (written_text kind rows) ≤ largest → file_of kind mode (written_text kind rows) ≡ Ok (map dated rows)
 unfolding file_of written_text rows_of
-read_back kind rows plain good rise are kinds differ short =
+read_back kind mode rows plain good rise are kinds differ short =
     let ks = keys_of rows in
     let first = starts kind ks in
     let utf8 = is_utf8-from_IsUtf8 (lines_text (written_records kind rows)) (lines_utf8 (written_records kind rows) plain) in
     let recs = records_back (written_header kind ks) first.0 (map (written_cells ks) rows) first.1 (filled_rows ks rows) in
-    let whole = rows_back kind ks [] rows 2 rise (each _ rows kinds) (each _ rows are) (rows_have rows) differ (none_before rows) in
-    rw (small (length (lines_text (written_records kind rows))) short, utf8, recs, header_back kind ks (each _ ks good) rise) whole
+    let whole = rows_back kind mode ks [] rows 2 rise (each _ rows kinds) (each _ rows are) (rows_have rows) differ (none_before rows) in
+    rw (small (length (lines_text (written_records kind rows))) short, utf8, recs, header_back kind mode ks (each _ ks good) rise) whole
 
-pub given_back : (kind : Kind) (rows : List Record) (t : List ℕ) (r : Result (Vec ℕ Global) NoMemory) → IfOk r (λ v. v.items ≡ t) → (length t ≤ largest → file_of kind Delta t ≡ Ok (map dated rows))
-    → IfOk r (λ v. length v.items ≤ largest → file_of kind Delta v.items ≡ Ok (map dated rows))
+pub given_back : (kind : Kind) (rows : List Record) (t : List ℕ) (r : Result (Vec ℕ Global) NoMemory) → IfOk r (λ v. v.items ≡ t) → ((mode : Mode) → length t ≤ largest → file_of kind mode t ≡ Ok (map dated rows))
+    → IfOk r (λ v. (mode : Mode) → length v.items ≤ largest → file_of kind mode v.items ≡ Ok (map dated rows))
 given_back kind rows t (Ok v) e h = rw e h
 given_back kind rows t (Err f) e h = tt

@@ -192,12 +192,12 @@ fn finish(writer: Writer<Vec<u8>>) -> Result<Vec<u8>, NoMemory>
 
 /// The text of a file of rows of one kind: a header of all columns of the kind in the standard's order and then the columns
 /// of metadata in ascending order of their keys, and a line for each row. Lines end with a line feed. Where it has no more
-/// than 67,108,864 bytes, `read_file` in Delta mode gives the same rows from it, each with its date.
+/// than 67,108,864 bytes, `read_file` gives the same rows from it in each mode, each with its date.
 pub fn write_file(alloc: Global, kind: Kind, rows: &[Row]) -> Result<Vec<u8>, NoMemory>
     requires kinds { All (λ r. r.kind ≡ kind) rows.now }
     requires differ { IsDistinct bytes_eq (map (λ r. r.id) rows.now) }
     ensures text { IfOk result (λ v. v.items ≡ written_text kind rows.now) }
-    ensures back { IfOk result (λ v. length v.items ≤ largest → file_of kind Mode.Delta v.items ≡ Ok (map dated rows.now)) }
+    ensures back { IfOk result (λ v. (mode : Mode) → length v.items ≤ largest → file_of kind mode v.items ≡ Ok (map dated rows.now)) }
 {
     let keys = keys_of(alloc, rows)?;
     let mut writer = WriterBuilder::new().from_writer(Vec::new(alloc));

@@ -19,4 +19,4 @@ returns-clause-back c =
     let good = rw (c.as_slice.ensures.value, keys) at c.in_ok-header.ensures.good in
     let rise = rw keys at c.in_ok-keys.ensures.rise in
     given_back c.args.kind c.args.rows.now (written_text c.args.kind c.args.rows.now) c.finish.result (returns-clause-text c)
-    (read_back c.args.kind c.args.rows.now (header, plain) good rise c.in_ok-write_rows.ensures.rows c.requires.kinds c.requires.differ)
+    (λ mode. read_back c.args.kind mode c.args.rows.now (header, plain) good rise c.in_ok-write_rows.ensures.rows c.requires.kinds c.requires.differ)
