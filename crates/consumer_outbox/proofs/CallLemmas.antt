@@ -2,12 +2,11 @@
 use Rattle.std.proofs.Common.{◌≡◌, ◌≢◌, ◌+◌, ◌*◌, ◌≤◌, inl, inr, ⊎_elim, ℕ, List, Option, Some, None, refl, sym, ◌∙◌, ap, subst, arith}
 use Rattle.std.specs.Prelude.{Result, Ok, Err}
 use Rattle.keeper_memory.specs.copy.Changes.{Commits, copy_after}
-use Rattle.keeper_memory.specs.copy.Copies.{Copy, Stage}
+use Rattle.keeper_memory.specs.copy.Copies.{Copy}
 use Rattle.keeper_memory.specs.declared.copy.change.CopyChange.TheVariants.{Enter, Run}
-use Rattle.exchange_link.specs.Agreement.{FitsVersion, NoneAbove, StageFitsIf}
+use Rattle.exchange_link.specs.Agreement.{CopyFits, HeldFitsIf, NoneAbove, StageFitsIf}
 use Rattle.exchange_link.specs.Exchanges.{Told}
 use Rattle.exchange_link.specs.Marks.{Agree}
-use Rattle.hub_spec.specs.rules.Growth.{Grew}
 use Rattle.hub_spec.proofs.AgreeLemmas.{entering_keeps}
 use Rattle.roster_base.specs.declared.keeper.KeeperError.{KeeperError}
 use Rattle.roster_base.specs.declared.keeper.KeeperError.TheVariants as fault
@@ -19,6 +18,7 @@ use Rattle.exchange_link.specs.Sent.{AllSettled, SendLeaves, SettlesMore, unsett
 use Rattle.exchange_link.specs.SentTold.{WasSent}
 use Rattle.exchange_link.specs.declared.send_answer.SendAnswer.{SendAnswer}
 use Rattle.exchange_link.specs.declared.send_answer.SendAnswer.TheVariants as answer
+use Rattle.exchange_link.proofs.FitLemmas.{copy_on}
 use Rattle.exchange_link.proofs.RunLemmas.{above_more, below_from, ready_from}
 use Rattle.exchange_link.specs.Beginning.{Enters, EntersRun}
 use Rattle.exchange_link.specs.Requests.{Moved}
@@ -28,14 +28,20 @@ use Rattle.consumer_outbox.proofs.AllLemmas.{more_none}
 use Rattle.consumer_outbox.proofs.WalkLemmas.{settles_none}
 use Rattle.consumer_outbox.specs.Sends.{Ready, SoFar, not_begun}
 use Rattle.version_core.specs.HubStates.{HubState}
-use Rattle.version_core.specs.declared.change.BaseVersion.{BaseVersion}
 use Rattle.version_core.specs.declared.mark.Write.{Write}
+
+-- a copy with the same stage, which holds the same, fits
+fits_same : (before after : Copy) (h : HubState) → after.stage ≡ before.stage → after.held ≡ before.held → CopyFits before h → CopyFits after h
+fits_same before after h stage held fits = record {
+  stage = subst (λ o. StageFitsIf o h) (sym stage) fits.stage;
+  held = subst (λ o. HeldFitsIf o after.stage h) (sym held) (subst (λ o. HeldFitsIf before.held o h) (sym stage) fits.held);
+}
 
 -- ---- entering
 
 entered_agrees : (number : ℕ) (write : Write) (before : Copy) (told : Told) → number ≡ before.last_number + 1 → Agree before told → Agree (copy_after (Enter number write) before) told
 entered_agrees number write before told next agree = record {
-  stage = record { differ = agree.stage.differ; below = agree.stage.below; stage = agree.stage.stage };
+  stage = record { differ = agree.stage.differ; below = agree.stage.below; fits = fits_same before (copy_after (Enter number write) before) told.hub refl refl agree.stage.fits };
   marks = entering_keeps before.entries before.last_number number write told.hub told.sent next agree.marks;
 }
 
@@ -103,21 +109,14 @@ pub started_caused : (cause : NoRun) (a : SendAnswer) (token : List ℕ) (copies
     → SendCaused token copies tells asked asked kept missed broke a
 started_caused cause a token copies tells asked kept missed broke e f = subst (λ a. SendCaused token copies tells asked asked kept missed broke a) (sym e) (start_caused cause token copies tells asked kept missed broke f)
 
--- ---- a stage agrees with each later state
-
-stage_on : (o : Option Stage) (a b : HubState) → Grew a b → StageFitsIf o a → StageFitsIf o b
-stage_on None a b grew h = tt
-stage_on (Some s) a b grew h = record {
-  standing = let longer = grew.longer in let stands = h.standing in omega (arith, longer, stands);
-  fits = subst (λ (v : BaseVersion). FitsVersion s v) (sym (grew.same s.pin h.standing)) h.fits;
-}
+-- ---- what a copy agrees on
 
 -- the agreement where only the run number changed
 pub run_agrees : (before after : Copy) (told : Told) → EntersRun before after → Agree before told → Agree after told
 run_agrees before after told x agree = ⊎_elim
     (λ (e : after ≡ before). subst (λ c. Agree c told) (sym e) agree)
     (λ (e : after ≡ copy_after (Run (before.run + 1)) before). subst (λ c. Agree c told) (sym e) (record {
-      stage = record { differ = agree.stage.differ; below = above_more before.run (before.run + 1) told.sent (omega arith) agree.stage.below; stage = agree.stage.stage };
+      stage = record { differ = agree.stage.differ; below = above_more before.run (before.run + 1) told.sent (omega arith) agree.stage.below; fits = fits_same before (copy_after (Run (before.run + 1)) before) told.hub refl refl agree.stage.fits };
       marks = agree.marks;
     })) x
 
@@ -156,7 +155,7 @@ agree_ended s n k before mid after told tells x y moved agree ready = record {
   stage = record {
     differ = ready.numbers.differ;
     below = subst (λ r. NoneAbove r tells.sent) (sym (run_is s n before mid after x y)) (below_from s.run k tells.sent ready.numbers.spent);
-    stage = subst (λ o. StageFitsIf o tells.hub) (sym (y.stage ∙ ap (λ (c : Copy). c.stage) x.1)) (stage_on before.stage told.hub tells.hub moved.grew agree.stage.stage);
+    fits = fits_same before after tells.hub (y.stage ∙ ap (λ (c : Copy). c.stage) x.1) (y.held ∙ ap (λ (c : Copy). c.held) x.1) (copy_on before told.hub tells.hub moved.grew agree.stage.fits);
   };
   marks = ready.marks;
 }

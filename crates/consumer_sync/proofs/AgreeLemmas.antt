@@ -5,11 +5,11 @@ use Rattle.std.proofs.Math.Seq.{drop-append_seam}
 use Rattle.std.proofs.lemmas.List.{take-append-drop, take_all, take_more}
 use Rattle.std.proofs.lemmas.Bool.Decides.{nat_tests}
 use Rattle.keeper_memory.specs.copy.Changes.{begun, stage_after}
-use Rattle.keeper_memory.specs.copy.Copies.{Copy, Stage}
+use Rattle.keeper_memory.specs.copy.Copies.{Copy, Held, Stage}
 use Rattle.keeper_memory.specs.copy.Lists.{kind_count}
 use Rattle.keeper_memory.specs.copy.States.{stage_of, state_of}
 use Rattle.keeper_memory.specs.declared.copy.state.StageState.{StageState}
-use Rattle.exchange_link.specs.Agreement.{FitsVersion, IsFrontOf, StageFits, StageFitsIf}
+use Rattle.exchange_link.specs.Agreement.{CopyFits, FitsVersion, HeldFitsIf, IsFrontOf, StageFits, StageFitsIf}
 use Rattle.exchange_link.specs.Exchanges.{Told}
 use Rattle.exchange_link.specs.Owning.Gives.{Wants as GivesWant, Broke as GivesFault, Answers as GivesAnswer}
 use Rattle.exchange_link.specs.Sayings.{Gone, IsRead, Listed, Shut, Tells, Unknown, knows, list_of}
@@ -38,6 +38,7 @@ use Rattle.consumer_sync.specs.Staging.{Performs, Taking, taking}
 use Rattle.consumer_sync.specs.Staging.Adds.{Stays, Opened, Takes}
 use Rattle.consumer_sync.specs.Staging.Performs.{Kept, Grown, Cleared}
 use Rattle.exchange_link.proofs.AskLemmas.{grew_on}
+use Rattle.exchange_link.proofs.FitLemmas.{copy_on, held_alone}
 use Rattle.consumer_sync.proofs.JudgeLemmas.{IsListed, IsPage, IsShut, taken_page}
 use Rattle.consumer_sync.proofs.KindLemmas.{place_at}
 
@@ -73,17 +74,6 @@ said_of a b stage run count token limit w can own = record {
 }
 
 -- ---- stages and versions
-
--- a stage agrees with each later state
-pub agrees_on : (s : Stage) (a b : HubState) → Grew a b → StageFits s a → StageFits s b
-agrees_on s a b g h = record {
-  standing = omega (arith, g.longer, h.standing);
-  fits = subst (λ v. FitsVersion s v) (sym (g.same s.pin h.standing)) h.fits;
-}
-
-pub agrees_if_on : (o : Option Stage) (a b : HubState) → Grew a b → StageFitsIf o a → StageFitsIf o b
-agrees_if_on None a b g h = tt
-agrees_if_on (Some s) a b g h = agrees_on s a b g h
 
 -- a page as the version has it
 pub record FromVersion (v : BaseVersion) (token : List ℕ) (limit kinds staged : ℕ) (k : Taking) : Type 0 where
@@ -239,16 +229,34 @@ taken_agrees (Some s) a h token limit k et x y = after_agrees s h limit k x
     (subst (λ t. FromVersion (version_at h s.pin) t limit (length s.done) (length s.present) k) (sym et)
     (subst (λ p. FromVersion (version_at h p) token limit (length s.done) (length s.present) k) y.pin y.from))
 
--- whatever a reply makes of the copy, its stage agrees
-pub performs_agrees : (c after : Copy) (a b : Told) (stage : Option StageState) (token : List ℕ) (limit : ℕ) (w : WireReply) (result : Option SyncAnswer) → stage_of c ≡ stage → HasToken token stage → StageFitsIf c.stage b.hub
-    → IsSaid a b (next_page token limit stage) w → kinds_of stage < kind_count → Performs (judged stage limit w) token result c after → StageFitsIf after.stage b.hub
-performs_agrees c after a b stage token limit w result e et x own lt (Kept n known h) = subst (λ (d : Copy). StageFitsIf d.stage b.hub) (sym h) x
-performs_agrees c after a b stage token limit w result e et x own lt (Cleared n m h) = subst (λ (d : Copy). StageFitsIf d.stage b.hub) (sym h) tt
-performs_agrees c after a b stage token limit w result e et x own lt (Grown k t g) =
+-- what is held isn't newer than a stage that is opened
+held_opened : (o : Option Held) (stage : Option Stage) (a b : HubState) (pin : ℕ) (token : List ℕ) → HeldFitsIf o stage a → HeldFitsIf o stage b → PinIs (option_map state_of stage) a pin
+    → HeldFitsIf o (Some (unwrap_or stage (begun pin token))) b
+held_opened None stage a b pin token x z p = tt
+held_opened (Some held) None a b pin token x z p = record { standing = z.standing; below = (let stands = x.standing in omega (arith, stands, p)); seen = z.seen }
+held_opened (Some held) (Some s) a b pin token x z p = z
+
+-- nor than one with a page more
+held_taken : (o : Option Held) (s : Stage) (rows : List Record) (total : ℕ) (done : Bool) (h : HubState) → HeldFitsIf o (Some s) h → HeldFitsIf o (Some (stage_after s rows total done)) h
+held_taken None s rows total done h x = tt
+held_taken (Some held) s rows total true h x = record { standing = x.standing; below = x.below; seen = x.seen }
+held_taken (Some held) s rows total false h x = record { standing = x.standing; below = x.below; seen = x.seen }
+
+-- whatever a reply makes of the copy, it fits
+pub performs_agrees : (c after : Copy) (a b : Told) (stage : Option StageState) (token : List ℕ) (limit : ℕ) (w : WireReply) (result : Option SyncAnswer) → stage_of c ≡ stage → HasToken token stage → Grew a.hub b.hub → CopyFits c a.hub
+    → IsSaid a b (next_page token limit stage) w → kinds_of stage < kind_count → Performs (judged stage limit w) token result c after → CopyFits after b.hub
+performs_agrees c after a b stage token limit w result e et grew x own lt (Kept n known h) = subst (λ (d : Copy). CopyFits d b.hub) (sym h) (copy_on c a.hub b.hub grew x)
+performs_agrees c after a b stage token limit w result e et grew x own lt (Cleared n m h) =
+    let z = copy_on c a.hub b.hub grew x in
+    subst (λ (d : Copy). CopyFits d b.hub) (sym h) (record { stage = tt; held = held_alone c.held c.stage b.hub z.held })
+performs_agrees c after a b stage token limit w result e et grew x own lt (Grown k t g) =
     let y = subst (λ st. StandsIn st a.hub b.hub token limit k) (sym e) (own_page a b stage token limit w k own lt t) in
     let et2 = subst (λ st. HasToken token st) (sym e) et in
-    elim g as (λ _. StageFitsIf after.stage b.hub) [
-      | Stays n h ↦ subst (λ (d : Copy). StageFitsIf d.stage b.hub) (sym h) x
-      | Opened n h ↦ subst (λ (d : Copy). StageFitsIf d.stage b.hub) (sym h) (opened_agrees c.stage a.hub b.hub token limit k x y)
-      | Takes n h ↦ subst (λ (d : Copy). StageFitsIf d.stage b.hub) (sym h) (taken_agrees c.stage a.hub b.hub token limit k et2 x y)
+    let z = copy_on c a.hub b.hub grew x in
+    let opened = held_opened c.held c.stage a.hub b.hub k.pin token x.held z.held y.pin in
+    elim g as (λ _. CopyFits after b.hub) [
+      | Stays n h ↦ subst (λ (d : Copy). CopyFits d b.hub) (sym h) z
+      | Opened n h ↦ subst (λ (d : Copy). CopyFits d b.hub) (sym h) (record { stage = opened_agrees c.stage a.hub b.hub token limit k z.stage y; held = opened })
+      | Takes n h ↦ subst (λ (d : Copy). CopyFits d b.hub) (sym h)
+          (record { stage = taken_agrees c.stage a.hub b.hub token limit k et2 z.stage y; held = held_taken c.held (unwrap_or c.stage (begun k.pin token)) k.rows k.total k.done b.hub opened })
     ]

@@ -21,6 +21,7 @@ use Rattle.hub_spec.specs.rules.States.{IsHub}
 use Rattle.exchange_link.specs.Places.{kind_at, kinds_of, last_of, next_page, pin_of, staged_of, total_of}
 use Rattle.exchange_link.specs.declared.answer.SyncAnswer.{SyncAnswer}
 use Rattle.exchange_link.specs.declared.answer.SyncAnswer.TheVariants as answer
+use Rattle.exchange_link.proofs.FitLemmas.{stage_if_on}
 use Rattle.exchange_link.proofs.CutLemmas.{IsGood, begun as hub_begun, list_good}
 use Rattle.hub_spec.proofs.Cutting.{known_at}
 use Rattle.http_wire.specs.declared.answer.WireReply.{WireReply}
@@ -42,7 +43,7 @@ use Rattle.consumer_sync.specs.declared.judging.Act.{Act}
 use Rattle.consumer_sync.specs.declared.judging.Act.TheVariants as act
 use Rattle.exchange_link.proofs.AskLemmas.{grew_on}
 use Rattle.consumer_sync.proofs.KindLemmas.{place_at}
-use Rattle.consumer_sync.proofs.AgreeLemmas.{IsSaid, agrees_if_on}
+use Rattle.consumer_sync.proofs.AgreeLemmas.{IsSaid}
 use Rattle.consumer_sync.proofs.AgreeLemmas.Given.{Wants, Broke, Answers}
 use Rattle.hub_spec.proofs.Versions.{newest_at}
 use Rattle.roster_types.specs.Keys.{is_after}
@@ -221,8 +222,8 @@ own_done' o first a b start token limit w kind offset et x lt own g ha hb law qu
             ⊎_elim (λ (h : p < oldest_number own.mid). omega (arith, h, le, at.oldest, keeps))
             (λ h. ⊎_elim (λ (h : p < by.grant.since). let h2 : p < (at.by).grant.since = subst (λ (r : GrantRow). p < r.grant.since) same h in omega (arith, h2, le, at.since))
             (λ (h : newest_number own.mid < p). omega (arith, h, pl, (own.from).longer)) h) why)
-        | Shut v read st ver none ↦ subst (λ (x : Option SyncAnswer). IsDoneIf x) (sym (shut_done o token limit v w own.mid kind offset et (agrees_if_on o a.hub own.mid own.from x) lt read st ver none)) tt
-        | Listed v read st ver tot rows ↦ subst (λ (x : Option SyncAnswer). IsDoneIf x) (sym (read_done o token limit v w own.mid kind offset own.is_hub et (agrees_if_on o a.hub own.mid own.from x) lt read st ver tot rows)) tt
+        | Shut v read st ver none ↦ subst (λ (x : Option SyncAnswer). IsDoneIf x) (sym (shut_done o token limit v w own.mid kind offset et (stage_if_on o a.hub own.mid own.from x) lt read st ver none)) tt
+        | Listed v read st ver tot rows ↦ subst (λ (x : Option SyncAnswer). IsDoneIf x) (sym (read_done o token limit v w own.mid kind offset own.is_hub et (stage_if_on o a.hub own.mid own.from x) lt read st ver tot rows)) tt
       ]
     ]
 
@@ -255,8 +256,8 @@ own_told' o a b token limit w kind offset et x lt own =
           (let pl = pin_standing o a.hub p x e in ⊎_elim (λ (h : p < oldest_number own.mid). inl h)
               (λ h. ⊎_elim (λ (h : p < by.grant.since). inr h) (λ (h : newest_number own.mid < p). absurd (omega (arith, h, pl, (own.from).longer))) h) why),
         )
-        | Shut v read st ver none ↦ subst (λ (x : Option SyncAnswer). ToldIf token a b x) (sym (shut_done o token limit v w own.mid kind offset et (agrees_if_on o a.hub own.mid own.from x) lt read st ver none)) tt
-        | Listed v read st ver tot rows ↦ subst (λ (x : Option SyncAnswer). ToldIf token a b x) (sym (read_done o token limit v w own.mid kind offset own.is_hub et (agrees_if_on o a.hub own.mid own.from x) lt read st ver tot rows)) tt
+        | Shut v read st ver none ↦ subst (λ (x : Option SyncAnswer). ToldIf token a b x) (sym (shut_done o token limit v w own.mid kind offset et (stage_if_on o a.hub own.mid own.from x) lt read st ver none)) tt
+        | Listed v read st ver tot rows ↦ subst (λ (x : Option SyncAnswer). ToldIf token a b x) (sym (read_done o token limit v w own.mid kind offset own.is_hub et (stage_if_on o a.hub own.mid own.from x) lt read st ver tot rows)) tt
       ]
     ]
 

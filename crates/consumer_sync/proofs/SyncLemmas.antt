@@ -11,7 +11,7 @@ use Rattle.keeper_memory.specs.declared.copy.change.CopyChange.TheVariants.{Run,
 use Rattle.keeper_memory.specs.declared.copy.state.CopyState.{CopyState}
 use Rattle.keeper_memory.specs.declared.copy.state.StageState.{StageState}
 use Rattle.keeper_memory.specs.declared.copy.state.TheConstants.{LAST}
-use Rattle.exchange_link.specs.Agreement.{NoneAbove, StageAgrees, StageFits, StageFitsIf}
+use Rattle.exchange_link.specs.Agreement.{CopyFits, HeldFits, HeldFitsIf, NoneAbove, StageAgrees, StageFits, StageFitsIf}
 use Rattle.exchange_link.specs.Causes.{AsksOn, CauseOf, LastLaw, IsAside}
 use Rattle.exchange_link.specs.Completeness.{IsDone}
 use Rattle.exchange_link.specs.Exchanges.{Told}
@@ -19,10 +19,11 @@ use Rattle.hub_spec.specs.views.Cuts.{cut}
 use Rattle.exchange_link.specs.Sayings.{knows}
 use Rattle.hub_spec.specs.rules.Checks.{version_at}
 use Rattle.exchange_link.specs.Places.{kinds_of}
-use Rattle.exchange_link.specs.Synchronised.{CompleteAt, HeldLaw, HeldTold, IsPinOf, Leaves, MayStay, StageLaw, StageOn, Synchronised, own_stage, own_state}
+use Rattle.exchange_link.specs.Synchronised.{CompleteAt, HeldLaw, HeldTold, IsPinOf, Leaves, MayStay, StageLaw, StageOn, Synchronised, held_at, own_stage, own_state}
 use Rattle.exchange_link.specs.declared.answer.SyncAnswer.{SyncAnswer}
 use Rattle.exchange_link.specs.declared.answer.SyncAnswer.TheVariants as answer
 use Rattle.exchange_link.proofs.CutLemmas.{cut_whole}
+use Rattle.exchange_link.proofs.FitLemmas.{held_alone}
 use Rattle.roster_types.specs.Records.{Record}
 use Rattle.version_core.specs.HubStates.{HubState}
 use Rattle.exchange_link.proofs.RunLemmas.{above_more, below_from, ready_from}
@@ -35,11 +36,18 @@ use Rattle.consumer_sync.specs.Requests.{IsUnmarked}
 use Rattle.consumer_sync.specs.Starting.{Aborts, Drops, StartCause, SwapsIn, unentered, without_other}
 
 -- a beginning that failed
+fail_fits : (token : List ℕ) (b a : Copy) (h : HubState) → Aborts token b a → CopyFits b h → CopyFits a h
+fail_fits token b a h f x = record {
+  stage = ⊎_elim (λ (e : a.stage ≡ b.stage). subst (λ o. StageFitsIf o h) (sym e) x.stage) (λ e. subst (λ o. StageFitsIf o h) (sym e.1) tt) f.stage;
+  held = subst (λ o. HeldFitsIf o a.stage h) (sym f.held)
+      (⊎_elim (λ (e : a.stage ≡ b.stage). subst (λ o. HeldFitsIf b.held o h) (sym e) x.held) (λ e. subst (λ o. HeldFitsIf b.held o h) (sym e.1) (held_alone b.held b.stage h x.held)) f.stage);
+}
+
 fail_agree : (token : List ℕ) (b a : Copy) (t : Told) → Aborts token b a → StageAgrees b t → StageAgrees a t
 fail_agree token b a t f h = record {
   differ = h.differ;
   below = ⊎_elim (λ (e : a.run ≡ b.run). above_more b.run a.run t.sent (omega (arith, e)) h.below) (λ (e : a.run ≡ b.run + 1). above_more b.run a.run t.sent (omega (arith, e)) h.below) f.run;
-  stage = ⊎_elim (λ (e : a.stage ≡ b.stage). subst (λ o. StageFitsIf o t.hub) (sym e) h.stage) (λ e. subst (λ o. StageFitsIf o t.hub) (sym e.1) tt) f.stage;
+  fits = fail_fits token b a t.hub f h.fits;
 }
 
 fail_stage : (token : List ℕ) (b a : Copy) → Aborts token b a → (StageOn token (own_stage token b.stage) a.stage) ⊎ (a.stage ≡ b.stage)
@@ -109,13 +117,24 @@ own_agrees : (token : List ℕ) (o : Option Stage) (h : HubState) → StageFitsI
 own_agrees token None h x = tt
 own_agrees token (Some s) h x = own_if (bytes_eq s.token token) s h x
 
+own_held_if : (b : Bool) (o : Option Held) (s : Stage) (h : HubState) → HeldFitsIf o (Some s) h → HeldFitsIf o (if b then Some s else None) h
+own_held_if true o s h x = x
+own_held_if false o s h x = held_alone o (Some s) h x
+
+own_held : (token : List ℕ) (o : Option Held) (stage : Option Stage) (h : HubState) → HeldFitsIf o stage h → HeldFitsIf o (own_stage token stage) h
+own_held token o None h x = x
+own_held token o (Some s) h x = own_held_if (bytes_eq s.token token) o s h x
+
 -- the copy with which the loop begins
 pub begun_is : (token : List ℕ) (b m a : Copy) (s : CopyState) (o : Option StageState) → Enters (Ok s) b m → Drops token (Ok o) m a → a ≡ without_other token (copy_after (Run (b.run + 1)) b)
 begun_is token b m a s o x y = y ∙ ap (without_other token) x.1
 
 -- what the loop is given
-pub entry : (token : List ℕ) (run : ℕ) (b a : Copy) (t : Told) → a ≡ without_other token (copy_after (Run (b.run + 1)) b) → run ≡ b.run + 1 → StageAgrees b t → StageFitsIf a.stage t.hub × IsReady run 0 t.sent
-entry token run b a t e er h = (subst (λ (d : Copy). StageFitsIf d.stage t.hub) (sym e) (own_agrees token b.stage t.hub h.stage), ready_from b.run run t.sent er h.differ h.below)
+pub entry : (token : List ℕ) (run : ℕ) (b a : Copy) (t : Told) → a ≡ without_other token (copy_after (Run (b.run + 1)) b) → run ≡ b.run + 1 → StageAgrees b t → CopyFits a t.hub × IsReady run 0 t.sent
+entry token run b a t e er h = (
+  subst (λ (d : Copy). CopyFits d t.hub) (sym e) (record { stage = own_agrees token b.stage t.hub h.fits.stage; held = own_held token b.held b.stage t.hub h.fits.held }),
+  ready_from b.run run t.sent er h.differ h.below,
+)
 
 fill_stage : (token : List ℕ) (e : SyncAnswer) (old new : Option Stage) → IsEnd e → StageEnds token (Some e) (own_stage token old) new → StageLaw token e old new
 fill_stage token (answer.Complete v) old new c x = absurd c
@@ -140,14 +159,14 @@ fill_leaves token e b d a ed c x =
     let y : Ends token (Some e) (without_other token (copy_after (Run (b.run + 1)) b)) a = subst (λ (d : Copy). Ends token (Some e) d a) ed x in
     record { run = inr y.run; entries = y.entries; last_number = y.last_number; held = fill_held e b a c y.held; stage = fill_stage token e b.stage a.stage c y.stage }
 
-agree_after : (token : List ℕ) (run n : ℕ) (r : Option SyncAnswer) (b a : Copy) (t u : Told) → Ends token r (without_other token (copy_after (Run (b.run + 1)) b)) a → run ≡ b.run + 1 → Asks run 0 n IsUnmarked t u → StageAgrees b t → StageFitsIf a.stage u.hub → StageAgrees a u
+agree_after : (token : List ℕ) (run n : ℕ) (r : Option SyncAnswer) (b a : Copy) (t u : Told) → Ends token r (without_other token (copy_after (Run (b.run + 1)) b)) a → run ≡ b.run + 1 → Asks run 0 n IsUnmarked t u → StageAgrees b t → CopyFits a u.hub → StageAgrees a u
 agree_after token run n r b a t u y er asks h s =
     let ready = asks.ready (ready_from b.run run t.sent er h.differ h.below) in
-    record { differ = ready.differ; below = subst (λ x. NoneAbove x u.sent) (er ∙ sym y.run) (below_from run n u.sent ready.spent); stage = s }
+    record { differ = ready.differ; below = subst (λ x. NoneAbove x u.sent) (er ∙ sym y.run) (below_from run n u.sent ready.spent); fits = s }
 
 -- and over one that tells
 pub fill_sync : (token : List ℕ) (run n : ℕ) (e : SyncAnswer) (b d a : Copy) (t u : Told) → d ≡ without_other token (copy_after (Run (b.run + 1)) b) → IsEnd e → Ends token (Some e) d a → run ≡ b.run + 1
-    → Asks run 0 n IsUnmarked t u → StageAgrees b t → StageFitsIf a.stage u.hub → Synchronised token e b t a u
+    → Asks run 0 n IsUnmarked t u → StageAgrees b t → CopyFits a u.hub → Synchronised token e b t a u
 fill_sync token run n e b d a t u ed c x er asks h s =
     let y : Ends token (Some e) (without_other token (copy_after (Run (b.run + 1)) b)) a = subst (λ (d : Copy). Ends token (Some e) d a) ed x in
     record { leaves = fill_leaves token e b d a ed c x; agree = agree_after token run n (Some e) b a t u y er asks h s; held = fill_told token e b a t u c y.held }
@@ -188,7 +207,7 @@ swapped_in c s = record c { held = Some (held_of s); stage = None }
 
 complete_at : (token : List ℕ) (b c : Copy) (s : Stage) (t u : Told) → StageFits s u.hub → length s.done ≡ kind_count → s.token ≡ token → IsPinOf (own_stage token b.stage) t.hub s.pin → CompleteAt s.pin token b t (swapped_in c s) u
 complete_at token b c s t u x all et p = record {
-  held = ap (λ (l : List (List Record)). let h : Option Held = Some (record { version = s.pin; lists = l }) in h) (whole s u.hub x all ∙ ap (cut (version_at u.hub s.pin)) et);
+  held = ap (λ (l : List (List Record)). let h : Option Held = Some (record { version = s.pin; token = Some s.token; lists = l }) in h) (whole s u.hub x all) ∙ ap (λ (t : List ℕ). Some (held_at s.pin t u.hub)) et;
   stage = refl;
   standing = x.standing;
   known = subst (λ t. knows (version_at u.hub s.pin) t ≡ true) et x.fits.known;
@@ -203,22 +222,26 @@ pub record Ready (token : List ℕ) (run n : ℕ) (b c : Copy) (st : StageState)
   pub run_is : run ≡ b.run + 1
   pub asks : Asks run 0 n IsUnmarked t u
   pub agree : StageAgrees b t
-  pub stage : StageFitsIf c.stage u.hub
+  pub fits : CopyFits c u.hub
   pub law : PinLaw (own_state token (stage_of b)) t.hub (Some st)
 
 swap_complete : (token : List ℕ) (run n : ℕ) (b c : Copy) (st : StageState) (t u : Told) (s : Stage) → Ready token run n b c st t u → c.stage ≡ Some s → state_of s ≡ st → CompleteAt st.pin token b t (swapped_in c s) u
 swap_complete token run n b c st t u s r e es =
     let on : StageOn token (own_stage token b.stage) (Some s) = subst (λ o. StageOn token (own_stage token b.stage) o) e (r.ends).stage in
-    let ag : StageFits s u.hub = subst (λ o. StageFitsIf o u.hub) e r.stage in
+    let ag : StageFits s u.hub = subst (λ o. StageFitsIf o u.hub) e r.fits.stage in
     let all : length s.done ≡ kind_count = ap (λ (x : StageState). x.kinds_done) es ∙ r.all in
     let p : st.pin ≡ s.pin = ap (λ (x : StageState). x.pin) (sym es) in
     subst (λ v. CompleteAt v token b t (swapped_in c s) u) (sym p)
     (complete_at token b c s t u ag all (token_of token b.stage s on) (subst (λ v. IsPinOf (own_stage token b.stage) t.hub v) p (pin_law token b.stage t.hub st r.law)))
 
-swap_agree : (token : List ℕ) (run n : ℕ) (b c : Copy) (st : StageState) (t u : Told) (s : Stage) → Ready token run n b c st t u → StageAgrees (swapped_in c s) u
-swap_agree token run n b c st t u s r =
-    let x = agree_after token run n None b c t u r.ends r.run_is r.asks r.agree r.stage in
-    record { differ = x.differ; below = x.below; stage = tt }
+swapped_fits : (s : Stage) (h : HubState) → StageFits s h → length s.done ≡ kind_count → HeldFits (held_of s) None h
+swapped_fits s h x all = record { standing = x.standing; below = tt; seen = record { known = x.fits.known; same = whole s h x all } }
+
+swap_agree : (token : List ℕ) (run n : ℕ) (b c : Copy) (st : StageState) (t u : Told) (s : Stage) → Ready token run n b c st t u → c.stage ≡ Some s → state_of s ≡ st → StageAgrees (swapped_in c s) u
+swap_agree token run n b c st t u s r e es =
+    let x = agree_after token run n None b c t u r.ends r.run_is r.asks r.agree r.fits in
+    let fits : StageFits s u.hub = subst (λ o. StageFitsIf o u.hub) e r.fits.stage in
+    record { differ = x.differ; below = x.below; fits = record { stage = tt; held = swapped_fits s u.hub fits (ap (λ (x : StageState). x.kinds_done) es ∙ r.all) } }
 
 -- swapped
 swap_done : (token : List ℕ) (run n : ℕ) (b c : Copy) (st : StageState) (t u : Told) (s : Stage) → Ready token run n b c st t u → c.stage ≡ Some s → state_of s ≡ st → Synchronised token (answer.Complete st.pin) b t (swapped_in c s) u
@@ -230,7 +253,7 @@ swap_done token run n b c st t u s r e es = record {
     held = (s, record { held = refl; pin = ap (λ (x : StageState). x.pin) es; all = ap (λ (x : StageState). x.kinds_done) es ∙ r.all; stage = refl });
     stage = inr (inl (tt, refl));
   };
-  agree = swap_agree token run n b c st t u s r;
+  agree = swap_agree token run n b c st t u s r e es;
   held = swap_complete token run n b c st t u s r e es;
 }
 
@@ -243,19 +266,19 @@ swap_broken token run n b c st t u s r e es = record {
     held = inr (s, record { held = refl; pin = refl; all = ap (λ (x : StageState). x.kinds_done) es ∙ r.all; stage = refl });
     stage = inr (inl (tt, refl));
   };
-  agree = swap_agree token run n b c st t u s r;
+  agree = swap_agree token run n b c st t u s r e es;
   held = inr (st.pin, swap_complete token run n b c st t u s r e es);
 }
 
 kept_sync : (token : List ℕ) (run n : ℕ) (b c : Copy) (st : StageState) (t u : Told) (e : SyncAnswer) → MayStay e → Ready token run n b c st t u → Synchronised token e b t c u
 kept_sync token run n b c st t u answer.KeeperFault m r = record {
   leaves = record { run = inr (r.ends).run; entries = (r.ends).entries; last_number = (r.ends).last_number; held = inl (r.ends).held; stage = inl (r.ends).stage };
-  agree = agree_after token run n None b c t u r.ends r.run_is r.asks r.agree r.stage;
+  agree = agree_after token run n None b c t u r.ends r.run_is r.asks r.agree r.fits;
   held = inl (r.ends).held;
 }
 kept_sync token run n b c st t u answer.NoMemory m r = record {
   leaves = record { run = inr (r.ends).run; entries = (r.ends).entries; last_number = (r.ends).last_number; held = (r.ends).held; stage = inl (r.ends).stage };
-  agree = agree_after token run n None b c t u r.ends r.run_is r.asks r.agree r.stage;
+  agree = agree_after token run n None b c t u r.ends r.run_is r.asks r.agree r.fits;
   held = (r.ends).held;
 }
 kept_sync token run n b c st t u e m r = absurd m

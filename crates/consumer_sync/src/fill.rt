@@ -6,7 +6,7 @@ ghost use Rattle.keeper_memory.specs.copy.Lists.{kind_count};
 ghost use Rattle.keeper_memory.specs.copy.States.{stage_of};
 ghost use Rattle.keeper_memory.specs.declared.copy.state.StageState.{StageState as State};
 ghost use Rattle.keeper_memory.specs.declared.copy.state.TheConstants.{LAST};
-ghost use Rattle.exchange_link.specs.Agreement.{StageFitsIf};
+ghost use Rattle.exchange_link.specs.Agreement.{CopyFits};
 ghost use Rattle.exchange_link.specs.Asked.{IsPageUnder, SendsOn};
 ghost use Rattle.exchange_link.specs.Bounds.{Bounded};
 ghost use Rattle.exchange_link.specs.Causes.{IsLast, IsMore, IsOwnReply, RoseBy};
@@ -57,16 +57,16 @@ pub fn fill<C: CopyKeeper, L: Link>(
         × (Ends token.now result before after × (StageOn token.now before.stage after.stage ⊎ SaysGone (L.kept link.new))) }
     ensures link { (after : Told) → L.tells link.new after → (before : Told) × L.tells link.old before × (count : ℕ) × Asks run 0 count IsUnmarked before after
         × (result ≡ None → IsSmall stage.old → IsReady run 0 before.sent → PinLaw stage.old before.hub stage.new) }
-    ensures agree { ((c : Copy) (t : Told) → C.stands_for copy.old c → L.tells link.old t → StageFitsIf c.stage t.hub × IsReady run 0 t.sent)
-        → (c : Copy) (t : Told) → C.stands_for copy.new c → L.tells link.new t → StageFitsIf c.stage t.hub }
-    ensures bound { ((c : Copy) (t : Told) → C.stands_for copy.old c → L.tells link.old t → StageFitsIf c.stage t.hub × IsReady run 0 t.sent)
+    ensures agree { ((c : Copy) (t : Told) → C.stands_for copy.old c → L.tells link.old t → CopyFits c t.hub × IsReady run 0 t.sent)
+        → (c : Copy) (t : Told) → C.stands_for copy.new c → L.tells link.new t → CopyFits c t.hub }
+    ensures bound { ((c : Copy) (t : Told) → C.stands_for copy.old c → L.tells link.old t → CopyFits c t.hub × IsReady run 0 t.sent)
         → (c : Copy) (t : Told) → C.stands_for copy.new c → L.tells link.new t
         → (n : ℕ) × (L.asked link.new ≤ L.asked link.old + n) × Bounded n tries limit token.now stage.old (λ v. IsCallPinIf result c t.sent v) t.hub }
-    ensures complete { ((c : Copy) (t : Told) → C.stands_for copy.old c → L.tells link.old t → StageFitsIf c.stage t.hub × IsReady run 0 t.sent)
+    ensures complete { ((c : Copy) (t : Told) → C.stands_for copy.old c → L.tells link.old t → CopyFits c t.hub × IsReady run 0 t.sent)
         → ¬ Rose (L.fault_count link.old) (L.fault_count link.new) → ¬ Rose (C.fault_count copy.old) (C.fault_count copy.new)
         → (c : Copy) (t : Told) → C.stands_for copy.new c → L.tells link.new t
         → (before : Told) × L.tells link.old before × (¬ Rose before.hub_faults t.hub_faults → StandsAt (first_pin stage.old before.hub) token.now t.hub → IsDoneIf result) }
-    ensures told { ((c : Copy) (t : Told) → C.stands_for copy.old c → L.tells link.old t → StageFitsIf c.stage t.hub × IsReady run 0 t.sent)
+    ensures told { ((c : Copy) (t : Told) → C.stands_for copy.old c → L.tells link.old t → CopyFits c t.hub × IsReady run 0 t.sent)
         → (c : Copy) (t : Told) → C.stands_for copy.new c → L.tells link.new t
         → (before : Told) × L.tells link.old before × ToldIf token.now before t result }
     ensures ends { IsEndIf result }

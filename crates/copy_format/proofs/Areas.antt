@@ -17,7 +17,7 @@ use Rattle.roster_values.specs.declared.kind.Kind.TheVariants.{Orgs, AcademicSes
 use Rattle.std.specs.Prelude.{Option}
 use Rattle.copy_format.specs.Bodies.{stage_body}
 use Rattle.copy_format.specs.Edits.{clear_side}
-use Rattle.copy_format.specs.Format.{other_side, row_area, stage_entries}
+use Rattle.copy_format.specs.Format.{other_side, row_area, stage_entries, token_entries}
 use Rattle.copy_format.proofs.Lists.{place_low}
 
 pub other_than : {X : Type 0} (b : Bool) (x y : X) → b ≡ false → (if b then x else y) ≡ y
@@ -81,6 +81,10 @@ pub stage_put : (old : Option Stage) (s : Stage) → insert (from_entries {R = b
 stage_put None s = refl
 stage_put (Some x) s = one_new [] (stage_body (state_of s)) (stage_body (state_of x))
 
+pub token_put : (old : Option (List ℕ)) (token : List ℕ) → insert (from_entries {R = bytes_cmp} (token_entries old)) [] token ≡ from_entries (token_entries (Some token))
+token_put None token = refl
+token_put (Some x) token = one_new [] token x
+
 -- ---- clears
 
 pub stage_cleared : (old : Option Stage) → retain_keys (from_entries {R = bytes_cmp} (stage_entries old)) (λ label. not (is_between [] (0 ∷ []) label)) ≡ from_entries []
@@ -96,6 +100,7 @@ pub record ClearsOf (side : ℕ) : Type 0 where
   pub state : (m : Items) → after (clear_side side) m 1 ≡ m 1
   pub stage : (m : Items) → after (clear_side side) m 2 ≡ m 2
   pub entries : (m : Items) → after (clear_side side) m 3 ≡ m 3
+  pub token : (m : Items) → after (clear_side side) m 4 ≡ m 4
   pub gone : (m : Items) (kind : Kind) → after (clear_side side) m (row_area side kind) ≡ retain_keys (m (row_area side kind)) (λ label. not (is_between [] (255 ∷ []) label))
   pub kept : (m : Items) (kind : Kind) → after (clear_side side) m (row_area (other_side side) kind) ≡ m (row_area (other_side side) kind)
 
@@ -149,5 +154,5 @@ kept_1 m Results = refl
 
 pub clears : (side : ℕ) → side ≤ 1 → ClearsOf side
 clears = by_side ClearsOf
-    (record { format = λ m. refl; state = λ m. refl; stage = λ m. refl; entries = λ m. refl; gone = gone_0; kept = kept_0 })
-    (record { format = λ m. refl; state = λ m. refl; stage = λ m. refl; entries = λ m. refl; gone = gone_1; kept = kept_1 })
+    (record { format = λ m. refl; state = λ m. refl; stage = λ m. refl; entries = λ m. refl; token = λ m. refl; gone = gone_0; kept = kept_0 })
+    (record { format = λ m. refl; state = λ m. refl; stage = λ m. refl; entries = λ m. refl; token = λ m. refl; gone = gone_1; kept = kept_1 })

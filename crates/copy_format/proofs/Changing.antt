@@ -9,7 +9,7 @@ use Rattle.std.proofs.lemmas.Bool.{cases_eq}
 use Rattle.std.proofs.lemmas.List.Elements.{All-head, All-tail}
 use Rattle.keeper_memory.proofs.CopyLemmas.{changed_is, empty_is, nth_list, same_kind}
 use Rattle.keeper_memory.specs.copy.Changes.{AllDone, CanChange, CanPage, begun, copy_after, settled_first, stage_after, swapped}
-use Rattle.keeper_memory.specs.copy.Copies.{Copy, Held, IsCopy, IsStage, NumbersRise, Stage, first_unsettled, held_list}
+use Rattle.keeper_memory.specs.copy.Copies.{Copy, Held, IsCopy, IsStage, NumbersRise, Stage, first_unsettled, held_list, held_token}
 use Rattle.keeper_memory.specs.copy.HeldCopy.{empty_copy}
 use Rattle.keeper_memory.specs.copy.Lists.{IsList, kind_count}
 use Rattle.keeper_memory.specs.copy.States.{state_of}
@@ -34,9 +34,9 @@ use Rattle.roster_values.specs.declared.kind.Kind.TheVariants.{Orgs, AcademicSes
 use Rattle.version_core.proofs.RoomLemmas.{map_push}
 use Rattle.version_core.specs.declared.mark.Write.{Write}
 use Rattle.copy_format.specs.Bodies.{out_body, stage_body, state_body}
-use Rattle.copy_format.specs.Edits.{FitsChange, clear_side, clear_stage, edits, first_edits, settled_edits}
-use Rattle.copy_format.specs.Format.{AreItemsOf, Fit, FitRows, FitsHeld, FitsOut, FitsRow, FitsSettled, FitsStage, Keep, other_side, out_entry, row_area, row_entry, rows_under, stage_entries, staged_list, state_entry}
-use Rattle.copy_format.proofs.Areas.{clears, kinds_apart, low_not_row, by_side, one_new, other_than, put_elsewhere, puts_elsewhere, puts_here, row_not_low, sides_apart, stage_cleared, stage_put}
+use Rattle.copy_format.specs.Edits.{FitsChange, clear_stage, edits, first_edits, settled_edits, turn_edits}
+use Rattle.copy_format.specs.Format.{AreItemsOf, Fit, FitRows, FitsHeld, FitsOut, FitsRow, FitsSettled, FitsStage, Keep, KeepOne, other_side, out_entry, row_area, row_entry, rows_under, stage_entries, staged_list, state_entry, token_entries}
+use Rattle.copy_format.proofs.Areas.{clears, kinds_apart, low_not_row, by_side, one_new, other_than, put_elsewhere, puts_elsewhere, puts_here, row_not_low, sides_apart, stage_cleared, stage_put, token_put}
 use Rattle.copy_format.proofs.Climbing.{AreSmall, differ, filled_behind, outs_sorted, rows_sorted}
 use Rattle.copy_format.proofs.Lists.{all_at, all_more, all_push, at_last, at_other, empty_last}
 use Rattle.copy_format.proofs.Low.{rows_cleared}
@@ -127,13 +127,13 @@ kind_there Results = refl
 -- what a change leads to
 record Leads (side : ℕ) (change : CopyChange) (c : Copy) (items : Items) : Type 0 where
   pub to : ℕ
-  pub stored : AreItemsOf to (copy_after change c) (after (edits side c change) items)
+  pub stored : AreItemsOf 2 to (copy_after change c) (after (edits side c change) items)
   pub fit : Fit (copy_after change c)
 
-state_put : (side to : ℕ) (c d : Copy) (items : Items) → AreItemsOf side c items → insert (items 1) [] (state_body d.run (option_map (λ h. h.version) d.held) to d.last_number) ≡ from_entries (state_entry to d ∷ [])
+state_put : (side to : ℕ) (c d : Copy) (items : Items) → AreItemsOf 2 side c items → insert (items 1) [] (state_body d.run (option_map (λ h. h.version) d.held) to d.last_number) ≡ from_entries (state_entry to d ∷ [])
 state_put side to c d items stored = ap (λ m. insert m [] (state_entry to d).1) stored.state ∙ one_new [] (state_entry to d).1 (state_entry side c).1
 
-module _ (side : ℕ) (c : Copy) (items : Items) (stored : AreItemsOf side c items) (is : IsCopy c) (fit : Fit c) where
+module _ (side : ℕ) (c : Copy) (items : Items) (stored : AreItemsOf 2 side c items) (is : IsCopy c) (fit : Fit c) where
   leads_run : (run : ℕ) → Leads side (Run run) c items
   leads_run run = record {
     to = side;
@@ -143,6 +143,7 @@ module _ (side : ℕ) (c : Copy) (items : Items) (stored : AreItemsOf side c ite
       state = state_put side side c (record c { run = run }) items stored;
       stage = stored.stage;
       entries = stored.entries;
+      token = stored.token;
       held = λ kind. put_elsewhere 1 (state_entry side (record c { run = run })) items (row_area side kind) (row_not_low side kind 1 (omega arith)) ∙ stored.held kind;
       staged = λ kind. put_elsewhere 1 (state_entry side (record c { run = run })) items (row_area (other_side side) kind) (row_not_low (other_side side) kind 1 (omega arith)) ∙ stored.staged kind;
     };
@@ -158,6 +159,7 @@ module _ (side : ℕ) (c : Copy) (items : Items) (stored : AreItemsOf side c ite
       state = stored.state;
       stage = ap (λ m. insert m [] (stage_body (state_of (begun pin token)))) stored.stage ∙ stage_put c.stage (begun pin token);
       entries = stored.entries;
+      token = stored.token;
       held = λ kind. puts_elsewhere 2 (stage_entries (Some (begun pin token))) items (row_area side kind) (row_not_low side kind 2 (omega arith)) ∙ stored.held kind;
       staged = λ kind.
           puts_elsewhere 2 (stage_entries (Some (begun pin token))) items (row_area (other_side side) kind) (row_not_low (other_side side) kind 2 (omega arith)) ∙ stored.staged kind
@@ -194,6 +196,7 @@ module _ (side : ℕ) (c : Copy) (items : Items) (stored : AreItemsOf side c ite
           state = does.state bare ∙ stored.state;
           stage = does.stage bare ∙ ap (λ m. retain_keys m (λ label. not (is_between [] (0 ∷ []) label))) stored.stage ∙ stage_cleared c.stage;
           entries = does.entries bare ∙ stored.entries;
+          token = does.token bare ∙ stored.token;
           held = kept_held;
           staged = gone;
         };
@@ -216,6 +219,7 @@ module _ (side : ℕ) (c : Copy) (items : Items) (stored : AreItemsOf side c ite
           state = state_put side side c next items stored;
           stage = stored.stage;
           entries = ap (filled (out_entry entry ∷ [])) stored.entries ∙ filled_behind (out_entry entry ∷ []) (map out_entry c.entries) (subst Differ pushed apart) ∙ ap from_entries (sym pushed);
+          token = stored.token;
           held = λ kind. put_elsewhere 1 (state_entry side next) first (row_area side kind) (row_not_low side kind 1 (omega arith)) ∙ put_elsewhere 3 (out_entry entry) items (row_area side kind) (row_not_low side kind 3 (omega arith)) ∙ stored.held kind;
           staged = λ kind.
               put_elsewhere 1 (state_entry side next) first (row_area (other_side side) kind) (row_not_low (other_side side) kind 1 (omega arith))
@@ -233,12 +237,13 @@ module _ (side : ℕ) (c : Copy) (items : Items) (stored : AreItemsOf side c ite
       let put = out_entry (record entry { settled = Some settled }) in
       record {
         to = side;
-        stored = subst (λ es. AreItemsOf side (copy_after (Settle n status version) c) (after es items)) (sym goes) (record {
+        stored = subst (λ es. AreItemsOf 2 side (copy_after (Settle n status version) c) (after es items)) (sym goes) (record {
           low = stored.low;
           format = stored.format;
           state = stored.state;
           stage = stored.stage;
           entries = ap (λ m. insert m put.0 put.1) stored.entries ∙ alike_map (put ∷ map out_entry c.entries) (map out_entry (settled_first settled c.entries)) (settled_alike settled 0 c.entries entry (small_numbers c is) is.entries.rise first);
+          token = stored.token;
           held = λ kind. put_elsewhere 3 put items (row_area side kind) (row_not_low side kind 3 (omega arith)) ∙ stored.held kind;
           staged = λ kind. put_elsewhere 3 put items (row_area (other_side side) kind) (row_not_low (other_side side) kind 3 (omega arith)) ∙ stored.staged kind;
         });
@@ -248,7 +253,7 @@ module _ (side : ℕ) (c : Copy) (items : Items) (stored : AreItemsOf side c ite
 -- ---- where there is a stage
 
 -- a page's rows stand behind those that are there
-module _ (side : ℕ) (c : Copy) (items : Items) (stored : AreItemsOf side c items) (is : IsCopy c) (fit : Fit c) (s : Stage) (has : c.stage ≡ Some s) where
+module _ (side : ℕ) (c : Copy) (items : Items) (stored : AreItemsOf 2 side c items) (is : IsCopy c) (fit : Fit c) (s : Stage) (has : c.stage ≡ Some s) where
   stage_is : IsStage s
   stage_is = subst (λ o. IfSome o IsStage) has is.stage
 
@@ -266,25 +271,28 @@ module _ (side : ℕ) (c : Copy) (items : Items) (stored : AreItemsOf side c ite
       let none : s.present ≡ [] = (stage_is.whole all).0 in
       let to = other_side side in
       let put = state_entry to (swapped c (Some s)) in
-      let first = after (put_at 1 put ∷ []) items in
+      let named = after (put_at 1 put ∷ []) items in
+      let first = after (put_at 4 ([], s.token) ∷ []) named in
       let bare = after_edit (Clear 2 [] (0 ∷ [])) first in
       let does = clears side stored.low in
       let lists : (kind : Kind) → get_or (s.done ++ s.present ∷ []) (place_of_kind kind) [] ≡ get_or s.done (place_of_kind kind) [] =
       λ kind. ap (λ rows. get_or (s.done ++ rows ∷ []) (place_of_kind kind) []) none ∙ empty_last s.done (place_of_kind kind) in
       let row : (t : ℕ) (kind : Kind) → bare (row_area t kind) ≡ items (row_area t kind) =
-      λ t kind. other_than (row_area t kind == 2) _ _ (row_not_low t kind 2 (omega arith)) ∙ put_elsewhere 1 put items (row_area t kind) (row_not_low t kind 1 (omega arith)) in
+      λ t kind. other_than (row_area t kind == 2) _ _ (row_not_low t kind 2 (omega arith)) ∙ put_elsewhere 4 ([], s.token) named (row_area t kind) (row_not_low t kind 4 (omega arith))
+      ∙ put_elsewhere 1 put items (row_area t kind) (row_not_low t kind 1 (omega arith)) in
       let held_fits = held_fit c.held in
       record {
         to = to;
-        stored = subst (λ d. AreItemsOf to d (after (put_at 1 (state_entry to d) ∷ Clear 2 [] (0 ∷ []) ∷ clear_side side) items)) (sym whole) (record {
+        stored = subst (λ d. AreItemsOf 2 to d (after (put_at 1 (state_entry to d) ∷ puts 4 (token_entries (held_token d)) ++ clear_stage side) items)) (sym whole) (record {
           low = omega arith;
           format = does.format bare ∙ stored.format;
           state = does.state bare ∙ state_put side to c (swapped c (Some s)) items stored;
           stage = does.stage bare ∙ ap (λ m. retain_keys m (λ label. not (is_between [] (0 ∷ []) label))) stored.stage ∙ stage_cleared c.stage;
           entries = does.entries bare ∙ stored.entries;
+          token = does.token bare ∙ ap (λ m. insert m [] s.token) stored.token ∙ token_put (held_token c) s.token;
           held = λ kind. does.kept bare kind ∙ row to kind ∙ staged_here kind ∙ ap (λ rows. from_entries (rows_under rows)) (lists kind);
           staged = λ kind.
-              ap (λ t. after (put_at 1 put ∷ Clear 2 [] (0 ∷ []) ∷ clear_side side) items (row_area t kind)) (twice side stored.low)
+              ap (λ t. after (put_at 1 put ∷ put_at 4 ([], s.token) ∷ clear_stage side) items (row_area t kind)) (twice side stored.low)
               ∙ does.gone bare kind ∙ ap (λ m. retain_keys m (λ label. not (is_between [] (255 ∷ []) label))) (row side kind ∙ stored.held kind) ∙ rows_cleared (held_list c kind) (held_fits kind fit.held);
         });
         fit = subst Fit (sym whole) (record { held = stage_fit.done; stage = tt; entries = fit.entries });
@@ -355,13 +363,14 @@ module _ (side : ℕ) (c : Copy) (items : Items) (stored : AreItemsOf side c ite
         let whole : copy_after (Page kind rows total done) c ≡ record c { stage = Some later } = ap (λ o. record c { stage = option_map (λ s. stage_after s rows total done) o }) has in
         record {
           to = side;
-          stored = subst (λ (d : Copy). AreItemsOf side d (after (puts 2 (stage_entries d.stage) ++ puts (row_area (other_side side) kind) (rows_under rows)) items)) (sym whole)
-              (subst (AreItemsOf side (record c { stage = Some later })) (sym (after-append (puts 2 (stage_entries (Some later))) (puts (row_area (other_side side) kind) (rows_under rows)) items)) (record {
+          stored = subst (λ (d : Copy). AreItemsOf 2 side d (after (puts 2 (stage_entries d.stage) ++ puts (row_area (other_side side) kind) (rows_under rows)) items)) (sym whole)
+              (subst (AreItemsOf 2 side (record c { stage = Some later })) (sym (after-append (puts 2 (stage_entries (Some later))) (puts (row_area (other_side side) kind) (rows_under rows)) items)) (record {
                 low = stored.low;
                 format = low_now 0 (omega arith) ∙ stored.format;
                 state = low_now 1 (omega arith) ∙ stored.state;
                 stage = low_now 2 (omega arith) ∙ ap (λ m. insert m [] (stage_body (state_of later))) stored.stage ∙ stage_put c.stage later;
                 entries = low_now 3 (omega arith) ∙ stored.entries;
+                token = low_now 4 (omega arith) ∙ stored.token;
                 held = λ k. puts_elsewhere (row_area (other_side side) kind) (rows_under rows) staged_now (row_area side k) (sides_apart k kind side stored.low) ∙ now_row side k ∙ stored.held k;
                 staged = λ k. rows_there k ∙ ap (λ xs. from_entries (rows_under xs)) (sym (lists_later done (place_of_kind k)));
               }));
@@ -370,7 +379,7 @@ module _ (side : ℕ) (c : Copy) (items : Items) (stored : AreItemsOf side c ite
 
 -- ---- each change
 
-module _ (side : ℕ) (c : Copy) (items : Items) (stored : AreItemsOf side c items) (is : IsCopy c) (fit : Fit c) where
+module _ (side : ℕ) (c : Copy) (items : Items) (stored : AreItemsOf 2 side c items) (is : IsCopy c) (fit : Fit c) where
   by_swap : (o : Option Stage) → c.stage ≡ o → AllDone (option_map state_of o) → Leads side Swap c items
   by_swap None has can = absurd can
   by_swap (Some s) has can = leads_swap side c items stored is fit s has can
@@ -398,12 +407,30 @@ Keep-change items c change keep can fits =
 pub first_kept : Keep (after first_edits no_items) empty_copy
 first_kept = record {
   side = 0;
-  stored = record { low = omega arith; format = refl; state = refl; stage = refl; entries = refl; held = λ kind. new_row 0 kind; staged = λ kind. new_row 1 kind };
+  stored = record { low = omega arith; format = refl; state = refl; stage = refl; entries = refl; token = refl; held = λ kind. new_row 0 kind; staged = λ kind. new_row 1 kind };
   is = empty_is;
   fit = record { held = tt; stage = tt; entries = tt };
 }
   where
     new_row : (side : ℕ) (kind : Kind) → after first_edits no_items (row_area side kind) ≡ from_entries []
     new_row side kind =
-        put_elsewhere 1 (state_entry 0 empty_copy) (after (put_at 0 format_entry ∷ []) no_items) (row_area side kind) (row_not_low side kind 1 (omega arith))
-        ∙ put_elsewhere 0 format_entry no_items (row_area side kind) (row_not_low side kind 0 (omega arith))
+        put_elsewhere 1 (state_entry 0 empty_copy) (after (put_at 0 (format_entry 2) ∷ []) no_items) (row_area side kind) (row_not_low side kind 1 (omega arith))
+        ∙ put_elsewhere 0 (format_entry 2) no_items (row_area side kind) (row_not_low side kind 0 (omega arith))
+
+-- a store of format 1
+pub turned_kept : (items : Items) (c : Copy) → KeepOne items c → Keep (after turn_edits items) c
+turned_kept items c old = record {
+  side = old.side;
+  stored = record {
+    low = old.stored.low;
+    format = ap (λ m. insert m [] (number 2)) old.stored.format ∙ one_new [] (number 2) (number 1);
+    state = old.stored.state;
+    stage = old.stored.stage;
+    entries = old.stored.entries;
+    token = old.stored.token;
+    held = λ kind. put_elsewhere 0 (format_entry 2) items (row_area old.side kind) (row_not_low old.side kind 0 (omega arith)) ∙ old.stored.held kind;
+    staged = λ kind. put_elsewhere 0 (format_entry 2) items (row_area (other_side old.side) kind) (row_not_low (other_side old.side) kind 0 (omega arith)) ∙ old.stored.staged kind;
+  };
+  is = old.is;
+  fit = old.fit;
+}

@@ -6,7 +6,7 @@ use Rattle.std.specs.Option.{option_map_or}
 use Rattle.std.proofs.lemmas.Bool.{cases_eq, cases_lt}
 use Rattle.std.specs.FinMap.{entries, from_entries}
 use Rattle.keeper_memory.proofs.CopyLemmas.{held_list_is, lists_few, nth_list}
-use Rattle.keeper_memory.specs.copy.Copies.{Copy, Held, IsCopy, IsHeld, IsStage, Stage, held_list}
+use Rattle.keeper_memory.specs.copy.Copies.{Copy, Held, IsCopy, IsHeld, IsStage, Stage, held_list, held_token}
 use Rattle.keeper_memory.specs.copy.Lists.{IsList, kind_count}
 use Rattle.keeper_memory.specs.copy.States.{state_of}
 use Rattle.keeper_memory.specs.declared.copy.state.StageState.{StageState}
@@ -16,12 +16,12 @@ use Rattle.item_maps.specs.Items.{Items, bytes_cmp}
 use Rattle.roster_types.specs.Records.{Record}
 use Rattle.roster_values.specs.Kinds.{all_kinds, place_of_kind}
 use Rattle.roster_values.specs.declared.kind.Kind.{Kind}
-use Rattle.copy_format.specs.Format.{AreItemsOf, Fit, FitRows, FitsStage, IsOut, IsRowOf, IsSmall, Keep, other_side, out_entry, row_area, row_entry, rows_under, stage_entries, staged_list}
+use Rattle.copy_format.specs.Format.{AreItemsOf, Fit, FitRows, FitsStage, IsOut, IsRowOf, IsSmall, Keep, other_side, out_entry, row_area, row_entry, rows_under, stage_entries, staged_list, token_entries}
 use Rattle.copy_format.proofs.Back.{out_back, row_back, same_list, stage_back, state_back}
 use Rattle.copy_format.proofs.Changing.{held_fit, kind_there, small_numbers, staged_fit}
 use Rattle.copy_format.proofs.Climbing.{outs_sorted, rows_sorted}
 use Rattle.copy_format.proofs.Lists.{at_last, at_other, before_last, by_place, empty_last, same_lists}
-use Rattle.copy_format.proofs.Told.{all_out, rows_of_kind, small_fits, stage_told, state_told}
+use Rattle.copy_format.proofs.Told.{all_out, rows_of_kind, small_fits, stage_told, state_told, token_told}
 
 -- rows whose entries are equal are equal
 same_rows : (kind : Kind) (xs ys : List Record) → AllByRecursion (IsRowOf kind) xs → AllByRecursion (IsRowOf kind) ys → rows_under xs ≡ rows_under ys → xs ≡ ys
@@ -53,17 +53,23 @@ version_small (Some h) is = let le = is.version in omega (arith, le)
 same_some : {X : Type 0} (a b : X) → Some a ≡ Some b → a ≡ b
 same_some a b same = cc
 
--- what is held is one, where the version and the rows of each kind are
-same_held : (o p : Option Held) → IfSome o IsHeld → IfSome p IsHeld → option_map (λ h. h.version) o ≡ option_map (λ h. h.version) p
+-- what is held is one, where the version, the token and the rows of each kind are
+same_held : (o p : Option Held) → IfSome o IsHeld → IfSome p IsHeld → option_map (λ h. h.version) o ≡ option_map (λ h. h.version) p → option_map_or (λ h. h.token) o None ≡ option_map_or (λ h. h.token) p None
     → ((kind : Kind) → option_map_or (λ h. get_or h.lists (place_of_kind kind) []) o [] ≡ option_map_or (λ h. get_or h.lists (place_of_kind kind) []) p []) → o ≡ p
-same_held None None is_o is_p versions rows = refl
-same_held None (Some k) is_o is_p versions rows = absurd cc
-same_held (Some h) None is_o is_p versions rows = absurd cc
-same_held (Some h) (Some k) is_o is_p versions rows =
+same_held None None is_o is_p versions tokens rows = refl
+same_held None (Some k) is_o is_p versions tokens rows = absurd cc
+same_held (Some h) None is_o is_p versions tokens rows = absurd cc
+same_held (Some h) (Some k) is_o is_p versions tokens rows =
     let version = same_some h.version k.version versions in
     let all = is_o.all in
     let lists = same_lists h.lists k.lists (is_o.all ∙ sym is_p.all) (λ p lt. by_place (λ p. get_or h.lists p [] ≡ get_or k.lists p []) rows p (omega (arith, lt, all))) in
-    λ i. Some (record { version = version i; lists = lists i })
+    λ i. Some (record { version = version i; token = tokens i; lists = lists i })
+
+same_token : (o p : Option (List ℕ)) → token_entries o ≡ token_entries p → o ≡ p
+same_token None None same = refl
+same_token None (Some b) same = absurd cc
+same_token (Some a) None same = absurd cc
+same_token (Some a) (Some b) same = ap (λ (es : List Entry). Some (get_or es 0 ([], [])).1) same
 
 same_body : (a b : List ℕ) → ◌≡◌ {A = List Entry} (([], a) ∷ []) (([], b) ∷ []) → a ≡ b
 same_body a b same = ap (λ (es : List Entry). (get_or es 0 ([], [])).1) same
@@ -86,7 +92,7 @@ same_stage (Some a) (Some b) is_o is_p fit_o fit_p told rows =
     ] in
     λ i. Some (record { pin = (small i).pin; token = (small i).token; done = done i; present = present i; total = (small i).total })
 
-module _ (s t : ℕ) (c d : Copy) (m : Items) (c_items : AreItemsOf s c m) (d_items : AreItemsOf t d m) (is_c : IsCopy c) (is_d : IsCopy d) (fit_c : Fit c) (fit_d : Fit d) where
+module _ (s t : ℕ) (c d : Copy) (m : Items) (c_items : AreItemsOf 2 s c m) (d_items : AreItemsOf 2 t d m) (is_c : IsCopy c) (is_d : IsCopy d) (fit_c : Fit c) (fit_d : Fit d) where
   states : (c.run ≡ d.run) × (option_map (λ h. h.version) c.held ≡ option_map (λ h. h.version) d.held) × (s ≡ t) × (c.last_number ≡ d.last_number)
   states =
       let run_c = is_c.run in
@@ -96,6 +102,9 @@ module _ (s t : ℕ) (c d : Copy) (m : Items) (c_items : AreItemsOf s c m) (d_it
       state_back c.run d.run (option_map (λ h. h.version) c.held) (option_map (λ h. h.version) d.held) s t c.last_number d.last_number (omega (arith, run_c)) (omega (arith, run_d))
       (version_small c.held is_c.held) (version_small d.held is_d.held) (omega (arith, last_c)) (omega (arith, last_d))
       (same_body _ _ (sym (state_told s c m c_items is_c fit_c) ∙ state_told t d m d_items is_d fit_d))
+
+  tokens_same : held_token c ≡ held_token d
+  tokens_same = same_token (held_token c) (held_token d) (sym (token_told s c m c_items is_c fit_c) ∙ token_told t d m d_items is_d fit_d)
 
   held_rows_same : (kind : Kind) → held_list c kind ≡ held_list d kind
   held_rows_same kind =
@@ -115,7 +124,7 @@ module _ (s t : ℕ) (c d : Copy) (m : Items) (c_items : AreItemsOf s c m) (d_it
 
   pub same_copy : c ≡ d
   same_copy =
-      let held = same_held c.held d.held is_c.held is_d.held states.1 held_rows_same in
+      let held = same_held c.held d.held is_c.held is_d.held states.1 tokens_same held_rows_same in
       let stage = same_stage c.stage d.stage is_c.stage is_d.stage fit_c.stage fit_d.stage (sym (stage_told s c m c_items is_c fit_c) ∙ stage_told t d m d_items is_d fit_d) staged_rows_same in
       λ i. record { run = states.0 i; held = held i; stage = stage i; entries = entries_same i; last_number = states.3 i }
 

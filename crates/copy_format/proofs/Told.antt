@@ -10,7 +10,7 @@ use Rattle.std.proofs.lemmas.Cmp.{nat_cmp_total, tied_itself}
 use Rattle.std.proofs.lemmas.Bool.Decides.{nat_tests}
 use Rattle.std.proofs.lemmas.List.Elements.{All-head, All-tail}
 use Rattle.keeper_memory.proofs.CopyLemmas.{held_list_is}
-use Rattle.keeper_memory.specs.copy.Copies.{Copy, IsCopy, IsOutWrite, NumbersRise, Stage, entry_after, first_unsettled, held_list}
+use Rattle.keeper_memory.specs.copy.Copies.{Copy, IsCopy, IsOutWrite, NumbersRise, Stage, entry_after, first_unsettled, held_list, held_token}
 use Rattle.keeper_memory.specs.copy.Lists.{last_from}
 use Rattle.keeper_memory.specs.copy.States.{state_of}
 use Rattle.keeper_memory.specs.declared.copy.entry.OutEntry.{OutEntry}
@@ -23,7 +23,7 @@ use Rattle.hub_format.specs.Pieces.{IsSized, number}
 use Rattle.item_maps.specs.Items.{Items, bytes_cmp, is_between, listed}
 use Rattle.roster_types.specs.Records.{Record}
 use Rattle.roster_values.specs.declared.kind.Kind.{Kind}
-use Rattle.copy_format.specs.Format.{AreItemsOf, Fit, FitRows, FitsOut, FitsSmall, FitsStage, IsOut, IsRowOf, out_entry, row_area, rows_under, stage_entries, state_entry}
+use Rattle.copy_format.specs.Format.{AreItemsOf, Fit, FitRows, FitsOut, FitsSmall, FitsStage, IsOut, IsRowOf, out_entry, row_area, rows_under, stage_entries, state_entry, token_entries}
 use Rattle.copy_format.proofs.Changing.{found_above, held_fit, small_numbers, some_entry}
 use Rattle.copy_format.proofs.Climbing.{AreSmall, outs_sorted, rows_sorted}
 use Rattle.copy_format.proofs.Low.{rows_low}
@@ -65,10 +65,11 @@ last_fits last (row ∷ rows) short fit = last_fits (Some row.id) rows fit.0.sho
 pub small_fits : (s : Stage) → s.pin ≤ 1000000000000000 → FitsStage s → FitsSmall (state_of s)
 small_fits s le fit = record { pin = omega (arith, le); token = fit.token; staged = fit.staged; total = fit.total; last = last_fits None s.present tt fit.present }
 
-module _ (side : ℕ) (c : Copy) (items : Items) (stored : AreItemsOf side c items) (is : IsCopy c) (fit : Fit c) where
-  pub format_told : listed 0 [] (0 ∷ []) items ≡ format_entry ∷ []
-  format_told = listed_from 0 [] (0 ∷ []) items (format_entry ∷ []) (format_entry ∷ []) stored.format refl refl
+-- the number of the format
+pub format_told : (form : ℕ) (items : Items) → items 0 ≡ from_entries (format_entry form ∷ []) → listed 0 [] (0 ∷ []) items ≡ format_entry form ∷ []
+format_told form items is = listed_from 0 [] (0 ∷ []) items (format_entry form ∷ []) (format_entry form ∷ []) is refl refl
 
+module _ (side : ℕ) (c : Copy) (items : Items) (stored : AreItemsOf 2 side c items) (is : IsCopy c) (fit : Fit c) where
   pub state_told : listed 1 [] (0 ∷ []) items ≡ state_entry side c ∷ []
   state_told = listed_from 1 [] (0 ∷ []) items (state_entry side c ∷ []) (state_entry side c ∷ []) stored.state refl refl
 
@@ -82,6 +83,17 @@ module _ (side : ℕ) (c : Copy) (items : Items) (stored : AreItemsOf side c ite
 
   pub stage_told : listed 2 [] (0 ∷ []) items ≡ stage_entries c.stage
   stage_told = listed_from 2 [] (0 ∷ []) items (stage_entries c.stage) (stage_entries c.stage) stored.stage (stage_listed c.stage) (stage_sorted c.stage)
+
+  token_listed : (o : Option (List ℕ)) → where_label (is_between [] (0 ∷ [])) (token_entries o) ≡ token_entries o
+  token_listed None = refl
+  token_listed (Some token) = refl
+
+  token_sorted : (o : Option (List ℕ)) → is_sorted bytes_cmp (token_entries o) ≡ true
+  token_sorted None = refl
+  token_sorted (Some token) = refl
+
+  pub token_told : listed 4 [] (0 ∷ []) items ≡ token_entries (held_token c)
+  token_told = listed_from 4 [] (0 ∷ []) items (token_entries (held_token c)) (token_entries (held_token c)) stored.token (token_listed (held_token c)) (token_sorted (held_token c))
 
   pub held_told : (kind : Kind) → listed (row_area side kind) [] (255 ∷ []) items ≡ rows_under (held_list c kind)
   held_told kind =
@@ -146,7 +158,7 @@ first_where after last (x ∷ xs) fits le all =
     go true rest = refl
     go false rest = rest
 
-pub entry_told : (side : ℕ) (c : Copy) (items : Items) → AreItemsOf side c items → IsCopy c → Fit c → (after : ℕ) → after + 1 < 2 ^ 64
+pub entry_told : (side : ℕ) (c : Copy) (items : Items) → AreItemsOf 2 side c items → IsCopy c → Fit c → (after : ℕ) → after + 1 < 2 ^ 64
     → slice_get (listed 3 (number (after + 1)) (number (LAST + 1)) items) 0 ≡ option_map out_entry (entry_after after c.entries)
 entry_told side c items stored is fit after fits =
     ap (λ es. slice_get es 0) (outs_told side c items stored is fit (number (after + 1)) (number (LAST + 1))) ∙ first_where after c.last_number c.entries fits is.last is.entries.below

@@ -2,7 +2,7 @@
 use Rattle.std.specs.Prelude.{ℕ}
 use Rattle.copy_format.specs.Format.{row_area}
 use Rattle.copy_format.specs.declared.area.CopyArea.{CopyArea}
-use Rattle.copy_format.specs.declared.area.CopyArea.TheVariants.{Format, Outbox, Rows, Stage, State}
+use Rattle.copy_format.specs.declared.area.CopyArea.TheVariants.{Format, Outbox, Rows, Stage, State, Token}
 
 -- the number of an area
 abbrev pub area_number : CopyArea → ℕ
@@ -10,4 +10,5 @@ area_number Format = 0
 area_number State = 1
 area_number Stage = 2
 area_number Outbox = 3
+area_number Token = 4
 area_number (Rows side kind) = row_area side kind

@@ -1,7 +1,7 @@
 -- The edits of a change.
 use Rattle.std.specs.Prelude.{◌<◌, ◌^◌, ◌+◌, ℕ, List, [], ◌∷◌, ◌++◌, Option, None, Some, IfSome, length, map, ⊤}
 use Rattle.keeper_memory.specs.copy.Changes.{begun, copy_after}
-use Rattle.keeper_memory.specs.copy.Copies.{Copy, first_unsettled}
+use Rattle.keeper_memory.specs.copy.Copies.{Copy, first_unsettled, held_token}
 use Rattle.keeper_memory.specs.copy.HeldCopy.{empty_copy}
 use Rattle.keeper_memory.specs.declared.copy.change.CopyChange.{CopyChange}
 use Rattle.keeper_memory.specs.declared.copy.change.CopyChange.TheVariants.{Run, Begin, Page, Drop, Swap, Enter, Settle}
@@ -14,11 +14,15 @@ use Rattle.item_maps.specs.declared.item.Edit.{Edit}
 use Rattle.item_maps.specs.declared.item.Edit.TheVariants.{Clear}
 use Rattle.roster_values.specs.Kinds.{all_kinds}
 use Rattle.roster_values.specs.declared.kind.Kind.{Kind}
-use Rattle.copy_format.specs.Format.{FitRows, FitsSettled, other_side, out_entry, row_area, rows_under, stage_entries, state_entry}
+use Rattle.copy_format.specs.Format.{FitRows, FitsSettled, other_side, out_entry, row_area, rows_under, stage_entries, state_entry, token_entries}
 
 -- the format, and the state of the copy that holds nothing
 abbrev pub first_edits : List Edit
-first_edits = put_at 0 format_entry ∷ put_at 1 (state_entry 0 empty_copy) ∷ []
+first_edits = put_at 0 (format_entry 2) ∷ put_at 1 (state_entry 0 empty_copy) ∷ []
+
+-- by these items of format 1 become those of format 2: they have no token
+abbrev pub turn_edits : List Edit
+turn_edits = put_at 0 (format_entry 2) ∷ []
 
 -- takes away the rows of a kind: no id begins with 255
 abbrev pub clear_rows : ℕ → Kind → Edit
@@ -42,7 +46,7 @@ edits side c (Run run) = put_at 1 (state_entry side (copy_after (Run run) c)) �
 edits side c (Begin pin token) = puts 2 (stage_entries (Some (begun pin token)))
 edits side c (Page kind rows total done) = puts 2 (stage_entries (copy_after (Page kind rows total done) c).stage) ++ puts (row_area (other_side side) kind) (rows_under rows)
 edits side c Drop = clear_stage (other_side side)
-edits side c Swap = put_at 1 (state_entry (other_side side) (copy_after Swap c)) ∷ Clear 2 [] (0 ∷ []) ∷ clear_side side
+edits side c Swap = put_at 1 (state_entry (other_side side) (copy_after Swap c)) ∷ puts 4 (token_entries (held_token (copy_after Swap c))) ++ clear_stage side
 edits side c (Enter number write) = put_at 3 (out_entry (record { number = number; write = write; settled = None })) ∷ put_at 1 (state_entry side (copy_after (Enter number write) c)) ∷ []
 edits side c (Settle number status version) = settled_edits (record { status = status; version = version }) (first_unsettled c.entries)
 

@@ -4,7 +4,7 @@ use Rattle.std.specs.FinMap.{from_entries}
 use Rattle.std.specs.List.{AllByRecursion}
 use Rattle.std.specs.Option.{option_map_or}
 use Rattle.std.specs.Str.{IsUtf8}
-use Rattle.keeper_memory.specs.copy.Copies.{Copy, Held, IsCopy, IsOutWrite, Stage, held_list}
+use Rattle.keeper_memory.specs.copy.Copies.{Copy, Held, IsCopy, IsOutWrite, Stage, held_list, held_token}
 use Rattle.keeper_memory.specs.copy.States.{state_of}
 use Rattle.keeper_memory.specs.declared.copy.entry.OutEntry.{OutEntry}
 use Rattle.keeper_memory.specs.declared.copy.entry.Settled.{Settled}
@@ -40,6 +40,11 @@ abbrev pub stage_entries : Option Stage → List Entry
 stage_entries None = []
 stage_entries (Some s) = ([], stage_body (state_of s)) ∷ []
 
+-- the token under which what is held was copied
+abbrev pub token_entries : Option (List ℕ) → List Entry
+token_entries None = []
+token_entries (Some token) = ([], token) ∷ []
+
 abbrev pub out_entry : OutEntry → Entry
 out_entry entry = (number entry.number, out_body entry)
 
@@ -49,13 +54,14 @@ row_entry row = (row.id, row_body row)
 abbrev pub rows_under : List Record → List Entry
 rows_under rows = map row_entry rows
 
--- items in which a copy is kept, whose held rows stand on this side
-pub record AreItemsOf (side : ℕ) (c : Copy) (items : Items) : Type 0 where
+-- items of this format in which a copy is kept, whose held rows stand on this side
+pub record AreItemsOf (form side : ℕ) (c : Copy) (items : Items) : Type 0 where
   pub low : side ≤ 1
-  pub format : items 0 ≡ from_entries (format_entry ∷ [])
+  pub format : items 0 ≡ from_entries (format_entry form ∷ [])
   pub state : items 1 ≡ from_entries (state_entry side c ∷ [])
   pub stage : items 2 ≡ from_entries (stage_entries c.stage)
   pub entries : items 3 ≡ from_entries (map out_entry c.entries)
+  pub token : items 4 ≡ from_entries (token_entries (held_token c))
   pub held : (kind : Kind) → items (row_area side kind) ≡ from_entries (rows_under (held_list c kind))
   pub staged : (kind : Kind) → items (row_area (other_side side) kind) ≡ from_entries (rows_under (staged_list c kind))
 
@@ -115,9 +121,17 @@ pub record IsRowOf (kind : Kind) (row : Record) : Type 0 where
   pub same : row.kind ≡ kind
   pub fits : FitsRow row
 
--- items that keep a copy
+-- items that keep a copy, in format 2
 pub record Keep (items : Items) (c : Copy) : Type 0 where
   pub side : ℕ
-  pub stored : AreItemsOf side c items
+  pub stored : AreItemsOf 2 side c items
+  pub is : IsCopy c
+  pub fit : Fit c
+
+-- items that keep a copy in format 1, which knew no token
+pub record KeepOne (items : Items) (c : Copy) : Type 0 where
+  pub side : ℕ
+  pub stored : AreItemsOf 1 side c items
+  pub none : held_token c ≡ None
   pub is : IsCopy c
   pub fit : Fit c

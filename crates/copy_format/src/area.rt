@@ -17,6 +17,8 @@ pub enum CopyArea {
     Stage,
     /// The entries: the writes that were sent or have to be.
     Outbox,
+    /// The token under which what is held was copied, where that is known.
+    Token,
     /// The rows of a kind on a side.
     Rows { side: u8, kind: Kind },
 }
@@ -31,6 +33,7 @@ impl CopyArea {
             CopyArea::State => 1,
             CopyArea::Stage => 2,
             CopyArea::Outbox => 3,
+            CopyArea::Token => 4,
             CopyArea::Rows { side, kind } => row_area(side, kind),
         }
     }

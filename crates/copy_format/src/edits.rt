@@ -5,13 +5,13 @@ ghost use Rattle.keeper_memory.specs.copy.Copies.{Copy, Stage, first_unsettled};
 ghost use Rattle.keeper_memory.specs.copy.Lists.{kind_count};
 ghost use Rattle.keeper_memory.specs.copy.States.{state_of};
 ghost use Rattle.keeper_memory.specs.declared.copy.change.CopyChange.TheVariants.{Begin, Drop as Dropped, Enter, Page, Run, Settle, Swap};
-ghost use Rattle.copy_format.specs.Edits.{FitsChange, edits as edits_of, first_edits};
+ghost use Rattle.copy_format.specs.Edits.{FitsChange, edits as edits_of, first_edits, turn_edits};
 ghost use Rattle.copy_format.specs.Roots.{root_in};
 
 use crate::area::CopyArea;
 use crate::root::CopyRoot;
 use crate::staging::{new_stage, staged_more};
-use crate::writing::{push_clear_stage, put_out, put_root, put_rows, put_stage};
+use crate::writing::{push_clear_stage, put_out, put_root, put_rows, put_stage, put_token};
 use hub_format::put_format;
 use item_maps::Edit;
 use keeper_memory::{OutEntry, Settled, StageState};
@@ -27,7 +27,7 @@ pub fn first_edits(alloc: Global) -> Result<Vec<Edit>, NoMemory>
     ensures { IfOk result (λ edits. edits.items ≡ first_edits) }
 {
     let mut edits = Vec::new(alloc);
-    edits.push(put_format(alloc)?)?;
+    edits.push(put_format(alloc, 2)?)?;
     edits.push(put_root(
         alloc,
         CopyRoot {
@@ -37,6 +37,15 @@ pub fn first_edits(alloc: Global) -> Result<Vec<Edit>, NoMemory>
             last_number: 0,
         },
     )?)?;
+    Ok(edits)
+}
+
+/// The edits by which a store of format 1 becomes one of format 2.
+pub fn turn_edits(alloc: Global) -> Result<Vec<Edit>, NoMemory>
+    ensures { IfOk result (λ edits. edits.items ≡ turn_edits) }
+{
+    let mut edits = Vec::new(alloc);
+    edits.push(put_format(alloc, 2)?)?;
     Ok(edits)
 }
 
@@ -101,15 +110,16 @@ pub fn drop_edits(alloc: Global, side: u8) -> Result<Vec<Edit>, NoMemory>
     Ok(edits)
 }
 
-/// The stage of this version becomes what is held.
-pub fn swap_edits(alloc: Global, root: CopyRoot, pin: u64) -> Result<Vec<Edit>, NoMemory>
+/// The stage becomes what is held, under its token.
+pub fn swap_edits(alloc: Global, root: CopyRoot, stage: &StageState) -> Result<Vec<Edit>, NoMemory>
     requires { root.side ≤ 1 }
-    ensures { (side : ℕ) (c : Copy) (s : Stage) → root ≡ root_in side c → c.stage ≡ Some s → s.pin ≡ pin → IfOk result (λ edits. edits.items ≡ edits_of side c Swap) }
+    ensures { (side : ℕ) (c : Copy) (s : Stage) → root ≡ root_in side c → c.stage ≡ Some s → stage.now ≡ state_of s → IfOk result (λ edits. edits.items ≡ edits_of side c Swap) }
 {
     let mut edits = Vec::new(alloc);
-    let held = Some(pin);
+    let held = Some(stage.pin);
     let side = 1 - root.side;
     edits.push(put_root(alloc, CopyRoot { held, side, ..root })?)?;
+    edits.push(put_token(alloc, &stage.token)?)?;
     push_clear_stage(alloc, &mut edits, root.side)?;
     Ok(edits)
 }

@@ -8,6 +8,7 @@ mod pieces;
 mod read_outs;
 mod read_rows;
 mod read_stage;
+mod read_token;
 mod reading;
 mod root;
 mod staging;
@@ -16,9 +17,10 @@ mod writing;
 pub use area::CopyArea;
 pub use edits::{
     begin_edits, drop_edits, enter_edits, first_edits, page_edits, run_edits, settle_edits,
-    swap_edits,
+    swap_edits, turn_edits,
 };
 pub use read_outs::out_of;
 pub use read_rows::rows_of;
 pub use read_stage::stage_of;
+pub use read_token::token_of;
 pub use root::{CopyRoot, root_of};

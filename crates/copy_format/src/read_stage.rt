@@ -8,25 +8,13 @@ ghost use Rattle.hub_format.specs.Pieces.{IsSized, number, sized};
 ghost use Rattle.copy_format.specs.Bodies.{optional_number, optional_sized, stage_body};
 ghost use Rattle.copy_format.specs.Format.{FitsSmall, FitsStage, IsSmall, stage_entries};
 
-use crate::reading::{bare_body, only_optional_id, optional_number_at};
+use crate::reading::{bare_body, only_optional_id, optional_number_at, token_in};
 use hub_format::{number_at, sized_at};
 use item_maps::Item;
 use keeper_memory::{LAST, StageState};
 use roster_base::NoMemory;
-use roster_texts::Token;
 use roster_values::Kind;
 use std::alloc::Global;
-use std::str;
-
-// The token in these bytes, if they are one.
-fn token_of(alloc: Global, bytes: &[u8]) -> Result<Option<Token>, NoMemory>
-    ensures { IfOk result (λ o. IfSome o (λ token. token ≡ bytes.now)) }
-{
-    match str::from_utf8(bytes) {
-        Ok(text) => Token::read(alloc, text),
-        Err(_) => Ok(None),
-    }
-}
 
 // The parts of a body: the version, the token, how many kinds are whole, how many rows of the next kind are there, how many it has in
 // all, and what stands behind them.
@@ -52,7 +40,7 @@ fn stage_of_body(alloc: Global, body: &[u8]) -> Result<Option<StageState>, NoMem
         Some(parts) => parts,
         None => return Ok(None),
     };
-    let token = match token_of(alloc, token)? {
+    let token = match token_in(alloc, token)? {
         Some(token) => token,
         None => return Ok(None),
     };

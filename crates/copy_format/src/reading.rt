@@ -11,8 +11,9 @@ use hub_format::{id_at, number_at, only_number};
 use item_maps::Item;
 use keeper_memory::Settled;
 use roster_base::NoMemory;
-use roster_texts::Id;
+use roster_texts::{Id, Token};
 use std::alloc::Global;
+use std::str;
 
 // The body of an item without a label.
 pub(crate) fn bare_body(item: &Item) -> Option<&[u8]>
@@ -22,6 +23,16 @@ pub(crate) fn bare_body(item: &Item) -> Option<&[u8]>
         Some(item.body.as_slice())
     } else {
         None
+    }
+}
+
+// The token in these bytes, if they are one.
+pub(crate) fn token_in(alloc: Global, bytes: &[u8]) -> Result<Option<Token>, NoMemory>
+    ensures { IfOk result (λ o. IfSome o (λ token. token ≡ bytes.now)) }
+{
+    match str::from_utf8(bytes) {
+        Ok(text) => Token::read(alloc, text),
+        Err(_) => Ok(None),
     }
 }
 

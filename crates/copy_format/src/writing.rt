@@ -18,6 +18,7 @@ use hub_format::{push_number, push_sized};
 use item_maps::Edit;
 use keeper_memory::{OutEntry, StageState};
 use roster_base::{Bytes, NoMemory};
+use roster_texts::Token;
 use roster_types::row::Row;
 use roster_values::Kind;
 use row_json::single_text;
@@ -62,6 +63,19 @@ pub(crate) fn put_stage(alloc: Global, stage: &StageState) -> Result<Edit, NoMem
         area: CopyArea::Stage.number(),
         label: Bytes::from_vec(Vec::new(alloc)),
         body: stage_body(alloc, stage)?,
+    })
+}
+
+/// The edit that stores the token under which what is held was copied.
+pub(crate) fn put_token(alloc: Global, token: &Token) -> Result<Edit, NoMemory>
+    ensures { IfOk result (λ edit. edit ≡ put_at 4 ([], token.now)) }
+{
+    let mut body = Vec::new(alloc);
+    body.extend_from_slice(token.as_str().as_bytes())?;
+    Ok(Edit::Put {
+        area: CopyArea::Token.number(),
+        label: Bytes::from_vec(Vec::new(alloc)),
+        body: Bytes::from_vec(body),
     })
 }
 

@@ -5,3 +5,4 @@ pub mod AskLemmas
 pub mod AskedLemmas
 pub mod RunLemmas
 pub mod TextLemmas
+pub mod FitLemmas

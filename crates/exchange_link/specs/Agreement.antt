@@ -1,6 +1,6 @@
 -- What a copy and what a link tells agree on.
-use Rattle.std.specs.Prelude.{◌≡◌, ◌<◌, ◌≤◌, ℕ, ◌++◌, true, List, [], ◌∷◌, length, take, Option, Some, None}
-use Rattle.keeper_memory.specs.copy.Copies.{Copy, Stage}
+use Rattle.std.specs.Prelude.{◌≡◌, ◌<◌, ◌≤◌, ℕ, ◌++◌, true, List, [], ◌∷◌, length, take, Option, Some, None, IfSome}
+use Rattle.keeper_memory.specs.copy.Copies.{Copy, Held, Stage}
 use Rattle.hub_spec.specs.rules.Checks.{version_at}
 use Rattle.hub_spec.specs.views.Cuts.{cut}
 use Rattle.roster_types.specs.Records.{Record}
@@ -35,6 +35,26 @@ abbrev pub StageFitsIf : Option Stage → HubState → Type 0
 StageFitsIf None h = Unit {0}
 StageFitsIf (Some s) h = StageFits s h
 
+-- lists are what the token sees of a version
+pub record AreSeen (lists : List (List Record)) (version : BaseVersion) (token : List ℕ) : Type 0 where
+  pub known : knows version token ≡ true
+  pub same : lists ≡ cut version token
+
+-- what is held is of a published version that isn't newer than the stage's; under a token it is what that token sees of it
+pub record HeldFits (held : Held) (stage : Option Stage) (h : HubState) : Type 0 where
+  pub standing : held.version < length h.published
+  pub below : IfSome stage (λ s. held.version ≤ s.pin)
+  pub seen : IfSome held.token (AreSeen held.lists (version_at h held.version))
+
+abbrev pub HeldFitsIf : Option Held → Option Stage → HubState → Type 0
+HeldFitsIf None stage h = Unit {0}
+HeldFitsIf (Some held) stage h = HeldFits held stage h
+
+-- both
+pub record CopyFits (c : Copy) (h : HubState) : Type 0 where
+  pub stage : StageFitsIf c.stage h
+  pub held : HeldFitsIf c.held c.stage h
+
 -- no request sent has this number
 abbrev pub NotSent : Echo → List Request → Type 0
 NotSent n sent = SentAs n sent → ⊥
@@ -49,8 +69,8 @@ abbrev pub NoneAbove : ℕ → List Request → Type 0
 NoneAbove run [] = Unit {0}
 NoneAbove run (q ∷ qs) = ((n : Echo) → q.echo ≡ Some n → n.run ≤ run) × NoneAbove run qs
 
--- no number is used twice, and the stage is what it says
+-- no number is used twice, and the stage and what is held are what they say
 pub record StageAgrees (c : Copy) (told : Told) : Type 0 where
   pub differ : Differ told.sent
   pub below : NoneAbove c.run told.sent
-  pub stage : StageFitsIf c.stage told.hub
+  pub fits : CopyFits c told.hub

@@ -85,9 +85,9 @@ pub record Leaves (token : List ℕ) (a : SyncAnswer) (before after : Copy) : Ty
 
 -- ---- over one that tells
 
--- what the token sees of a version
+-- what the token sees of a version, under that token
 abbrev pub held_at : ℕ → List ℕ → HubState → Held
-held_at v token h = record { version = v; lists = cut (version_at h v) token }
+held_at v token h = record { version = v; token = Some token; lists = cut (version_at h v) token }
 
 -- the pin of the stage that stood under this token, or else not older than the newest version then
 abbrev pub IsPinOf : Option Stage → HubState → ℕ → Type 0

@@ -55,6 +55,7 @@ pub fn begin_run<C: CopyKeeper>(alloc: Global, copy: &mut C) -> Result<CopyState
                 Ok(()) => Ok(CopyState {
                     run,
                     held: state.held,
+                    held_token: state.held_token,
                     stage: state.stage,
                     last_number: state.last_number,
                 }),

@@ -60,7 +60,7 @@ lineItems, results; with enter one of the last three.
 --peer HOST:PORT   the address of the hub that is copied; without it each try fails
 --keep N           how many versions a new store keeps beside the newest, 1 to 100000, in place of 10000
 --help             prints this; behind a command, the words of that command
---version          prints the version and the format of its stores
+--version          prints the version and the formats of the stores
 
   hub --store st --folder examples publish sis=lake
   hub --store copy --peer 127.0.0.1:8080 sync tok-e 1000 3
@@ -78,7 +78,7 @@ status
                                         18  a server can't listen
 ";
 
-const VERSION: &str = "hub 0.1.0, stores of format 1\n";
+const VERSION: &str = "hub 0.1.0, hub.db of format 1, copy.db of format 2\n";
 
 // The words of each command.
 static USAGES: [(&str, &str); 12] = [

@@ -188,8 +188,8 @@ module _ (t : HubTables) (are : AreTables t) (fit : Fit t) where
       (none_there own_version (λ change. (([], refl), tt)) (newest + 1) (omega (arith, le)) t.changes (earlier_others (newest + 1) newest t.changes (omega arith) le (all_up_to t.base.number t.changes are.lead).1)) refl
 
 -- the format and the state stand alone in their areas
-pub format_told : (t : HubTables) → listed 0 [] (0 ∷ []) (items_of t) ≡ format_entry ∷ []
-format_told t = listed_where (is_between [] (0 ∷ [])) (format_entry ∷ []) (format_entry ∷ []) refl refl
+pub format_told : (t : HubTables) → listed 0 [] (0 ∷ []) (items_of t) ≡ format_entry 1 ∷ []
+format_told t = listed_where (is_between [] (0 ∷ [])) (format_entry 1 ∷ []) (format_entry 1 ∷ []) refl refl
 
 pub state_told : (t : HubTables) → listed 1 [] (0 ∷ []) (items_of t) ≡ state_entry t.keep t.base ∷ []
 state_told t = listed_where (is_between [] (0 ∷ [])) (state_entry t.keep t.base ∷ []) (state_entry t.keep t.base ∷ []) refl refl

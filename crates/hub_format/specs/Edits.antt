@@ -24,7 +24,7 @@ clear_version area version = Clear area (number version) (number (version + 1))
 
 -- the format, and the state of version 0
 abbrev pub first_edits : ℕ → List Edit
-first_edits keep = put_at 0 format_entry ∷ put_at 1 (state_entry keep empty_version) ∷ []
+first_edits keep = put_at 0 (format_entry 1) ∷ put_at 1 (state_entry keep empty_version) ∷ []
 
 -- one change more
 abbrev pub added : Change → List Edit

@@ -28,9 +28,9 @@ new_tables keep = record { keep = keep; base = empty_version; changes = []; mark
 abbrev pub Entry : Type 0
 Entry = List ℕ × List ℕ
 
--- the number of the format
-abbrev pub format_entry : Entry
-format_entry = ([], number 1)
+-- the number of a format
+abbrev pub format_entry : ℕ → Entry
+format_entry n = ([], number n)
 
 abbrev pub state_entry : ℕ → BaseVersion → Entry
 state_entry keep base = ([], number keep ++ number base.number ++ moment base.moment)
@@ -76,7 +76,7 @@ of_changes own (change ∷ changes) = of_changes own changes ++ own change
 -- the entries of each area
 abbrev pub area_of : HubTables → ℕ → List Entry
 area_of t area =
-    if area == 0 then format_entry ∷ []
+    if area == 0 then format_entry 1 ∷ []
     else if area == 1 then state_entry t.keep t.base ∷ []
     else if area == 2 then rows_under [] t.base.rows
     else if area == 3 then of_changes own_version t.changes

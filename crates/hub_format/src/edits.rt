@@ -26,14 +26,14 @@ pub(crate) fn number_bytes(alloc: Global, n: u64) -> Result<Vec<u8>, NoMemory>
     Ok(bytes)
 }
 
-/// The edit that stores the number of the format.
-pub fn put_format(alloc: Global) -> Result<Edit, NoMemory>
-    ensures { IfOk result (λ edit. edit ≡ put_at 0 format_entry) }
+/// The edit that stores the number of a format.
+pub fn put_format(alloc: Global, format: u64) -> Result<Edit, NoMemory>
+    ensures { IfOk result (λ edit. edit ≡ put_at 0 (format_entry format)) }
 {
     Ok(Edit::Put {
         area: HubArea::Format.number(),
         label: Bytes::from_vec(Vec::new(alloc)),
-        body: Bytes::from_vec(number_bytes(alloc, 1)?),
+        body: Bytes::from_vec(number_bytes(alloc, format)?),
     })
 }
 
@@ -57,7 +57,7 @@ pub fn first_edits(alloc: Global, keep: u32) -> Result<Vec<Edit>, NoMemory>
     ensures { IfOk result (λ edits. edits.items ≡ first_edits keep) }
 {
     let mut edits = Vec::new(alloc);
-    edits.push(put_format(alloc)?)?;
+    edits.push(put_format(alloc, 1)?)?;
     edits.push(put_state(alloc, u64::from(keep), 0, &[0; 8])?)?;
     Ok(edits)
 }

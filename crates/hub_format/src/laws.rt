@@ -30,7 +30,7 @@ pub fn items_keep_one_state()
 
 /// What is listed of the items of tables: the format, the state, the rows and the grants of the base, and the marks.
 pub fn items_tell_the_base()
-    ensures format { (t : HubTables) → listed 0 [] (0 ∷ []) (items_of t) ≡ format_entry ∷ [] }
+    ensures format { (t : HubTables) → listed 0 [] (0 ∷ []) (items_of t) ≡ format_entry 1 ∷ [] }
     ensures state { (t : HubTables) → listed 1 [] (0 ∷ []) (items_of t) ≡ state_entry t.keep t.base ∷ [] }
     ensures rows { (t : HubTables) → AreTables t → listed 2 [] (255 ∷ []) (items_of t) ≡ rows_under [] t.base.rows }
     ensures grants { (t : HubTables) → AreTables t → Fit t

@@ -1,6 +1,6 @@
 //! What items say, read back.
 
-ghost use Rattle.std.specs.Prelude.{◌≡◌, ◌≢◌, ◌↔◌, ◌++◌, ◌∷◌, [], IfOk, IfSome, drop, map, true};
+ghost use Rattle.std.specs.Prelude.{◌≡◌, ◌≢◌, ◌↔◌, ◌⊎◌, ◌++◌, ◌∷◌, [], IfOk, IfSome, drop, map, true};
 ghost use Rattle.item_maps.specs.Edits.{entry_of};
 ghost use Rattle.hub_format.specs.declared.reading.Format.TheVariants as format;
 ghost use Rattle.roster_values.specs.Kinds.{place_of_kind};
@@ -122,6 +122,8 @@ pub enum Format {
     New,
     /// Format 1.
     One,
+    /// Format 2.
+    Two,
     /// Another, which isn't known here.
     Other,
 }
@@ -132,21 +134,39 @@ fn is_one(body: &[u8]) -> bool
     body == [0, 0, 0, 0, 0, 0, 0, 1].as_slice()
 }
 
+fn is_two(body: &[u8]) -> bool
+    ensures { (result ≡ true) ↔ (body.now ≡ number 2) }
+{
+    body == [0, 0, 0, 0, 0, 0, 0, 2].as_slice()
+}
+
+// The format of this number.
+fn format_in(body: &[u8]) -> Format
+    ensures one { body.now ≡ number 1 → result ≡ format.One }
+    ensures two { body.now ≡ number 2 → result ≡ format.Two }
+    ensures later { body.now ≢ number 1 → (result ≡ format.Two) ⊎ (result ≡ format.Other) }
+    ensures other { body.now ≢ number 1 → body.now ≢ number 2 → result ≡ format.Other }
+{
+    if is_one(body) {
+        Format::One
+    } else if is_two(body) {
+        Format::Two
+    } else {
+        Format::Other
+    }
+}
+
 /// The format, from its items.
 pub fn format_of(items: &[Item]) -> Format
     ensures none { map entry_of items.now ≡ [] → result ≡ format.New }
-    ensures one { map entry_of items.now ≡ format_entry ∷ [] → result ≡ format.One }
-    ensures other { (entry : Entry) → map entry_of items.now ≡ entry ∷ [] → entry.1 ≢ number 1 → result ≡ format.Other }
+    ensures one { map entry_of items.now ≡ format_entry 1 ∷ [] → result ≡ format.One }
+    ensures two { map entry_of items.now ≡ format_entry 2 ∷ [] → result ≡ format.Two }
+    ensures later { (entry : Entry) → map entry_of items.now ≡ entry ∷ [] → entry.1 ≢ number 1 → (result ≡ format.Two) ⊎ (result ≡ format.Other) }
+    ensures other { (entry : Entry) → map entry_of items.now ≡ entry ∷ [] → entry.1 ≢ number 1 → entry.1 ≢ number 2 → result ≡ format.Other }
 {
     match items {
         [] => Format::New,
-        [item] => {
-            if is_one(item.body.as_slice()) {
-                Format::One
-            } else {
-                Format::Other
-            }
-        }
+        [item] => format_in(item.body.as_slice()),
         _ => Format::Other,
     }
 }

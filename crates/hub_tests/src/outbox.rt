@@ -180,6 +180,7 @@ fn last_copy(alloc: Global) -> MemCopy {
         CopyTables {
             run: 0,
             held: None,
+            held_token: None,
             stage: None,
             entries: Vec::new(alloc),
             last_number: LAST,

@@ -238,8 +238,12 @@ held_can : (o : Option Held) → IfSome o IsHeld → IfSome (option_map (λ h. h
 held_can None is = tt
 held_can (Some h) is = is.version
 
+token_can : (o : Option Held) → option_map (λ h. h.version) o ≡ None → option_map_or (λ h. h.token) o None ≡ None
+token_can None e = refl
+token_can (Some h) e = cc
+
 pub state_is : (c : Copy) → IsCopy c → CanBe (small_part c)
-state_is c is = record { run = is.run; held = held_can c.held is.held; stage = stage_can c.stage is.stage; last = is.last }
+state_is c is = record { run = is.run; held = held_can c.held is.held; token = token_can c.held; stage = stage_can c.stage is.stage; last = is.last }
 
 list_if : (o : Option Held) (kind : Kind) → IfSome o IsHeld → IsList kind (option_map_or (λ h. get_or h.lists (place_of_kind kind) []) o [])
 list_if None kind is = no_list kind

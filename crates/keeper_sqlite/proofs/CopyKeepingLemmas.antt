@@ -1,26 +1,26 @@
 -- Stores whose items keep a copy, before and after a call.
-use Rattle.std.proofs.Common.{◌≡◌, ◌<◌, ◌≤◌, ◌^◌, ℕ, List, [], ◌∷◌, Result, Ok, Err, inl, inr, sym, ap, subst, ◌∙◌, arith}
+use Rattle.std.proofs.Common.{◌≡◌, ◌<◌, ◌≤◌, ◌^◌, ℕ, List, [], ◌∷◌, get_or, Result, Ok, Err, inl, inr, sym, ap, subst, ◌∙◌, arith}
 use Rattle.roster_base.specs.Faults.{CountsFailure}
 use Rattle.roster_base.specs.declared.keeper.KeeperError.{KeeperError}
 use Rattle.roster_base.specs.declared.keeper.KeeperError.TheVariants.{Failed, NoMemory}
 use Rattle.item_maps.specs.Edits.{after}
 use Rattle.item_maps.specs.Items.{Items, listed, no_items}
 use Rattle.item_maps.specs.declared.item.Edit.{Edit}
-use Rattle.keeper_memory.proofs.CopyLemmas.{empty_is}
 use Rattle.keeper_memory.specs.copy.Changes.{CanChange, Commits, copy_after}
-use Rattle.keeper_memory.specs.copy.Copies.{Copy, IsCopy}
+use Rattle.keeper_memory.specs.copy.Copies.{Copy}
 use Rattle.keeper_memory.specs.copy.HeldCopy.{empty_copy}
 use Rattle.keeper_memory.specs.declared.copy.change.CopyChange.{CopyChange}
+use Rattle.hub_format.proofs.Orders.{same_number}
 use Rattle.hub_format.specs.Format.{Entry, format_entry}
-use Rattle.copy_format.proofs.Changing.{Keep-change, first_kept}
+use Rattle.copy_format.proofs.Changing.{Keep-change, first_kept, turned_kept}
 use Rattle.copy_format.proofs.Once.{kept_once}
 use Rattle.copy_format.proofs.Told.{format_told}
-use Rattle.copy_format.specs.Edits.{first_edits}
-use Rattle.copy_format.specs.Format.{Keep}
+use Rattle.copy_format.specs.Edits.{first_edits, turn_edits}
+use Rattle.copy_format.specs.Format.{Keep, KeepOne}
 use Rattle.keeper_sqlite.proofs.HubKeepingLemmas.{none_listed}
 use Rattle.keeper_sqlite.proofs.TellingLemmas.{Came}
 use Rattle.keeper_sqlite.specs.hub.Keeping.{Keeps, Stay}
-use Rattle.keeper_sqlite.specs.copy.Keeping.{AreEditsOf, HasCopy, KeepOrNew}
+use Rattle.keeper_sqlite.specs.copy.Keeping.{AreEditsOf, HasCopy, KeepEither, KeepOrNew}
 
 pub copy_of : (stand : Items → Type 0) (c : Copy) (this : Keeps Keep stand c) → HasCopy stand this.kept.side c
 copy_of stand c this = record { items = this.items; stands = this.stands; stored = this.kept.stored; is = this.kept.is; fit = this.kept.fit }
@@ -31,38 +31,68 @@ copy_stays old new side c stay has = record { items = has.items; stands = stay h
 pub keeps_or_new : (stand : Items → Type 0) (c : Copy) → Keeps Keep stand c → Keeps KeepOrNew stand c
 keeps_or_new stand c this = record { items = this.items; stands = this.stands; kept = inl this.kept }
 
--- what is kept is a copy
-pub told_is_copy : (stand : Items → Type 0) (c : Copy) → Keeps KeepOrNew stand c → IsCopy c
-told_is_copy stand c this = go this.kept
-  where
-    go : KeepOrNew this.items c → IsCopy c
-    go (inl kept) = kept.is
-    go (inr new) = subst IsCopy (sym new.1) empty_is
+pub keeps_either : (stand : Items → Type 0) (c : Copy) → Keeps Keep stand c → Keeps KeepEither stand c
+keeps_either stand c this = record { items = this.items; stands = this.stands; kept = inl this.kept }
 
-format_of : (items : Items) (c : Copy) (keep : Keep items c) → listed 0 [] (0 ∷ []) items ≡ format_entry ∷ []
-format_of items c keep = format_told keep.side c items keep.stored keep.is keep.fit
+pub some_kept : (items : Items) (c : Copy) → KeepEither items c → KeepOrNew items c
+some_kept items c (inl kept) = inl kept
+some_kept items c (inr old) = inr (inl old)
 
--- where the format isn't told, there are no items
-pub is_new : (items : Items) (c : Copy) (told : List Entry) → KeepOrNew items c → told ≡ listed 0 [] (0 ∷ []) items → (told ≡ format_entry ∷ [] → ⊥) → (items ≡ no_items) × (c ≡ empty_copy)
-is_new items c told (inl kept) is none = absurd (none (is ∙ format_of items c kept))
-is_new items c told (inr new) is none = new
+pub some_keeps : (stand : Items → Type 0) (c : Copy) → Keeps KeepEither stand c → Keeps KeepOrNew stand c
+some_keeps stand c this = record { items = this.items; stands = this.stands; kept = some_kept this.items c this.kept }
 
--- and where one is told, they keep the copy
-pub is_kept : (items : Items) (c : Copy) (told : List Entry) → KeepOrNew items c → told ≡ listed 0 [] (0 ∷ []) items → (told ≡ [] → ⊥) → Keep items c
-is_kept items c told (inl kept) is some = kept
-is_kept items c told (inr new) is some = absurd (some (is ∙ ap (listed 0 [] (0 ∷ [])) new.0 ∙ none_listed))
+-- the number of the format
+second : (items : Items) (c : Copy) → Keep items c → listed 0 [] (0 ∷ []) items ≡ format_entry 2 ∷ []
+second items c keep = format_told 2 items keep.stored.format
 
-not_both : (items : Items) (c : Copy) → Keep items c → items ≡ no_items → ⊥
-not_both items c kept none =
-    let told : [] ≡ format_entry ∷ [] = sym none_listed ∙ ap (listed 0 [] (0 ∷ [])) (sym none) ∙ format_of items c kept in
-    cc
+first : (items : Items) (c : Copy) → KeepOne items c → listed 0 [] (0 ∷ []) items ≡ format_entry 1 ∷ []
+first items c keep = format_told 1 items keep.stored.format
+
+none : (items : Items) → items ≡ no_items → listed 0 [] (0 ∷ []) items ≡ []
+none items is = ap (listed 0 [] (0 ∷ [])) is ∙ none_listed
+
+-- where neither format is told, there are no items
+pub is_new : (items : Items) (c : Copy) (told : List Entry) → KeepOrNew items c → told ≡ listed 0 [] (0 ∷ []) items → (told ≡ format_entry 1 ∷ [] → ⊥) → (told ≡ format_entry 2 ∷ [] → ⊥)
+    → (items ≡ no_items) × (c ≡ empty_copy)
+is_new items c told (inl kept) is one two = absurd (two (is ∙ second items c kept))
+is_new items c told (inr (inl old)) is one two = absurd (one (is ∙ first items c old))
+is_new items c told (inr (inr new)) is one two = new
+
+-- where format 2 isn't told, but some format, they keep the copy in format 1
+pub is_old : (items : Items) (c : Copy) (told : List Entry) → KeepOrNew items c → told ≡ listed 0 [] (0 ∷ []) items → (told ≡ [] → ⊥) → (told ≡ format_entry 2 ∷ [] → ⊥) → KeepOne items c
+is_old items c told (inl kept) is some two = absurd (two (is ∙ second items c kept))
+is_old items c told (inr (inl old)) is some two = old
+is_old items c told (inr (inr new)) is some two = absurd (some (is ∙ none items new.0))
+
+-- and where format 1 isn't, in format 2
+pub is_kept : (items : Items) (c : Copy) (told : List Entry) → KeepOrNew items c → told ≡ listed 0 [] (0 ∷ []) items → (told ≡ [] → ⊥) → (told ≡ format_entry 1 ∷ [] → ⊥) → Keep items c
+is_kept items c told (inl kept) is some one = kept
+is_kept items c told (inr (inl old)) is some one = absurd (one (is ∙ first items c old))
+is_kept items c told (inr (inr new)) is some one = absurd (some (is ∙ none items new.0))
+
+not_two : (items : Items) (c : Copy) → Keep items c → items ≡ no_items → ⊥
+not_two items c kept is = let told : [] ≡ format_entry 2 ∷ [] = sym (none items is) ∙ second items c kept in cc
+
+not_one : (items : Items) (c : Copy) → KeepOne items c → items ≡ no_items → ⊥
+not_one items c old is = let told : [] ≡ format_entry 1 ∷ [] = sym (none items is) ∙ first items c old in cc
+
+not_both : (items : Items) (c other : Copy) → Keep items c → KeepOne items other → ⊥
+not_both items c other kept old =
+    let told : format_entry 2 ∷ [] ≡ format_entry 1 ∷ [] = sym (second items c kept) ∙ first items other old in
+    let same = same_number 2 1 (omega arith) (omega arith) (ap (λ (es : List Entry). (get_or es 0 ([], [])).1) told) in
+    omega (arith, same)
 
 -- items keep one copy at most, and no items keep the one that holds nothing
 pub one_copy : (items : Items) (c other : Copy) → KeepOrNew items c → KeepOrNew items other → c ≡ other
 one_copy items c other (inl a) (inl b) = kept_once items c other a b
-one_copy items c other (inl a) (inr b) = absurd (not_both items c a b.0)
-one_copy items c other (inr a) (inl b) = absurd (not_both items other b a.0)
-one_copy items c other (inr a) (inr b) = a.1 ∙ sym b.1
+one_copy items c other (inl a) (inr (inl b)) = absurd (not_both items c other a b)
+one_copy items c other (inl a) (inr (inr b)) = absurd (not_two items c a b.0)
+one_copy items c other (inr (inl a)) (inl b) = absurd (not_both items other c b a)
+one_copy items c other (inr (inl a)) (inr (inl b)) = kept_once (after turn_edits items) c other (turned_kept items c a) (turned_kept items other b)
+one_copy items c other (inr (inl a)) (inr (inr b)) = absurd (not_one items c a b.0)
+one_copy items c other (inr (inr a)) (inl b) = absurd (not_two items other b a.0)
+one_copy items c other (inr (inr a)) (inr (inl b)) = absurd (not_one items other b a.0)
+one_copy items c other (inr (inr a)) (inr (inr b)) = a.1 ∙ sym b.1
 
 -- the first edits make a new store one that keeps the copy that holds nothing
 pub first_keeps : (c : Copy) (goes : List Edit) (items : Items) → goes ≡ first_edits → (items ≡ no_items) × (c ≡ empty_copy) → Keep (after goes items) c
@@ -72,6 +102,13 @@ first_keeps c goes items is none =
 
 pub made_new : (new : Items → Type 0) (c : Copy) (goes : List Edit) (items : Items) → goes ≡ first_edits → (items ≡ no_items) × (c ≡ empty_copy) → new (after goes items) → Keeps Keep new c
 made_new new c goes items is none stands = record { items = after goes items; stands = stands; kept = first_keeps c goes items is none }
+
+-- a store of format 1 keeps the same copy in format 2
+pub turned_keeps : (c : Copy) (goes : List Edit) (items : Items) → goes ≡ turn_edits → KeepOne items c → Keep (after goes items) c
+turned_keeps c goes items is old = subst (λ es. Keep (after es items) c) (sym is) (turned_kept items c old)
+
+pub made_turned : (new : Items → Type 0) (c : Copy) (goes : List Edit) (items : Items) → goes ≡ turn_edits → KeepOne items c → new (after goes items) → Keeps Keep new c
+made_turned new c goes items is old stands = record { items = after goes items; stands = stands; kept = turned_keeps c goes items is old }
 
 -- the edits of a change lead to the copy after it
 pub change_keeps : (items : Items) (c : Copy) (change : CopyChange) (kept : Keep items c) (goes : List Edit) → CanChange change c → AreEditsOf kept.side c change goes → Keep (after goes items) (copy_after change c)

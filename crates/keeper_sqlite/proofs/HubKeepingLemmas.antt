@@ -32,6 +32,10 @@ pub on_err : {T E P Q : Type 0} (r : Result T E) → (P → Q) → OnErr r P →
 on_err (Ok x) f p = tt
 on_err (Err e) f p = f p
 
+pub on_each : {T E P : Type 0} (r : Result T E) → P → OnOk r P
+on_each (Ok x) p = p
+on_each (Err e) p = tt
+
 pub on_any : {T E P : Type 0} (r : Result T E) → P → OnErr r P
 on_any (Ok x) p = tt
 on_any (Err e) p = p
@@ -52,7 +56,7 @@ pub none_listed : listed 0 [] (0 ∷ []) no_items ≡ []
 none_listed = listed_where (is_between [] (0 ∷ [])) [] [] refl refl
 
 -- where the format isn't told, there are no items
-pub is_new : (keep : ℕ) (items : Items) (state : KeptState) (told : List Entry) → KeepOrNew keep items state → told ≡ listed 0 [] (0 ∷ []) items → (told ≡ format_entry ∷ [] → ⊥)
+pub is_new : (keep : ℕ) (items : Items) (state : KeptState) (told : List Entry) → KeepOrNew keep items state → told ≡ listed 0 [] (0 ∷ []) items → (told ≡ format_entry 1 ∷ [] → ⊥)
     → (items ≡ no_items) × (state ≡ kept_by (new_tables keep))
 is_new keep items state told (inl kept) is none = absurd (none (is ∙ ap (listed 0 [] (0 ∷ [])) kept.stored ∙ format_told kept.tables))
 is_new keep items state told (inr new) is none = new

@@ -16,7 +16,7 @@ use Rattle.keeper_sqlite.proofs.HubKeepingLemmas.{none_listed}
 -- items keep one state at most, and no items keep version 0 alone
 not_both : (items : Items) (state : KeptState) → Keep items state → items ≡ no_items → ⊥
 not_both items state kept none =
-    let told : [] ≡ format_entry ∷ [] = sym none_listed ∙ ap (listed 0 [] (0 ∷ [])) (sym none ∙ kept.stored) ∙ format_told kept.tables in
+    let told : [] ≡ format_entry 1 ∷ [] = sym none_listed ∙ ap (listed 0 [] (0 ∷ [])) (sym none ∙ kept.stored) ∙ format_told kept.tables in
     cc
 
 pub one_state : (keep : ℕ) (items : Items) (state other : KeptState) → KeepOrNew keep items state → KeepOrNew keep items other → state ≡ other

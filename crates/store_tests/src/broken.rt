@@ -166,14 +166,14 @@ fn broken_stores_fail(rt: HostRuntime) -> Result<(), Fail> {
     Ok(())
 }
 
-const OTHER_FORMAT: &str = "UPDATE item SET body = x'0000000000000002' WHERE area = 0";
+const OTHER_FORMAT: &str = "UPDATE item SET body = x'0000000000000003' WHERE area = 0";
 
 // The last number becomes 0, where entry 1 stands.
 const BEYOND: &str =
     "UPDATE item SET body = x'0000000000000002010000000000000005010000000000000000' WHERE area = 1";
 
 // Statements that break a copy's store, and words that read what they broke.
-static BREAKING_COPIES: [(&str, &str); 18] = [
+static BREAKING_COPIES: [(&str, &str); 20] = [
     (OTHER_FORMAT, "outbox"),
     (OTHER_FORMAT, "list orgs"),
     (OTHER_FORMAT, "enter delete categories c9"),
@@ -215,6 +215,15 @@ static BREAKING_COPIES: [(&str, &str); 18] = [
     (
         "UPDATE item SET body = x'000000000000000200010000000000000001' WHERE area = 1",
         "list orgs",
+    ),
+    // A token that is no text, and one where no version is held.
+    (
+        "UPDATE item SET body = x'ff' WHERE area = 4",
+        "sync tok-a 100 1",
+    ),
+    (
+        "UPDATE item SET body = x'000000000000000200010000000000000001' WHERE area = 1",
+        "sync tok-a 100 1",
     ),
     // An entry that is numbered above the last number: it is neither listed nor written over.
     (BEYOND, "outbox"),

@@ -35,8 +35,8 @@ const CATEGORY: Reply = (
     "{\"categories\":[{\"dateLastModified\":\"2024-08-01T12:00:00.000Z\",\"sourcedId\":\"c2\",\"status\":\"active\",\"title\":\"Quiz\"}]}",
 );
 
-// A kind that the token doesn't open.
-const SHUT: Reply = ("HTTP/1.1 403 Forbidden\r\nX-Hub-Version: 2", "");
+/// A kind that the token doesn't open.
+pub const SHUT: Reply = ("HTTP/1.1 403 Forbidden\r\nX-Hub-Version: 2", "");
 
 // What is left of version 2.
 const OTHER_ROWS: &[Reply] = &[

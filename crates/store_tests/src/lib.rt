@@ -22,4 +22,6 @@ mod stored;
 #[cfg(test)]
 mod tables;
 #[cfg(test)]
+mod turned;
+#[cfg(test)]
 mod words;

@@ -1,7 +1,7 @@
 //! Steps over a store: words over a hub, words over a consumer's copy with the replies to their exchanges, which are given beforehand, and
 //! looks at what the copy's store holds.
 
-use crate::stored::stored_in;
+use crate::stored::{aged_in, format_in, stored_in};
 use crate::words::{printed, told};
 use exchange_link::PeerLink;
 use item_tests::opened;
@@ -19,13 +19,16 @@ pub type Reply = (&'static str, &'static str);
 #[derive(Clone, Copy)]
 pub struct Turn(pub &'static str, pub u64, pub &'static [Reply]);
 
-/// Words over a hub, the same once more over the same keeper where they fail, a turn of a copy, or a look at the copy's store.
+/// Words over a hub, the same once more over the same keeper where they fail, a turn of a copy, a look at the copy's store or at its
+/// format, or that store made one of format 1.
 #[derive(Clone, Copy)]
 pub enum Step {
     Hub(&'static str),
     HubAgain(&'static str),
     Copy(Turn),
     Store,
+    Format,
+    Aged,
 }
 
 fn reply_to(alloc: Global, run: u64, count: usize, reply: &Reply) -> Result<Vec<u8>, NoMemory> {
@@ -122,6 +125,8 @@ pub fn step_over<I: StoredItems>(
         Step::HubAgain(line) => hub_again(alloc, items, keep, line),
         Step::Copy(turn) => copy_over(alloc, items, turn),
         Step::Store => stored_in(alloc, items),
+        Step::Format => format_in(alloc, items),
+        Step::Aged => aged_in(alloc, items),
     }
 }
 

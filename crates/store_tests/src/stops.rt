@@ -1,6 +1,6 @@
 //! Commits and first loads over disks that stop.
 
-use crate::copies::{CREATED, LATER_ORG, LATER_SHUT};
+use crate::copies::{CREATED, LATER_ORG, LATER_ROWS, LATER_SHUT};
 use crate::kept::empty;
 use crate::steps::{Reply, Step, Turn, step_in};
 use roster_base::NoMemory;
@@ -91,6 +91,19 @@ static STAGES: [Case; 2] = [
         shown: &[Step::Store],
     },
 ];
+
+// A store of format 1 with an entry, a version that is held and a stage is taken over.
+static AGED: [Case; 1] = [Case {
+    before: &[
+        ENTER,
+        Step::Copy(Turn("sync tok-a 100 1", 1, LATER_ROWS)),
+        Step::Copy(Turn("sync tok-a 100 1", 2, &[LATER_ORG])),
+        Step::Aged,
+    ],
+    step: Step::Store,
+    between: &[],
+    shown: &[Step::Format, Step::Store, OUTBOX, ORGS],
+}];
 
 // The files that steps leave.
 fn files_after(alloc: Global, steps: &[Step]) -> Files<Memory> {
@@ -229,6 +242,14 @@ fn stops_leave_a_copy_before_or_after(rt: HostRuntime) -> Result<(), Fail> {
 #[test]
 fn stops_leave_a_stage_before_or_after(rt: HostRuntime) -> Result<(), Fail> {
     for case in &STAGES {
+        assert_stops(&rt, rt.alloc(), case)?;
+    }
+    Ok(())
+}
+
+#[test]
+fn stops_leave_a_copy_in_one_of_two_formats(rt: HostRuntime) -> Result<(), Fail> {
+    for case in &AGED {
         assert_stops(&rt, rt.alloc(), case)?;
     }
     Ok(())

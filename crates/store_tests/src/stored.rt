@@ -1,8 +1,9 @@
 //! What the store of a consumer's copy holds, as a text.
 
+use item_maps::{Edit, Item};
 use keeper_memory::{CopyKeeper, CopyState};
 use keeper_sqlite::{ItemCopy, StoredItems};
-use roster_base::NoMemory;
+use roster_base::{Bytes, NoMemory};
 use std::alloc::Global;
 
 fn push_number(alloc: Global, text: &mut String, word: &str, number: u64) -> Result<(), NoMemory> {
@@ -10,11 +11,15 @@ fn push_number(alloc: Global, text: &mut String, word: &str, number: u64) -> Res
     Ok(())
 }
 
-// The last run; and the version that is held, and the version and the whole kinds of the stage, so far as there are any.
+// The last run; and the version that is held, its token, and the version and the whole kinds of the stage, so far as there are any.
 fn push_state(alloc: Global, text: &mut String, state: &CopyState) -> Result<(), NoMemory> {
     push_number(alloc, text, "run ", state.run)?;
     if let Some(version) = state.held {
         push_number(alloc, text, ", version ", version)?;
+    }
+    if let Some(token) = &state.held_token {
+        text.push_str(", token ")?;
+        text.push_str(token.as_str())?;
     }
     if let Some(stage) = &state.stage {
         push_number(alloc, text, ", stage ", stage.pin)?;
@@ -37,7 +42,7 @@ fn state_told<C: CopyKeeper>(alloc: Global, copy: &mut C) -> Result<String, NoMe
 }
 
 // The areas of a copy with orgs alone.
-static AREAS: [u32; 6] = [0, 1, 2, 3, 32, 64];
+static AREAS: [u32; 7] = [0, 1, 2, 3, 4, 32, 64];
 
 // How many items an area has, where it has any.
 fn push_area<I: StoredItems>(
@@ -75,5 +80,65 @@ pub fn stored_in<I: StoredItems>(alloc: Global, items: I) -> (Result<String, NoM
     let state = state_told(alloc, &mut copy);
     let mut items = copy.release();
     let told = with_areas(alloc, state, &mut items);
+    (told, items)
+}
+
+// The last byte of the only item's body.
+fn last_byte(items: &[Item]) -> Option<u8> {
+    match items {
+        [item] => item.body.as_slice().last().copied(),
+        _ => None,
+    }
+}
+
+fn format_told<I: StoredItems>(alloc: Global, items: &mut I) -> Result<String, NoMemory> {
+    let mut text = String::new(alloc);
+    let Ok(found) = items.all_of(alloc, 0, &[], &[0]) else {
+        text.push_str("failed")?;
+        return Ok(text);
+    };
+    let number = last_byte(found.as_slice());
+    drop(found);
+    match number {
+        Some(number) => push_number(alloc, &mut text, "format ", u64::from(number))?,
+        None => text.push_str("no format")?,
+    }
+    Ok(text)
+}
+
+/// Tells the number of the format of these items, and gives them back.
+pub fn format_in<I: StoredItems>(alloc: Global, mut items: I) -> (Result<String, NoMemory>, I) {
+    let told = format_told(alloc, &mut items);
+    (told, items)
+}
+
+// The edits by which a copy's items become those that format 1 had: it knew no token.
+fn aging_edits(alloc: Global) -> Result<Vec<Edit>, NoMemory> {
+    let mut edits = Vec::new(alloc);
+    edits.push(Edit::Put {
+        area: 0,
+        label: Bytes::from_vec(Vec::new(alloc)),
+        body: Bytes::from_vec(Vec::from_slice(alloc, &[0, 0, 0, 0, 0, 0, 0, 1])?),
+    })?;
+    edits.push(Edit::Clear {
+        area: 4,
+        from: Bytes::from_vec(Vec::new(alloc)),
+        to: Bytes::from_vec(Vec::from_slice(alloc, &[0])?),
+    })?;
+    Ok(edits)
+}
+
+fn aged<I: StoredItems>(alloc: Global, items: &mut I) -> Result<String, NoMemory> {
+    let edits = aging_edits(alloc)?;
+    let mut text = String::new(alloc);
+    if items.commit(edits.as_slice()).is_err() {
+        text.push_str("failed")?;
+    }
+    Ok(text)
+}
+
+/// Makes these items of a copy those that format 1 had, and gives them back.
+pub fn aged_in<I: StoredItems>(alloc: Global, mut items: I) -> (Result<String, NoMemory>, I) {
+    let told = aged(alloc, &mut items);
     (told, items)
 }

@@ -1,6 +1,6 @@
 -- A copy and a link that agree, as the hub goes on.
 use Rattle.std.proofs.Common.{◌≡◌, [], sym, subst}
-use Rattle.consumer_sync.proofs.AgreeLemmas.{agrees_if_on}
+use Rattle.exchange_link.proofs.FitLemmas.{copy_on}
 use Rattle.exchange_link.specs.Agreement.{Differ, NoneAbove}
 use Rattle.exchange_link.specs.Exchanges.{Told}
 use Rattle.exchange_link.specs.Marks.{Agree}
@@ -18,7 +18,7 @@ agree_grows copy told tells grew sent agree = record {
   stage = record {
     differ = subst Differ (sym sent) agree.stage.differ;
     below = subst (NoneAbove copy.run) (sym sent) agree.stage.below;
-    stage = agrees_if_on copy.stage told.hub tells.hub grew agree.stage.stage;
+    fits = copy_on copy told.hub tells.hub grew agree.stage.fits;
   };
   marks = subst (MarksAgree copy.entries copy.last_number tells.hub) (sym sent) (reads_keep copy.entries copy.last_number told.hub tells.hub [] told.sent grew tt agree.marks);
 }

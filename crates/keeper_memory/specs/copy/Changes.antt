@@ -46,9 +46,9 @@ abbrev pub stage_after : Stage → List Record → ℕ → Bool → Stage
 stage_after s rows total true = record { pin = s.pin; token = s.token; done = s.done ++ (s.present ++ rows) ∷ []; present = []; total = None }
 stage_after s rows total false = record { pin = s.pin; token = s.token; done = s.done; present = s.present ++ rows; total = Some total }
 
--- what a stage holds, once all its kinds are done
+-- what a stage holds, under its token, once all its kinds are done
 abbrev pub held_of : Stage → Held
-held_of s = record { version = s.pin; lists = s.done }
+held_of s = record { version = s.pin; token = Some s.token; lists = s.done }
 
 abbrev pub swapped : Copy → Option Stage → Copy
 swapped c None = c

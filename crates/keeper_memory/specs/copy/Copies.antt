@@ -20,9 +20,10 @@ pub record Stage : Type 0 where
   pub present : List Record
   pub total : Option ℕ
 
--- a version and its lists, one for each kind
+-- a version, the token under which it was copied, where that is known, and its lists, one for each kind
 pub record Held : Type 0 where
   pub version : ℕ
+  pub token : Option (List ℕ)
   pub lists : List (List Record)
 
 pub record Copy : Type 0 where
@@ -35,6 +36,10 @@ pub record Copy : Type 0 where
 -- the rows of a kind that are held; none where nothing is held
 abbrev pub held_list : Copy → Kind → List Record
 held_list c kind = option_map_or (λ h. get_or h.lists (place_of_kind kind) []) c.held []
+
+-- the token under which what is held was copied; none where nothing is held
+abbrev pub held_token : Copy → Option (List ℕ)
+held_token c = option_map_or (λ h. h.token) c.held None
 
 -- the first entry with a number above `after`
 abbrev pub entry_after : ℕ → List OutEntry → Option OutEntry

@@ -6,7 +6,7 @@ use Rattle.keeper_memory.specs.declared.copy.entry.OutEntry.{OutEntry}
 use Rattle.keeper_memory.specs.declared.copy.state.CopyState.{CopyState}
 use Rattle.keeper_memory.specs.declared.copy.state.StageState.{StageState}
 use Rattle.keeper_memory.specs.declared.copy.state.TheConstants.{LAST}
-use Rattle.keeper_memory.specs.copy.Copies.{Copy, IsOutWrite, Stage}
+use Rattle.keeper_memory.specs.copy.Copies.{Copy, IsOutWrite, Stage, held_token}
 use Rattle.keeper_memory.specs.copy.Lists.{IsList, kind_count, last_from}
 
 -- the small part of a stage
@@ -18,7 +18,7 @@ stage_of c = option_map state_of c.stage
 
 -- the small part of a copy
 abbrev pub small_part : Copy → CopyState
-small_part c = record { run = c.run; held = option_map (λ h. h.version) c.held; stage = stage_of c; last_number = c.last_number }
+small_part c = record { run = c.run; held = option_map (λ h. h.version) c.held; held_token = held_token c; stage = stage_of c; last_number = c.last_number }
 
 abbrev pub Shows : Copy → CopyState → Type 0
 Shows c s = s ≡ small_part c
@@ -33,9 +33,11 @@ pub record CanBeStage (s : StageState) : Type 0 where
   pub some : (s.staged ≡ 0 → ⊥) → is_some s.last ≡ true
   pub whole : s.kinds_done ≡ kind_count → (s.staged ≡ 0) × (s.total ≡ None)
 
+-- no token where nothing is held
 pub record CanBe (s : CopyState) : Type 0 where
   pub run : s.run ≤ LAST
   pub held : IfSome s.held (λ version. version ≤ LAST)
+  pub token : s.held ≡ None → s.held_token ≡ None
   pub stage : IfSome s.stage CanBeStage
   pub last : s.last_number ≤ LAST
 

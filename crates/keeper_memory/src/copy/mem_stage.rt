@@ -150,15 +150,17 @@ impl MemStage {
     {
         MemHeld {
             version: self.pin,
+            token: Some(self.token),
             lists: self.done,
         }
     }
 }
 
-// A version and its lists. A clause sees them.
+// A version, the token under which it was copied, where that is known, and its lists. A clause sees them.
 #[derive(Drop)]
 pub(crate) struct MemHeld {
     version: u64,
+    token: Option<Token>,
     lists: Vec<Items<Row>>,
 }
 
@@ -167,15 +169,16 @@ impl Model for MemHeld {
 
     ghost Value = { Held };
 
-    ghost view = { λ h. record { version = h.version; lists = h.lists.items } };
+    ghost view = { λ h. record { version = h.version; token = h.token; lists = h.lists.items } };
 }
 
 impl MemHeld {
-    pub(crate) fn holding(held: HeldRows) -> MemHeld
-        ensures { result ≡ held_in held }
+    pub(crate) fn holding(held: HeldRows, token: Option<Token>) -> MemHeld
+        ensures { result ≡ held_in token held }
     {
         MemHeld {
             version: held.version,
+            token,
             lists: held.rows,
         }
     }
@@ -184,6 +187,15 @@ impl MemHeld {
         ensures { result ≡ self.now.version }
     {
         self.version
+    }
+
+    pub(crate) fn token(&self, alloc: Global) -> Result<Option<Token>, NoMemory>
+        ensures { IfOk result (λ token. token ≡ self.now.token) }
+    {
+        match &self.token {
+            None => Ok(None),
+            Some(token) => Ok(Some(token.copy(alloc)?)),
+        }
     }
 
     // The rows of a kind.

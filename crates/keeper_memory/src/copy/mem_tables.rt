@@ -1,6 +1,7 @@
 //! A copy in memory.
 
-ghost use Rattle.std.specs.Prelude.{◌≡◌, ◌≤◌, IfOk, IfSome, IsOk, OnErr, OnOk, length, option_copied, option_map, is_none};
+ghost use Rattle.std.specs.Prelude.{◌≡◌, ◌≤◌, IfOk, IfSome, IsOk, None, OnErr, OnOk, length, option_copied, option_map, is_none};
+ghost use Rattle.std.specs.Option.{option_map_or};
 ghost use Rattle.keeper_memory.specs.copy.Changes.{IsQuick, copy_after, settled_first, stage_after};
 ghost use Rattle.keeper_memory.specs.declared.copy.change.CopyChange.TheVariants.{Swap, Enter};
 ghost use Rattle.keeper_memory.specs.copy.Copies.{entry_after, held_list};
@@ -15,6 +16,7 @@ use crate::copy::mem_stage::{MemHeld, MemStage};
 use crate::copy::state::{CopyState, StageState};
 use crate::copy::tables::{CopyTables, HeldRows, StagedRows};
 use roster_base::{Items, NoMemory, TryCopy};
+use roster_texts::Token;
 use roster_types::row::Row;
 use roster_values::Kind;
 use std::alloc::Global;
@@ -49,6 +51,16 @@ fn version_of(held: &Option<MemHeld>) -> Option<u64>
     }
 }
 
+// The token under which it was copied, where that is known.
+fn token_of(alloc: Global, held: &Option<MemHeld>) -> Result<Option<Token>, NoMemory>
+    ensures { IfOk result (λ token. token ≡ option_map_or (λ h. h.token) held.now None) }
+{
+    match held {
+        None => Ok(None),
+        Some(held) => held.token(alloc),
+    }
+}
+
 fn state_of(alloc: Global, stage: &Option<MemStage>) -> Result<Option<StageState>, NoMemory>
     requires { IfSome stage.now (λ s. length s.done ≤ kind_count) }
     ensures { IfOk result (λ s. s ≡ option_map small_stage stage.now) }
@@ -59,12 +71,12 @@ fn state_of(alloc: Global, stage: &Option<MemStage>) -> Result<Option<StageState
     }
 }
 
-fn held_of(held: Option<HeldRows>) -> Option<MemHeld>
-    ensures { result ≡ option_map held_in held }
+fn held_of(held: Option<HeldRows>, token: Option<Token>) -> Option<MemHeld>
+    ensures { result ≡ option_map (held_in token) held }
 {
     match held {
         None => None,
-        Some(held) => Some(MemHeld::holding(held)),
+        Some(held) => Some(MemHeld::holding(held, token)),
     }
 }
 
@@ -116,13 +128,14 @@ impl MemTables {
         let CopyTables {
             run,
             held,
+            held_token,
             stage,
             entries,
             last_number,
         } = tables;
         MemTables {
             run,
-            held: held_of(held),
+            held: held_of(held, held_token),
             stage: stage_of(alloc, stage),
             entries,
             last_number,
@@ -136,6 +149,7 @@ impl MemTables {
         Ok(CopyState {
             run: self.run,
             held: version_of(&self.held),
+            held_token: token_of(alloc, &self.held)?,
             stage: state_of(alloc, &self.stage)?,
             last_number: self.last_number,
         })

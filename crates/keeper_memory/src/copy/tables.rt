@@ -3,6 +3,7 @@
 use crate::copy::entry::OutEntry;
 use crate::copy::state::StageState;
 use roster_base::Items;
+use roster_texts::Token;
 use roster_types::row::Row;
 
 /// A version and its lists, one for each kind in their order.
@@ -24,6 +25,8 @@ pub struct StagedRows {
 pub struct CopyTables {
     pub run: u64,
     pub held: Option<HeldRows>,
+    /// The token under which it was copied, where that is known.
+    pub held_token: Option<Token>,
     pub stage: Option<StagedRows>,
     pub entries: Vec<OutEntry>,
     pub last_number: u64,

@@ -6,8 +6,8 @@ ghost use Rattle.item_maps.specs.Items.{Items};
 ghost use Rattle.keeper_memory.specs.copy.Changes.{CanChange, copy_after};
 ghost use Rattle.keeper_memory.specs.copy.Copies.{Copy};
 ghost use Rattle.copy_format.specs.Format.{Keep};
-ghost use Rattle.keeper_sqlite.specs.hub.Keeping.{Became, ComeOf, HasOtherFormat, Keeps, Stay};
-ghost use Rattle.keeper_sqlite.specs.copy.Keeping.{KeepOrNew};
+ghost use Rattle.keeper_sqlite.specs.hub.Keeping.{Became, ComeOf, Keeps, Stay};
+ghost use Rattle.keeper_sqlite.specs.copy.Keeping.{HasOtherFormat, KeepEither, KeepOrNew};
 ghost use Rattle.keeper_sqlite.specs.Trust.{Clean};
 
 use crate::copy::prepare::prepare;
@@ -44,8 +44,9 @@ pub(crate) fn commit_to<S: StoredItems>(
     change: CopyChange,
 ) -> Result<(), KeeperError>
     ensures ok { (c : Copy) → Keeps KeepOrNew (S.stands_for store.old) c → CanChange change c → S.is_trusted store.new
-        → OnOk result (Keeps KeepOrNew (S.stands_for store.new) (copy_after change c)) }
+        → OnOk result (Keeps Keep (S.stands_for store.new) (copy_after change c)) }
     ensures err { (c : Copy) → Keeps KeepOrNew (S.stands_for store.old) c → S.is_trusted store.new → OnErr result (Keeps KeepOrNew (S.stands_for store.new) c) }
+    ensures whole { (c : Copy) → Keeps KeepEither (S.stands_for store.old) c → S.is_trusted store.new → OnErr result (Keeps KeepEither (S.stands_for store.new) c) }
     ensures other { (m : Items) → S.stands_for store.old m → HasOtherFormat m → S.is_trusted store.new → IsErr result × S.stands_for store.new m }
     ensures cause { CountsFailure (S.fault_count store.old) (S.fault_count store.new) result }
     ensures trust { S.is_trusted store.new → S.is_trusted store.old }

@@ -1,13 +1,14 @@
 //! A keeper of a consumer's copy over a store of items.
 
-ghost use Rattle.std.specs.Prelude.{IfOk, IfSome, IsErr, OnOk, ◌<◌, ◌^◌, ◌≡◌, ◌≤◌};
+ghost use Rattle.std.specs.Prelude.{IfOk, IfSome, IsErr, OnErr, OnOk, ◌<◌, ◌^◌, ◌≡◌, ◌≤◌};
 ghost use Rattle.roster_base.specs.Faults.{CountsFailure};
 ghost use Rattle.item_maps.specs.Items.{Items as Kept};
-ghost use Rattle.keeper_memory.specs.copy.Changes.{CanChange, Commits};
+ghost use Rattle.copy_format.specs.Format.{Keep};
+ghost use Rattle.keeper_memory.specs.copy.Changes.{CanChange, Commits, copy_after};
 ghost use Rattle.keeper_memory.specs.copy.Copies.{Copy, entry_after, held_list};
 ghost use Rattle.keeper_memory.specs.copy.States.{CanBe, CanBeEntry, CanBeList, Shows};
-ghost use Rattle.keeper_sqlite.specs.copy.Keeping.{CopyLeads, CopyTells, KeepOrNew};
-ghost use Rattle.keeper_sqlite.specs.hub.Keeping.{HasOtherFormat, Keeps};
+ghost use Rattle.keeper_sqlite.specs.copy.Keeping.{CopyLeads, CopyTells, HasOtherFormat, KeepEither, KeepOrNew};
+ghost use Rattle.keeper_sqlite.specs.hub.Keeping.{Keeps};
 ghost use Rattle.keeper_sqlite.specs.hub.Telling.{StillKeep, Tells};
 ghost use Rattle.keeper_sqlite.specs.Trust.{Clean};
 
@@ -77,7 +78,7 @@ fn bounded<S: StoredItems>(store: &S)
 impl<S: StoredItems> CopyKeeper for ItemCopy<S> {
     ghost use Rattle.std.specs.Prelude.{◌≡◌};
     ghost use Rattle.std.proofs.Common.{⊎_elim, refl, subst, sym, ◌∙◌};
-    ghost use Rattle.copy_format.specs.Format.{Keep};
+    ghost use Rattle.copy_format.specs.Format.{Keep, KeepOne};
     ghost use Rattle.keeper_memory.proofs.CopyLemmas.{empty_is};
     ghost use Rattle.keeper_memory.specs.copy.Copies.{IsCopy};
     ghost use Rattle.keeper_memory.specs.copy.HeldCopy.{empty_copy};
@@ -93,7 +94,9 @@ impl<S: StoredItems> CopyKeeper for ItemCopy<S> {
 
     ghost leads_on = { λ _ _ _ first then. (then.0 ∙ first.0, λ sign shown. first.1 sign (then.1 sign shown)) };
 
-    ghost is_copy = { λ keeper c tells. ⊎_elim (λ (kept : Keep tells.items c). kept.is) (λ (none : (tells.items ≡ no_items) × (c ≡ empty_copy)). subst IsCopy (sym none.1) empty_is) tells.kept };
+    ghost is_copy = { λ keeper c tells. ⊎_elim (λ (kept : Keep tells.items c). kept.is)
+        (⊎_elim (λ (old : KeepOne tells.items c). old.is) (λ (none : (tells.items ≡ no_items) × (c ≡ empty_copy)). subst IsCopy (sym none.1) empty_is))
+        tells.kept };
 
     fn state(&mut self, alloc: Global) -> Result<CopyState, KeeperError>
         ensures shown { IfOk result (λ s. (c : Copy) → CopyTells S.stands_for S.may_hold self.new c → Shows c s) }
@@ -104,6 +107,10 @@ impl<S: StoredItems> CopyKeeper for ItemCopy<S> {
         ensures leads { CopyLeads S.shows self.old self.new }
         // Over a clean disk a call that succeeds leaves the store trusted, so that it tells what it keeps.
         ensures live { S.shows self.new.0 Clean → OnOk result (S.is_trusted self.new.0) }
+        // A call that succeeds leaves items of format 2, whatever they were before it.
+        ensures turned { (c : Copy) → Keeps KeepOrNew (S.stands_for self.old.0) c → S.is_trusted self.new.0 → OnOk result (Keeps Keep (S.stands_for self.new.0) c) }
+        // And any call leaves the copy whole, in one of the two formats.
+        ensures whole { (c : Copy) → Keeps KeepEither (S.stands_for self.old.0) c → S.is_trusted self.new.0 → Keeps KeepEither (S.stands_for self.new.0) c }
         // Items of another format are refused, and stay as they are.
         ensures other { (m : Kept) → S.stands_for self.old.0 m → HasOtherFormat m → S.is_trusted self.new.0 → IsErr result × S.stands_for self.new.0 m }
     {
@@ -120,6 +127,10 @@ impl<S: StoredItems> CopyKeeper for ItemCopy<S> {
         ensures leads { CopyLeads S.shows self.old self.new }
         // Over a clean disk a call that succeeds leaves the store trusted, so that it tells what it keeps.
         ensures live { S.shows self.new.0 Clean → OnOk result (S.is_trusted self.new.0) }
+        // A call that succeeds leaves items of format 2, whatever they were before it.
+        ensures turned { (c : Copy) → Keeps KeepOrNew (S.stands_for self.old.0) c → S.is_trusted self.new.0 → OnOk result (Keeps Keep (S.stands_for self.new.0) c) }
+        // And any call leaves the copy whole, in one of the two formats.
+        ensures whole { (c : Copy) → Keeps KeepEither (S.stands_for self.old.0) c → S.is_trusted self.new.0 → Keeps KeepEither (S.stands_for self.new.0) c }
         // Items of another format are refused, and stay as they are.
         ensures other { (m : Kept) → S.stands_for self.old.0 m → HasOtherFormat m → S.is_trusted self.new.0 → IsErr result × S.stands_for self.new.0 m }
     {
@@ -136,6 +147,10 @@ impl<S: StoredItems> CopyKeeper for ItemCopy<S> {
         ensures leads { CopyLeads S.shows self.old self.new }
         // Over a clean disk a call that succeeds leaves the store trusted, so that it tells what it keeps.
         ensures live { S.shows self.new.0 Clean → OnOk result (S.is_trusted self.new.0) }
+        // A call that succeeds leaves items of format 2, whatever they were before it.
+        ensures turned { (c : Copy) → Keeps KeepOrNew (S.stands_for self.old.0) c → S.is_trusted self.new.0 → OnOk result (Keeps Keep (S.stands_for self.new.0) c) }
+        // And any call leaves the copy whole, in one of the two formats.
+        ensures whole { (c : Copy) → Keeps KeepEither (S.stands_for self.old.0) c → S.is_trusted self.new.0 → Keeps KeepEither (S.stands_for self.new.0) c }
         // Items of another format are refused, and stay as they are.
         ensures other { (m : Kept) → S.stands_for self.old.0 m → HasOtherFormat m → S.is_trusted self.new.0 → IsErr result × S.stands_for self.new.0 m }
     {
@@ -152,6 +167,11 @@ impl<S: StoredItems> CopyKeeper for ItemCopy<S> {
         ensures leads { CopyLeads S.shows self.old self.new }
         // Over a clean disk a call that succeeds leaves the store trusted, so that it tells what it keeps.
         ensures live { S.shows self.new.0 Clean → OnOk result (S.is_trusted self.new.0) }
+        // A call that succeeds leaves items of format 2, whatever they were before it, with its change.
+        ensures turned { (c : Copy) → Keeps KeepOrNew (S.stands_for self.old.0) c → CanChange change c → S.is_trusted self.new.0
+            → OnOk result (Keeps Keep (S.stands_for self.new.0) (copy_after change c)) }
+        // And one that doesn't leaves the copy whole, in one of the two formats.
+        ensures whole { (c : Copy) → Keeps KeepEither (S.stands_for self.old.0) c → S.is_trusted self.new.0 → OnErr result (Keeps KeepEither (S.stands_for self.new.0) c) }
         // Items of another format are refused, and stay as they are.
         ensures other { (m : Kept) → S.stands_for self.old.0 m → HasOtherFormat m → S.is_trusted self.new.0 → IsErr result × S.stands_for self.new.0 m }
     {

@@ -1,26 +1,34 @@
 //! What a store keeps, read back.
 
-ghost use Rattle.std.specs.Prelude.{IfOk, IfSome, IsErr, OnOk, false, ◌≡◌, ◌≤◌};
+ghost use Rattle.std.specs.Prelude.{IfOk, IfSome, IsErr, None, OnOk, false, ◌≡◌, ◌≤◌};
 ghost use Rattle.roster_base.specs.Faults.{CountsFailure};
 ghost use Rattle.item_maps.specs.Items.{Items as Kept};
 ghost use Rattle.keeper_memory.specs.copy.Copies.{Copy, entry_after, held_list};
 ghost use Rattle.keeper_memory.specs.copy.Lists.{IsList};
 ghost use Rattle.keeper_memory.specs.copy.States.{CanBe, CanBeEntry, Shows};
 ghost use Rattle.copy_format.specs.Format.{Keep};
-ghost use Rattle.keeper_sqlite.specs.hub.Keeping.{ComeOf, HasOtherFormat, Keeps, Stay};
-ghost use Rattle.keeper_sqlite.specs.copy.Keeping.{KeepOrNew};
+ghost use Rattle.keeper_sqlite.specs.hub.Keeping.{ComeOf, Keeps, Stay};
+ghost use Rattle.keeper_sqlite.specs.copy.Keeping.{HasOtherFormat, KeepEither, KeepOrNew};
 ghost use Rattle.keeper_sqlite.specs.Trust.{Clean};
 
 use crate::copy::prepare::prepare;
-use crate::copy::stored::{stored_entry, stored_root, stored_rows, stored_stage};
+use crate::copy::stored::{stored_entry, stored_root, stored_rows, stored_stage, stored_token};
 use crate::stored_items::StoredItems;
 use keeper_memory::{CopyState, OutEntry};
 use roster_base::{Items, KeeperError};
+use roster_texts::Token;
 use roster_types::row::Row;
 use roster_values::Kind;
 use std::alloc::Global;
 
-// The small part of the copy that a store that is ready keeps.
+// Whether a token stands where no version is held.
+fn is_stray(held: Option<u64>, token: &Option<Token>) -> bool
+    ensures { result ≡ false → held ≡ None → token.now ≡ None }
+{
+    held.is_none() && token.is_some()
+}
+
+// The small part of the copy that a store that is ready keeps. A token of no version is refused.
 fn ready_state<S: StoredItems>(alloc: Global, store: &mut S) -> Result<CopyState, KeeperError>
     ensures shown { (c : Copy) → Keeps Keep (S.stands_for store.old) c → S.is_trusted store.new → IfOk result (Shows c) }
     ensures can { IfOk result CanBe }
@@ -32,10 +40,15 @@ fn ready_state<S: StoredItems>(alloc: Global, store: &mut S) -> Result<CopyState
     ensures live { S.shows store.new Clean → OnOk result (S.is_trusted store.new) }
 {
     let root = stored_root(alloc, store)?;
+    let held_token = stored_token(alloc, store)?;
+    if is_stray(root.held, &held_token) {
+        return Err(store.refuse());
+    }
     let stage = stored_stage(alloc, store)?;
     Ok(CopyState {
         run: root.run,
         held: root.held,
+        held_token,
         stage,
         last_number: root.last_number,
     })
@@ -49,6 +62,8 @@ pub(crate) fn state_from<S: StoredItems>(
     ensures shown { (c : Copy) → Keeps KeepOrNew (S.stands_for store.old) c → S.is_trusted store.new → IfOk result (Shows c) }
     ensures can { IfOk result CanBe }
     ensures kept { (c : Copy) → Keeps KeepOrNew (S.stands_for store.old) c → S.is_trusted store.new → Keeps KeepOrNew (S.stands_for store.new) c }
+    ensures turned { (c : Copy) → Keeps KeepOrNew (S.stands_for store.old) c → S.is_trusted store.new → OnOk result (Keeps Keep (S.stands_for store.new) c) }
+    ensures whole { (c : Copy) → Keeps KeepEither (S.stands_for store.old) c → S.is_trusted store.new → Keeps KeepEither (S.stands_for store.new) c }
     ensures other { (m : Kept) → S.stands_for store.old m → HasOtherFormat m → S.is_trusted store.new → IsErr result × S.stands_for store.new m }
     ensures cause { CountsFailure (S.fault_count store.old) (S.fault_count store.new) result }
     ensures trust { S.is_trusted store.new → S.is_trusted store.old }
@@ -93,6 +108,8 @@ pub(crate) fn held_from<S: StoredItems>(
     ensures shown { (c : Copy) → Keeps KeepOrNew (S.stands_for store.old) c → S.is_trusted store.new → IfOk result (λ rows. rows ≡ held_list c kind) }
     ensures can { IfOk result (IsList kind) }
     ensures kept { (c : Copy) → Keeps KeepOrNew (S.stands_for store.old) c → S.is_trusted store.new → Keeps KeepOrNew (S.stands_for store.new) c }
+    ensures turned { (c : Copy) → Keeps KeepOrNew (S.stands_for store.old) c → S.is_trusted store.new → OnOk result (Keeps Keep (S.stands_for store.new) c) }
+    ensures whole { (c : Copy) → Keeps KeepEither (S.stands_for store.old) c → S.is_trusted store.new → Keeps KeepEither (S.stands_for store.new) c }
     ensures other { (m : Kept) → S.stands_for store.old m → HasOtherFormat m → S.is_trusted store.new → IsErr result × S.stands_for store.new m }
     ensures cause { CountsFailure (S.fault_count store.old) (S.fault_count store.new) result }
     ensures trust { S.is_trusted store.new → S.is_trusted store.old }
@@ -147,6 +164,8 @@ pub(crate) fn entry_from<S: StoredItems>(
     ensures shown { (c : Copy) → Keeps KeepOrNew (S.stands_for store.old) c → S.is_trusted store.new → IfOk result (λ entry. entry ≡ entry_after after c.entries) }
     ensures can { IfOk result (λ entry. IfSome entry (CanBeEntry after)) }
     ensures kept { (c : Copy) → Keeps KeepOrNew (S.stands_for store.old) c → S.is_trusted store.new → Keeps KeepOrNew (S.stands_for store.new) c }
+    ensures turned { (c : Copy) → Keeps KeepOrNew (S.stands_for store.old) c → S.is_trusted store.new → OnOk result (Keeps Keep (S.stands_for store.new) c) }
+    ensures whole { (c : Copy) → Keeps KeepEither (S.stands_for store.old) c → S.is_trusted store.new → Keeps KeepEither (S.stands_for store.new) c }
     ensures other { (m : Kept) → S.stands_for store.old m → HasOtherFormat m → S.is_trusted store.new → IsErr result × S.stands_for store.new m }
     ensures cause { CountsFailure (S.fault_count store.old) (S.fault_count store.new) result }
     ensures trust { S.is_trusted store.new → S.is_trusted store.old }

@@ -2,7 +2,7 @@
 
 ghost use Rattle.std.specs.Prelude.{IfOk, IfSome, OnOk, option_map, slice_get, ℕ, ◌+◌, ◌<◌, ◌^◌, ◌≡◌};
 ghost use Rattle.roster_base.specs.Faults.{CountsFailure};
-ghost use Rattle.keeper_memory.specs.copy.Copies.{Copy, entry_after, held_list};
+ghost use Rattle.keeper_memory.specs.copy.Copies.{Copy, entry_after, held_list, held_token};
 ghost use Rattle.keeper_memory.specs.copy.Lists.{IsList};
 ghost use Rattle.keeper_memory.specs.copy.States.{CanBeEntry, CanBeStage, stage_of as stage_in};
 ghost use Rattle.keeper_memory.specs.declared.copy.entry.OutEntry.{OutEntry as EntryValue};
@@ -17,10 +17,11 @@ ghost use Rattle.keeper_sqlite.specs.copy.Keeping.{HasCopy};
 ghost use Rattle.keeper_sqlite.specs.Trust.{Clean};
 
 use crate::stored_items::StoredItems;
-use copy_format::{CopyArea, CopyRoot, out_of, root_of, rows_of, stage_of};
+use copy_format::{CopyArea, CopyRoot, out_of, root_of, rows_of, stage_of, token_of};
 use item_maps::Item;
 use keeper_memory::{LAST, OutEntry, StageState};
 use roster_base::{Items, KeeperError, NoMemory};
+use roster_texts::Token;
 use roster_types::row::Row;
 use roster_values::Kind;
 use std::alloc::Global;
@@ -63,6 +64,26 @@ pub(crate) fn stored_stage<S: StoredItems>(
     let items = store.all_of(alloc, CopyArea::Stage.number(), &[], &[0])?;
     match stage_of(alloc, items.as_slice())? {
         Some(stage) => Ok(stage),
+        None => Err(store.refuse()),
+    }
+}
+
+/// The token under which what is held was copied, where there is one.
+pub(crate) fn stored_token<S: StoredItems>(
+    alloc: Global,
+    store: &mut S,
+) -> Result<Option<Token>, KeeperError>
+    ensures token { (side : ℕ) (c : Copy) → HasCopy (S.stands_for store.old) side c → S.is_trusted store.new → IfOk result (λ t. t ≡ held_token c) }
+    ensures same { Stay (S.stands_for store.old) (S.stands_for store.new) }
+    ensures cause { CountsFailure (S.fault_count store.old) (S.fault_count store.new) result }
+    ensures trust { S.is_trusted store.new → S.is_trusted store.old }
+    ensures held { Stay (S.may_hold store.new) (S.may_hold store.old) }
+    ensures signs { Stay (S.shows store.new) (S.shows store.old) }
+    ensures live { S.shows store.new Clean → OnOk result (S.is_trusted store.new) }
+{
+    let items = store.all_of(alloc, CopyArea::Token.number(), &[], &[0])?;
+    match token_of(alloc, items.as_slice())? {
+        Some(token) => Ok(token),
         None => Err(store.refuse()),
     }
 }

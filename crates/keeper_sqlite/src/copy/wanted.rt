@@ -86,7 +86,7 @@ fn swap_wanted<S: StoredItems>(alloc: Global, store: &mut S) -> Result<Vec<Edit>
 {
     let root = stored_root(alloc, store)?;
     match stored_stage(alloc, store)? {
-        Some(stage) => Ok(swap_edits(alloc, root, stage.pin)?),
+        Some(stage) => Ok(swap_edits(alloc, root, &stage)?),
         None => Err(store.refuse()),
     }
 }

@@ -38,6 +38,6 @@ pub(crate) fn prepare<S: StoredItems>(
             store.commit(edits.as_slice())
         }
         Format::One => Ok(()),
-        Format::Other => Err(store.refuse()),
+        Format::Two | Format::Other => Err(store.refuse()),
     }
 }

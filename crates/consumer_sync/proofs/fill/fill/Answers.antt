@@ -12,9 +12,10 @@ use Rattle.http_wire.proofs.AnswerLemmas.{one_answer}
 use Rattle.consumer_sync.specs.Filling.{BoundSoFar, HasToken, IsCallPinIf, IsDoneIf, IsSmall, PinLaw, ToldIf, weight}
 use Rattle.consumer_sync.specs.Judging.{judged}
 use Rattle.consumer_sync.specs.Staging.{IsBroken, answer_of}
-use Rattle.consumer_sync.proofs.AgreeLemmas.{agrees_if_on, own_page, performs_agrees, said_of}
+use Rattle.consumer_sync.proofs.AgreeLemmas.{own_page, performs_agrees, said_of}
 use Rattle.exchange_link.proofs.AskLemmas.{asks_trans, missed_other, none_other, own_other}
 use Rattle.exchange_link.proofs.AskedLemmas.{sends_weaker}
+use Rattle.exchange_link.proofs.FitLemmas.{copy_on}
 use Rattle.exchange_link.specs.Asked.{IsPageUnder}
 use Rattle.exchange_link.specs.Causes.{IsPageStatus}
 use Rattle.consumer_sync.proofs.BoundLemmas.{StandingIf, bound_done, bound_end, bound_on, call_pin, pin_performs, pin_same, standing_if}
@@ -49,7 +50,7 @@ returns-in-NoReply-clause-link g c after tells =
 pub returns-in-NoReply-clause-agree : goal.returns-in-NoReply-clause-agree
 returns-in-NoReply-clause-agree g c entry d t stands tells =
     let y = c.fetch.ensures.told t tells in
-    agrees_if_on d.stage y.0.hub t.hub (y.2).moved.grew (c.rounds.invariant.agree entry d y.0 stands y.1)
+    copy_on d y.0.hub t.hub (y.2).moved.grew (c.rounds.invariant.agree entry d y.0 stands y.1)
 
 pub returns-in-NoReply-clause-bound : goal.returns-in-NoReply-clause-bound
 returns-in-NoReply-clause-bound g c entry d t stands tells =
@@ -58,8 +59,8 @@ returns-in-NoReply-clause-bound g c entry d t stands tells =
     let z = c.rounds.invariant.link y.0 y.1 in
     let w = c.rounds.invariant.copy d stands in
     let ready = (entry w.0 z.0 w.1 z.1).1 in
-    let small : IsSmall c.args.stage.now = subst (λ s. IsSmall s) (c.requires.holds w.0 w.1) (small_fits (z.0).hub (g.met.L.Link.is_hub c.args.link.now z.0 z.1) (w.0).stage (entry w.0 z.0 w.1 z.1).0) in
-    let st = subst (λ (s : Option StageState). StandingIf s y.0.hub) (c.rounds.invariant.holds d stands) (standing_if d.stage y.0.hub (c.rounds.invariant.agree entry d y.0 stands y.1)) in (
+    let small : IsSmall c.args.stage.now = subst (λ s. IsSmall s) (c.requires.holds w.0 w.1) (small_fits (z.0).hub (g.met.L.Link.is_hub c.args.link.now z.0 z.1) (w.0).stage (entry w.0 z.0 w.1 z.1).0.stage) in
+    let st = subst (λ (s : Option StageState). StandingIf s y.0.hub) (c.rounds.invariant.holds d stands) (standing_if d.stage y.0.hub (c.rounds.invariant.agree entry d y.0 stands y.1).stage) in (
       c.fetch.new.count,
       omega (arith, c.rounds.invariant.asked.most, c.fetch.ensures.asked.most, c.fetch.ensures.count.0),
       bound_end c.rounds.count c.fetch.new.count c.args.tries c.args.limit c.args.token.now c.args.stage.now c.rounds.stage (λ v. HasPin v d.stage) z.0.hub y.0.hub t.hub (c.rounds.invariant.bound entry d y.0 stands y.1) (c.fetch.ensures.count).1 (y.2).moved.grew
@@ -115,7 +116,7 @@ returns-in-Missed-clause-link g c after tells =
 pub returns-in-Missed-clause-agree : goal.returns-in-Missed-clause-agree
 returns-in-Missed-clause-agree g c entry d t stands tells =
     let y = c.fetch.ensures.told t tells in
-    agrees_if_on d.stage y.0.hub t.hub (y.2).moved.grew (c.rounds.invariant.agree entry d y.0 stands y.1)
+    copy_on d y.0.hub t.hub (y.2).moved.grew (c.rounds.invariant.agree entry d y.0 stands y.1)
 
 pub returns-in-Missed-clause-bound : goal.returns-in-Missed-clause-bound
 returns-in-Missed-clause-bound g c entry d t stands tells =
@@ -124,8 +125,8 @@ returns-in-Missed-clause-bound g c entry d t stands tells =
     let z = c.rounds.invariant.link y.0 y.1 in
     let w = c.rounds.invariant.copy d stands in
     let ready = (entry w.0 z.0 w.1 z.1).1 in
-    let small : IsSmall c.args.stage.now = subst (λ s. IsSmall s) (c.requires.holds w.0 w.1) (small_fits (z.0).hub (g.met.L.Link.is_hub c.args.link.now z.0 z.1) (w.0).stage (entry w.0 z.0 w.1 z.1).0) in
-    let st = subst (λ (s : Option StageState). StandingIf s y.0.hub) (c.rounds.invariant.holds d stands) (standing_if d.stage y.0.hub (c.rounds.invariant.agree entry d y.0 stands y.1)) in (
+    let small : IsSmall c.args.stage.now = subst (λ s. IsSmall s) (c.requires.holds w.0 w.1) (small_fits (z.0).hub (g.met.L.Link.is_hub c.args.link.now z.0 z.1) (w.0).stage (entry w.0 z.0 w.1 z.1).0.stage) in
+    let st = subst (λ (s : Option StageState). StandingIf s y.0.hub) (c.rounds.invariant.holds d stands) (standing_if d.stage y.0.hub (c.rounds.invariant.agree entry d y.0 stands y.1).stage) in (
       c.fetch.new.count,
       omega (arith, c.rounds.invariant.asked.most, c.fetch.ensures.asked.most, c.fetch.ensures.count.0),
       bound_end c.rounds.count c.fetch.new.count c.args.tries c.args.limit c.args.token.now c.args.stage.now c.rounds.stage (λ v. HasPin v d.stage) z.0.hub y.0.hub t.hub (c.rounds.invariant.bound entry d y.0 stands y.1) (c.fetch.ensures.count).1 (y.2).moved.grew
@@ -182,7 +183,7 @@ returns-in-NoMemory-clause-link g c after tells =
 pub returns-in-NoMemory-clause-agree : goal.returns-in-NoMemory-clause-agree
 returns-in-NoMemory-clause-agree g c entry d t stands tells =
     let y = c.fetch.ensures.told t tells in
-    agrees_if_on d.stage y.0.hub t.hub (y.2).moved.grew (c.rounds.invariant.agree entry d y.0 stands y.1)
+    copy_on d y.0.hub t.hub (y.2).moved.grew (c.rounds.invariant.agree entry d y.0 stands y.1)
 
 pub returns-in-NoMemory-clause-bound : goal.returns-in-NoMemory-clause-bound
 returns-in-NoMemory-clause-bound g c entry d t stands tells =
@@ -191,8 +192,8 @@ returns-in-NoMemory-clause-bound g c entry d t stands tells =
     let z = c.rounds.invariant.link y.0 y.1 in
     let w = c.rounds.invariant.copy d stands in
     let ready = (entry w.0 z.0 w.1 z.1).1 in
-    let small : IsSmall c.args.stage.now = subst (λ s. IsSmall s) (c.requires.holds w.0 w.1) (small_fits (z.0).hub (g.met.L.Link.is_hub c.args.link.now z.0 z.1) (w.0).stage (entry w.0 z.0 w.1 z.1).0) in
-    let st = subst (λ (s : Option StageState). StandingIf s y.0.hub) (c.rounds.invariant.holds d stands) (standing_if d.stage y.0.hub (c.rounds.invariant.agree entry d y.0 stands y.1)) in (
+    let small : IsSmall c.args.stage.now = subst (λ s. IsSmall s) (c.requires.holds w.0 w.1) (small_fits (z.0).hub (g.met.L.Link.is_hub c.args.link.now z.0 z.1) (w.0).stage (entry w.0 z.0 w.1 z.1).0.stage) in
+    let st = subst (λ (s : Option StageState). StandingIf s y.0.hub) (c.rounds.invariant.holds d stands) (standing_if d.stage y.0.hub (c.rounds.invariant.agree entry d y.0 stands y.1).stage) in (
       c.fetch.new.count,
       omega (arith, c.rounds.invariant.asked.most, c.fetch.ensures.asked.most, c.fetch.ensures.count.0),
       bound_end c.rounds.count c.fetch.new.count c.args.tries c.args.limit c.args.token.now c.args.stage.now c.rounds.stage (λ v. HasPin v d.stage) z.0.hub y.0.hub t.hub (c.rounds.invariant.bound entry d y.0 stands y.1) (c.fetch.ensures.count).1 (y.2).moved.grew
@@ -283,10 +284,9 @@ rounds-preserved g c =
           let x = c.take_reply.ensures.told d stands in
           let w = c.rounds.invariant.copy x.0 x.1 in
           let ready = (entry w.0 z.0 w.1 z.1).1 in
-          let small : IsSmall c.args.stage.now = subst (λ s. IsSmall s) (c.requires.holds w.0 w.1) (small_fits (z.0).hub (g.met.L.Link.is_hub c.args.link.now z.0 z.1) (w.0).stage (entry w.0 z.0 w.1 z.1).0) in
+          let small : IsSmall c.args.stage.now = subst (λ s. IsSmall s) (c.requires.holds w.0 w.1) (small_fits (z.0).hub (g.met.L.Link.is_hub c.args.link.now z.0 z.1) (w.0).stage (entry w.0 z.0 w.1 z.1).0.stage) in
           let said = said_of y.0 t c.rounds.stage c.args.run c.fetch.new.count c.args.token.now c.args.limit c.in-Own.reply (can_next c.rounds.stage c.args.token.now c.args.limit c.requires.limit.0 c.requires.limit.1 (c.rounds.invariant.small small)) (y.3 (z.2.ready ready)) in
-          let ag = agrees_if_on x.0.stage y.0.hub t.hub (y.2).moved.grew (c.rounds.invariant.agree entry x.0 y.0 x.1 y.1) in
-          performs_agrees x.0 d y.0 t c.rounds.stage c.args.token.now c.args.limit c.in-Own.reply _ (c.rounds.invariant.holds x.0 x.1) c.rounds.invariant.token ag said lt x.2;
+          performs_agrees x.0 d y.0 t c.rounds.stage c.args.token.now c.args.limit c.in-Own.reply _ (c.rounds.invariant.holds x.0 x.1) c.rounds.invariant.token (y.2).moved.grew (c.rounds.invariant.agree entry x.0 y.0 x.1 y.1) said lt x.2;
       asked = record { least = omega (arith, c.rounds.invariant.asked.least, c.fetch.ensures.asked.least, c.fetch.ensures.count.0); most = omega (arith, c.rounds.invariant.asked.most, c.fetch.ensures.asked.most, c.fetch.ensures.count.0) };
       bound = λ entry d t stands tells.
           let y = c.in-Own.ensures.told t tells in
@@ -294,10 +294,10 @@ rounds-preserved g c =
           let x = c.take_reply.ensures.told d stands in
           let w = c.rounds.invariant.copy x.0 x.1 in
           let ready = (entry w.0 z.0 w.1 z.1).1 in
-          let small : IsSmall c.args.stage.now = subst (λ s. IsSmall s) (c.requires.holds w.0 w.1) (small_fits (z.0).hub (g.met.L.Link.is_hub c.args.link.now z.0 z.1) (w.0).stage (entry w.0 z.0 w.1 z.1).0) in
+          let small : IsSmall c.args.stage.now = subst (λ s. IsSmall s) (c.requires.holds w.0 w.1) (small_fits (z.0).hub (g.met.L.Link.is_hub c.args.link.now z.0 z.1) (w.0).stage (entry w.0 z.0 w.1 z.1).0.stage) in
           let said = said_of y.0 t c.rounds.stage c.args.run c.fetch.new.count c.args.token.now c.args.limit c.in-Own.reply (can_next c.rounds.stage c.args.token.now c.args.limit c.requires.limit.0 c.requires.limit.1 (c.rounds.invariant.small small)) (y.3 (z.2.ready ready)) in
           let p = own_page y.0 t c.rounds.stage c.args.token.now c.args.limit c.in-Own.reply on.0 said lt on.1 in
-          let st = subst (λ (s : Option StageState). StandingIf s y.0.hub) (c.rounds.invariant.holds x.0 x.1) (standing_if (x.0).stage y.0.hub (c.rounds.invariant.agree entry x.0 y.0 x.1 y.1)) in
+          let st = subst (λ (s : Option StageState). StandingIf s y.0.hub) (c.rounds.invariant.holds x.0 x.1) (standing_if (x.0).stage y.0.hub (c.rounds.invariant.agree entry x.0 y.0 x.1 y.1).stage) in
           subst (λ (s : Option StageState). BoundSoFar c.fetch.new.count c.args.tries c.args.limit c.args.token.now c.args.stage.now s t.hub) (sym next)
           (bound_on c.rounds.count c.fetch.new.count c.args.tries c.args.limit c.args.token.now c.args.stage.now c.rounds.stage z.0.hub y.0.hub t.hub on.0 c.requires.limit.0
           (c.rounds.invariant.bound entry x.0 y.0 x.1 y.1) (c.fetch.ensures.count).1 (y.2).moved.grew st (z.3 small ready) page.0 p);
@@ -362,10 +362,9 @@ returns-in_default-clause-agree g c entry d t stands tells =
     let x = c.take_reply.ensures.told d stands in
     let w = c.rounds.invariant.copy x.0 x.1 in
     let ready = (entry w.0 z.0 w.1 z.1).1 in
-    let small : IsSmall c.args.stage.now = subst (λ s. IsSmall s) (c.requires.holds w.0 w.1) (small_fits (z.0).hub (g.met.L.Link.is_hub c.args.link.now z.0 z.1) (w.0).stage (entry w.0 z.0 w.1 z.1).0) in
+    let small : IsSmall c.args.stage.now = subst (λ s. IsSmall s) (c.requires.holds w.0 w.1) (small_fits (z.0).hub (g.met.L.Link.is_hub c.args.link.now z.0 z.1) (w.0).stage (entry w.0 z.0 w.1 z.1).0.stage) in
     let said = said_of y.0 t c.rounds.stage c.args.run c.fetch.new.count c.args.token.now c.args.limit c.in-Own.reply (can_next c.rounds.stage c.args.token.now c.args.limit c.requires.limit.0 c.requires.limit.1 (c.rounds.invariant.small small)) (y.3 (z.2.ready ready)) in
-    let ag = agrees_if_on x.0.stage y.0.hub t.hub (y.2).moved.grew (c.rounds.invariant.agree entry x.0 y.0 x.1 y.1) in
-    performs_agrees x.0 d y.0 t c.rounds.stage c.args.token.now c.args.limit c.in-Own.reply _ (c.rounds.invariant.holds x.0 x.1) c.rounds.invariant.token ag said lt x.2
+    performs_agrees x.0 d y.0 t c.rounds.stage c.args.token.now c.args.limit c.in-Own.reply _ (c.rounds.invariant.holds x.0 x.1) c.rounds.invariant.token (y.2).moved.grew (c.rounds.invariant.agree entry x.0 y.0 x.1 y.1) said lt x.2
 
 pub returns-in_default-clause-bound : goal.returns-in_default-clause-bound
 returns-in_default-clause-bound g c entry d t stands tells =
@@ -375,9 +374,9 @@ returns-in_default-clause-bound g c entry d t stands tells =
     let x = c.take_reply.ensures.told d stands in
     let w = c.rounds.invariant.copy x.0 x.1 in
     let ready = (entry w.0 z.0 w.1 z.1).1 in
-    let small : IsSmall c.args.stage.now = subst (λ s. IsSmall s) (c.requires.holds w.0 w.1) (small_fits (z.0).hub (g.met.L.Link.is_hub c.args.link.now z.0 z.1) (w.0).stage (entry w.0 z.0 w.1 z.1).0) in
+    let small : IsSmall c.args.stage.now = subst (λ s. IsSmall s) (c.requires.holds w.0 w.1) (small_fits (z.0).hub (g.met.L.Link.is_hub c.args.link.now z.0 z.1) (w.0).stage (entry w.0 z.0 w.1 z.1).0.stage) in
     let said = said_of y.0 t c.rounds.stage c.args.run c.fetch.new.count c.args.token.now c.args.limit c.in-Own.reply (can_next c.rounds.stage c.args.token.now c.args.limit c.requires.limit.0 c.requires.limit.1 (c.rounds.invariant.small small)) (y.3 (z.2.ready ready)) in
-    let st = subst (λ (s : Option StageState). StandingIf s y.0.hub) (c.rounds.invariant.holds x.0 x.1) (standing_if (x.0).stage y.0.hub (c.rounds.invariant.agree entry x.0 y.0 x.1 y.1)) in
+    let st = subst (λ (s : Option StageState). StandingIf s y.0.hub) (c.rounds.invariant.holds x.0 x.1) (standing_if (x.0).stage y.0.hub (c.rounds.invariant.agree entry x.0 y.0 x.1 y.1).stage) in
     let cause = ⊎_elim
     (λ (b : IsBroken c.take_reply.result). broken_cause c.rounds.stage c.args.limit (g.L.Link.kept c.fetch.new.link) c.args.run c.fetch.new.count (Unit {0}) (Unit {0}) c.take_reply.result (λ e. tt) b)
     (λ (e : c.take_reply.result ≡ answer_of (judged c.rounds.stage c.args.limit c.in-Own.reply) (kind_at (kinds_of c.rounds.stage)) (staged_of c.rounds.stage)).
@@ -397,7 +396,7 @@ returns-in_default-clause-complete g c entry link copy d t stands tells =
     let x = c.take_reply.ensures.told d stands in
     let w = c.rounds.invariant.copy x.0 x.1 in
     let ready = (entry w.0 z.0 w.1 z.1).1 in
-    let small : IsSmall c.args.stage.now = subst (λ s. IsSmall s) (c.requires.holds w.0 w.1) (small_fits (z.0).hub (g.met.L.Link.is_hub c.args.link.now z.0 z.1) (w.0).stage (entry w.0 z.0 w.1 z.1).0) in
+    let small : IsSmall c.args.stage.now = subst (λ s. IsSmall s) (c.requires.holds w.0 w.1) (small_fits (z.0).hub (g.met.L.Link.is_hub c.args.link.now z.0 z.1) (w.0).stage (entry w.0 z.0 w.1 z.1).0.stage) in
     let said = said_of y.0 t c.rounds.stage c.args.run c.fetch.new.count c.args.token.now c.args.limit c.in-Own.reply (can_next c.rounds.stage c.args.token.now c.args.limit c.requires.limit.0 c.requires.limit.1 (c.rounds.invariant.small small)) (y.3 (z.2.ready ready)) in
     let counts = (z.2).moved.counts in (
       z.0,
@@ -408,7 +407,7 @@ returns-in_default-clause-complete g c entry link copy d t stands tells =
           (λ (e : c.take_reply.result ≡ Some answer.NoMemory). subst (λ (r : Option SyncAnswer). IsDoneIf r) (sym e) tt) b)
           (λ (e : c.take_reply.result ≡ answer_of (judged c.rounds.stage c.args.limit c.in-Own.reply) (kind_at (kinds_of c.rounds.stage)) (staged_of c.rounds.stage)).
           subst (λ (r : Option SyncAnswer). IsDoneIf r) (sym e)
-          (own_done x.0 c.rounds.stage c.args.stage.now y.0 t z.0.hub c.args.token.now c.args.limit c.in-Own.reply _ _ (c.rounds.invariant.holds x.0 x.1) c.rounds.invariant.token (c.rounds.invariant.agree entry x.0 y.0 x.1 y.1) lt said
+          (own_done x.0 c.rounds.stage c.args.stage.now y.0 t z.0.hub c.args.token.now c.args.limit c.in-Own.reply _ _ (c.rounds.invariant.holds x.0 x.1) c.rounds.invariant.token (c.rounds.invariant.agree entry x.0 y.0 x.1 y.1).stage lt said
           (z.2).moved.grew (g.met.L.Link.is_hub c.rounds.link y.0 y.1) (g.met.L.Link.is_hub c.fetch.new.link t tells) (z.3 small ready) (λ rose. hub (omega (arith, rose, counts))) at))
           c.take_reply.ensures.answer,
     )
@@ -421,7 +420,7 @@ returns-in_default-clause-told g c entry d t stands tells =
     let x = c.take_reply.ensures.told d stands in
     let w = c.rounds.invariant.copy x.0 x.1 in
     let ready = (entry w.0 z.0 w.1 z.1).1 in
-    let small : IsSmall c.args.stage.now = subst (λ s. IsSmall s) (c.requires.holds w.0 w.1) (small_fits (z.0).hub (g.met.L.Link.is_hub c.args.link.now z.0 z.1) (w.0).stage (entry w.0 z.0 w.1 z.1).0) in
+    let small : IsSmall c.args.stage.now = subst (λ s. IsSmall s) (c.requires.holds w.0 w.1) (small_fits (z.0).hub (g.met.L.Link.is_hub c.args.link.now z.0 z.1) (w.0).stage (entry w.0 z.0 w.1 z.1).0.stage) in
     let said = said_of y.0 t c.rounds.stage c.args.run c.fetch.new.count c.args.token.now c.args.limit c.in-Own.reply (can_next c.rounds.stage c.args.token.now c.args.limit c.requires.limit.0 c.requires.limit.1 (c.rounds.invariant.small small)) (y.3 (z.2.ready ready)) in (
       z.0,
       z.1,
@@ -429,7 +428,7 @@ returns-in_default-clause-told g c entry d t stands tells =
           (λ (b : IsBroken c.take_reply.result). broken_told c.args.token.now z.0 t c.take_reply.result b)
           (λ (e : c.take_reply.result ≡ answer_of (judged c.rounds.stage c.args.limit c.in-Own.reply) (kind_at (kinds_of c.rounds.stage)) (staged_of c.rounds.stage)).
           subst (λ (r : Option SyncAnswer). ToldIf c.args.token.now z.0 t r) (sym e)
-          (own_told x.0 c.rounds.stage z.0 y.0 t c.args.token.now c.args.limit c.in-Own.reply _ _ (z.2).moved (c.rounds.invariant.holds x.0 x.1) c.rounds.invariant.token (c.rounds.invariant.agree entry x.0 y.0 x.1 y.1) lt said))
+          (own_told x.0 c.rounds.stage z.0 y.0 t c.args.token.now c.args.limit c.in-Own.reply _ _ (z.2).moved (c.rounds.invariant.holds x.0 x.1) c.rounds.invariant.token (c.rounds.invariant.agree entry x.0 y.0 x.1 y.1).stage lt said))
           c.take_reply.ensures.answer,
     )
 
@@ -487,7 +486,7 @@ returns-clause-bound g c entry d t stands tells =
     let z = c.rounds.invariant.link t tells in
     let w = c.rounds.invariant.copy d stands in
     let ready = (entry w.0 z.0 w.1 z.1).1 in
-    let small : IsSmall c.args.stage.now = subst (λ s. IsSmall s) (c.requires.holds w.0 w.1) (small_fits (z.0).hub (g.met.L.Link.is_hub c.args.link.now z.0 z.1) (w.0).stage (entry w.0 z.0 w.1 z.1).0) in (
+    let small : IsSmall c.args.stage.now = subst (λ s. IsSmall s) (c.requires.holds w.0 w.1) (small_fits (z.0).hub (g.met.L.Link.is_hub c.args.link.now z.0 z.1) (w.0).stage (entry w.0 z.0 w.1 z.1).0.stage) in (
       c.rounds.count,
       c.rounds.invariant.asked.most,
       bound_done c.rounds.count c.args.tries c.args.limit c.args.token.now c.args.stage.now c.rounds.stage (λ v. HasPin v d.stage) z.0.hub t.hub (c.rounds.invariant.bound entry d t stands tells) (z.3 small ready) (pin_same d.stage c.rounds.stage (c.rounds.invariant.holds d stands)),

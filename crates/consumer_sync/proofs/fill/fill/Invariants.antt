@@ -2,7 +2,7 @@ use Rattle.std.proofs.Common.{◌≡◌, ◌+◌, ◌*◌, ◌≤◌}
 use Rattle.keeper_memory.specs.copy.Copies.{Copy}
 use Rattle.keeper_memory.specs.copy.Lists.{kind_count}
 use Rattle.keeper_memory.specs.copy.States.{stage_of}
-use Rattle.exchange_link.specs.Agreement.{StageFitsIf}
+use Rattle.exchange_link.specs.Agreement.{CopyFits}
 use Rattle.exchange_link.specs.Asked.{IsPageUnder, SendsOn}
 use Rattle.exchange_link.specs.Causes.{IsLast, IsMore, IsOwnReply, IsPageStatus}
 use Rattle.exchange_link.specs.Exchanges.{Told}
@@ -27,10 +27,10 @@ invariant-rounds g l =
       room : l.count + 100 * weight l.stage ≤ 2000000000;
       copy : (after : Copy) → S l.copy after → (before : Copy) × S l.fn.copy before × Fills l.token before after;
       link : (after : Told) → T l.link after → (before : Told) × T l.fn.link before × Asks l.run 0 l.count IsUnmarked before after × (IsSmall l.fn.stage → IsReady l.run 0 before.sent → PinLaw l.fn.stage before.hub l.stage);
-      agree : ((c : Copy) (t : Told) → S l.fn.copy c → T l.fn.link t → StageFitsIf c.stage t.hub × IsReady l.run 0 t.sent)
-          → (c : Copy) (t : Told) → S l.copy c → T l.link t → StageFitsIf c.stage t.hub;
+      agree : ((c : Copy) (t : Told) → S l.fn.copy c → T l.fn.link t → CopyFits c t.hub × IsReady l.run 0 t.sent)
+          → (c : Copy) (t : Told) → S l.copy c → T l.link t → CopyFits c t.hub;
       asked : IsMore (g.L.Link.asked l.fn.link) l.count (g.L.Link.asked l.link);
-      bound : ((c : Copy) (t : Told) → S l.fn.copy c → T l.fn.link t → StageFitsIf c.stage t.hub × IsReady l.run 0 t.sent)
+      bound : ((c : Copy) (t : Told) → S l.fn.copy c → T l.fn.link t → CopyFits c t.hub × IsReady l.run 0 t.sent)
           → (c : Copy) (t : Told) → S l.copy c → T l.link t → BoundSoFar l.count l.tries l.limit l.token l.fn.stage l.stage t.hub;
       heard : g.L.Link.fault_count l.fn.link ≤ g.L.Link.fault_count l.link;
       later : g.C.CopyKeeper.fault_count l.fn.copy ≤ g.C.CopyKeeper.fault_count l.copy;

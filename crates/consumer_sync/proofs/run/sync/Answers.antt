@@ -95,7 +95,7 @@ returns-in-Some-stage-clause-told g c agree after tells stands told =
     let first = agree x.0 l.0 x.1 l.1 in
     let stage_is : c.in-Ok-drop_other.begun ≡ own_state c.args.token.now (stage_of x.0) =
     c.in-Ok-drop_other.ensures.ok ∙ ap (own_state c.args.token.now) (sym ((c.in-Ok.ensures.holds y.0 y.1).1) ∙ ap stage_of (x.2).1) in
-    let small = subst (λ (o : Option StageState). IsSmall o) (sym stage_is) (small_own c.args.token.now (stage_of x.0) (small_fits (l.0).hub (g.met.L.Link.is_hub c.args.link.now l.0 l.1) (x.0).stage first.stage)) in
+    let small = subst (λ (o : Option StageState). IsSmall o) (sym stage_is) (small_own c.args.token.now (stage_of x.0) (small_fits (l.0).hub (g.met.L.Link.is_hub c.args.link.now l.0 l.1) (x.0).stage first.fits.stage)) in
     let law = l.4 c.in-None.is small (ready_from (x.0).run c.in-Ok.state.run (l.0).sent run_is first.differ first.below) in
     let fits = c.fill.ensures.agree
     (λ (d : Copy) (t : Told) sd tt.
@@ -115,7 +115,7 @@ returns-in-Some-stage-clause-told g c agree after tells stands told =
             run_is = run_is;
             asks = l.3;
             agree = first;
-            stage = fits;
+            fits = fits;
             law = subst (λ (o : Option StageState). PinLaw o (l.0).hub (Some c.in-Some-stage.s)) stage_is
                 (subst (λ (o : Option StageState). PinLaw c.in-Ok-drop_other.begun (l.0).hub o) c.in-Some-stage.is law);
           }) w.2,

@@ -1,17 +1,17 @@
 use Rattle.keeper_memory.specs.copy.Changes.{copy_after}
-use Rattle.keeper_sqlite.proofs.HubKeepingLemmas.{on_any, on_err, on_ok}
-use Rattle.keeper_sqlite.proofs.CopyKeepingLemmas.{keeps_or_new}
+use Rattle.keeper_sqlite.proofs.HubKeepingLemmas.{keeps_on, on_any, on_err}
+use Rattle.keeper_sqlite.proofs.CopyKeepingLemmas.{keeps_either, keeps_or_new, some_keeps}
 use Rattle.std.proofs.Common.{inl, inr, refl}
 use Rattle.std.proofs.lemmas.Result.{err_from_is_err_and}
 use Rattle.keeper_sqlite.proofs.HoldingLemmas.{became_more, nothing_became}
 use Rattle.copy_format.specs.Format.{Keep}
-use Rattle.keeper_sqlite.specs.copy.Keeping.{KeepOrNew}
+use Rattle.keeper_sqlite.specs.copy.Keeping.{KeepEither, KeepOrNew}
 use Rattle.keeper_sqlite.proofs.copy.commit.commit_to.Goals as goal
 
 pub returns-clause-ok : goal.returns-clause-ok
 returns-clause-ok g c copy this can sure =
     let ready = c.in_ok-prepare.ensures.ok copy this (c.commit_ready.ensures.trust sure) in
-    on_ok c.commit_ready.result (keeps_or_new (g.S.StoredItems.stands_for c.commit_ready.new.store) (copy_after c.args.change copy)) (c.commit_ready.ensures.ok copy ready can sure)
+    c.commit_ready.ensures.ok copy ready can sure
 
 pub returns-clause-err : goal.returns-clause-err
 returns-clause-err g c copy this sure =
@@ -19,7 +19,18 @@ returns-clause-err g c copy this sure =
     on_err c.commit_ready.result (keeps_or_new (g.S.StoredItems.stands_for c.commit_ready.new.store) copy) (c.commit_ready.ensures.err copy ready)
 
 pub returns-in_err-prepare-clause-err : goal.returns-in_err-prepare-clause-err
-returns-in_err-prepare-clause-err g c copy this sure = on_any c.from_residual.result (c.in_err-prepare.ensures.err copy this)
+returns-in_err-prepare-clause-err g c copy this sure =
+    on_any c.from_residual.result (keeps_on KeepOrNew (g.S.StoredItems.stands_for c.args.store.now) (g.S.StoredItems.stands_for c.prepare.new.store) copy this (c.in_err-prepare.ensures.err this.items this.stands))
+
+pub returns-clause-whole : goal.returns-clause-whole
+returns-clause-whole g c copy this sure =
+    let s = g.S.StoredItems.stands_for in
+    let ready = c.in_ok-prepare.ensures.ok copy (some_keeps (s c.args.store.now) copy this) (c.commit_ready.ensures.trust sure) in
+    on_err c.commit_ready.result (keeps_either (s c.commit_ready.new.store) copy) (c.commit_ready.ensures.err copy ready)
+
+pub returns-in_err-prepare-clause-whole : goal.returns-in_err-prepare-clause-whole
+returns-in_err-prepare-clause-whole g c copy this sure =
+    on_any c.from_residual.result (keeps_on KeepEither (g.S.StoredItems.stands_for c.args.store.now) (g.S.StoredItems.stands_for c.prepare.new.store) copy this (c.in_err-prepare.ensures.err this.items this.stands))
 
 pub returns-in_err-prepare-clause-made : goal.returns-in_err-prepare-clause-made
 returns-in_err-prepare-clause-made g c n held =

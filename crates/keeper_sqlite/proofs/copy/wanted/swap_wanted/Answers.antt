@@ -1,5 +1,3 @@
-use Rattle.std.proofs.Common.{ap, sym}
-use Rattle.keeper_memory.specs.declared.copy.state.StageState.{StageState}
 use Rattle.keeper_sqlite.proofs.EntryLemmas.{some_stage}
 use Rattle.keeper_sqlite.proofs.CopyKeepingLemmas.{copy_stays}
 use Rattle.keeper_sqlite.proofs.copy.wanted.swap_wanted.Goals as goal
@@ -10,4 +8,4 @@ returns-in_ok-swap_edits-in-Some-clause-edits g c side copy has sure =
     let root = c.in_ok-root.ensures.root side copy has (c.in_ok-stage.ensures.trust sure) in
     let there = copy_stays (stand c.args.store.now) (stand c.stored_root.new.store) side copy c.in_ok-root.ensures.same has in
     let st = some_stage copy.stage c.in-Some.stage (rw c.in-Some.is at (c.in_ok-stage.ensures.stage side copy there sure)) in
-    (c.in_ok-swap_edits-in-Some.ensures side copy st.0 root st.1 (ap (λ (s : StageState). s.pin) (sym st.2)), tt)
+    (c.in_ok-swap_edits-in-Some.ensures side copy st.0 root st.1 st.2, tt)

@@ -34,3 +34,6 @@ pub returns-clause-later : goal.returns-clause-later
 returns-clause-later g c =
     let s = g.S.StoredItems in
     rw (← c.self.view_is) (counts_later (s.fault_count c.self.inside.store) (s.fault_count c.held_from.new.store) c.held_from.result c.bounded.ensures c.held_from.ensures.cause)
+
+pub returns-clause-whole : goal.returns-clause-whole
+returns-clause-whole g c = rw (← c.self.view_is) c.held_from.ensures.whole
