@@ -1,0 +1,8 @@
+mod Changed
+mod Differing
+mod FolderLemmas
+mod LeadLemmas
+mod ListSteps
+mod Lying
+mod Ordering
+mod Telling

@@ -1,0 +1,62 @@
+-- What is exported of a copy, and why it isn't.
+use Rattle.std.specs.Prelude.{◌≡◌, ◌<◌, ◌++◌, ℕ, List, None, Ok, codes, length, map}
+use Rattle.std.specs.List.{flat_map}
+use Rattle.keeper_memory.specs.copy.Copies.{Copy, held_list}
+use Rattle.csv_sets.specs.Files.{file_of, largest}
+use Rattle.csv_sets.specs.Written.{dated, written_text}
+use Rattle.roster_base.specs.declared.keeper.KeeperError.{KeeperError}
+use Rattle.roster_base.specs.declared.keeper.KeeperError.TheVariants as keeper
+use Rattle.roster_types.specs.Records.{Record}
+use Rattle.roster_values.specs.Kinds.{all_kinds, plural_of}
+use Rattle.roster_values.specs.declared.kind.Kind.{Kind}
+use Rattle.roster_values.specs.declared.mode.Mode.{Mode}
+use Rattle.roster_values.specs.declared.mode.Mode.TheVariants.{Bulk, Delta}
+use Rattle.bulk_export.specs.declared.error.ExportError.{ExportError}
+use Rattle.bulk_export.specs.declared.error.ExportError.TheVariants as error
+
+abbrev pub broken : KeeperError → ExportError
+broken keeper.Failed = error.KeeperFault
+broken keeper.NoMemory = error.NoMemory
+
+-- the copy holds something, of the kind these rows
+pub record IsHeld (kind : Kind) (copy : Copy) (rows : List Record) : Type 0 where
+  pub some : copy.held ≡ None → ⊥
+  pub list : rows ≡ held_list copy kind
+
+-- the text of a file that is read in each mode as these rows, all dated
+pub record IsFile (kind : Kind) (rows : List Record) (text : List ℕ) : Type 0 where
+  pub is_text : text ≡ written_text kind rows
+  pub back : (mode : Mode) → file_of kind mode text ≡ Ok (map dated rows)
+
+-- the copy holds something, and the text is that of its rows of a kind
+pub record IsExport (kind : Kind) (copy : Copy) (text : List ℕ) : Type 0 where
+  pub some : copy.held ≡ None → ⊥
+  pub file : IsFile kind (held_list copy kind) text
+
+-- the cause of an error: that nothing is held, that the keeper's count rose, or that the text has so many bytes
+abbrev pub CauseOf : (Copy → Type 0) → Type 0 → (Copy → ℕ → Type 0) → ExportError → Type 0
+CauseOf copies broke HasBytes error.NothingHeld = (copy : Copy) → copies copy → copy.held ≡ None
+CauseOf copies broke HasBytes error.KeeperFault = broke
+CauseOf copies broke HasBytes (error.TooLarge bytes) = (largest < bytes) × ((copy : Copy) → copies copy → HasBytes copy bytes)
+CauseOf copies broke HasBytes error.NoMemory = Unit {0}
+
+-- the text of rows is too large, or memory ran out
+abbrev pub IsLong : Kind → List Record → ExportError → Type 0
+IsLong kind rows error.NothingHeld = ⊥
+IsLong kind rows error.KeeperFault = ⊥
+IsLong kind rows (error.TooLarge bytes) = (largest < bytes) × (bytes ≡ length (written_text kind rows))
+IsLong kind rows error.NoMemory = Unit {0}
+
+-- ---- the manifest
+
+abbrev pub mode_word : Mode → List ℕ
+mode_word Bulk = codes "bulk"
+mode_word Delta = codes "delta"
+
+abbrev pub file_line : Mode → Kind → List ℕ
+file_line mode kind = codes "file." ++ plural_of kind ++ codes "," ++ mode_word mode ++ codes "\n"
+
+-- the header, the versions, a line for each kind in their order, and whose set it is
+unfoldable pub manifest_text : Mode → List ℕ
+manifest_text mode =
+    codes "propertyName,value\nmanifest.version,1.0\noneroster.version,1.1\n" ++ (flat_map (file_line mode) all_kinds ++ codes "source.systemName,hub\nsource.systemCode,hub\n")

@@ -1,0 +1,4 @@
+pub mod Changes
+pub mod Exports
+pub mod Folders
+pub mod Steps

@@ -1,0 +1,29 @@
+//! Why nothing was exported.
+
+ghost use Rattle.std.specs.Prelude.{◌≡◌};
+ghost use Rattle.bulk_export.specs.Exports.{broken};
+
+use roster_base::KeeperError;
+
+/// Why nothing was exported.
+#[derive(Clone, Copy, Debug, PartialEq, Eq)]
+pub enum ExportError {
+    /// The copy holds nothing.
+    NothingHeld,
+    /// The copy's keeper failed.
+    KeeperFault,
+    /// The text would have so many bytes, more than a file may have.
+    TooLarge { bytes: u64 },
+    /// Memory ran out.
+    NoMemory,
+}
+
+/// The error for a failure of the copy's keeper.
+pub fn broken(error: KeeperError) -> ExportError
+    ensures { result ≡ broken error }
+{
+    match error {
+        KeeperError::Failed => ExportError::KeeperFault,
+        KeeperError::NoMemory => ExportError::NoMemory,
+    }
+}
