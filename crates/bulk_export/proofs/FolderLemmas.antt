@@ -7,7 +7,7 @@ use Rattle.roster_texts.specs.Trim.{trimmed}
 use Rattle.std.specs.Str.{chars, is_utf8}
 use Rattle.csv_sets.specs.Files.{file_of, largest}
 use Rattle.csv_sets.specs.Manifests.{files_said, manifest_below, manifest_of, mode_of, mode_of_word, mode_said, said_after, said_by, said_with, versions_checked}
-use Rattle.csv_sets.specs.Sets.{all_stand, bytes_of, is_listed, listed_in, manifest_at, part_at, parts_at, set_of}
+use Rattle.csv_sets.specs.Sets.{all_stand, bytes_of, is_listed, listed_in, manifest_at, part_at, parts_at, set_among, set_of}
 use Rattle.csv_sets.specs.Written.{dated}
 use Rattle.outside_ports.specs.Files.{Stored}
 use Rattle.roster_types.specs.Records.{Record}
@@ -66,5 +66,5 @@ module _ (mode : Mode) (dir : List ℕ) (files : List Stored) (rows : Kind → L
   parts_are (kind ∷ kinds) = rw (part_is kind, parts_are kinds) refl
 
   pub read_back : (feed : List ℕ) → set_of dir feed files ≡ Ok (record { feed = feed; parts = parts_of mode rows })
-  unfolding set_of
+  unfolding set_of set_among
   read_back feed = rw (manifest_is, all_there all_kinds, parts_are all_kinds) refl

@@ -14,7 +14,7 @@ use Rattle.http_wire.specs.Sending.{CanSend, IsSentEcho, is_sent_byte}
 use Rattle.roster_texts.specs.Texts.{is_token}
 use Rattle.roster_values.specs.Kinds.{plural_of}
 use Rattle.roster_values.specs.declared.kind.Kind.{Kind}
-use Rattle.roster_values.specs.declared.kind.Kind.TheVariants.{Orgs, AcademicSessions, Courses, Classes, Users, Enrollments, Demographics, Categories, LineItems, Results}
+use Rattle.roster_values.specs.declared.kind.Kind.TheVariants.{Orgs}
 use Rattle.status_info.specs.declared.request.Echo.{Echo}
 use Rattle.exchange_link.specs.Requests.{numbered}
 use Rattle.consumer_sync.specs.Requests.{unnumbered}
@@ -48,27 +48,11 @@ both xs ys e f = list_all-append is_sent_byte xs ys ∙ and_true (list_all is_se
 
 word_sent : (kind : Kind) → list_all is_sent_byte (plural_of kind) ≡ true
 word_sent Orgs = refl
-word_sent AcademicSessions = refl
-word_sent Courses = refl
-word_sent Classes = refl
-word_sent Users = refl
-word_sent Enrollments = refl
-word_sent Demographics = refl
-word_sent Categories = refl
-word_sent LineItems = refl
-word_sent Results = refl
+word_sent _ = refl
 
 word_short : (kind : Kind) → length (plural_of kind) ≤ 20
 word_short Orgs = omega arith
-word_short AcademicSessions = omega arith
-word_short Courses = omega arith
-word_short Classes = omega arith
-word_short Users = omega arith
-word_short Enrollments = omega arith
-word_short Demographics = omega arith
-word_short Categories = omega arith
-word_short LineItems = omega arith
-word_short Results = omega arith
+word_short _ = omega arith
 
 decimal_short : (n : ℕ) → n < 2 ^ 64 → length (decimal n) ≤ 20
 decimal_short n small = length-decimal-le 20 n (omega arith) (omega (arith, small)) small

@@ -11,14 +11,14 @@ use Rattle.hub_format.specs.Edits.{put_at, puts}
 use Rattle.hub_format.specs.Format.{Entry}
 use Rattle.item_maps.specs.Edits.{after}
 use Rattle.item_maps.specs.Items.{Items, bytes_cmp, is_between}
+use Rattle.roster_values.proofs.KindLaws.{place_below}
 use Rattle.roster_values.specs.Kinds.{place_of_kind}
 use Rattle.roster_values.specs.declared.kind.Kind.{Kind}
-use Rattle.roster_values.specs.declared.kind.Kind.TheVariants.{Orgs, AcademicSessions, Courses, Classes, Users, Enrollments, Demographics, Categories, LineItems, Results}
+use Rattle.roster_values.specs.declared.kind.Kind.TheVariants.{Orgs}
 use Rattle.std.specs.Prelude.{Option}
 use Rattle.copy_format.specs.Bodies.{stage_body}
 use Rattle.copy_format.specs.Edits.{clear_side}
 use Rattle.copy_format.specs.Format.{other_side, row_area, stage_entries, token_entries}
-use Rattle.copy_format.proofs.Lists.{place_low}
 
 pub other_than : {X : Type 0} (b : Bool) (x y : X) → b ≡ false → (if b then x else y) ≡ y
 other_than true x y is = absurd cc
@@ -49,8 +49,8 @@ by_side P first second (suc (suc side)) le = absurd (omega arith)
 -- the rows of the two sides stand apart
 pub sides_apart : (k l : Kind) (side : ℕ) → side ≤ 1 → (row_area side k == row_area (other_side side) l) ≡ false
 sides_apart k l = by_side (λ side. (row_area side k == row_area (other_side side) l) ≡ false)
-    (apart (row_area 0 k) (row_area 1 l) (λ is. let few = place_low k in absurd (omega (arith, is, few))))
-    (apart (row_area 1 k) (row_area 0 l) (λ is. let few = place_low l in absurd (omega (arith, is, few))))
+    (apart (row_area 0 k) (row_area 1 l) (λ is. let few = place_below k in absurd (omega (arith, is, few))))
+    (apart (row_area 1 k) (row_area 0 l) (λ is. let few = place_below l in absurd (omega (arith, is, few))))
 
 pub kinds_apart : (k l : Kind) (side : ℕ) → (place_of_kind k ≡ place_of_kind l → ⊥) → (row_area side k == row_area side l) ≡ false
 kinds_apart k l side differ = apart (row_area side k) (row_area side l) (λ is. differ (omega (arith, is)))
@@ -106,51 +106,19 @@ pub record ClearsOf (side : ℕ) : Type 0 where
 
 gone_0 : (m : Items) (kind : Kind) → after (clear_side 0) m (row_area 0 kind) ≡ retain_keys (m (row_area 0 kind)) (λ label. not (is_between [] (255 ∷ []) label))
 gone_0 m Orgs = refl
-gone_0 m AcademicSessions = refl
-gone_0 m Courses = refl
-gone_0 m Classes = refl
-gone_0 m Users = refl
-gone_0 m Enrollments = refl
-gone_0 m Demographics = refl
-gone_0 m Categories = refl
-gone_0 m LineItems = refl
-gone_0 m Results = refl
+gone_0 m _ = refl
 
 kept_0 : (m : Items) (kind : Kind) → after (clear_side 0) m (row_area 1 kind) ≡ m (row_area 1 kind)
 kept_0 m Orgs = refl
-kept_0 m AcademicSessions = refl
-kept_0 m Courses = refl
-kept_0 m Classes = refl
-kept_0 m Users = refl
-kept_0 m Enrollments = refl
-kept_0 m Demographics = refl
-kept_0 m Categories = refl
-kept_0 m LineItems = refl
-kept_0 m Results = refl
+kept_0 m _ = refl
 
 gone_1 : (m : Items) (kind : Kind) → after (clear_side 1) m (row_area 1 kind) ≡ retain_keys (m (row_area 1 kind)) (λ label. not (is_between [] (255 ∷ []) label))
 gone_1 m Orgs = refl
-gone_1 m AcademicSessions = refl
-gone_1 m Courses = refl
-gone_1 m Classes = refl
-gone_1 m Users = refl
-gone_1 m Enrollments = refl
-gone_1 m Demographics = refl
-gone_1 m Categories = refl
-gone_1 m LineItems = refl
-gone_1 m Results = refl
+gone_1 m _ = refl
 
 kept_1 : (m : Items) (kind : Kind) → after (clear_side 1) m (row_area 0 kind) ≡ m (row_area 0 kind)
 kept_1 m Orgs = refl
-kept_1 m AcademicSessions = refl
-kept_1 m Courses = refl
-kept_1 m Classes = refl
-kept_1 m Users = refl
-kept_1 m Enrollments = refl
-kept_1 m Demographics = refl
-kept_1 m Categories = refl
-kept_1 m LineItems = refl
-kept_1 m Results = refl
+kept_1 m _ = refl
 
 pub clears : (side : ℕ) → side ≤ 1 → ClearsOf side
 clears = by_side ClearsOf

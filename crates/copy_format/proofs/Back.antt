@@ -2,7 +2,7 @@
 use Rattle.std.proofs.Common.{◌≡◌, ℕ, List, [], ◌∷◌, ◌++◌, Bool, true, false, map, drop, Ok, Option, None, Some, Result, refl, sym, ap, ◌∙◌, append_assoc, arith}
 use Rattle.std.specs.Prelude.{IfSome, slice_index_or}
 use Rattle.std.specs.List.{AllByRecursion}
-use Rattle.keeper_memory.proofs.CopyLemmas.{same_kind}
+use Rattle.roster_values.proofs.KindLaws.{kind_from_place}
 use Rattle.keeper_memory.specs.copy.Copies.{IsOutWrite}
 use Rattle.keeper_memory.specs.declared.copy.entry.OutEntry.{OutEntry}
 use Rattle.keeper_memory.specs.declared.copy.entry.Settled.{Settled}
@@ -77,7 +77,7 @@ same_flag false false same = refl
 pub write_back : (a b : Write) (x y : List ℕ) → IsSized a.id → IsSized b.id → IsSized a.body → IsSized b.body → write_bytes a ++ x ≡ write_bytes b ++ y → (a ≡ b) × (x ≡ y)
 write_back a b x y id_a id_b body_a body_b same =
     let flags = same_flag a.delete b.delete (ap (λ xs. slice_index_or xs 0 0) same) in
-    let kinds = same_kind a.kind b.kind (ap (λ xs. slice_index_or xs 1 0) same) in
+    let kinds = kind_from_place a.kind b.kind (ap (λ xs. slice_index_or xs 1 0) same) in
     let rest : sized a.id ++ (sized a.body ++ x) ≡ sized b.id ++ (sized b.body ++ y) = sym (append_assoc (sized a.id) (sized a.body) x) ∙ ap (drop 2) same ∙ append_assoc (sized b.id) (sized b.body) y in
     let ids = sized_back a.id b.id (sized a.body ++ x) (sized b.body ++ y) id_a id_b rest in
     let bodies = sized_back a.body b.body x y body_a body_b ids.1 in

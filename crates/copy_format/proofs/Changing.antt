@@ -1,13 +1,13 @@
 -- The items of a copy become those of the copy after a change.
 use Rattle.std.proofs.Common.{◌≡◌, ◌<◌, ◌≤◌, ◌^◌, ◌+◌, ◌==◌, ℕ, List, [], ◌∷◌, ◌++◌, Bool, true, false, not, cond, map, length, get_or, Option, None, Some, inl, inr, refl, sym, ap, ◌∙◌, subst, arith, length-append}
-use Rattle.std.specs.Prelude.{IfSome, IsSomeAnd, is_none, if◌then◌else◌, option_map, slice_get}
+use Rattle.std.specs.Prelude.{IfSome, IsSomeAnd, is_none, if◌then◌else◌, option_map}
 use Rattle.std.specs.FinMap.{from_entries, insert, retain_keys}
 use Rattle.std.specs.List.{All, AllByRecursion}
 use Rattle.std.specs.Option.{option_map_or}
 use Rattle.std.specs.Ordering.{eq_by_cmp}
 use Rattle.std.proofs.lemmas.Bool.{cases_eq}
 use Rattle.std.proofs.lemmas.List.Elements.{All-head, All-tail}
-use Rattle.keeper_memory.proofs.CopyLemmas.{changed_is, empty_is, nth_list, same_kind}
+use Rattle.keeper_memory.proofs.CopyLemmas.{changed_is, empty_is, nth_list}
 use Rattle.keeper_memory.specs.copy.Changes.{AllDone, CanChange, CanPage, begun, copy_after, settled_first, stage_after, swapped}
 use Rattle.keeper_memory.specs.copy.Copies.{Copy, Held, IsCopy, IsStage, NumbersRise, Stage, first_unsettled, held_list, held_token}
 use Rattle.keeper_memory.specs.copy.HeldCopy.{empty_copy}
@@ -28,9 +28,9 @@ use Rattle.item_maps.specs.Edits.{after, after_edit}
 use Rattle.item_maps.specs.Items.{Items, bytes_cmp, is_between, no_items}
 use Rattle.roster_types.specs.Records.{Record}
 use Rattle.item_maps.specs.declared.item.Edit.TheVariants.{Clear}
+use Rattle.roster_values.proofs.KindLaws.{kind_from_place, kind_there}
 use Rattle.roster_values.specs.Kinds.{all_kinds, place_of_kind}
 use Rattle.roster_values.specs.declared.kind.Kind.{Kind}
-use Rattle.roster_values.specs.declared.kind.Kind.TheVariants.{Orgs, AcademicSessions, Courses, Classes, Users, Enrollments, Demographics, Categories, LineItems, Results}
 use Rattle.version_core.proofs.RoomLemmas.{map_push}
 use Rattle.version_core.specs.declared.mark.Write.{Write}
 use Rattle.copy_format.specs.Bodies.{out_body, stage_body, state_body}
@@ -111,18 +111,6 @@ settled_alike settled n (x ∷ xs) entry small rise is q = elim (is_none x.settl
     hidden : (b : Bool) (x y z : Option (List ℕ)) → cond b x (cond b y z) ≡ cond b x z
     hidden true x y z = refl
     hidden false x y z = refl
-
-pub kind_there : (kind : Kind) → slice_get all_kinds (place_of_kind kind) ≡ Some kind
-kind_there Orgs = refl
-kind_there AcademicSessions = refl
-kind_there Courses = refl
-kind_there Classes = refl
-kind_there Users = refl
-kind_there Enrollments = refl
-kind_there Demographics = refl
-kind_there Categories = refl
-kind_there LineItems = refl
-kind_there Results = refl
 
 -- what a change leads to
 record Leads (side : ℕ) (change : CopyChange) (c : Copy) (items : Items) : Type 0 where
@@ -349,7 +337,7 @@ module _ (side : ℕ) (c : Copy) (items : Items) (stored : AreItemsOf 2 side c i
     rows_there : (k : Kind) → all_now (row_area (other_side side) k) ≡ from_entries (rows_under (get_or (s.done ++ (s.present ++ rows) ∷ []) (place_of_kind k) []))
     rows_there k = elim (cases_eq (place_of_kind k) (place_of_kind kind)) [
       | inl same ↦
-          let here : k ≡ kind = same_kind k kind same in
+          let here : k ≡ kind = kind_from_place k kind same in
           subst (λ k. all_now (row_area (other_side side) k) ≡ from_entries (rows_under (get_or (s.done ++ (s.present ++ rows) ∷ []) (place_of_kind k) []))) (sym here)
           (puts_here (row_area (other_side side) kind) (rows_under rows) staged_now ∙ ap (filled (rows_under rows)) (now_row (other_side side) kind) ∙ rows_here
           ∙ ap (λ xs. from_entries (rows_under xs)) (sym (at_last s.done (s.present ++ rows) (place_of_kind kind) can.0)))

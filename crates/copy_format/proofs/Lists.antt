@@ -1,27 +1,15 @@
 -- Lists of rows by the places of their kinds.
 use Rattle.std.proofs.Common.{◌≡◌, ◌<◌, ℕ, zero, suc, List, [], ◌∷◌, ◌++◌, length, get_or, refl, subst, arith}
-use Rattle.std.specs.Prelude.{slice_index_or}
 use Rattle.std.specs.List.{AllByRecursion}
 use Rattle.keeper_memory.specs.copy.Lists.{kind_count}
 use Rattle.roster_types.specs.Records.{Record}
+use Rattle.roster_values.proofs.KindLaws.{place_of_kind_at}
 use Rattle.roster_values.specs.Kinds.{all_kinds, place_of_kind}
 use Rattle.roster_values.specs.declared.kind.Kind.{Kind}
-use Rattle.roster_values.specs.declared.kind.Kind.TheVariants.{Orgs, AcademicSessions, Courses, Classes, Users, Enrollments, Demographics, Categories, LineItems, Results}
+use Rattle.roster_values.specs.declared.kind.Kind.TheVariants.{Orgs}
 
 abbrev Lists : Type 0
 Lists = List (List Record)
-
-pub place_low : (kind : Kind) → place_of_kind kind < kind_count
-place_low Orgs = omega arith
-place_low AcademicSessions = omega arith
-place_low Courses = omega arith
-place_low Classes = omega arith
-place_low Users = omega arith
-place_low Enrollments = omega arith
-place_low Demographics = omega arith
-place_low Categories = omega arith
-place_low LineItems = omega arith
-place_low Results = omega arith
 
 -- the list at the end
 pub at_last : (lists : Lists) (x : List Record) (p : ℕ) → p ≡ length lists → get_or (lists ++ x ∷ []) p [] ≡ x
@@ -71,20 +59,6 @@ same_lists (x ∷ xs) (y ∷ ys) long same =
     let first : x ≡ y = same 0 (omega arith) in
     λ i. first i ∷ same_lists xs ys (omega arith) (λ p lt. same (suc p) (omega arith)) i
 
--- each place below their count is a kind's
-pub place_back : (p : ℕ) → p < kind_count → place_of_kind (slice_index_or all_kinds p Orgs) ≡ p
-place_back zero lt = refl
-place_back (suc zero) lt = refl
-place_back (suc (suc zero)) lt = refl
-place_back (suc (suc (suc zero))) lt = refl
-place_back (suc (suc (suc (suc zero)))) lt = refl
-place_back (suc (suc (suc (suc (suc zero))))) lt = refl
-place_back (suc (suc (suc (suc (suc (suc zero)))))) lt = refl
-place_back (suc (suc (suc (suc (suc (suc (suc zero))))))) lt = refl
-place_back (suc (suc (suc (suc (suc (suc (suc (suc zero)))))))) lt = refl
-place_back (suc (suc (suc (suc (suc (suc (suc (suc (suc zero))))))))) lt = refl
-place_back (suc (suc (suc (suc (suc (suc (suc (suc (suc (suc p)))))))))) lt = absurd (omega arith)
-
 -- what holds at each kind's place holds at each place
 pub by_place : (P : ℕ → Type 0) → ((kind : Kind) → P (place_of_kind kind)) → (p : ℕ) → p < kind_count → P p
-by_place P at p lt = subst P (place_back p lt) (at (slice_index_or all_kinds p Orgs))
+by_place P at p lt = subst P (place_of_kind_at p lt) (at (get_or all_kinds p Orgs))

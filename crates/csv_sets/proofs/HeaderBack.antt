@@ -10,7 +10,7 @@ use Rattle.roster_base.specs.Order.{RiseBy, in_order, placed}
 use Rattle.roster_texts.specs.Texts.{is_id}
 use Rattle.roster_texts.specs.Trim.{trimmed}
 use Rattle.roster_values.specs.declared.kind.Kind.{Kind}
-use Rattle.roster_values.specs.declared.kind.Kind.TheVariants.{Orgs, AcademicSessions, Courses, Classes, Users, Enrollments, Demographics, Categories, LineItems, Results}
+use Rattle.roster_values.specs.declared.kind.Kind.TheVariants.{Orgs}
 use Rattle.roster_values.specs.declared.mode.Mode.{Mode}
 use Rattle.roster_values.specs.Table.{Info, info_in, table}
 use Rattle.std.proofs.lemmas.Bool.{and_parts}
@@ -52,15 +52,7 @@ pub record Plain (kind : Kind) : Type 0 where
 plain : (kind : Kind) → Plain kind
 unfolding trimmed columns_checked required_checked
 plain Orgs = record { trims = refl; other = refl; once = refl; whole = refl; places = refl }
-plain AcademicSessions = record { trims = refl; other = refl; once = refl; whole = refl; places = refl }
-plain Courses = record { trims = refl; other = refl; once = refl; whole = refl; places = refl }
-plain Classes = record { trims = refl; other = refl; once = refl; whole = refl; places = refl }
-plain Users = record { trims = refl; other = refl; once = refl; whole = refl; places = refl }
-plain Enrollments = record { trims = refl; other = refl; once = refl; whole = refl; places = refl }
-plain Demographics = record { trims = refl; other = refl; once = refl; whole = refl; places = refl }
-plain Categories = record { trims = refl; other = refl; once = refl; whole = refl; places = refl }
-plain LineItems = record { trims = refl; other = refl; once = refl; whole = refl; places = refl }
-plain Results = record { trims = refl; other = refl; once = refl; whole = refl; places = refl }
+plain _ = record { trims = refl; other = refl; once = refl; whole = refl; places = refl }
 
 and_false : (a : Bool) → (a && false) ≡ false
 and_false true = refl

@@ -9,6 +9,7 @@ mod ListLaws
 mod ManifestSteps
 mod MetadataSteps
 mod PlaceSteps
+mod PropertyLaws
 mod ReadBack
 mod RecordLaws
 mod RepeatSteps

@@ -8,7 +8,7 @@ use Rattle.roster_base.specs.declared.refusal.Refusal.{Refusal}
 use Rattle.roster_base.specs.declared.refusal.Refusal.TheVariants as refusal
 use Rattle.roster_values.specs.declared.kind.Kind.{Kind}
 use Rattle.roster_values.specs.declared.mode.Mode.{Mode}
-use Rattle.roster_values.specs.Kinds.{all_kinds, place_of_kind}
+use Rattle.roster_values.specs.Kinds.{place_of_kind}
 use Rattle.csv_sets.specs.declared.fault.ManifestFault.{ManifestFault}
 use Rattle.csv_sets.specs.declared.manifest.ListedFile.{ListedFile}
 use Rattle.csv_sets.specs.declared.manifest.Said.{Said}
@@ -75,7 +75,3 @@ said_rise said (kind ∷ kinds) h = by (mode_of said kind) (said_rise said kinds
     by : (mode : Option Mode) → RisingFiles (files_said said kinds) → RisingFiles (listed kind mode ++ files_said said kinds)
     by None more = more
     by (Some mode) more = (below_said (place_of_kind kind) said kinds h.0, more)
-
-pub kinds_rise : IsStrictlySortedBy nat_cmp (map place_of_kind all_kinds)
-unfolding IsStrictlySortedBy
-kinds_rise = ((refl, (refl, (refl, (refl, (refl, (refl, (refl, (refl, (refl, tt))))))))), ((refl, (refl, (refl, (refl, (refl, (refl, (refl, (refl, tt)))))))), ((refl, (refl, (refl, (refl, (refl, (refl, (refl, tt))))))), ((refl, (refl, (refl, (refl, (refl, (refl, tt)))))), ((refl, (refl, (refl, (refl, (refl, tt))))), ((refl, (refl, (refl, (refl, tt)))), ((refl, (refl, (refl, tt))), ((refl, (refl, tt)), ((refl, tt), (tt, tt))))))))))

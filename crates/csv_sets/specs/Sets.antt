@@ -78,13 +78,16 @@ parts_at dir (l ∷ listed) files = do
   parts ← parts_at dir listed files
   Ok (part ∷ parts)
 
--- the set of a feed in a folder: the manifest, then whether each kind's file is there, then the files
-unfoldable pub set_of : List ℕ → List ℕ → List Stored → Result SetRecord SetFault
-set_of dir feed files = do
+-- the set of a feed in a folder: the manifest, then whether each of these kinds' files is there, then the files
+unfoldable pub set_among : List Kind → List ℕ → List ℕ → List Stored → Result SetRecord SetFault
+set_among kinds dir feed files = do
   listed ← manifest_at dir files
-  whole ← all_stand dir listed all_kinds files
+  whole ← all_stand dir listed kinds files
   parts ← parts_at dir listed files
   Ok (record { feed = feed; parts = parts })
+
+unfoldable pub set_of : List ℕ → List ℕ → List Stored → Result SetRecord SetFault
+set_of dir feed files = set_among all_kinds dir feed files
 
 -- a part as the manifest lists its file
 abbrev pub listed_as : SetPart → ListedFile

@@ -1,11 +1,12 @@
 //! The properties of a manifest.
 
-ghost use Rattle.std.specs.Prelude.{◌≡◌, bytes_eq, find};
+ghost use Rattle.std.specs.Prelude.{◌≡◌, bytes_eq, find, option_map};
+ghost use Rattle.roster_values.specs.Kinds.{all_kinds};
 ghost use Rattle.csv_sets.specs.Properties.{property_name, property_of};
 
 use roster_values::Kind;
 
-/// A property of a manifest that is read: by OneRoster 1.1 two versions, and of each of thirteen files how it is to be read.
+/// A property of a manifest that is read: by OneRoster 1.1 two versions, and of each kind's file how it is to be read.
 #[derive(Clone, Copy, Debug, PartialEq, Eq)]
 pub enum Property {
     /// `manifest.version`.
@@ -14,32 +15,7 @@ pub enum Property {
     OneRosterVersion,
     /// `file.` and the stem of a kind's file.
     FileOf(Kind),
-    /// `file.resources`, whose file is passed over.
-    FileOfResources,
-    /// `file.classResources`, whose file is passed over.
-    FileOfClassResources,
-    /// `file.courseResources`, whose file is passed over.
-    FileOfCourseResources,
 }
-
-// Every property that is read.
-const ALL: [Property; 15] = [
-    Property::ManifestVersion,
-    Property::OneRosterVersion,
-    Property::FileOf(Kind::Orgs),
-    Property::FileOf(Kind::AcademicSessions),
-    Property::FileOf(Kind::Courses),
-    Property::FileOf(Kind::Classes),
-    Property::FileOf(Kind::Users),
-    Property::FileOf(Kind::Enrollments),
-    Property::FileOf(Kind::Demographics),
-    Property::FileOf(Kind::Categories),
-    Property::FileOf(Kind::LineItems),
-    Property::FileOf(Kind::Results),
-    Property::FileOfResources,
-    Property::FileOfClassResources,
-    Property::FileOfCourseResources,
-];
 
 impl Property {
     /// Its name, as the first cell of a record has it.
@@ -50,9 +26,6 @@ impl Property {
             Property::ManifestVersion => "manifest.version",
             Property::OneRosterVersion => "oneroster.version",
             Property::FileOf(kind) => file_property(kind),
-            Property::FileOfResources => "file.resources",
-            Property::FileOfClassResources => "file.classResources",
-            Property::FileOfCourseResources => "file.courseResources",
         }
     }
 
@@ -60,7 +33,11 @@ impl Property {
     pub fn read(name: &str) -> Option<Property>
         ensures { result ≡ property_of name.now }
     {
-        first_named(&ALL, name)
+        match name {
+            "manifest.version" => Some(Property::ManifestVersion),
+            "oneroster.version" => Some(Property::OneRosterVersion),
+            _ => file_named(name),
+        }
     }
 }
 
@@ -79,12 +56,25 @@ fn file_property(kind: Kind) -> &'static str
         Kind::Categories => "file.categories",
         Kind::LineItems => "file.lineItems",
         Kind::Results => "file.results",
+        Kind::Resources => "file.resources",
+        Kind::ClassResources => "file.classResources",
+        Kind::CourseResources => "file.courseResources",
     }
 }
 
-// The first of the properties of that name.
-fn first_named(properties: &[Property], name: &str) -> Option<Property>
-    ensures { result ≡ find (λ p. bytes_eq (property_name p) name.now) properties.now }
+// The property of a kind's file that has that name.
+fn file_named(name: &str) -> Option<Property>
+    ensures { result ≡ option_map (λ kind. Property.FileOf kind) (find (λ kind. bytes_eq (property_name (Property.FileOf kind)) name.now) all_kinds) }
 {
-    properties.iter().copied().find(|p| p.name() == name)
+    first_named(&Kind::ALL, name).map(Property::FileOf)
+}
+
+// The first of the kinds whose file's property has that name.
+fn first_named(kinds: &[Kind], name: &str) -> Option<Kind>
+    ensures { result ≡ find (λ kind. bytes_eq (property_name (Property.FileOf kind)) name.now) kinds.now }
+{
+    kinds
+        .iter()
+        .copied()
+        .find(|kind| file_property(*kind) == name)
 }

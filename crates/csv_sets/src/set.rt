@@ -9,7 +9,7 @@ ghost use Rattle.roster_base.specs.Reading.{Gives};
 ghost use Rattle.roster_types.specs.Sets.{AreParts, IsPart};
 ghost use Rattle.roster_values.specs.Kinds.{all_kinds, place_of_kind};
 ghost use Rattle.csv_sets.specs.Folders.{ReadsFolder};
-ghost use Rattle.csv_sets.specs.Sets.{AreListed, AreSpelled, IsSpelled, all_stand, bytes_at, bytes_of, in_manifest, is_listed, listed_as, listed_in, manifest_at, part_at, parts_at, set_of, stands, stands_at};
+ghost use Rattle.csv_sets.specs.Sets.{AreListed, AreSpelled, IsSpelled, all_stand, bytes_at, bytes_of, in_manifest, is_listed, listed_as, listed_in, manifest_at, part_at, parts_at, set_among, set_of, stands, stands_at};
 
 use crate::fault::{SetError, SetFault, SetFile};
 use crate::file::{LARGEST, read_file};
@@ -191,10 +191,31 @@ fn read_parts<F: Folder>(
     Ok(parts)
 }
 
+// The set that the files of a folder mean together, where each of these kinds' files is looked for.
+#[tactic(auto, unfolding(crate::specs::Sets::set_among))]
+fn set_among<F: Folder>(
+    alloc: Global,
+    folder: &mut F,
+    dir: &str,
+    feed: &Name,
+    kinds: &[Kind],
+) -> Result<RosterSet, SetError>
+    ensures set { ReadsFolder (λ s. s) (F.files folder.old) (F.faults folder.old) (F.faults folder.new) result (set_among kinds.now dir.now feed.now) }
+    ensures files { F.files folder.new ≡ F.files folder.old }
+    ensures feed { IfOk result (λ s. s.feed ≡ feed.now) }
+    ensures some { IfOk result (λ s. AreSpelled s.parts) }
+{
+    let manifest = manifest_at(alloc, folder, dir)?;
+    let listed = manifest.files.as_slice();
+    check_files(alloc, folder, dir, listed, kinds)?;
+    let parts = read_parts(alloc, folder, dir, listed)?;
+    let feed = feed.copy(alloc)?;
+    Ok(RosterSet::new(feed, Items::from_vec(parts)))
+}
+
 /// The set that the files of a folder mean together, or the first fault: of the manifest; then of the first kind whose file is
-/// missing, or there though the manifest says that it is absent; then of the files in the kinds' order. By OneRoster the files
-/// of resources are no part of it, and are passed over whatever the manifest says of them. Where the folder fails, the fault
-/// is `Folder`.
+/// missing, or there though the manifest says that it is absent; then of the files in the kinds' order. Where the folder fails,
+/// the fault is `Folder`.
 #[tactic(auto, unfolding(crate::specs::Sets::set_of))]
 pub fn read_set<F: Folder>(
     alloc: Global,
@@ -208,10 +229,5 @@ pub fn read_set<F: Folder>(
     ensures feed { IfOk result (λ s. s.feed ≡ feed.now) }
     ensures some { IfOk result (λ s. AreSpelled s.parts) }
 {
-    let manifest = manifest_at(alloc, folder, dir)?;
-    let listed = manifest.files.as_slice();
-    check_files(alloc, folder, dir, listed, &Kind::ALL)?;
-    let parts = read_parts(alloc, folder, dir, listed)?;
-    let feed = feed.copy(alloc)?;
-    Ok(RosterSet::new(feed, Items::from_vec(parts)))
+    set_among(alloc, folder, dir, feed, &Kind::ALL)
 }

@@ -6,7 +6,7 @@ use Rattle.std.specs.Prelude.{is_some}
 use Rattle.std.specs.Str.{is_utf8}
 use Rattle.std.proofs.lemmas.Bool.Decides.{nat_tests}
 use Rattle.std.proofs.lemmas.List.Elements.{All-from_recursion}
-use Rattle.keeper_memory.proofs.CopyLemmas.{same_kind}
+use Rattle.roster_values.proofs.KindLaws.{kind_from_place}
 use Rattle.grant_scopes.specs.Opens.{opens}
 use Rattle.grant_scopes.specs.declared.access.Access.TheVariants.{Read}
 use Rattle.grant_scopes.specs.declared.grant.Grant.{Grant}
@@ -69,7 +69,7 @@ kept_rows p (row ∷ rows) all =
     ]
 
 is_of : (kind : Kind) (row : Record) → is_of_kind kind row ≡ true → IsRow row → IsOf kind row
-is_of kind row e is = record { is = record { row = is; keys = is.fitting.metadata.keys }; of = same_kind row.kind kind (let same : place_of_kind row.kind ≡ place_of_kind kind = grind (arith, nat_tests, e) in same) }
+is_of kind row e is = record { is = record { row = is; keys = is.fitting.metadata.keys }; of = kind_from_place row.kind kind (let same : place_of_kind row.kind ≡ place_of_kind kind = grind (arith, nat_tests, e) in same) }
 
 of_kind : (kind : Kind) (rows : List Record) → AreRows rows → AllByRecursion (IsOf kind) (filter (is_of_kind kind) rows)
 of_kind kind [] all = tt

@@ -15,9 +15,6 @@ use std::alloc::Global;
 use std::test::Fail;
 use test_lake::file;
 
-// A file beside them that is passed over.
-const RESOURCES: &str = "no,file\nthat is read\n";
-
 // The files of `lake`, one of which has another text in place of one of its texts; where that is empty, the file is taken away.
 fn lake(
     alloc: Global,
@@ -39,7 +36,6 @@ fn lake(
         };
         files.push(file(alloc, "lake", name, text.as_str())?)?;
     }
-    files.push(file(alloc, "lake", "resources.csv", RESOURCES)?)?;
     Ok(MemFolder::new(files, failing))
 }
 
@@ -137,8 +133,8 @@ fn reads_changed_sets(rt: HostRuntime) -> Result<(), Fail> {
     Ok(())
 }
 
-// The folder is asked for the manifest, then for ten sizes, then for ten files.
-static FAILING: [u64; 3] = [1, 2, 21];
+// The folder is asked for the manifest, then for the size of each kind's file, then for ten files.
+static FAILING: [u64; 3] = [1, 2, 24];
 
 #[test]
 fn names_the_folder_where_it_fails(rt: HostRuntime) -> Result<(), Fail> {

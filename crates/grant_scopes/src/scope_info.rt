@@ -39,7 +39,7 @@ const DEMOGRAPHICS: &[Kind] = &[Kind::Demographics];
 
 const GRADEBOOK_KINDS: &[Kind] = &[Kind::Categories, Kind::LineItems, Kind::Results];
 
-const NO_KINDS: &[Kind] = &[];
+const RESOURCE_KINDS: &[Kind] = &[Kind::Resources, Kind::ClassResources, Kind::CourseResources];
 
 static SCOPES: [ScopeInfo; 7] = [
     ScopeInfo {
@@ -72,11 +72,10 @@ static SCOPES: [ScopeInfo; 7] = [
         access: Access::Delete,
         kinds: GRADEBOOK_KINDS,
     },
-    // By OneRoster 1.1 it opens resources, which are no kind here.
     ScopeInfo {
         word: "resource.readonly",
         access: Access::Read,
-        kinds: NO_KINDS,
+        kinds: RESOURCE_KINDS,
     },
 ];
 

@@ -56,7 +56,10 @@ static OPENED: [(&str, &str); 10] = [
     ("gradebook.readonly", "R categories lineItems results;P;D;"),
     ("gradebook.createput", "R;P categories lineItems results;D;"),
     ("gradebook.delete", "R;P;D categories lineItems results;"),
-    ("resource.readonly", "R;P;D;"),
+    (
+        "resource.readonly",
+        "R resources classResources courseResources;P;D;",
+    ),
     (
         "roster-demographics.readonly gradebook.delete gradebook.readonly",
         "R demographics categories lineItems results;P;D categories lineItems results;",

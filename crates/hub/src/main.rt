@@ -53,7 +53,8 @@ rehearsals, in a world of their own: a hub and a copy that hold nothing, and no 
                         how many rows of each kind the copy holds
 
 KIND is one of orgs, academicSessions, courses, classes, users, enrollments, demographics, categories,
-lineItems, results; with enter one of the last three.
+lineItems, results, resources, classResources, courseResources; with enter one of categories, lineItems and
+results.
 
 --store DIR        the folder where the stores of the hub and of the copy are kept, in place of memory
 --folder DIR       the folder where the command finds its files, in place of the working folder

@@ -1,5 +1,5 @@
 -- What was written in front of a rest is found again.
-use Rattle.std.proofs.Common.{◌≡◌, ◌<◌, ◌^◌, ℕ, ℤ, pos, negsuc, List, [], ◌∷◌, ◌++◌, append_assoc, drop, length, slice_index_or, None, Ok, Result, refl, sym, ap, ◌∙◌, subst, arith}
+use Rattle.std.proofs.Common.{◌≡◌, ◌<◌, ◌^◌, ℕ, ℤ, pos, negsuc, List, [], ◌∷◌, ◌++◌, append_assoc, drop, length, None, Ok, Result, refl, sym, ap, ◌∙◌, subst, arith}
 use Rattle.std.specs.Int.{cast_signed, cast_unsigned, w64}
 use Rattle.std.specs.Int.RustNames.{FitsSigned}
 use Rattle.std.specs.List.{AllByRecursion}
@@ -9,9 +9,7 @@ use Rattle.grant_scopes.specs.declared.schools.Schools.TheVariants as schools
 use Rattle.roster_types.specs.declared.owner.Owner.{Owner}
 use Rattle.roster_types.specs.declared.owner.Owner.TheVariants.{Caller, Feed}
 use Rattle.roster_types.specs.Records.{Record}
-use Rattle.roster_values.specs.Kinds.{all_kinds, place_of_kind}
 use Rattle.roster_values.specs.declared.kind.Kind.{Kind}
-use Rattle.roster_values.specs.declared.kind.Kind.TheVariants.{Orgs, AcademicSessions, Courses, Classes, Users, Enrollments, Demographics, Categories, LineItems, Results}
 use Rattle.row_json.specs.Json.{single_text}
 use Rattle.row_json.specs.Reading.{row_of}
 use Rattle.row_json.specs.declared.fault.JsonFault.{JsonFault}
@@ -74,21 +72,6 @@ owner_back (Feed a) (Feed b) x y fits_a fits_b same = let parts = sized_back a b
 owner_back (Caller a) (Caller b) x y fits_a fits_b same = let parts = sized_back a b x y fits_a fits_b (ap (drop 1) same) in (ap Caller parts.0, parts.1)
 owner_back (Feed a) (Caller b) x y fits_a fits_b same = absurd cc
 owner_back (Caller a) (Feed b) x y fits_a fits_b same = absurd cc
-
-kind_at : (k : Kind) → slice_index_or all_kinds (place_of_kind k) Orgs ≡ k
-kind_at Orgs = refl
-kind_at AcademicSessions = refl
-kind_at Courses = refl
-kind_at Classes = refl
-kind_at Users = refl
-kind_at Enrollments = refl
-kind_at Demographics = refl
-kind_at Categories = refl
-kind_at LineItems = refl
-kind_at Results = refl
-
-pub same_kind : (k l : Kind) → place_of_kind k ≡ place_of_kind l → k ≡ l
-same_kind k l same = sym (kind_at k) ∙ ap (λ n. slice_index_or all_kinds n Orgs) same ∙ kind_at l
 
 -- the state's entry
 pub state_back : (k l : ℕ) (a b : BaseVersion) → k < 2 ^ 64 → l < 2 ^ 64 → a.number < 2 ^ 64 → b.number < 2 ^ 64 → FitsSigned w64 a.moment → FitsSigned w64 b.moment

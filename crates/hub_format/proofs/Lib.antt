@@ -13,6 +13,7 @@ pub mod Told
 pub mod Unique
 pub mod Found
 pub mod GrantReading
+pub mod KindBytes
 pub mod MarkReading
 pub mod Moving
 pub mod Names

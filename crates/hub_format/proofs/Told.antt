@@ -7,7 +7,7 @@ use Rattle.item_maps.specs.Items.{Items, bytes_cmp, is_between, listed}
 use Rattle.roster_base.specs.Order.{RiseBy}
 use Rattle.roster_values.specs.Kinds.{place_of_kind}
 use Rattle.roster_values.specs.declared.kind.Kind.{Kind}
-use Rattle.roster_values.specs.declared.kind.Kind.TheVariants.{Orgs, AcademicSessions, Courses, Classes, Users, Enrollments, Demographics, Categories, LineItems, Results}
+use Rattle.roster_values.specs.declared.kind.Kind.TheVariants.{Orgs}
 use Rattle.version_core.specs.Changes.{AreChanges}
 use Rattle.version_core.specs.Grants.{caller_of}
 use Rattle.version_core.specs.Table.{LeadOn}
@@ -197,15 +197,7 @@ state_told t = listed_where (is_between [] (0 ∷ [])) (state_entry t.keep t.bas
 -- the rows of the base lie below 255, where no kind has its place
 row_below : (kind : Kind) (id : List ℕ) → is_between [] (255 ∷ []) (place_of_kind kind ∷ id) ≡ true
 row_below Orgs id = refl
-row_below AcademicSessions id = refl
-row_below Courses id = refl
-row_below Classes id = refl
-row_below Users id = refl
-row_below Enrollments id = refl
-row_below Demographics id = refl
-row_below Categories id = refl
-row_below LineItems id = refl
-row_below Results id = refl
+row_below _ id = refl
 
 rows_below : (rows : List RowChange) → AllByRecursion (λ e. is_between [] (255 ∷ []) e.0 ≡ true) (rows_under [] rows)
 rows_below [] = tt

@@ -23,7 +23,8 @@ use Rattle.version_core.specs.declared.row_change.RowChange.{RowChange}
 use Rattle.version_core.proofs.TableLemmas.{base_meets}
 use Rattle.hub_format.specs.Format.{Entry, Fit, FitsChange, FitsGrant, FitsMark, Keep, grant_entry, grants_under, items_of, mark_entry, own_grants, own_rows, own_version, row_entry, rows_under, some_grants, state_entry, version_entry}
 use Rattle.hub_format.specs.Pieces.{IsReadBack, caller_label, change_body, flag, grant_body, has_grants, key_label, mark_body, mark_label, number, row_body, schools_bytes, sized}
-use Rattle.hub_format.proofs.Back.{moment_back, owner_back, same_ends, same_kind, schools_back, sized_back, state_back}
+use Rattle.roster_values.proofs.KindLaws.{kind_from_place}
+use Rattle.hub_format.proofs.Back.{moment_back, owner_back, same_ends, schools_back, sized_back, state_back}
 use Rattle.hub_format.proofs.Endings.{marks_rise}
 use Rattle.hub_format.proofs.Labels.{same_caller}
 use Rattle.hub_format.proofs.Listing.{listed_sorted, rows_rise}
@@ -52,7 +53,7 @@ same_row prefix x y back_x back_y same =
     let labels : prefix ++ key_label (change_key x) ≡ prefix ++ key_label (change_key y) = ap (λ (e : Entry). e.0) same in
     let bodies : row_body x ≡ row_body y = ap (λ (e : Entry). e.1) same in
     let keys = (same_ends prefix prefix (key_label (change_key x)) (key_label (change_key y)) refl labels).1 in
-    let kinds = same_kind x.row.kind y.row.kind (ap first_of keys) in
+    let kinds = kind_from_place x.row.kind y.row.kind (ap first_of keys) in
     let owners = owner_back x.owner y.owner (sized (single_text None x.row)) (sized (single_text None y.row)) back_x.owner back_y.owner bodies in
     let texts = sized_back (single_text None x.row) (single_text None y.row) [] [] back_x.text back_y.text (ap (λ xs. xs ++ []) owners.1) in
     let rows : ◌≡◌ {A = Result Record JsonFault} (Ok x.row) (Ok y.row) = sym back_x.row ∙ ap (row_of x.row.kind) texts.0 ∙ ap (λ k. row_of k (single_text None y.row)) kinds ∙ back_y.row in
@@ -89,7 +90,7 @@ same_mark_row x y fits_x fits_y same =
     let numbers = same_number x.number y.number fits_x.number fits_y.number (ap (drop 1) parts.1) in
     let bodies : mark_body x ≡ mark_body y = ap (λ (e : Entry). e.1) same in
     let flags = same_flag x.write.delete y.write.delete (ap (λ xs. slice_index_or xs 0 0) bodies) in
-    let kinds = same_kind x.write.kind y.write.kind (ap (λ xs. slice_index_or xs 1 0) bodies) in
+    let kinds = kind_from_place x.write.kind y.write.kind (ap (λ xs. slice_index_or xs 1 0) bodies) in
     let ids = sized_back x.write.id y.write.id (sized x.write.body ++ (x.kept.outcome ∷ number x.kept.version)) (sized y.write.body ++ (y.kept.outcome ∷ number y.kept.version)) fits_x.id fits_y.id (ap (drop 2) bodies) in
     let texts = sized_back x.write.body y.write.body (x.kept.outcome ∷ number x.kept.version) (y.kept.outcome ∷ number y.kept.version) fits_x.body fits_y.body ids.1 in
     let outcomes : x.kept.outcome ≡ y.kept.outcome = let rest = texts.1 in cc in

@@ -58,21 +58,11 @@ pub(crate) fn push_owner(to: &mut Vec<u8>, owner: &Owner) -> Result<(), NoMemory
 }
 
 /// The byte of a kind.
+#[tactic(auto, using(crate::proofs::KindBytes::place_byte))]
 pub fn kind_byte(kind: Kind) -> u8
     ensures { result ≡ place_of_kind kind }
 {
-    match kind {
-        Kind::Orgs => 0,
-        Kind::AcademicSessions => 1,
-        Kind::Courses => 2,
-        Kind::Classes => 3,
-        Kind::Users => 4,
-        Kind::Enrollments => 5,
-        Kind::Demographics => 6,
-        Kind::Categories => 7,
-        Kind::LineItems => 8,
-        Kind::Results => 9,
-    }
+    kind.place() as u8
 }
 
 /// A caller, and the 0 that ends it.

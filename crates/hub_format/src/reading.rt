@@ -78,22 +78,11 @@ pub(crate) fn id_of(alloc: Global, bytes: &[u8]) -> Result<Option<Id>, NoMemory>
 }
 
 /// The kind of a byte.
+#[tactic(auto, using(crate::proofs::KindBytes::kind_placed))]
 pub(crate) fn kind_of(byte: u8) -> Option<Kind>
     ensures { IfSome result (λ kind. place_of_kind kind ≡ byte) }
 {
-    match byte {
-        0 => Some(Kind::Orgs),
-        1 => Some(Kind::AcademicSessions),
-        2 => Some(Kind::Courses),
-        3 => Some(Kind::Classes),
-        4 => Some(Kind::Users),
-        5 => Some(Kind::Enrollments),
-        6 => Some(Kind::Demographics),
-        7 => Some(Kind::Categories),
-        8 => Some(Kind::LineItems),
-        9 => Some(Kind::Results),
-        _ => None,
-    }
+    Kind::ALL.get(usize::from(byte)).copied()
 }
 
 /// The body of the only item.

@@ -11,7 +11,7 @@ use Rattle.hub_spec.specs.rules.Verdicts.{newest_in}
 use Rattle.hub_spec.specs.views.Cuts.{cut_of, kind_cut, list_in, no_rows}
 use Rattle.roster_types.specs.Records.{Record}
 use Rattle.roster_values.specs.declared.kind.Kind.{Kind}
-use Rattle.roster_values.specs.declared.kind.Kind.TheVariants.{Orgs, AcademicSessions, Courses, Classes, Users, Enrollments, Demographics, Categories, LineItems, Results}
+use Rattle.roster_values.specs.declared.kind.Kind.TheVariants.{Orgs}
 use Rattle.roster_values.specs.Kinds.{place_of_kind}
 use Rattle.grant_scopes.specs.declared.grant.Grant.{Grant}
 use Rattle.version_core.specs.Changes.{rows_of}
@@ -40,15 +40,7 @@ by_token (other ∷ grants) row differ has =
 -- the list of a kind in a cut
 pub kind_in_cut : (grant : Grant) (rows : List Record) (kind : Kind) → get_or (cut_of grant rows) (place_of_kind kind) [] ≡ kind_cut grant rows kind
 kind_in_cut grant rows Orgs = refl
-kind_in_cut grant rows AcademicSessions = refl
-kind_in_cut grant rows Courses = refl
-kind_in_cut grant rows Classes = refl
-kind_in_cut grant rows Users = refl
-kind_in_cut grant rows Enrollments = refl
-kind_in_cut grant rows Demographics = refl
-kind_in_cut grant rows Categories = refl
-kind_in_cut grant rows LineItems = refl
-kind_in_cut grant rows Results = refl
+kind_in_cut grant rows _ = refl
 
 module _ (state : HubState) (hub : IsHub state) (token : List ℕ) (by : GrantRow) (known : grant_of token (newest_in state).grants ≡ Some by) where
   token_is : by.grant.token ≡ token

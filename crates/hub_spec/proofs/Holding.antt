@@ -109,28 +109,7 @@ set_holds version set at next moment lists old applies =
 write_id : (r : Route) (ids : List (List ℕ)) → takes_writes_at r ≡ true → length ids ≡ length (objects_in r) → list_all is_id ids ≡ true → is_id (slice_index_or ids 0 []) ≡ true
 write_id (route.One c) [] takes count good = absurd (omega arith)
 write_id (route.One c) (id ∷ ids) takes count good = and_first (is_id id) _ good
-write_id (route.All c) ids takes count good = cc
-write_id route.SchoolCourses ids takes count good = cc
-write_id route.SchoolClasses ids takes count good = cc
-write_id route.SchoolEnrollments ids takes count good = cc
-write_id route.SchoolStudents ids takes count good = cc
-write_id route.SchoolTeachers ids takes count good = cc
-write_id route.SchoolTerms ids takes count good = cc
-write_id route.SchoolClassEnrollments ids takes count good = cc
-write_id route.SchoolClassStudents ids takes count good = cc
-write_id route.SchoolClassTeachers ids takes count good = cc
-write_id route.ClassStudents ids takes count good = cc
-write_id route.ClassTeachers ids takes count good = cc
-write_id route.TermClasses ids takes count good = cc
-write_id route.TermGradingPeriods ids takes count good = cc
-write_id route.CourseClasses ids takes count good = cc
-write_id route.StudentClasses ids takes count good = cc
-write_id route.TeacherClasses ids takes count good = cc
-write_id route.UserClasses ids takes count good = cc
-write_id route.ClassLineItems ids takes count good = cc
-write_id route.ClassResults ids takes count good = cc
-write_id route.ClassLineItemResults ids takes count good = cc
-write_id route.ClassStudentResults ids takes count good = cc
+write_id _ ids takes count good = cc
 
 pub path_id : (path : PathParts) → IsPath path → takes_writes path ≡ true → is_id (id_at path 0) ≡ true
 path_id path is takes = write_id path.route path.ids takes is.objects is.ids

@@ -3,7 +3,7 @@ use Rattle.std.proofs.Common.{◌≡◌, ℕ, zero, suc, ℤ, ◌+◌, ◌≤◌
 use Rattle.std.proofs.lemmas.Bool.Decides.{nat_tests}
 use Rattle.std.proofs.lemmas.Slice.Eq.{bytes_eq-Decides}
 use Rattle.std.specs.List.{insert, prefix_len}
-use Rattle.keeper_memory.proofs.CopyLemmas.{same_kind}
+use Rattle.roster_values.proofs.KindLaws.{kind_from_place}
 use Rattle.reference_rules.proofs.KeyOrder.{and_first, and_second}
 use Rattle.version_changes.proofs.Finding.{same_text}
 use Rattle.version_changes.specs.sets.Applying.{is_active, marked}
@@ -81,7 +81,7 @@ write_is one other e =
     let place : place_of_kind one.kind ≡ place_of_kind other.kind = let f = and_second flag kind two in grind (arith, nat_tests) in
     λ i. record {
       delete = flag_is one.delete other.delete (and_first flag kind two) i;
-      kind = same_kind one.kind other.kind place i;
+      kind = kind_from_place one.kind other.kind place i;
       id = same_text one.id other.id (and_second (flag && kind) id three) i;
       body = same_text one.body other.body (and_second (flag && kind && id) body e) i;
     }

@@ -8,9 +8,9 @@ use Rattle.version_changes.specs.grants.Next.{IsNext}
 use Rattle.roster_types.specs.Keys.{count_of}
 use Rattle.roster_types.specs.Records.{Record}
 use Rattle.roster_types.specs.Sets.{SetRecord}
+use Rattle.roster_values.proofs.KindLaws.{each_kind}
 use Rattle.roster_values.specs.Kinds.{all_kinds}
 use Rattle.roster_values.specs.declared.kind.Kind.{Kind}
-use Rattle.roster_values.specs.declared.kind.Kind.TheVariants.{Orgs, AcademicSessions, Courses, Classes, Users, Enrollments, Demographics, Categories, LineItems, Results}
 use Rattle.version_changes.specs.sets.Applying.{Applies, Leads, owned_by_other, rows_in, too_many}
 use Rattle.version_changes.specs.declared.sets.publish_fault.PublishFault.TheVariants.{TooManyRows}
 use Rattle.version_core.proofs.GrantLemmas.{AreGrants-later}
@@ -30,18 +30,6 @@ few_each rows (kind ∷ kinds) e =
       | false ↦ λ small e. (grind (arith, nat_tests), few_each rows kinds e)
     ] refl e
 
-of_all : (P : Kind → Type 0) → AllByRecursion P all_kinds → (kind : Kind) → P kind
-of_all P all Orgs = all.0
-of_all P all AcademicSessions = all.1.0
-of_all P all Courses = all.1.1.0
-of_all P all Classes = all.1.1.1.0
-of_all P all Users = all.1.1.1.1.0
-of_all P all Enrollments = all.1.1.1.1.1.0
-of_all P all Demographics = all.1.1.1.1.1.1.0
-of_all P all Categories = all.1.1.1.1.1.1.1.0
-of_all P all LineItems = all.1.1.1.1.1.1.1.1.0
-of_all P all Results = all.1.1.1.1.1.1.1.1.1.0
-
 pub set_next : (version : BaseVersion) (set : SetRecord) (at : ℤ) (next : BaseVersion) → IsVersion version → Applies version set at (Leads next) → IsNext version next
 set_next version set at next is applies =
     let new = applies.0 in
@@ -53,7 +41,7 @@ set_next version set at next is applies =
       version = record {
         number = omega arith;
         rows = applies.1.order;
-        few = of_all (λ kind. count_of kind (rows_of new) ≤ row_limit) (few_each (rows_of new) all_kinds few);
+        few = each_kind (λ kind. count_of kind (rows_of new) ≤ row_limit) (few_each (rows_of new) all_kinds few);
         grants = AreGrants-later version.number (version.number + 1) version.grants (omega arith) is.grants;
       };
       grants = same_grants version is (version.number + 1);

@@ -21,27 +21,27 @@ unfolding sees_row
 all_seen = refl
 
 -- the words roster.readonly, gradebook.readonly, gradebook.createput and gradebook.delete
-reads : map (λ kind. opens 57 kind Read) all_kinds ≡ true ∷ true ∷ true ∷ true ∷ true ∷ true ∷ true ∷ true ∷ true ∷ true ∷ []
+reads : map (λ kind. opens 57 kind Read) all_kinds ≡ true ∷ true ∷ true ∷ true ∷ true ∷ true ∷ true ∷ true ∷ true ∷ true ∷ false ∷ false ∷ false ∷ []
 unfolding opens
 reads = refl
 
-puts : map (λ kind. opens 57 kind Put) all_kinds ≡ false ∷ false ∷ false ∷ false ∷ false ∷ false ∷ false ∷ true ∷ true ∷ true ∷ []
+puts : map (λ kind. opens 57 kind Put) all_kinds ≡ false ∷ false ∷ false ∷ false ∷ false ∷ false ∷ false ∷ true ∷ true ∷ true ∷ false ∷ false ∷ false ∷ []
 unfolding opens
 puts = refl
 
 -- roster-core.readonly, roster-demographics.readonly, gradebook.delete without gradebook.readonly, resource.readonly
-core : map (λ kind. opens 2 kind Read) all_kinds ≡ true ∷ true ∷ true ∷ true ∷ true ∷ true ∷ false ∷ false ∷ false ∷ false ∷ []
+core : map (λ kind. opens 2 kind Read) all_kinds ≡ true ∷ true ∷ true ∷ true ∷ true ∷ true ∷ false ∷ false ∷ false ∷ false ∷ false ∷ false ∷ false ∷ []
 unfolding opens
 core = refl
 
-demographics : map (λ kind. opens 4 kind Read) all_kinds ≡ false ∷ false ∷ false ∷ false ∷ false ∷ false ∷ true ∷ false ∷ false ∷ false ∷ []
+demographics : map (λ kind. opens 4 kind Read) all_kinds ≡ false ∷ false ∷ false ∷ false ∷ false ∷ false ∷ true ∷ false ∷ false ∷ false ∷ false ∷ false ∷ false ∷ []
 unfolding opens
 demographics = refl
 
-deletes : map (λ kind. opens 32 kind Delete) all_kinds ≡ false ∷ false ∷ false ∷ false ∷ false ∷ false ∷ false ∷ true ∷ true ∷ true ∷ []
+deletes : map (λ kind. opens 32 kind Delete) all_kinds ≡ false ∷ false ∷ false ∷ false ∷ false ∷ false ∷ false ∷ true ∷ true ∷ true ∷ false ∷ false ∷ false ∷ []
 unfolding opens
 deletes = refl
 
-resources : map (λ kind. opens 64 kind Read) all_kinds ≡ map (λ kind. false) all_kinds
+resources : map (λ kind. opens 64 kind Read) all_kinds ≡ false ∷ false ∷ false ∷ false ∷ false ∷ false ∷ false ∷ false ∷ false ∷ false ∷ true ∷ true ∷ true ∷ []
 unfolding opens
 resources = refl

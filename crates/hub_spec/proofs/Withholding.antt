@@ -21,7 +21,7 @@ use Rattle.hub_spec.specs.views.Lists.{kind_of_path}
 use Rattle.hub_spec.specs.views.References.{row_at}
 use Rattle.hub_spec.specs.views.Seen.{seen, sees, sees_at, sees_row}
 use Rattle.reference_rules.proofs.KeyOrder.{and_first, and_second, equal_from_is_eq, key_exact, less_from_is_lt}
-use Rattle.reference_rules.proofs.Rest.{kind_from_place}
+use Rattle.roster_values.proofs.KindLaws.{kind_from_place}
 use Rattle.roster_base.specs.Reading.{◌>>=◌}
 use Rattle.roster_texts.specs.Results.{found_or}
 use Rattle.roster_types.specs.Keys.{Ascends, Key, key_cmp, keyed, look_up, row_key}

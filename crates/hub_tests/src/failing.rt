@@ -115,7 +115,7 @@ static CASES: [Case; 9] = [
         reply: "",
         ends: &[(Port::Sink, &["1 a front\nhub 3\n", "4 all\nhub 3\n"])],
     },
-    // The commits are that of the run, that of the stage, those of ten pages and the swap.
+    // The commits are that of the run, that of the stage, those of thirteen pages and the swap.
     Case {
         before: &[],
         line: "sync tok-e 100 1",
@@ -151,6 +151,9 @@ static CASES: [Case; 9] = [
                     "6 copy store failed\nhub 0, run 1, stage 2, kinds 8\n",
                     "6 copy store failed\nhub 0, run 1, stage 2, kinds 9\n",
                     "6 copy store failed\nhub 0, run 1, stage 2, kinds 10\n",
+                    "6 copy store failed\nhub 0, run 1, stage 2, kinds 11\n",
+                    "6 copy store failed\nhub 0, run 1, stage 2, kinds 12\n",
+                    "6 copy store failed\nhub 0, run 1, stage 2, kinds 13\n",
                     "0 all\nhub 0, run 1, version 2\n",
                 ],
             ),
@@ -169,6 +172,9 @@ static CASES: [Case; 9] = [
                     "6 copy store failed\nhub 0, run 1, stage 2, kinds 8\n",
                     "6 copy store failed\nhub 0, run 1, stage 2, kinds 9\n",
                     "6 copy store failed\nhub 0, run 1, stage 2, kinds 10\n",
+                    "6 copy store failed\nhub 0, run 1, stage 2, kinds 11\n",
+                    "6 copy store failed\nhub 0, run 1, stage 2, kinds 12\n",
+                    "6 copy store failed\nhub 0, run 1, stage 2, kinds 13\n",
                     "6 copy store failed\nhub 0, run 1, version 2\n",
                     "0 all\nhub 0, run 1, version 2\n",
                 ],

@@ -26,6 +26,8 @@ mod ports;
 #[cfg(test)]
 mod publishing;
 #[cfg(test)]
+mod resources;
+#[cfg(test)]
 mod showing;
 #[cfg(test)]
 mod standing;

@@ -43,8 +43,8 @@ static CASES: [(&str, &[File], u8, &str); 18] = [
     (
         "publish sis=lake",
         &[("lake", "resources.csv", "no,rows\n")],
-        0,
-        "sis version 1\n",
+        4,
+        "refused: resources.csv: unexpected file\n",
     ),
     (
         "publish sis=lake",

@@ -18,9 +18,9 @@ use Rattle.keeper_memory.specs.declared.copy.entry.Settled.{Settled}
 use Rattle.keeper_memory.specs.declared.copy.state.TheConstants.{LAST}
 use Rattle.roster_types.specs.Keys.{is_after}
 use Rattle.roster_types.specs.Records.{Record}
+use Rattle.roster_values.proofs.KindLaws.{kind_from_place, kind_there, place_below}
 use Rattle.roster_values.specs.Kinds.{all_kinds, place_of_kind}
 use Rattle.roster_values.specs.declared.kind.Kind.{Kind}
-use Rattle.roster_values.specs.declared.kind.Kind.TheVariants.{Orgs, AcademicSessions, Courses, Classes, Users, Enrollments, Demographics, Categories, LineItems, Results}
 use Rattle.version_core.specs.declared.mark.Write.{Write}
 
 -- ---- lists
@@ -54,38 +54,11 @@ lists_few kinds [] are = omega arith
 lists_few [] (l ∷ ls) are = absurd are
 lists_few (k ∷ ks) (l ∷ ls) are = let le = lists_few ks ls are.1 in omega (arith, le)
 
-kind_nth : (kind : Kind) → slice_get all_kinds (place_of_kind kind) ≡ Some kind
-kind_nth Orgs = refl
-kind_nth AcademicSessions = refl
-kind_nth Courses = refl
-kind_nth Classes = refl
-kind_nth Users = refl
-kind_nth Enrollments = refl
-kind_nth Demographics = refl
-kind_nth Categories = refl
-kind_nth LineItems = refl
-kind_nth Results = refl
-
-place_low : (kind : Kind) → place_of_kind kind < kind_count
-place_low Orgs = omega arith
-place_low AcademicSessions = omega arith
-place_low Courses = omega arith
-place_low Classes = omega arith
-place_low Users = omega arith
-place_low Enrollments = omega arith
-place_low Demographics = omega arith
-place_low Categories = omega arith
-place_low LineItems = omega arith
-place_low Results = omega arith
-
 some_kind : {a b : Kind} → Some a ≡ Some b → a ≡ b
 some_kind e = cc
 
-pub same_kind : (a b : Kind) → place_of_kind a ≡ place_of_kind b → a ≡ b
-same_kind a b e = some_kind (sym (kind_nth a) ∙ ap (slice_get all_kinds) e ∙ kind_nth b)
-
 nth_is : (kind other : Kind) (n : ℕ) → place_of_kind kind ≡ n → slice_get all_kinds n ≡ Some other → kind ≡ other
-nth_is kind other n e f = some_kind (sym (kind_nth kind) ∙ ap (slice_get all_kinds) e ∙ f)
+nth_is kind other n e f = some_kind (sym (kind_there kind) ∙ ap (slice_get all_kinds) e ∙ f)
 
 -- the list of a kind that is held
 pub nth_list : (kinds : List Kind) (lists : List (List Record)) (n : ℕ) (kind : Kind) → AreLists kinds lists → slice_get kinds n ≡ Some kind → IsList kind (get_or lists n [])
@@ -95,7 +68,7 @@ nth_list (k ∷ ks) (l ∷ ls) zero kind are e = subst (λ x. IsList x l) (some_
 nth_list (k ∷ ks) (l ∷ ls) (suc n) kind are e = nth_list ks ls n kind are.1 e
 
 pub held_is : (h : Held) (kind : Kind) → IsHeld h → IsList kind (get_or h.lists (place_of_kind kind) [])
-held_is h kind is = nth_list all_kinds h.lists (place_of_kind kind) kind is.lists (kind_nth kind)
+held_is h kind is = nth_list all_kinds h.lists (place_of_kind kind) kind is.lists (kind_there kind)
 
 -- ---- stages
 
@@ -104,7 +77,7 @@ stage_page s kind rows total true is can =
     let all : IsList kind (s.present ++ rows) = list_more kind s.present rows (is.present kind can.0) can.1 can.2 in
     record {
       pin = is.pin;
-      done = lists_push all_kinds s.done (s.present ++ rows) (omega (arith, can.0, place_low kind)) is.done (λ k e. subst (λ k. IsList k (s.present ++ rows)) (nth_is kind k (length s.done) can.0 e) all);
+      done = lists_push all_kinds s.done (s.present ++ rows) (omega (arith, can.0, place_below kind)) is.done (λ k e. subst (λ k. IsList k (s.present ++ rows)) (nth_is kind k (length s.done) can.0 e) all);
       present = λ k e. no_list k;
       whole = λ e. (refl, refl);
     }
@@ -113,8 +86,8 @@ stage_page s kind rows total false is can =
     record {
       pin = is.pin;
       done = is.done;
-      present = λ k e. subst (λ k. IsList k (s.present ++ rows)) (same_kind kind k (can.0 ∙ sym e)) all;
-      whole = λ e. absurd (omega (arith, e, can.0, place_low kind));
+      present = λ k e. subst (λ k. IsList k (s.present ++ rows)) (kind_from_place kind k (can.0 ∙ sym e)) all;
+      whole = λ e. absurd (omega (arith, e, can.0, place_below kind));
     }
 
 begun_is : (pin : ℕ) (token : List ℕ) → pin ≤ LAST → IsStage (begun pin token)

@@ -114,7 +114,7 @@ abbrev pub grants_file : Stored
 grants_file = record { dir = []; name = codes "grants.csv"; bytes = codes "caller,token,scopes,schools\ncopy,make,roster.readonly gradebook.readonly,*\n" }
 
 abbrev pub manifest_file : Stored
-manifest_file = record { dir = dir; name = codes "manifest.csv"; bytes = codes "propertyName,value\nmanifest.version,1.0\noneroster.version,1.1\nfile.orgs,bulk\nfile.academicSessions,bulk\nfile.courses,bulk\nfile.classes,bulk\nfile.users,bulk\nfile.enrollments,bulk\nfile.demographics,bulk\nfile.categories,bulk\nfile.lineItems,bulk\nfile.results,bulk\n" }
+manifest_file = record { dir = dir; name = codes "manifest.csv"; bytes = codes "propertyName,value\nmanifest.version,1.0\noneroster.version,1.1\nfile.orgs,bulk\nfile.academicSessions,bulk\nfile.courses,bulk\nfile.classes,bulk\nfile.users,bulk\nfile.enrollments,bulk\nfile.demographics,bulk\nfile.categories,bulk\nfile.lineItems,bulk\nfile.results,bulk\nfile.resources,bulk\nfile.classResources,bulk\nfile.courseResources,bulk\n" }
 
 -- a file of grants, and the set of a district: a manifest and a file for each kind
 abbrev pub made_files : ℕ → List Stored

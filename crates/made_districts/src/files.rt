@@ -1,6 +1,6 @@
 //! The files of a district of so many schools.
 
-ghost use Rattle.std.specs.Prelude.{◌≡◌, ◌++◌, ◌≤◌, IfOk, string_bytes};
+ghost use Rattle.std.specs.Prelude.{◌≡◌, ◌++◌, ◌≤◌, map, string_bytes, IfOk, OnOk};
 ghost use Rattle.made_districts.specs.Districts as districts;
 ghost use Rattle.outside_ports.specs.Files.{stored_of};
 
@@ -40,7 +40,7 @@ const ENROLLMENTS: &str =
 const CATEGORIES: &str = "sourcedId,status,dateLastModified,title\nhw,,,Homework\n";
 
 const MANIFEST: &str =
-    "propertyName,value\nmanifest.version,1.0\noneroster.version,1.1\nfile.orgs,bulk\nfile.academicSessions,bulk\nfile.courses,bulk\nfile.classes,bulk\nfile.users,bulk\nfile.enrollments,bulk\nfile.demographics,bulk\nfile.categories,bulk\nfile.lineItems,bulk\nfile.results,bulk\n";
+    "propertyName,value\nmanifest.version,1.0\noneroster.version,1.1\nfile.orgs,bulk\nfile.academicSessions,bulk\nfile.courses,bulk\nfile.classes,bulk\nfile.users,bulk\nfile.enrollments,bulk\nfile.demographics,bulk\nfile.categories,bulk\nfile.lineItems,bulk\nfile.results,bulk\nfile.resources,bulk\nfile.classResources,bulk\nfile.courseResources,bulk\n";
 
 // A file: its folder, its name and its bytes.
 type File = (String, String, Vec<u8>);
@@ -106,7 +106,23 @@ fn fixed_file(alloc: Global, dir: &str, name: &str, text: &str) -> Result<File, 
     file(alloc, dir, name, bytes)
 }
 
-/// A folder with the set of a district of so many schools, a manifest and ten files, and a file of grants beside it.
+// Adds the files of these kinds.
+fn push_kind_files(
+    alloc: Global,
+    files: &mut Vec<File>,
+    kinds: &[Kind],
+    count: u16,
+) -> Result<(), NoMemory>
+    requires { count ≤ 200 }
+    ensures { OnOk result (map stored_of files.new.items ≡ map stored_of files.old.items ++ map (districts.kind_file count) kinds.now) }
+{
+    for kind in kinds {
+        files.push(kind_file(alloc, *kind, count)?)?;
+    }
+    Ok(())
+}
+
+/// A folder with the set of a district of so many schools, a manifest and a file for each kind, and a file of grants beside it.
 pub fn made_folder(alloc: Global, count: u16) -> Result<MemFolder, NoMemory>
     requires { count ≤ 200 }
     ensures { IfOk result (λ f. f.files ≡ districts.made_files count) }
@@ -114,8 +130,6 @@ pub fn made_folder(alloc: Global, count: u16) -> Result<MemFolder, NoMemory>
     let mut files = Vec::new(alloc);
     files.push(fixed_file(alloc, "", GRANTS_FILE, GRANTS)?)?;
     files.push(fixed_file(alloc, DIR, "manifest.csv", MANIFEST)?)?;
-    for kind in &Kind::ALL {
-        files.push(kind_file(alloc, *kind, count)?)?;
-    }
+    push_kind_files(alloc, &mut files, &Kind::ALL, count)?;
     Ok(MemFolder::new(files, Vec::new(alloc)))
 }

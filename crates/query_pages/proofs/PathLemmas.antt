@@ -43,28 +43,7 @@ record IsWritten (r : Route) : Type 0 where
 
 written : (r : Route) → IsWritten r
 written (route.One c) = record { path = refl; last = refl }
-written (route.All c) = record { path = refl; last = append-nil _ }
-written route.SchoolCourses = record { path = refl; last = append-nil _ }
-written route.SchoolClasses = record { path = refl; last = append-nil _ }
-written route.SchoolEnrollments = record { path = refl; last = append-nil _ }
-written route.SchoolStudents = record { path = refl; last = append-nil _ }
-written route.SchoolTeachers = record { path = refl; last = append-nil _ }
-written route.SchoolTerms = record { path = refl; last = append-nil _ }
-written route.SchoolClassEnrollments = record { path = refl; last = append-nil _ }
-written route.SchoolClassStudents = record { path = refl; last = append-nil _ }
-written route.SchoolClassTeachers = record { path = refl; last = append-nil _ }
-written route.ClassStudents = record { path = refl; last = append-nil _ }
-written route.ClassTeachers = record { path = refl; last = append-nil _ }
-written route.TermClasses = record { path = refl; last = append-nil _ }
-written route.TermGradingPeriods = record { path = refl; last = append-nil _ }
-written route.CourseClasses = record { path = refl; last = append-nil _ }
-written route.StudentClasses = record { path = refl; last = append-nil _ }
-written route.TeacherClasses = record { path = refl; last = append-nil _ }
-written route.UserClasses = record { path = refl; last = append-nil _ }
-written route.ClassLineItems = record { path = refl; last = append-nil _ }
-written route.ClassResults = record { path = refl; last = append-nil _ }
-written route.ClassLineItemResults = record { path = refl; last = append-nil _ }
-written route.ClassStudentResults = record { path = refl; last = append-nil _ }
+written _ = record { path = refl; last = append-nil _ }
 
 -- a path is its prefix, its objects and what it lists
 pub path_written : (path : PathParts) → IsPath path

@@ -165,6 +165,26 @@ fn rule_holds<R: Refs>(rows: &R, path: &Path, row: &Row) -> bool
         Route::ClassStudentResults => {
             is_of_class(rows, id_at(path, 0), row) && names(row, "student", id_at(path, 1))
         }
+        Route::ClassResources => {
+            is_named_under(
+                rows,
+                Kind::ClassResources,
+                "resource",
+                "class",
+                id_at(path, 0),
+                row,
+            )
+        }
+        Route::CourseResources => {
+            is_named_under(
+                rows,
+                Kind::CourseResources,
+                "resource",
+                "course",
+                id_at(path, 0),
+                row,
+            )
+        }
     }
 }
 

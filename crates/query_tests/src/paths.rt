@@ -7,7 +7,7 @@ use std::alloc::Global;
 use std::test::Fail;
 
 // Behind the prefix of every path: the route, and the number of the objects.
-static PATHS: [(&str, Option<(Route, usize)>); 11] = [
+static PATHS: [(&str, Option<(Route, usize)>); 15] = [
     (
         "/ims/oneroster/v1p1/orgs",
         Some((Route::All(Collection::Of(Kind::Orgs)), 0)),
@@ -24,12 +24,28 @@ static PATHS: [(&str, Option<(Route, usize)>); 11] = [
         "/ims/oneroster/v1p1/classes/k1/students/u1/results",
         Some((Route::ClassStudentResults, 2)),
     ),
+    (
+        "/ims/oneroster/v1p1/resources",
+        Some((Route::All(Collection::Of(Kind::Resources)), 0)),
+    ),
+    (
+        "/ims/oneroster/v1p1/courseResources/x1",
+        Some((Route::One(Collection::Of(Kind::CourseResources)), 1)),
+    ),
+    (
+        "/ims/oneroster/v1p1/classes/k1/resources",
+        Some((Route::ClassResources, 1)),
+    ),
+    (
+        "/ims/oneroster/v1p1/courses/alg/resources",
+        Some((Route::CourseResources, 1)),
+    ),
     ("/ims/oneroster/v1p1/categories/%20x", None),
     ("/ims/oneroster/v1p1/categories/%zz", None),
     ("/ims/oneroster/v1p1/categories/%C3", None),
     ("/ims/oneroster/v1p1/orgs/", None),
     ("/ims/oneroster/v1p1/schools//classes", None),
-    ("/ims/oneroster/v1p1/resources", None),
+    ("/ims/oneroster/v1p1/lessons", None),
     ("", None),
 ];
 

@@ -1,7 +1,7 @@
 -- The rows of a kind, one after another, and all rows kind by kind.
-use Rattle.std.proofs.Common.{◌≡◌, ℕ, suc, ◌≤◌, List, [], ◌∷◌, ◌++◌, filter, find, get_or, Bool, true, false, ◌&&◌, eqb, leb, cond, Option, Some, None, refl, sym, ap, subst, ◌∙◌, arith, inl, inr}
+use Rattle.std.proofs.Common.{◌≡◌, ℕ, suc, ◌+◌, List, [], ◌∷◌, ◌++◌, drop, filter, find, get_or, length, map, Bool, true, false, ◌&&◌, eqb, leb, cond, Option, Some, None, refl, sym, ap, subst, ◌∙◌, add-one, arith, inl, inr}
 use Rattle.std.specs.FinMap.Entries as entries
-use Rattle.std.specs.List.{flat_map}
+use Rattle.std.specs.List.{flat_map, range_with_len}
 use Rattle.std.specs.Ordering.{is_eq, is_lt, nat_cmp, ordering_reverse}
 use Rattle.std.specs.Cmp.Lexicographic.{slice_cmp}
 use Rattle.std.specs.declared.cmp.Ordering.TheVariants.{Less, Greater}
@@ -13,7 +13,7 @@ use Rattle.roster_types.specs.Keys.{Ascends, Key, is_after, is_of_kind, key_cmp,
 use Rattle.roster_types.specs.Records.{Record}
 use Rattle.roster_values.specs.Kinds.{all_kinds, place_of_kind}
 use Rattle.roster_values.specs.declared.kind.Kind.{Kind}
-use Rattle.roster_values.specs.declared.kind.Kind.TheVariants.{Orgs, AcademicSessions, Courses, Classes, Users, Enrollments, Demographics, Categories, LineItems, Results}
+use Rattle.roster_values.proofs.KindLaws.{kind_places, place_below}
 use Rattle.reference_rules.proofs.KeyOrder.{and_first, and_second, ids_less, key_total, kind_le, less_from_is_lt, not_back}
 
 -- a row of the kind whose id is above `after`
@@ -26,22 +26,6 @@ rest_of kind after rows = filter (is_next kind after) rows
 
 place_from_test : (kind : Kind) (row : Record) → is_of_kind kind row ≡ true → place_of_kind row.kind ≡ place_of_kind kind
 place_from_test kind row e = let tested : eqb (place_of_kind row.kind) (place_of_kind kind) ≡ true = e in grind (arith, nat_tests)
-
--- kinds at one place are one
-at_place : (kind : Kind) → get_or all_kinds (place_of_kind kind) Orgs ≡ kind
-at_place Orgs = refl
-at_place AcademicSessions = refl
-at_place Courses = refl
-at_place Classes = refl
-at_place Users = refl
-at_place Enrollments = refl
-at_place Demographics = refl
-at_place Categories = refl
-at_place LineItems = refl
-at_place Results = refl
-
-pub kind_from_place : (kind other : Kind) → place_of_kind kind ≡ place_of_kind other → kind ≡ other
-kind_from_place kind other same = sym (at_place kind) ∙ ap (λ n. get_or all_kinds n Orgs) same ∙ at_place other
 
 find_passes : (p : Record → Bool) (rows : List Record) (row : Record) → find p rows ≡ Some row → p row ≡ true
 find_passes p [] row e = cc
@@ -187,24 +171,12 @@ from_first (x ∷ rows) =
     let all : leb 0 (place_of_kind x.kind) ≡ true = grind (arith, nat_tests) in
     ap (λ b. cond b (x ∷ filter (is_from 0) rows) (filter (is_from 0) rows)) all ∙ ap (λ ys. x ∷ ys) (from_first rows)
 
-place_small : (kind : Kind) → place_of_kind kind ≤ 9
-place_small Orgs = omega arith
-place_small AcademicSessions = omega arith
-place_small Courses = omega arith
-place_small Classes = omega arith
-place_small Users = omega arith
-place_small Enrollments = omega arith
-place_small Demographics = omega arith
-place_small Categories = omega arith
-place_small LineItems = omega arith
-place_small Results = omega arith
-
-from_last : (rows : List Record) → filter (is_from 10) rows ≡ []
+from_last : (rows : List Record) → filter (is_from (length all_kinds)) rows ≡ []
 from_last [] = refl
 from_last (x ∷ rows) =
-    let small = place_small x.kind in
-    let none : leb 10 (place_of_kind x.kind) ≡ false = grind (arith, nat_tests) in
-    ap (λ b. cond b (x ∷ filter (is_from 10) rows) (filter (is_from 10) rows)) none ∙ from_last rows
+    let below = place_below x.kind in
+    let none : leb (length all_kinds) (place_of_kind x.kind) ≡ false = grind (arith, nat_tests) in
+    ap (λ b. cond b (x ∷ filter (is_from (length all_kinds)) rows) (filter (is_from (length all_kinds)) rows)) none ∙ from_last rows
 
 module _ {A : Type 0} (f : Record → List A) (rows : List Record) (up : Ascends row_key rows) where
   step : (n : ℕ) → flat_map f (filter (is_from n) rows) ≡ flat_map f (filter (is_at n) rows) ++ flat_map f (filter (is_from (suc n)) rows)
@@ -213,7 +185,19 @@ module _ {A : Type 0} (f : Record → List A) (rows : List Record) (up : Ascends
   then_rest : (n : ℕ) (ys : List A) → flat_map f (filter (is_from (suc n)) rows) ≡ ys → flat_map f (filter (is_from n) rows) ≡ flat_map f (filter (is_at n) rows) ++ ys
   then_rest n ys e = step n ∙ ap (λ zs. flat_map f (filter (is_at n) rows) ++ zs) e
 
+  -- the kinds from a place on, one by one
+  from_place : (kinds : List Kind) (n : ℕ) → map place_of_kind kinds ≡ range_with_len n (length kinds) → n + length kinds ≡ length all_kinds
+      → flat_map f (filter (is_from n) rows) ≡ flat_map (λ kind. flat_map f (filter (is_of_kind kind) rows)) kinds
+  from_place [] n counted whole =
+      let last : n ≡ length all_kinds = omega (arith, whole) in
+      ap (λ m. flat_map f (filter (is_from m) rows)) last ∙ ap (flat_map f) (from_last rows)
+  from_place (kind ∷ kinds) n counted whole =
+      let here : place_of_kind kind ≡ n = ap (λ ns. get_or ns 0 0) counted in
+      let more : map place_of_kind kinds ≡ range_with_len (n + 1) (length kinds) = ap (drop 1) counted in
+      let left : n + 1 + length kinds ≡ length all_kinds = omega (arith, whole) in
+      then_rest n (flat_map (λ kind. flat_map f (filter (is_of_kind kind) rows)) kinds) (ap (λ m. flat_map f (filter (is_from m) rows)) (sym (add-one n)) ∙ from_place kinds (n + 1) more left)
+      ∙ ap (λ m. flat_map f (filter (is_at m) rows) ++ flat_map (λ kind. flat_map f (filter (is_of_kind kind) rows)) kinds) (sym here)
+
   -- kind by kind is row by row
   pub by_kinds : flat_map (λ kind. flat_map f (filter (is_of_kind kind) rows)) all_kinds ≡ flat_map f rows
-  by_kinds =
-      sym (then_rest 0 _ (then_rest 1 _ (then_rest 2 _ (then_rest 3 _ (then_rest 4 _ (then_rest 5 _ (then_rest 6 _ (then_rest 7 _ (then_rest 8 _ (then_rest 9 _ (ap (flat_map f) (from_last rows)))))))))))) ∙ ap (flat_map f) (from_first rows)
+  by_kinds = sym (from_place all_kinds 0 kind_places refl) ∙ ap (flat_map f) (from_first rows)

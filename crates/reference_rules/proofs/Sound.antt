@@ -14,7 +14,7 @@ use Rattle.roster_types.specs.Records.{Record, all_values, field_of, place_in}
 use Rattle.roster_values.specs.Kinds.{place_of_kind}
 use Rattle.roster_values.specs.Table.{IdForm, Info, table}
 use Rattle.roster_values.specs.declared.kind.Kind.{Kind}
-use Rattle.roster_values.specs.declared.kind.Kind.TheVariants.{Orgs, AcademicSessions, Courses, Classes, Users, Enrollments, Demographics, Categories, LineItems, Results}
+use Rattle.roster_values.specs.declared.kind.Kind.TheVariants.{Orgs, AcademicSessions}
 use Rattle.roster_values.specs.declared.value.Value.{Value}
 use Rattle.roster_values.specs.declared.value.Value.TheVariants.{Text, Id, Day, Moment, Number, Year, Flag, Word, Texts, UserIds, Ref, Refs}
 use Rattle.reference_rules.specs.declared.ref_fault.Fault.{Fault}
@@ -23,7 +23,7 @@ use Rattle.reference_rules.proofs.CycleLemmas.{in_cycle_on, not_without_parent}
 use Rattle.reference_rules.proofs.KeyOrder.{and_first, and_second, equal_from_is_eq, found_key, key_exact, key_total, less_from_is_lt}
 use Rattle.reference_rules.proofs.ParentChains.{in_cycle_from_test}
 use Rattle.reference_rules.proofs.Pigeonhole.{in_cycle_from_turns}
-use Rattle.reference_rules.proofs.Rest.{kind_from_place}
+use Rattle.roster_values.proofs.KindLaws.{kind_from_place}
 use Rattle.reference_rules.specs.Faults.{fault_at, faults_in, faults_of, field_faults, has_type, has_wrong_type, is_cycle, is_cyclic, is_word, listed, row_faults, target_faults, target_kind, type_asked, type_in, value_faults, word_in}
 use Rattle.reference_rules.specs.Parents.{is_in_cycle, nth_parent, parent_in, parent_of, ref_in}
 
@@ -173,15 +173,7 @@ fault_none rows row field (Some target) e =
 
 wrong_never : (kind : Kind) (target : Record) → has_wrong_type kind (codes "parent") target ≡ false
 wrong_never Orgs target = refl
-wrong_never AcademicSessions target = refl
-wrong_never Courses target = refl
-wrong_never Classes target = refl
-wrong_never Users target = refl
-wrong_never Enrollments target = refl
-wrong_never Demographics target = refl
-wrong_never Categories target = refl
-wrong_never LineItems target = refl
-wrong_never Results target = refl
+wrong_never _ target = refl
 
 ref_from : (o : Option Value) (p : List ℕ) → ref_in o ≡ Some p → o ≡ Some (Ref p)
 ref_from None p e = cc
@@ -244,14 +236,7 @@ module _ (rows : List Record) (row : Record) (stands : look_up row_key (row_key 
       → option_and_then (λ i. get_or vs i None) (place_in (table kind) (codes "parent")) ≡ Some (Ref p) → is_in_cycle rows row.kind row.id ≡ false
   by_kind Orgs vs p same goes none here = of_parent Orgs same p goes (at_place 6 (table Orgs) vs none_such (Ref p) (omega arith) here none)
   by_kind AcademicSessions vs p same goes none here = of_parent AcademicSessions same p goes (at_place 7 (table AcademicSessions) vs none_such (Ref p) (omega arith) here none)
-  by_kind Courses vs p same goes none here = let never : None ≡ Some (Ref p) = here in cc
-  by_kind Classes vs p same goes none here = let never : None ≡ Some (Ref p) = here in cc
-  by_kind Users vs p same goes none here = let never : None ≡ Some (Ref p) = here in cc
-  by_kind Enrollments vs p same goes none here = let never : None ≡ Some (Ref p) = here in cc
-  by_kind Demographics vs p same goes none here = let never : None ≡ Some (Ref p) = here in cc
-  by_kind Categories vs p same goes none here = let never : None ≡ Some (Ref p) = here in cc
-  by_kind LineItems vs p same goes none here = let never : None ≡ Some (Ref p) = here in cc
-  by_kind Results vs p same goes none here = let never : None ≡ Some (Ref p) = here in cc
+  by_kind _ vs p same goes none here = let never : None ≡ Some (Ref p) = here in cc
 
   pub in_no_cycle : list_any is_cycle (row_faults rows row) ≡ false → is_in_cycle rows row.kind row.id ≡ false
   in_no_cycle none =

@@ -115,12 +115,4 @@ gradebook_object kind b t graded byte whole = segment_found (object_front kind) 
 pub collection_found : (kind : Kind) → route_of (codes "/ims/oneroster/v1p1/" ++ plural_of kind) ≡ Some (route.All (collection.Of kind))
 unfolding matchit_on_literals with_routes route_of
 collection_found kind.Orgs = refl
-collection_found kind.AcademicSessions = refl
-collection_found kind.Courses = refl
-collection_found kind.Classes = refl
-collection_found kind.Users = refl
-collection_found kind.Enrollments = refl
-collection_found kind.Demographics = refl
-collection_found kind.Categories = refl
-collection_found kind.LineItems = refl
-collection_found kind.Results = refl
+collection_found _ = refl

@@ -5,7 +5,7 @@ use Rattle.rest_paths.specs.declared.route.Collection.TheVariants.{Of, Schools, 
 use Rattle.rest_paths.specs.declared.route.Route.{Route}
 use Rattle.rest_paths.specs.declared.route.Route.TheVariants as route
 use Rattle.roster_values.specs.declared.kind.Kind.{Kind}
-use Rattle.roster_values.specs.declared.kind.Kind.TheVariants.{Orgs, AcademicSessions, Courses, Classes, Users, Enrollments, Categories, LineItems, Results}
+use Rattle.roster_values.specs.declared.kind.Kind.TheVariants.{Orgs, AcademicSessions, Courses, Classes, Users, Enrollments, Categories, LineItems, Results, Resources}
 use Rattle.roster_values.specs.Kinds.{all_kinds, plural_of}
 
 -- the word for a collection
@@ -79,6 +79,8 @@ line_of route.ClassLineItems = under (Of Classes) (Of LineItems)
 line_of route.ClassResults = under (Of Classes) (Of Results)
 line_of route.ClassLineItemResults = under_two (Of Classes) (Of LineItems) (Of Results)
 line_of route.ClassStudentResults = under_two (Of Classes) Students (Of Results)
+line_of route.ClassResources = under (Of Classes) (Of Resources)
+line_of route.CourseResources = under (Of Courses) (Of Resources)
 
 abbrev pub segments_of : Route → List Segment
 segments_of route = (line_of route).path
@@ -105,7 +107,8 @@ all_routes =
     ∷ route.SchoolTerms ∷ route.SchoolClassEnrollments ∷ route.SchoolClassStudents ∷ route.SchoolClassTeachers ∷ route.ClassStudents
     ∷ route.ClassTeachers ∷ route.TermClasses ∷ route.TermGradingPeriods ∷ route.CourseClasses
     ∷ route.StudentClasses ∷ route.TeacherClasses ∷ route.UserClasses ∷ route.ClassLineItems
-    ∷ route.ClassResults ∷ route.ClassLineItemResults ∷ route.ClassStudentResults ∷ []
+    ∷ route.ClassResults ∷ route.ClassLineItemResults ∷ route.ClassStudentResults
+    ∷ route.ClassResources ∷ route.CourseResources ∷ []
 
 -- what teachers write: the kinds whose objects take writes
 abbrev pub is_gradebook : Kind → Bool

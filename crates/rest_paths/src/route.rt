@@ -44,6 +44,8 @@ pub enum Route {
     ClassResults,
     ClassLineItemResults,
     ClassStudentResults,
+    ClassResources,
+    CourseResources,
 }
 
 // A path of the hub.
@@ -67,6 +69,9 @@ macro_rules! collection_path {
             Collection::Of(Kind::Categories) => concat!("/ims/oneroster/v1p1/categories", $behind),
             Collection::Of(Kind::LineItems) => concat!("/ims/oneroster/v1p1/lineItems", $behind),
             Collection::Of(Kind::Results) => concat!("/ims/oneroster/v1p1/results", $behind),
+            Collection::Of(Kind::Resources) => concat!("/ims/oneroster/v1p1/resources", $behind),
+            Collection::Of(Kind::ClassResources) => concat!("/ims/oneroster/v1p1/classResources", $behind),
+            Collection::Of(Kind::CourseResources) => concat!("/ims/oneroster/v1p1/courseResources", $behind),
             Collection::Schools => concat!("/ims/oneroster/v1p1/schools", $behind),
             Collection::Terms => concat!("/ims/oneroster/v1p1/terms", $behind),
             Collection::GradingPeriods => concat!("/ims/oneroster/v1p1/gradingPeriods", $behind),
@@ -133,12 +138,15 @@ fn all_of(kind: Kind) -> &'static [Collection]
         Kind::Categories => &[Collection::Of(Kind::Categories)],
         Kind::LineItems => &[Collection::Of(Kind::LineItems)],
         Kind::Results => &[Collection::Of(Kind::Results)],
+        Kind::Resources => &[Collection::Of(Kind::Resources)],
+        Kind::ClassResources => &[Collection::Of(Kind::ClassResources)],
+        Kind::CourseResources => &[Collection::Of(Kind::CourseResources)],
     }
 }
 
 impl Route {
     /// Every route, in the order in which a router takes them.
-    pub const ALL: [Route; 51] = [
+    pub const ALL: [Route; 59] = [
         Route::All(Collection::Of(Kind::Orgs)),
         Route::All(Collection::Of(Kind::AcademicSessions)),
         Route::All(Collection::Of(Kind::Courses)),
@@ -149,6 +157,9 @@ impl Route {
         Route::All(Collection::Of(Kind::Categories)),
         Route::All(Collection::Of(Kind::LineItems)),
         Route::All(Collection::Of(Kind::Results)),
+        Route::All(Collection::Of(Kind::Resources)),
+        Route::All(Collection::Of(Kind::ClassResources)),
+        Route::All(Collection::Of(Kind::CourseResources)),
         Route::All(Collection::Schools),
         Route::All(Collection::Terms),
         Route::All(Collection::GradingPeriods),
@@ -164,6 +175,9 @@ impl Route {
         Route::One(Collection::Of(Kind::Categories)),
         Route::One(Collection::Of(Kind::LineItems)),
         Route::One(Collection::Of(Kind::Results)),
+        Route::One(Collection::Of(Kind::Resources)),
+        Route::One(Collection::Of(Kind::ClassResources)),
+        Route::One(Collection::Of(Kind::CourseResources)),
         Route::One(Collection::Schools),
         Route::One(Collection::Terms),
         Route::One(Collection::GradingPeriods),
@@ -190,6 +204,8 @@ impl Route {
         Route::ClassResults,
         Route::ClassLineItemResults,
         Route::ClassStudentResults,
+        Route::ClassResources,
+        Route::CourseResources,
     ];
 
     /// How the paths of the route are written, with a name in braces for the id of each object.
@@ -220,6 +236,8 @@ impl Route {
             Route::ClassResults => path!("classes/{first}/results"),
             Route::ClassLineItemResults => path!("classes/{first}/lineItems/{second}/results"),
             Route::ClassStudentResults => path!("classes/{first}/students/{second}/results"),
+            Route::ClassResources => path!("classes/{first}/resources"),
+            Route::CourseResources => path!("courses/{first}/resources"),
         }
     }
 
@@ -248,6 +266,7 @@ impl Route {
             Route::ClassLineItems => Collection::Of(Kind::LineItems),
             Route::ClassResults | Route::ClassLineItemResults | Route::ClassStudentResults =>
                 Collection::Of(Kind::Results),
+            Route::ClassResources | Route::CourseResources => Collection::Of(Kind::Resources),
         }
     }
 
@@ -268,14 +287,15 @@ impl Route {
             | Route::SchoolClassStudents
             | Route::SchoolClassTeachers => &[Collection::Schools, Collection::Of(Kind::Classes)],
             Route::TermClasses | Route::TermGradingPeriods => &[Collection::Terms],
-            Route::CourseClasses => &[Collection::Of(Kind::Courses)],
+            Route::CourseClasses | Route::CourseResources => &[Collection::Of(Kind::Courses)],
             Route::StudentClasses => &[Collection::Students],
             Route::TeacherClasses => &[Collection::Teachers],
             Route::UserClasses => &[Collection::Of(Kind::Users)],
             Route::ClassStudents
             | Route::ClassTeachers
             | Route::ClassLineItems
-            | Route::ClassResults => &[Collection::Of(Kind::Classes)],
+            | Route::ClassResults
+            | Route::ClassResources => &[Collection::Of(Kind::Classes)],
             Route::ClassLineItemResults => &[
                 Collection::Of(Kind::Classes),
                 Collection::Of(Kind::LineItems),

@@ -265,7 +265,7 @@ fn kind_of(word: &str) -> Option<(Kind, Facts)> {
     Some((kind, facts_of(kind)))
 }
 
-static KINDS: [(&str, Option<(Kind, Facts)>); 12] = [
+static KINDS: [(&str, Option<(Kind, Facts)>); 15] = [
     (
         "orgs",
         Some((Kind::Orgs, (0, "orgs", "org", "orgs.csv", 7))),
@@ -326,6 +326,39 @@ static KINDS: [(&str, Option<(Kind, Facts)>); 12] = [
     (
         "results",
         Some((Kind::Results, (9, "results", "result", "results.csv", 9))),
+    ),
+    (
+        "resources",
+        Some((
+            Kind::Resources,
+            (10, "resources", "resource", "resources.csv", 9),
+        )),
+    ),
+    (
+        "classResources",
+        Some((
+            Kind::ClassResources,
+            (
+                11,
+                "classResources",
+                "classResource",
+                "classResources.csv",
+                6,
+            ),
+        )),
+    ),
+    (
+        "courseResources",
+        Some((
+            Kind::CourseResources,
+            (
+                12,
+                "courseResources",
+                "courseResource",
+                "courseResources.csv",
+                6,
+            ),
+        )),
     ),
     ("Orgs", None),
     ("org", None),

@@ -12,7 +12,7 @@ use Rattle.roster_texts.specs.Moments.{clock_text, fraction_text, moment_text}
 use Rattle.roster_texts.specs.Numbers.{is_number}
 use Rattle.roster_texts.proofs.NumberTexts.{small_neg, small_pos}
 use Rattle.roster_values.specs.declared.kind.Kind.{Kind}
-use Rattle.roster_values.specs.declared.kind.Kind.TheVariants.{Orgs, AcademicSessions, Courses, Classes, Users, Enrollments, Demographics, Categories, LineItems, Results}
+use Rattle.roster_values.specs.declared.kind.Kind.TheVariants.{Orgs}
 use Rattle.roster_values.specs.declared.value.Value.{Value}
 use Rattle.roster_values.specs.declared.value.Value.TheVariants.{Day, Flag, Moment, Number, Year}
 use Rattle.roster_values.specs.CellText.{cell_text, flag_text}
@@ -59,28 +59,12 @@ encoded_most (b ∷ t) =
 
 plural_plain : (kind : Kind) → sum_by escaped_length (plural_of kind) ≡ length (plural_of kind)
 plural_plain Orgs = refl
-plural_plain AcademicSessions = refl
-plural_plain Courses = refl
-plural_plain Classes = refl
-plural_plain Users = refl
-plural_plain Enrollments = refl
-plural_plain Demographics = refl
-plural_plain Categories = refl
-plural_plain LineItems = refl
-plural_plain Results = refl
+plural_plain _ = refl
 
 single_plain : (kind : Kind) → text_length (single_of kind) ≡ 2 + length (single_of kind)
 unfolding text_length
 single_plain Orgs = refl
-single_plain AcademicSessions = refl
-single_plain Courses = refl
-single_plain Classes = refl
-single_plain Users = refl
-single_plain Enrollments = refl
-single_plain Demographics = refl
-single_plain Categories = refl
-single_plain LineItems = refl
-single_plain Results = refl
+single_plain _ = refl
 
 path_sum : (kind : Kind) (t : List ℕ) → sum_by escaped_length (codes "/ims/oneroster/v1p1/" ++ plural_of kind ++ codes "/" ++ t) ≡ 21 + length (plural_of kind) + sum_by escaped_length t
 path_sum kind t =

@@ -5,7 +5,7 @@ use Rattle.std.proofs.lemmas.Int.{ints}
 use Rattle.roster_base.specs.Moments.{IsMoment}
 use Rattle.roster_texts.specs.Moments.{is_moment}
 use Rattle.roster_values.specs.declared.kind.Kind.{Kind}
-use Rattle.roster_values.specs.declared.kind.Kind.TheVariants.{Orgs, AcademicSessions, Courses, Classes, Users, Enrollments, Demographics, Categories, LineItems, Results}
+use Rattle.roster_values.specs.declared.kind.Kind.TheVariants.{Orgs}
 use Rattle.roster_values.specs.declared.value.Value.{Value}
 use Rattle.roster_values.specs.declared.value.Value.TheVariants.{Id, Moment, Word}
 use Rattle.roster_values.specs.Fit.{fits, fits_form, fits_parts}
@@ -19,15 +19,7 @@ use Rattle.roster_types.specs.Shapes.{fits_all, own_fields}
 -- each kind's fields are the common ones and its own
 pub table-common : (kind : Kind) → table kind ≡ common (own_fields kind)
 table-common Orgs = refl
-table-common AcademicSessions = refl
-table-common Courses = refl
-table-common Classes = refl
-table-common Users = refl
-table-common Enrollments = refl
-table-common Demographics = refl
-table-common Categories = refl
-table-common LineItems = refl
-table-common Results = refl
+table-common _ = refl
 
 pub fits_all-length : (is : List Info) (vs : List (Option Value)) → fits_all is vs ≡ true → length is ≡ length vs
 fits_all-length [] [] h = refl

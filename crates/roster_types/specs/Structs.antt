@@ -14,6 +14,9 @@ use Rattle.roster_types.specs.declared.demographics.Demographic.{Demographic}
 use Rattle.roster_types.specs.declared.categories.Category.{Category}
 use Rattle.roster_types.specs.declared.line_items.LineItem.{LineItem}
 use Rattle.roster_types.specs.declared.results.Score.{Score}
+use Rattle.roster_types.specs.declared.resources.Resource.{Resource}
+use Rattle.roster_types.specs.declared.class_resources.ClassResource.{ClassResource}
+use Rattle.roster_types.specs.declared.course_resources.CourseResource.{CourseResource}
 use Rattle.roster_types.specs.declared.structs.Fields.{Fields}
 use Rattle.roster_types.specs.declared.structs.Fields.TheVariants as fields
 
@@ -135,6 +138,30 @@ score_values r =
     ∷ option_map (λ x. Text x) r.comment
     ∷ []
 
+abbrev pub resource_values : Resource → List (Option Value)
+resource_values r =
+    Some (Text r.vendor_resource_id)
+    ∷ option_map (λ x. Text x) r.title
+    ∷ option_map (λ x. Texts x) r.roles
+    ∷ option_map (λ x. Word x) r.importance
+    ∷ option_map (λ x. Text x) r.vendor_id
+    ∷ option_map (λ x. Text x) r.application_id
+    ∷ []
+
+abbrev pub class_resource_values : ClassResource → List (Option Value)
+class_resource_values r =
+    option_map (λ x. Text x) r.title
+    ∷ Some (Ref r.class_id)
+    ∷ Some (Ref r.resource)
+    ∷ []
+
+abbrev pub course_resource_values : CourseResource → List (Option Value)
+course_resource_values r =
+    option_map (λ x. Text x) r.title
+    ∷ Some (Ref r.course)
+    ∷ Some (Ref r.resource)
+    ∷ []
+
 -- the values of any of them, and which kind it is
 abbrev pub values_of : Fields → List (Option Value)
 values_of (fields.Orgs r) = org_values r.value
@@ -147,6 +174,9 @@ values_of (fields.Demographics r) = demographic_values r.value
 values_of (fields.Categories r) = category_values r.value
 values_of (fields.LineItems r) = line_item_values r.value
 values_of (fields.Results r) = score_values r.value
+values_of (fields.Resources r) = resource_values r.value
+values_of (fields.ClassResources r) = class_resource_values r.value
+values_of (fields.CourseResources r) = course_resource_values r.value
 
 abbrev pub kind_of : Fields → Kind
 kind_of (fields.Orgs r) = kind.Orgs
@@ -159,3 +189,6 @@ kind_of (fields.Demographics r) = kind.Demographics
 kind_of (fields.Categories r) = kind.Categories
 kind_of (fields.LineItems r) = kind.LineItems
 kind_of (fields.Results r) = kind.Results
+kind_of (fields.Resources r) = kind.Resources
+kind_of (fields.ClassResources r) = kind.ClassResources
+kind_of (fields.CourseResources r) = kind.CourseResources

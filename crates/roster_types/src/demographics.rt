@@ -4,8 +4,8 @@ ghost use Rattle.std.specs.Prelude.{◌≡◌, ◌<◌, true, None, option_map, 
 ghost use Rattle.roster_types.specs.Shapes.{own_fields, shapes_fit};
 ghost use Rattle.roster_types.specs.Structs.{demographic_values};
 ghost use Rattle.roster_values.specs.Value.{shown};
-ghost use Rattle.roster_values.specs.declared.value.Value.TheVariants as FieldValue;
 
+use crate::lent::lent_word;
 use crate::taken::{optional_day, optional_flag, optional_text, optional_word};
 use roster_base::Text;
 use roster_texts::Day;
@@ -103,15 +103,5 @@ impl Demographic {
             city_of_birth: optional_text(values, 11),
             public_school_residence_status: optional_text(values, 12),
         }
-    }
-}
-
-// A word that may be absent.
-fn lent_word(word: &Option<Word>) -> Option<ValueRef<'_>>
-    ensures { option_map shown result ≡ option_map (λ w. FieldValue.Word w) word.now }
-{
-    match word {
-        Some(word) => Some(ValueRef::Word(word.as_str())),
-        None => None,
     }
 }

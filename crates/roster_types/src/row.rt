@@ -24,7 +24,7 @@ use std::marker::Model;
 /// The greatest length of a row: the bytes of its JSON object, written with the status `tobedeleted`.
 pub const LONGEST: u64 = 65_536;
 
-/// A row of one of the ten kinds. Its values may stand in its fields, its metadata is in order, and it isn't too long.
+/// A row of any kind. Its values may stand in its fields, its metadata is in order, and it isn't too long.
 #[derive(Drop)]
 pub struct Row {
     parts: RowParts,
@@ -70,7 +70,7 @@ impl Row {
         match parts.is_short(alloc) {
             Ok(true) => Ok(Some(Row { parts })),
             refused => {
-                // By name, since the check goes through all ten structs where a row is dropped unnamed.
+                // By name, since the check goes through the structs of all kinds where a row is dropped unnamed.
                 drop(parts);
                 refused?;
                 Ok(None)

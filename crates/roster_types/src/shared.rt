@@ -29,7 +29,7 @@ impl Shared {
         match Arc::new(alloc, Shared { fields, metadata }) {
             Ok(shared) => Ok(shared),
             Err(AllocFailed { value }) => {
-                // By name, since the check goes through all ten structs where they are dropped unnamed.
+                // By name, since the check goes through the structs of all kinds where they are dropped unnamed.
                 drop(value);
                 Err(NoMemory)
             }

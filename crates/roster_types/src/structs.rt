@@ -1,4 +1,4 @@
-//! The structs of the ten kinds as one, read by place.
+//! The structs of the kinds as one, read by place.
 
 ghost use Rattle.std.specs.Prelude.{◌≡◌, ◌<◌, ◌≤◌, true, None, IfOk, OnOk, drop, length, option_map, slice_index_or, take};
 ghost use Rattle.std.specs.Bool.{Decides};
@@ -8,12 +8,15 @@ ghost use Rattle.roster_values.specs.Value.{shown};
 
 use crate::academic_sessions::AcademicSession;
 use crate::categories::Category;
+use crate::class_resources::ClassResource;
 use crate::classes::Class;
+use crate::course_resources::CourseResource;
 use crate::courses::Course;
 use crate::demographics::Demographic;
 use crate::enrollments::Enrollment;
 use crate::line_items::LineItem;
 use crate::orgs::Org;
+use crate::resources::Resource;
 use crate::results::Score;
 use crate::users::User;
 use roster_base::NoMemory;
@@ -34,6 +37,9 @@ pub enum Fields {
     Categories(Box<Category>),
     LineItems(Box<LineItem>),
     Results(Box<Score>),
+    Resources(Box<Resource>),
+    ClassResources(Box<ClassResource>),
+    CourseResources(Box<CourseResource>),
 }
 
 fn boxed<T: Drop>(alloc: Global, made: T) -> Result<Box<T>, NoMemory>
@@ -58,6 +64,9 @@ impl Fields {
             Fields::Categories(_) => Kind::Categories,
             Fields::LineItems(_) => Kind::LineItems,
             Fields::Results(_) => Kind::Results,
+            Fields::Resources(_) => Kind::Resources,
+            Fields::ClassResources(_) => Kind::ClassResources,
+            Fields::CourseResources(_) => Kind::CourseResources,
         }
     }
 
@@ -77,6 +86,9 @@ impl Fields {
             Fields::Categories(fields) => fields.value(place),
             Fields::LineItems(fields) => fields.value(place),
             Fields::Results(fields) => fields.value(place),
+            Fields::Resources(fields) => fields.value(place),
+            Fields::ClassResources(fields) => fields.value(place),
+            Fields::CourseResources(fields) => fields.value(place),
         }
     }
 
@@ -132,6 +144,13 @@ impl Fields {
             Kind::Categories => Fields::Categories(boxed(alloc, Category::take_from(values))?),
             Kind::LineItems => Fields::LineItems(boxed(alloc, LineItem::take_from(values))?),
             Kind::Results => Fields::Results(boxed(alloc, Score::take_from(values))?),
+            Kind::Resources => Fields::Resources(boxed(alloc, Resource::take_from(values))?),
+            Kind::ClassResources => {
+                Fields::ClassResources(boxed(alloc, ClassResource::take_from(values))?)
+            }
+            Kind::CourseResources => {
+                Fields::CourseResources(boxed(alloc, CourseResource::take_from(values))?)
+            }
         })
     }
 }

@@ -1,13 +1,14 @@
 -- The kinds of roster data and their words.
 use Rattle.std.specs.Prelude.{ℕ, ◌++◌, ◌∷◌, [], bytes_eq, codes, find, List, Option}
 use Rattle.roster_values.specs.declared.kind.Kind.{Kind}
-use Rattle.roster_values.specs.declared.kind.Kind.TheVariants.{Orgs, AcademicSessions, Courses, Classes, Users, Enrollments, Demographics, Categories, LineItems, Results}
+use Rattle.roster_values.specs.declared.kind.Kind.TheVariants.{Orgs, AcademicSessions, Courses, Classes, Users, Enrollments, Demographics, Categories, LineItems, Results, Resources, ClassResources, CourseResources}
 
 -- every kind, in order
 abbrev pub all_kinds : List Kind
 all_kinds =
     Orgs ∷ AcademicSessions ∷ Courses ∷ Classes ∷ Users
-    ∷ Enrollments ∷ Demographics ∷ Categories ∷ LineItems ∷ Results ∷ []
+    ∷ Enrollments ∷ Demographics ∷ Categories ∷ LineItems ∷ Results
+    ∷ Resources ∷ ClassResources ∷ CourseResources ∷ []
 
 -- the place of a kind among all
 abbrev pub place_of_kind : Kind → ℕ
@@ -21,6 +22,9 @@ place_of_kind Demographics = 6
 place_of_kind Categories = 7
 place_of_kind LineItems = 8
 place_of_kind Results = 9
+place_of_kind Resources = 10
+place_of_kind ClassResources = 11
+place_of_kind CourseResources = 12
 
 -- the word for many records of a kind
 abbrev pub plural_of : Kind → List ℕ
@@ -34,6 +38,9 @@ plural_of Demographics = codes "demographics"
 plural_of Categories = codes "categories"
 plural_of LineItems = codes "lineItems"
 plural_of Results = codes "results"
+plural_of Resources = codes "resources"
+plural_of ClassResources = codes "classResources"
+plural_of CourseResources = codes "courseResources"
 
 -- the word for one record of a kind
 abbrev pub single_of : Kind → List ℕ
@@ -47,6 +54,9 @@ single_of Demographics = codes "demographics"
 single_of Categories = codes "category"
 single_of LineItems = codes "lineItem"
 single_of Results = codes "result"
+single_of Resources = codes "resource"
+single_of ClassResources = codes "classResource"
+single_of CourseResources = codes "courseResource"
 
 -- the name of a kind's file
 abbrev pub file_of : Kind → List ℕ

@@ -1,7 +1,7 @@
 -- The fields of each kind, as OneRoster 1.1 lists them.
 use Rattle.std.specs.Prelude.{ℕ, Bool, true, false, List, [], ◌∷◌, map, codes, ◌||◌, nat_lt}
 use Rattle.roster_values.specs.declared.kind.Kind.{Kind}
-use Rattle.roster_values.specs.declared.kind.Kind.TheVariants.{Orgs, AcademicSessions, Courses, Classes, Users, Enrollments, Demographics, Categories, LineItems, Results}
+use Rattle.roster_values.specs.declared.kind.Kind.TheVariants.{Orgs, AcademicSessions, Courses, Classes, Users, Enrollments, Demographics, Categories, LineItems, Results, Resources, ClassResources, CourseResources}
 use Rattle.roster_values.specs.declared.mode.Mode.{Mode}
 use Rattle.roster_values.specs.declared.mode.Mode.TheVariants.{Bulk, Delta}
 use Rattle.roster_values.specs.declared.fields.FieldForm.{FieldForm}
@@ -89,6 +89,11 @@ roles =
 abbrev pub sexes : List (List ℕ)
 sexes =
     codes "male" ∷ codes "female" ∷ []
+
+-- how much a class or a course leans on a resource
+abbrev pub importances : List (List ℕ)
+importances =
+    codes "primary" ∷ codes "secondary" ∷ []
 
 -- how far a result is graded
 abbrev pub score_statuses : List (List ℕ)
@@ -207,6 +212,24 @@ table Results = common (
     ∷ optional (codes "score") (codes "score") NumberForm
     ∷ needed (codes "scoreDate") (codes "scoreDate") DayForm
     ∷ optional (codes "comment") (codes "comment") TextForm
+    ∷ [])
+table Resources = common (
+    needed (codes "vendorResourceId") (codes "vendorResourceId") TextForm
+    ∷ optional (codes "title") (codes "title") TextForm
+    ∷ optional (codes "roles") (codes "roles") TextsForm
+    ∷ optional (codes "importance") (codes "importance") (WordForm importances)
+    ∷ optional (codes "vendorId") (codes "vendorId") TextForm
+    ∷ optional (codes "applicationId") (codes "applicationId") TextForm
+    ∷ [])
+table ClassResources = common (
+    optional (codes "title") (codes "title") TextForm
+    ∷ needed (codes "classSourcedId") (codes "class") (RefForm Classes)
+    ∷ needed (codes "resourceSourcedId") (codes "resource") (RefForm Resources)
+    ∷ [])
+table CourseResources = common (
+    optional (codes "title") (codes "title") TextForm
+    ∷ needed (codes "courseSourcedId") (codes "course") (RefForm Courses)
+    ∷ needed (codes "resourceSourcedId") (codes "resource") (RefForm Resources)
     ∷ [])
 
 -- whether a field at a place is required: a delta file must say what became of each record, and when

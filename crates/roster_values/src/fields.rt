@@ -103,6 +103,8 @@ const ROLES: &[&str] = &[
 
 const SEXES: &[&str] = &["male", "female"];
 
+const IMPORTANCES: &[&str] = &["primary", "secondary"];
+
 const SCORE_STATUSES: &[&str] = &[
     "exempt",
     "fully graded",
@@ -315,6 +317,44 @@ static RESULTS: [FieldInfo; 9] = [
     optional!("comment", "comment", FieldForm::Text),
 ];
 
+static RESOURCES: [FieldInfo; 9] = [
+    SOURCED_ID,
+    STATUS,
+    DATE_LAST_MODIFIED,
+    needed!("vendorResourceId", "vendorResourceId", FieldForm::Text),
+    optional!("title", "title", FieldForm::Text),
+    optional!("roles", "roles", FieldForm::Texts),
+    optional!("importance", "importance", FieldForm::Word(IMPORTANCES)),
+    optional!("vendorId", "vendorId", FieldForm::Text),
+    optional!("applicationId", "applicationId", FieldForm::Text),
+];
+
+static CLASS_RESOURCES: [FieldInfo; 6] = [
+    SOURCED_ID,
+    STATUS,
+    DATE_LAST_MODIFIED,
+    optional!("title", "title", FieldForm::Text),
+    needed!("classSourcedId", "class", FieldForm::Ref(Kind::Classes)),
+    needed!(
+        "resourceSourcedId",
+        "resource",
+        FieldForm::Ref(Kind::Resources)
+    ),
+];
+
+static COURSE_RESOURCES: [FieldInfo; 6] = [
+    SOURCED_ID,
+    STATUS,
+    DATE_LAST_MODIFIED,
+    optional!("title", "title", FieldForm::Text),
+    needed!("courseSourcedId", "course", FieldForm::Ref(Kind::Courses)),
+    needed!(
+        "resourceSourcedId",
+        "resource",
+        FieldForm::Ref(Kind::Resources)
+    ),
+];
+
 /// The fields of a kind, in the order of the columns of its file, as OneRoster 1.1 lists them.
 pub fn fields(kind: Kind) -> &'static [FieldInfo]
     ensures { map info_of result.now ≡ table kind }
@@ -330,6 +370,9 @@ pub fn fields(kind: Kind) -> &'static [FieldInfo]
         Kind::Categories => &CATEGORIES,
         Kind::LineItems => &LINE_ITEMS,
         Kind::Results => &RESULTS,
+        Kind::Resources => &RESOURCES,
+        Kind::ClassResources => &CLASS_RESOURCES,
+        Kind::CourseResources => &COURSE_RESOURCES,
     }
 }
 

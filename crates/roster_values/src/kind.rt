@@ -27,6 +27,12 @@ pub enum Kind {
     LineItems,
     /// What a student got for a line item.
     Results,
+    /// Books, films, programs and what else is learned from.
+    Resources,
+    /// Which resources a class learns from.
+    ClassResources,
+    /// Which resources a course learns from.
+    CourseResources,
 }
 
 // The word for many records of a kind, with this ending.
@@ -43,13 +49,16 @@ macro_rules! plural_and {
             Kind::Categories => concat!("categories", $ending),
             Kind::LineItems => concat!("lineItems", $ending),
             Kind::Results => concat!("results", $ending),
+            Kind::Resources => concat!("resources", $ending),
+            Kind::ClassResources => concat!("classResources", $ending),
+            Kind::CourseResources => concat!("courseResources", $ending),
         }
     };
 }
 
 impl Kind {
     /// Every kind, in the order of `place`.
-    pub const ALL: [Kind; 10] = [
+    pub const ALL: [Kind; 13] = [
         Kind::Orgs,
         Kind::AcademicSessions,
         Kind::Courses,
@@ -60,6 +69,9 @@ impl Kind {
         Kind::Categories,
         Kind::LineItems,
         Kind::Results,
+        Kind::Resources,
+        Kind::ClassResources,
+        Kind::CourseResources,
     ];
 
     /// The kind's place in `Kind::ALL`.
@@ -77,6 +89,9 @@ impl Kind {
             Kind::Categories => 7,
             Kind::LineItems => 8,
             Kind::Results => 9,
+            Kind::Resources => 10,
+            Kind::ClassResources => 11,
+            Kind::CourseResources => 12,
         }
     }
 
@@ -102,6 +117,9 @@ impl Kind {
             Kind::Categories => "category",
             Kind::LineItems => "lineItem",
             Kind::Results => "result",
+            Kind::Resources => "resource",
+            Kind::ClassResources => "classResource",
+            Kind::CourseResources => "courseResource",
         }
     }
 

@@ -10,7 +10,7 @@ use Rattle.serde_json.specs.Data.{Members, no_members, number, object, put, stri
 use Rattle.serde_json.specs.Find.{of_integer}
 use Rattle.serde_json.specs.Written.{compact_text}
 use Rattle.roster_values.specs.declared.kind.Kind.{Kind}
-use Rattle.roster_values.specs.declared.kind.Kind.TheVariants.{Orgs, AcademicSessions, Courses, Classes, Users, Enrollments, Demographics, Categories, LineItems, Results}
+use Rattle.roster_values.specs.declared.kind.Kind.TheVariants.{Orgs}
 use Rattle.roster_values.specs.declared.value.Value.{Value}
 use Rattle.roster_values.specs.declared.value.Value.TheVariants.{Number, Ref, Refs, Texts, UserIds, Word}
 use Rattle.roster_values.specs.CellText.{cell_text}
@@ -87,15 +87,7 @@ size-with_fields es (i ∷ is) (Some v ∷ vs) ms m h =
 
 many_names : (kind : Kind) → distinct_count is_same (names (table kind)) ≡ length (names (table kind))
 many_names Orgs = refl
-many_names AcademicSessions = refl
-many_names Courses = refl
-many_names Classes = refl
-many_names Users = refl
-many_names Enrollments = refl
-many_names Demographics = refl
-many_names Categories = refl
-many_names LineItems = refl
-many_names Results = refl
+many_names _ = refl
 
 -- which are all different
 pub new_names : (kind : Kind) → AreNew (names (table kind)) no_members

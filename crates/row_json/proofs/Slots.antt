@@ -11,7 +11,7 @@ use Rattle.json.specs.Tree.{members_tokens}
 use Rattle.serde_json.specs.Data.{Data, Members, member, no_members, put}
 use Rattle.serde_json.specs.Written.{members_outline}
 use Rattle.roster_values.specs.declared.kind.Kind.{Kind}
-use Rattle.roster_values.specs.declared.kind.Kind.TheVariants.{Orgs, AcademicSessions, Courses, Classes, Users, Enrollments, Demographics, Categories, LineItems, Results}
+use Rattle.roster_values.specs.declared.kind.Kind.TheVariants.{Orgs}
 use Rattle.roster_values.specs.declared.value.Value.{Value}
 use Rattle.roster_values.specs.Table.{Info, table}
 use Rattle.roster_types.specs.declared.metadata.Entry.{Entry}
@@ -162,56 +162,24 @@ blank kind = map (λ place. ((slot_of [] None (slice_get (table kind) place)).0,
 blank-none : (kind : Kind) → members_in (blank kind) ≡ no_members
 unfolding members_in blank
 blank-none Orgs = refl
-blank-none AcademicSessions = refl
-blank-none Courses = refl
-blank-none Classes = refl
-blank-none Users = refl
-blank-none Enrollments = refl
-blank-none Demographics = refl
-blank-none Categories = refl
-blank-none LineItems = refl
-blank-none Results = refl
+blank-none _ = refl
 
 blank-fields : (kind : Kind) → have_places (table kind) (names_in (blank kind)) ≡ true
 unfolding have_places has_place is_before names_in blank
 blank-fields Orgs = refl
-blank-fields AcademicSessions = refl
-blank-fields Courses = refl
-blank-fields Classes = refl
-blank-fields Users = refl
-blank-fields Enrollments = refl
-blank-fields Demographics = refl
-blank-fields Categories = refl
-blank-fields LineItems = refl
-blank-fields Results = refl
+blank-fields _ = refl
 
 blank-metadata : (kind : Kind) → has_place (codes "metadata") (names_in (blank kind)) ≡ true
 unfolding has_place is_before names_in blank
 blank-metadata Orgs = refl
-blank-metadata AcademicSessions = refl
-blank-metadata Courses = refl
-blank-metadata Classes = refl
-blank-metadata Users = refl
-blank-metadata Enrollments = refl
-blank-metadata Demographics = refl
-blank-metadata Categories = refl
-blank-metadata LineItems = refl
-blank-metadata Results = refl
+blank-metadata _ = refl
 
 -- filled in the order of the fields, they have the values by the order of the names
 filled : (kind : Kind) (vs : List (Option Value)) (es : List Entry) → fill (codes "metadata") (metadata_data es) (fill_fields (λ n. get_or vs n None) (table kind) (blank kind))
     ≡ map (λ place. slot_of es (get_or vs place None) (slice_get (table kind) place)) (order_of kind)
 unfolding fill fill_fields blank
 filled Orgs vs es = refl
-filled AcademicSessions vs es = refl
-filled Courses vs es = refl
-filled Classes vs es = refl
-filled Users vs es = refl
-filled Enrollments vs es = refl
-filled Demographics vs es = refl
-filled Categories vs es = refl
-filled LineItems vs es = refl
-filled Results vs es = refl
+filled _ vs es = refl
 
 -- a row's members stand in the order of the names
 members-row : (r : Record) → row_members r ≡ members_in (map (slot_at r) (order_of r.kind))

@@ -5,7 +5,7 @@ use Rattle.json.specs.Tree.{json_tokens}
 use Rattle.serde_json.specs.Data.{Data, no_members, object}
 use Rattle.serde_json.specs.Written.{outline}
 use Rattle.roster_values.specs.declared.kind.Kind.{Kind}
-use Rattle.roster_values.specs.declared.kind.Kind.TheVariants.{Orgs, AcademicSessions, Courses, Classes, Users, Enrollments, Demographics, Categories, LineItems, Results}
+use Rattle.roster_values.specs.declared.kind.Kind.TheVariants.{Orgs, AcademicSessions, Courses, Classes, Users, Enrollments, Demographics, Categories, LineItems, Results, Resources, ClassResources, CourseResources}
 use Rattle.roster_values.specs.declared.value.Value.{Value}
 use Rattle.roster_values.specs.Table.{Info, table}
 use Rattle.roster_types.specs.declared.metadata.Entry.{Entry}
@@ -28,6 +28,9 @@ order_of Demographics = 5 ∷ 6 ∷ 3 ∷ 7 ∷ 14 ∷ 12 ∷ 2 ∷ 10 ∷ 11 �
 order_of Categories = 2 ∷ 4 ∷ 0 ∷ 1 ∷ 3 ∷ []
 order_of LineItems = 5 ∷ 8 ∷ 7 ∷ 2 ∷ 4 ∷ 6 ∷ 9 ∷ 12 ∷ 11 ∷ 10 ∷ 0 ∷ 1 ∷ 3 ∷ []
 order_of Results = 8 ∷ 2 ∷ 3 ∷ 9 ∷ 6 ∷ 7 ∷ 5 ∷ 0 ∷ 1 ∷ 4 ∷ []
+order_of Resources = 8 ∷ 2 ∷ 6 ∷ 9 ∷ 5 ∷ 0 ∷ 1 ∷ 4 ∷ 7 ∷ 3 ∷ []
+order_of ClassResources = 4 ∷ 2 ∷ 6 ∷ 5 ∷ 0 ∷ 1 ∷ 3 ∷ []
+order_of CourseResources = 4 ∷ 2 ∷ 6 ∷ 5 ∷ 0 ∷ 1 ∷ 3 ∷ []
 
 -- metadata as a value, where there is any
 abbrev pub metadata_data : List Entry → Option Data

@@ -25,6 +25,12 @@ static LINE_ITEMS: [usize; 13] = [5, 8, 7, 2, 4, 6, 9, 12, 11, 10, 0, 1, 3];
 
 static RESULTS: [usize; 10] = [8, 2, 3, 9, 6, 7, 5, 0, 1, 4];
 
+static RESOURCES: [usize; 10] = [8, 2, 6, 9, 5, 0, 1, 4, 7, 3];
+
+static CLASS_RESOURCES: [usize; 7] = [4, 2, 6, 5, 0, 1, 3];
+
+static COURSE_RESOURCES: [usize; 7] = [4, 2, 6, 5, 0, 1, 3];
+
 /// The places of a kind's fields in the order of their JSON names. Among them is the place past the fields, which stands for the
 /// metadata.
 pub fn name_order(kind: Kind) -> &'static [usize]
@@ -41,5 +47,8 @@ pub fn name_order(kind: Kind) -> &'static [usize]
         Kind::Categories => &CATEGORIES,
         Kind::LineItems => &LINE_ITEMS,
         Kind::Results => &RESULTS,
+        Kind::Resources => &RESOURCES,
+        Kind::ClassResources => &CLASS_RESOURCES,
+        Kind::CourseResources => &COURSE_RESOURCES,
     }
 }

@@ -38,8 +38,8 @@ static CASES: [Case; 5] = [
         from: 1,
         to: 1,
         back: TWICE,
-        before: "sis version 1\ngrants version 2\ncopy store failed\ncomplete 2\nexchanges 10\n",
-        after: "sis version 1\ngrants version 2\ncopy store failed\ncomplete 2\nexchanges 10\n",
+        before: "sis version 1\ngrants version 2\ncopy store failed\ncomplete 2\nexchanges 13\n",
+        after: "sis version 1\ngrants version 2\ncopy store failed\ncomplete 2\nexchanges 13\n",
     },
     // The stage begins once the first page is there, which isn't kept yet.
     Case {
@@ -48,28 +48,28 @@ static CASES: [Case; 5] = [
         from: 2,
         to: 2,
         back: TWICE,
-        before: "sis version 1\ngrants version 2\ncopy store failed\ncomplete 2\nexchanges 11\n",
-        after: "sis version 1\ngrants version 2\ncopy store failed\ncomplete 2\nexchanges 11\n",
+        before: "sis version 1\ngrants version 2\ncopy store failed\ncomplete 2\nexchanges 14\n",
+        after: "sis version 1\ngrants version 2\ncopy store failed\ncomplete 2\nexchanges 14\n",
     },
     // A page that is kept isn't asked for again.
     Case {
         front: FILLED,
         keeper: "copy",
         from: 3,
-        to: 12,
+        to: 15,
         back: TWICE,
-        before: "sis version 1\ngrants version 2\ncopy store failed\ncomplete 2\nexchanges 11\n",
-        after: "sis version 1\ngrants version 2\ncopy store failed\ncomplete 2\nexchanges 10\n",
+        before: "sis version 1\ngrants version 2\ncopy store failed\ncomplete 2\nexchanges 14\n",
+        after: "sis version 1\ngrants version 2\ncopy store failed\ncomplete 2\nexchanges 13\n",
     },
     // A stage that is whole is swapped in without an exchange; behind the swap there is none, and the copy begins anew.
     Case {
         front: FILLED,
         keeper: "copy",
-        from: 13,
-        to: 13,
+        from: 16,
+        to: 16,
         back: TWICE,
-        before: "sis version 1\ngrants version 2\ncopy store failed\ncomplete 2\nexchanges 10\n",
-        after: "sis version 1\ngrants version 2\ncopy store failed\ncomplete 2\nexchanges 20\n",
+        before: "sis version 1\ngrants version 2\ncopy store failed\ncomplete 2\nexchanges 13\n",
+        after: "sis version 1\ngrants version 2\ncopy store failed\ncomplete 2\nexchanges 26\n",
     },
 ];
 

@@ -10,10 +10,10 @@ use std::alloc::Global;
 use std::test::Fail;
 
 const ONE: &str =
-    "schools 1\norgs 2\nacademicSessions 2\ncourses 1\nclasses 2\nusers 101\nenrollments 102\ndemographics 0\ncategories 1\nlineItems 0\nresults 0\nexchanges 10\ncomplete 2\n";
+    "schools 1\norgs 2\nacademicSessions 2\ncourses 1\nclasses 2\nusers 101\nenrollments 102\ndemographics 0\ncategories 1\nlineItems 0\nresults 0\nresources 0\nclassResources 0\ncourseResources 0\nexchanges 13\ncomplete 2\n";
 
 const MOST: &str =
-    "schools 200\norgs 201\nacademicSessions 2\ncourses 200\nclasses 400\nusers 20200\nenrollments 20400\ndemographics 0\ncategories 1\nlineItems 0\nresults 0\nexchanges 50\ncomplete 2\n";
+    "schools 200\norgs 201\nacademicSessions 2\ncourses 200\nclasses 400\nusers 20200\nenrollments 20400\ndemographics 0\ncategories 1\nlineItems 0\nresults 0\nresources 0\nclassResources 0\ncourseResources 0\nexchanges 53\ncomplete 2\n";
 
 // The status of making so many schools, and all that is printed of it.
 fn made(alloc: Global, schools: u32) -> Result<(u8, String), Fail>

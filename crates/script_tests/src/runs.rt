@@ -39,11 +39,11 @@ static RUNS: [(&str, &str); 16] = [
     ),
     (
         "set sis lake\ngrant g.csv\nenter put results r9 r9.json\nsend tok-e 1\noutbox\nask li9.http\nlate 1 2\nsync tok-e 100 1\nexchanges\nlist results\n",
-        "sis version 1\ngrants version 2\nentered 1\nsettled 1\n1 422 2\n201 3\ncomplete 3\nexchanges 11\n{\"results\":[{\"dateLastModified\":\"2024-08-01T12:00:00.000Z\",\"lineItem\":{\"href\":\"/ims/oneroster/v1p1/lineItems/li1\",\"sourcedId\":\"li1\",\"type\":\"lineItem\"},\"score\":78,\"scoreDate\":\"2024-08-23\",\"scoreStatus\":\"fully graded\",\"sourcedId\":\"r1\",\"status\":\"active\",\"student\":{\"href\":\"/ims/oneroster/v1p1/users/u1\",\"sourcedId\":\"u1\",\"type\":\"user\"}}]}\n",
+        "sis version 1\ngrants version 2\nentered 1\nsettled 1\n1 422 2\n201 3\ncomplete 3\nexchanges 14\n{\"results\":[{\"dateLastModified\":\"2024-08-01T12:00:00.000Z\",\"lineItem\":{\"href\":\"/ims/oneroster/v1p1/lineItems/li1\",\"sourcedId\":\"li1\",\"type\":\"lineItem\"},\"score\":78,\"scoreDate\":\"2024-08-23\",\"scoreStatus\":\"fully graded\",\"sourcedId\":\"r1\",\"status\":\"active\",\"student\":{\"href\":\"/ims/oneroster/v1p1/users/u1\",\"sourcedId\":\"u1\",\"type\":\"user\"}}]}\n",
     ),
     (
         "set sis lake\ngrant g.csv\ncopy fails after 6\nsync tok-e 1 1\nrestart hub\nset sis lake2\nsync tok-e 1 1\nexchanges\n",
-        "sis version 1\ngrants version 2\ncopy store failed\nsis version 3\ncomplete 2\nexchanges 15\n",
+        "sis version 1\ngrants version 2\ncopy store failed\nsis version 3\ncomplete 2\nexchanges 18\n",
     ),
     (
         "set sis lake\ngrant g.csv\nhub fails after 3\nask p7.http\nask p7.http\n",
@@ -76,7 +76,7 @@ static RUNS: [(&str, &str); 16] = [
     ),
     (
         "set sis lake\ngrant g.csv\nlose request 3\nsync tok-e 2 1\nset sis lake2\nsync tok-e 2 1\nlist orgs\nexchanges\n",
-        "sis version 1\ngrants version 2\ninterrupted academicSessions 2\nsis version 3\ncomplete 2\n{\"orgs\":[{\"dateLastModified\":\"2024-08-01T12:00:00.000Z\",\"identifier\":\"LDU\",\"name\":\"Lake District, Unified\",\"sourcedId\":\"d1\",\"status\":\"active\",\"type\":\"district\"},{\"dateLastModified\":\"2024-08-01T12:00:00.000Z\",\"identifier\":\"E-1\",\"name\":\"East High\",\"parent\":{\"href\":\"/ims/oneroster/v1p1/orgs/d1\",\"sourcedId\":\"d1\",\"type\":\"org\"},\"sourcedId\":\"s1\",\"status\":\"active\",\"type\":\"school\"}]}\nexchanges 13\n",
+        "sis version 1\ngrants version 2\ninterrupted academicSessions 2\nsis version 3\ncomplete 2\n{\"orgs\":[{\"dateLastModified\":\"2024-08-01T12:00:00.000Z\",\"identifier\":\"LDU\",\"name\":\"Lake District, Unified\",\"sourcedId\":\"d1\",\"status\":\"active\",\"type\":\"district\"},{\"dateLastModified\":\"2024-08-01T12:00:00.000Z\",\"identifier\":\"E-1\",\"name\":\"East High\",\"parent\":{\"href\":\"/ims/oneroster/v1p1/orgs/d1\",\"sourcedId\":\"d1\",\"type\":\"org\"},\"sourcedId\":\"s1\",\"status\":\"active\",\"type\":\"school\"}]}\nexchanges 16\n",
     ),
     (
         "set sis lake\ngrant g.csv\nat 3 grant g2.csv\nsync tok-e 1 1\nsync tok-e 100 1\nlist orgs\n",

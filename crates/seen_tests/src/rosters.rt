@@ -183,7 +183,7 @@ const RESULT_AT_WEST: Line = (
     &["r2", "", "", "i2", "u1", "submitted", "", "2024-08-03", ""],
 );
 
-static ROSTERS: [(&[Line], &[&str], &str); 10] = [
+static ROSTERS: [(&[Line], &[&str], &str); 11] = [
     (&[], &["s1"], ""),
     // Ancestors of a listed org are seen, and what stands beside it isn't.
     (&[DISTRICT, EAST, WEST], &["s1"], "d1 s1 "),
@@ -284,6 +284,31 @@ static ROSTERS: [(&[Line], &[&str], &str); 10] = [
         &["s1"],
         "k1 t1 ",
     ),
+    // Resources of a seen class and of a seen course; of a class and of a course that aren't seen, and of none.
+    (
+        &[
+            EAST,
+            WEST,
+            COURSE_OF_EAST,
+            (
+                Kind::Courses,
+                &["c3", "", "", "", "Chemistry", "", "", "s2", "", ""],
+            ),
+            CLASS_AT_EAST,
+            CLASS_AT_WEST,
+            (Kind::Resources, &["x1", "", "", "V1", "", "", "", "", ""]),
+            (Kind::Resources, &["x2", "", "", "V2", "", "", "", "", ""]),
+            (Kind::Resources, &["x3", "", "", "V3", "", "", "", "", ""]),
+            (Kind::Resources, &["x4", "", "", "V4", "", "", "", "", ""]),
+            (Kind::Resources, &["x5", "", "", "V5", "", "", "", "", ""]),
+            (Kind::ClassResources, &["a1", "", "", "", "k1", "x1"]),
+            (Kind::ClassResources, &["a2", "", "", "", "k2", "x2"]),
+            (Kind::CourseResources, &["b1", "", "", "", "c1", "x3"]),
+            (Kind::CourseResources, &["b2", "", "", "", "c3", "x4"]),
+        ],
+        &["s1"],
+        "s1 c1 k1 x1 x3 a1 b1 ",
+    ),
 ];
 
 fn cell(line: Line, place: usize) -> &'static str {
@@ -357,10 +382,35 @@ fn is_course_seen(lines: &[Line], schools: &[&str], course: Line) -> bool {
 }
 
 fn is_item_seen(lines: &[Line], schools: &[&str], item: Line) -> bool {
-    match line_of(lines, Kind::Classes, cell(item, 7)) {
+    is_class_seen(lines, schools, cell(item, 7))
+}
+
+fn is_class_seen(lines: &[Line], schools: &[&str], id: &str) -> bool {
+    match line_of(lines, Kind::Classes, id) {
         Some(class) => has_one(cell(class, 9), schools),
         None => false,
     }
+}
+
+// Whether the class or the course that a line of either kind names is seen.
+fn is_link_seen(lines: &[Line], schools: &[&str], link: Line) -> bool {
+    match link.0 {
+        Kind::ClassResources => is_class_seen(lines, schools, cell(link, 4)),
+        Kind::CourseResources => match line_of(lines, Kind::Courses, cell(link, 4)) {
+            Some(course) => is_course_seen(lines, schools, course),
+            None => false,
+        },
+        _ => false,
+    }
+}
+
+fn is_resource_seen(lines: &[Line], schools: &[&str], id: &str) -> bool {
+    for line in lines {
+        if cell(*line, 5) == id && is_link_seen(lines, schools, *line) {
+            return true;
+        }
+    }
+    false
 }
 
 fn is_line_seen(lines: &[Line], schools: &[&str], line: Line) -> bool {
@@ -380,6 +430,8 @@ fn is_line_seen(lines: &[Line], schools: &[&str], line: Line) -> bool {
             Some(item) => is_item_seen(lines, schools, item),
             None => false,
         },
+        Kind::Resources => is_resource_seen(lines, schools, cell(line, 0)),
+        Kind::ClassResources | Kind::CourseResources => is_link_seen(lines, schools, line),
     }
 }
 

@@ -40,7 +40,7 @@ pub const SHUT: Reply = ("HTTP/1.1 403 Forbidden\r\nX-Hub-Version: 2", "");
 
 // What is left of version 2.
 const OTHER_ROWS: &[Reply] = &[
-    SECOND_ORG, SHUT, SHUT, SHUT, SHUT, SHUT, SHUT, CATEGORY, SHUT, SHUT,
+    SECOND_ORG, SHUT, SHUT, SHUT, SHUT, SHUT, SHUT, CATEGORY, SHUT, SHUT, SHUT, SHUT, SHUT,
 ];
 
 /// Version 5 has one org, and nothing else.
@@ -55,7 +55,7 @@ pub const LATER_SHUT: Reply = ("HTTP/1.1 403 Forbidden\r\nX-Hub-Version: 5", "")
 /// The replies to a whole copy of version 5.
 pub const LATER_ROWS: &[Reply] = &[
     LATER_ORG, LATER_SHUT, LATER_SHUT, LATER_SHUT, LATER_SHUT, LATER_SHUT, LATER_SHUT, LATER_SHUT,
-    LATER_SHUT, LATER_SHUT,
+    LATER_SHUT, LATER_SHUT, LATER_SHUT, LATER_SHUT, LATER_SHUT,
 ];
 
 const GONE: Reply = ("HTTP/1.1 404 Not Found\r\nX-Hub-Oldest: 7", "");

@@ -22,6 +22,10 @@ mod stored;
 #[cfg(test)]
 mod tables;
 #[cfg(test)]
+mod ten_kinds;
+#[cfg(test)]
+mod ten_kinds_items;
+#[cfg(test)]
 mod turned;
 #[cfg(test)]
 mod words;

@@ -1,8 +1,9 @@
 //! Steps over a store: words over a hub, words over a consumer's copy with the replies to their exchanges, which are given beforehand, and
 //! looks at what the copy's store holds.
 
-use crate::stored::{aged_in, format_in, stored_in};
-use crate::words::{printed, told};
+use crate::stored::{aged_in, format_in, kept_in, stored_in};
+use crate::ten_kinds_items::Kept;
+use crate::words::{printed, run_line, told};
 use exchange_link::PeerLink;
 use item_tests::opened;
 use keeper_memory::{CopyKeeper, HubKeeper, MemHub};
@@ -19,16 +20,18 @@ pub type Reply = (&'static str, &'static str);
 #[derive(Clone, Copy)]
 pub struct Turn(pub &'static str, pub u64, pub &'static [Reply]);
 
-/// Words over a hub, the same once more over the same keeper where they fail, a turn of a copy, a look at the copy's store or at its
-/// format, or that store made one of format 1.
+/// Words over a hub, the same once more over the same keeper where they fail, words over a hub of which only what is printed is told, a turn
+/// of a copy, a look at the copy's store or at its format, that store made one of format 1, or items put into a store.
 #[derive(Clone, Copy)]
 pub enum Step {
     Hub(&'static str),
     HubAgain(&'static str),
+    Printed(&'static str),
     Copy(Turn),
     Store,
     Format,
     Aged,
+    Kept(&'static [Kept]),
 }
 
 fn reply_to(alloc: Global, run: u64, count: usize, reply: &Reply) -> Result<Vec<u8>, NoMemory> {
@@ -80,6 +83,18 @@ fn hub_over<I: StoredItems>(
     (told, keeper.release())
 }
 
+// Runs the words over a hub that these items keep, tells what is printed, and gives the items back.
+fn hub_printed<I: StoredItems>(
+    alloc: Global,
+    items: I,
+    keep: u32,
+    line: &str,
+) -> (Result<String, NoMemory>, I) {
+    let mut keeper = ItemHub::adopt(items, keep);
+    let told = run_line(alloc, line, &mut keeper);
+    (told, keeper.release())
+}
+
 // What the words tell over a keeper, or where they fail what they tell then.
 fn told_again<H: HubKeeper>(alloc: Global, line: &str, keeper: &mut H) -> Result<String, NoMemory> {
     let first = told(alloc, line, keeper)?;
@@ -123,10 +138,12 @@ pub fn step_over<I: StoredItems>(
     match step {
         Step::Hub(line) => hub_over(alloc, items, keep, line),
         Step::HubAgain(line) => hub_again(alloc, items, keep, line),
+        Step::Printed(line) => hub_printed(alloc, items, keep, line),
         Step::Copy(turn) => copy_over(alloc, items, turn),
         Step::Store => stored_in(alloc, items),
         Step::Format => format_in(alloc, items),
         Step::Aged => aged_in(alloc, items),
+        Step::Kept(kept) => kept_in(alloc, kept, items),
     }
 }
 

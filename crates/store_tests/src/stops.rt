@@ -44,7 +44,7 @@ const ORGS: Step = Step::Copy(Turn("list orgs", 0, &[]));
 // What comes of a version before its last page.
 const MOST_ROWS: &[Reply] = &[
     LATER_ORG, LATER_SHUT, LATER_SHUT, LATER_SHUT, LATER_SHUT, LATER_SHUT, LATER_SHUT, LATER_SHUT,
-    LATER_SHUT,
+    LATER_SHUT, LATER_SHUT, LATER_SHUT, LATER_SHUT,
 ];
 
 // A first entry, an entry that is settled, and the last page of a version, each one change of what is shown.

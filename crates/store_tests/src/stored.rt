@@ -1,5 +1,6 @@
 //! What the store of a consumer's copy holds, as a text.
 
+use crate::ten_kinds_items::Kept;
 use item_maps::{Edit, Item};
 use keeper_memory::{CopyKeeper, CopyState};
 use keeper_sqlite::{ItemCopy, StoredItems};
@@ -128,8 +129,26 @@ fn aging_edits(alloc: Global) -> Result<Vec<Edit>, NoMemory> {
     Ok(edits)
 }
 
-fn aged<I: StoredItems>(alloc: Global, items: &mut I) -> Result<String, NoMemory> {
-    let edits = aging_edits(alloc)?;
+// The edits that put these items.
+fn putting_edits(alloc: Global, kept: &[Kept]) -> Result<Vec<Edit>, NoMemory> {
+    let mut edits = Vec::new(alloc);
+    for item in kept {
+        edits.push(Edit::Put {
+            area: item.area,
+            label: Bytes::from_vec(item.label.to_vec(alloc)?),
+            body: Bytes::from_vec(item.body.to_vec(alloc)?),
+        })?;
+    }
+    Ok(edits)
+}
+
+// Commits the edits, and tells where that fails.
+fn committed<I: StoredItems>(
+    alloc: Global,
+    edits: Result<Vec<Edit>, NoMemory>,
+    items: &mut I,
+) -> Result<String, NoMemory> {
+    let edits = edits?;
     let mut text = String::new(alloc);
     if items.commit(edits.as_slice()).is_err() {
         text.push_str("failed")?;
@@ -139,6 +158,16 @@ fn aged<I: StoredItems>(alloc: Global, items: &mut I) -> Result<String, NoMemory
 
 /// Makes these items of a copy those that format 1 had, and gives them back.
 pub fn aged_in<I: StoredItems>(alloc: Global, mut items: I) -> (Result<String, NoMemory>, I) {
-    let told = aged(alloc, &mut items);
+    let told = committed(alloc, aging_edits(alloc), &mut items);
+    (told, items)
+}
+
+/// Puts items of before into these, and gives them back.
+pub fn kept_in<I: StoredItems>(
+    alloc: Global,
+    kept: &[Kept],
+    mut items: I,
+) -> (Result<String, NoMemory>, I) {
+    let told = committed(alloc, putting_edits(alloc, kept), &mut items);
     (told, items)
 }

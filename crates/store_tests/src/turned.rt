@@ -13,7 +13,9 @@ const ORG: Reply = (
 );
 
 // The replies to a whole copy of version 2, which has one org, and nothing else.
-const ROWS: &[Reply] = &[ORG, SHUT, SHUT, SHUT, SHUT, SHUT, SHUT, SHUT, SHUT, SHUT];
+const ROWS: &[Reply] = &[
+    ORG, SHUT, SHUT, SHUT, SHUT, SHUT, SHUT, SHUT, SHUT, SHUT, SHUT, SHUT, SHUT,
+];
 
 // Steps one behind another, and what each tells.
 static STEPS: [(Step, &str); 11] = [

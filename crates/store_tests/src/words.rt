@@ -30,8 +30,9 @@ d1,,,\"Lake, \"\"Unified\"\"\",district,LDU,,\ns1,,,East,school,,d1,7\ns2,,,Wés
     ),
 ];
 
-// Folders, names and texts: two sets of some orgs, two files of grants, and the body of a category.
-static FILES: [(&str, &str, &str); 7] = [
+// Folders, names and texts: two sets of some orgs, two files of grants, the body of a category, a set of resources, a grant of these, and
+// requests.
+static FILES: [(&str, &str, &str); 14] = [
     ("new", "manifest.csv", SOME_ORGS),
     (
         "new",
@@ -56,6 +57,41 @@ s2,active,2024-09-01T00:00:00.000Z,West High,school\ns3,active,2024-09-01T00:00:
         "caller,token,scopes,schools\nall,tok-a,roster.readonly,*\n",
     ),
     ("", "c2.json", "{\"category\":{\"title\":\"Quiz\"}}"),
+    (
+        "lake3",
+        "manifest.csv",
+        "propertyName,value\nmanifest.version,1.0\noneroster.version,1.1\nfile.resources,bulk\nfile.classResources,bulk\n",
+    ),
+    (
+        "lake3",
+        "resources.csv",
+        "sourcedId,status,dateLastModified,vendorResourceId,title\nrs1,,,VR-1,Workbook\n",
+    ),
+    (
+        "lake3",
+        "classResources.csv",
+        "sourcedId,status,dateLastModified,title,classSourcedId,resourceSourcedId\ncr1,,,Book of A,k1,rs1\n",
+    ),
+    (
+        "",
+        "g3.csv",
+        "caller,token,scopes,schools\neast,tok-e,gradebook.readonly resource.readonly,s1\n",
+    ),
+    (
+        "",
+        "result.http",
+        "GET /ims/oneroster/v1p1/results/r1?fields=sourcedId HTTP/1.1\r\nHost: hub\r\nAuthorization: Bearer tok-e\r\n\r\n",
+    ),
+    (
+        "",
+        "resource.http",
+        "GET /ims/oneroster/v1p1/resources/rs1?fields=sourcedId HTTP/1.1\r\nHost: hub\r\nAuthorization: Bearer tok-e\r\n\r\n",
+    ),
+    (
+        "",
+        "before.http",
+        "GET /ims/oneroster/v1p1/resources/rs1?fields=sourcedId&hubVersion=3 HTTP/1.1\r\nHost: hub\r\nAuthorization: Bearer tok-e\r\n\r\n",
+    ),
 ];
 
 type Files = Vec<(String, String, Vec<u8>)>;
@@ -119,8 +155,12 @@ pub fn printed<H: HubKeeper, C: CopyKeeper>(
     Ok(format!(in alloc; "{status} {text}")?)
 }
 
-// Runs the words over a keeper, with a new copy and no hub to be copied.
-fn run_line<H: HubKeeper>(alloc: Global, line: &str, keeper: &mut H) -> Result<String, NoMemory> {
+/// Runs the words over a keeper, with a new copy and no hub to be copied, and tells the status and what is printed.
+pub fn run_line<H: HubKeeper>(
+    alloc: Global,
+    line: &str,
+    keeper: &mut H,
+) -> Result<String, NoMemory> {
     let mut copy = MemCopy::new(alloc);
     let mut link = PeerLink::new(alloc, Vec::new(alloc));
     let told = printed(alloc, line, keeper, &mut copy, &mut link);

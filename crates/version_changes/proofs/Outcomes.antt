@@ -11,9 +11,9 @@ use Rattle.roster_types.specs.Records.{Record, SameButDate}
 use Rattle.roster_types.specs.Sets.{SetRecord}
 use Rattle.roster_types.specs.declared.set_row.SetRow.{SetRow}
 use Rattle.roster_types.specs.declared.status.Status.TheVariants.{ToBeDeleted}
+use Rattle.roster_values.proofs.KindLaws.{each_kind}
 use Rattle.roster_values.specs.Kinds.{all_kinds}
 use Rattle.roster_values.specs.declared.kind.Kind.{Kind}
-use Rattle.roster_values.specs.declared.kind.Kind.TheVariants.{Orgs, AcademicSessions, Courses, Classes, Users, Enrollments, Demographics, Categories, LineItems, Results}
 use Rattle.version_changes.specs.sets.Applying.{AreNewRows, Applies, Becomes, Leads, Listed, Makes, Outcome, Refuses, Unchanged, Undated, dated, is_active, is_left_out, is_own, is_whole, marked, owned_by, refusal_of, rows_in, set_key, too_many}
 use Rattle.version_changes.specs.sets.Steps.{ChangesAt, Leaves, ListedChangeAt, mark_of, stored_as}
 use Rattle.version_changes.specs.declared.sets.publish_fault.PublishFault.{PublishFault}
@@ -150,17 +150,4 @@ few_among rows (kind ∷ kinds) none =
     ] refl none
 
 pub few : (rows : List Record) → too_many rows all_kinds ≡ None → (kind : Kind) → count_of kind rows ≤ row_limit
-few rows none kind =
-    let all = few_among rows all_kinds none in
-    elim kind as (λ kind. count_of kind rows ≤ row_limit) [
-      | Orgs ↦ all.0
-      | AcademicSessions ↦ all.1.0
-      | Courses ↦ all.1.1.0
-      | Classes ↦ all.1.1.1.0
-      | Users ↦ all.1.1.1.1.0
-      | Enrollments ↦ all.1.1.1.1.1.0
-      | Demographics ↦ all.1.1.1.1.1.1.0
-      | Categories ↦ all.1.1.1.1.1.1.1.0
-      | LineItems ↦ all.1.1.1.1.1.1.1.1.0
-      | Results ↦ all.1.1.1.1.1.1.1.1.1.0
-    ]
+few rows none kind = each_kind (λ kind. count_of kind rows ≤ row_limit) (few_among rows all_kinds none) kind

@@ -1,15 +1,13 @@
 -- How many rows of a kind stand after changes.
 use Rattle.std.proofs.Common.{◌≡◌, ◌+◌, ◌<◌, ◌≤◌, ℕ, zero, suc, Bool, List, [], ◌∷◌, ◌++◌, true, false, cond, not, ◌&&◌, ◌||◌, add-zero, drop, get_or, length, take, IfSome, Option, None, Some, refl, sym, ap, subst, ◌∙◌, arith, inl, inr}
 use Rattle.std.specs.Prelude.{count_by, is_some}
-use Rattle.std.specs.List.{AllByRecursion, list_any}
+use Rattle.std.specs.List.{list_any}
 use Rattle.std.specs.Option.{option_or}
 use Rattle.std.proofs.lemmas.Bool.{cases_eq}
 use Rattle.std.proofs.lemmas.List.{drop_all, take_more}
 use Rattle.std.proofs.lemmas.List.Sums.{sum_by-cons}
 use Rattle.roster_types.specs.Keys.{Key, count_of, is_of_kind, look_up}
-use Rattle.roster_values.specs.Kinds.{all_kinds}
 use Rattle.roster_values.specs.declared.kind.Kind.{Kind}
-use Rattle.roster_values.specs.declared.kind.Kind.TheVariants.{Orgs, AcademicSessions, Courses, Classes, Users, Enrollments, Demographics, Categories, LineItems, Results}
 use Rattle.version_changes.specs.sets.Steps.{added, is_added}
 use Rattle.version_changes.proofs.CountLemmas.{count-overlaid}
 use Rattle.version_core.specs.Changes.{AreChanges, change_key, rows_of}
@@ -97,19 +95,6 @@ few_more kind rows changes k so_far next n le = elim (cases_eq n (k + 1)) [
   | inl same ↦ subst (λ m. count_of kind (rows_of (rows_behind rows (take m changes))) ≤ row_limit) (sym same) next
   | inr apart ↦ so_far n (omega (arith, le, apart))
 ]
-
--- what holds of all kinds in their list holds of each
-pub each_kind : (P : Kind → Type 0) → AllByRecursion P all_kinds → (kind : Kind) → P kind
-each_kind P all Orgs = all.0
-each_kind P all AcademicSessions = all.1.0
-each_kind P all Courses = all.1.1.0
-each_kind P all Classes = all.1.1.1.0
-each_kind P all Users = all.1.1.1.1.0
-each_kind P all Enrollments = all.1.1.1.1.1.0
-each_kind P all Demographics = all.1.1.1.1.1.1.0
-each_kind P all Categories = all.1.1.1.1.1.1.1.0
-each_kind P all LineItems = all.1.1.1.1.1.1.1.1.0
-each_kind P all Results = all.1.1.1.1.1.1.1.1.1.0
 
 pub count_left : {X : Type 0} (p : X → Bool) (xs : List X) (k count : ℕ) → count + count_by p (drop k xs) ≡ count_by p xs → length xs ≤ k → count ≡ count_by p xs
 count_left p xs k count so_far le = sym (add-zero count) ∙ ap (λ rest. count + count_by p rest) (sym (drop_all k xs le)) ∙ so_far

@@ -12,7 +12,8 @@ use Rattle.std.specs.declared.cmp.Ordering.{Ordering}
 use Rattle.std.specs.declared.cmp.Ordering.TheVariants.{Less, Equal, Greater}
 use Rattle.std.specs.Option.{option_map_or}
 use Rattle.reference_rules.proofs.KeyOrder.{and_first, and_second, key_total, less_from_is_lt, same_kind}
-use Rattle.reference_rules.proofs.Rest.{kind_from_place, look_up-found}
+use Rattle.roster_values.proofs.KindLaws.{kind_from_place}
+use Rattle.reference_rules.proofs.Rest.{look_up-found}
 use Rattle.roster_types.specs.Keys.{Ascends, Key, is_after, is_of_kind, key_cmp, keyed, look_up, row_key}
 use Rattle.roster_types.specs.Records.{Record, all_values, place_in}
 use Rattle.std.specs.Prelude.{option_and_then, slice_index_or}

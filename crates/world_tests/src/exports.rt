@@ -34,6 +34,7 @@ fn copied(rt: &impl Abort, alloc: Global) -> Result<MemCopy, Fail> {
 const MANIFEST: &str = "propertyName,value\nmanifest.version,1.0\noneroster.version,1.1\n\
     file.orgs,delta\nfile.academicSessions,delta\nfile.courses,delta\nfile.classes,delta\nfile.users,delta\n\
     file.enrollments,delta\nfile.demographics,delta\nfile.categories,delta\nfile.lineItems,delta\nfile.results,delta\n\
+    file.resources,delta\nfile.classResources,delta\nfile.courseResources,delta\n\
     source.systemName,hub\nsource.systemCode,hub\n";
 
 #[test]

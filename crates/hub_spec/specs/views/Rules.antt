@@ -10,7 +10,7 @@ use Rattle.reference_rules.specs.Faults.{has_type, is_word}
 use Rattle.roster_types.specs.Keys.{is_of_kind}
 use Rattle.roster_types.specs.Records.{Record, field_of}
 use Rattle.roster_values.specs.declared.kind.Kind.{Kind}
-use Rattle.roster_values.specs.declared.kind.Kind.TheVariants.{Classes, Enrollments, LineItems}
+use Rattle.roster_values.specs.declared.kind.Kind.TheVariants.{Classes, Enrollments, LineItems, ClassResources, CourseResources}
 use Rattle.version_core.specs.References.{names}
 
 abbrev pub has_role : Record → List ℕ → Bool
@@ -96,3 +96,5 @@ rule_of route.ClassLineItems = names_first (codes "class")
 rule_of route.ClassResults = naming (codes "lineItem") LineItems (names_first (codes "class"))
 rule_of route.ClassLineItemResults = both (if_second LineItems (names_first (codes "class"))) (names_second (codes "lineItem"))
 rule_of route.ClassStudentResults = both (naming (codes "lineItem") LineItems (names_first (codes "class"))) (names_second (codes "student"))
+rule_of route.ClassResources = named_by ClassResources (codes "resource") (names_first (codes "class"))
+rule_of route.CourseResources = named_by CourseResources (codes "resource") (names_first (codes "course"))

@@ -8,7 +8,7 @@ use Rattle.reference_rules.specs.Parents.{is_id, nth_parent}
 use Rattle.roster_types.specs.Keys.{count_of}
 use Rattle.roster_types.specs.Records.{Record}
 use Rattle.roster_values.specs.declared.kind.Kind.{Kind}
-use Rattle.roster_values.specs.declared.kind.Kind.TheVariants.{Orgs, AcademicSessions, Courses, Classes, Users, Enrollments, Demographics, Categories, LineItems, Results}
+use Rattle.roster_values.specs.declared.kind.Kind.TheVariants.{Orgs, AcademicSessions, Courses, Classes, Users, Enrollments, Demographics, Categories, LineItems, Results, Resources, ClassResources, CourseResources}
 use Rattle.version_core.specs.References.{is_one_of, named_in}
 
 -- the id is the school's, or that of its n-th parent for some n up to `turns`
@@ -40,6 +40,20 @@ sees_course schools rows course =
 unfoldable pub sees_line_item : List (List ℕ) → List Record → Record → Bool
 sees_line_item schools rows item = leads_to (is_at_school schools) rows (codes "class") Classes item
 
+-- its class is seen
+unfoldable pub sees_class_resource : List (List ℕ) → List Record → Record → Bool
+sees_class_resource schools rows row = leads_to (is_at_school schools) rows (codes "class") Classes row
+
+-- its course is seen
+unfoldable pub sees_course_resource : List (List ℕ) → List Record → Record → Bool
+sees_course_resource schools rows row = leads_to (sees_course schools rows) rows (codes "course") Courses row
+
+-- a seen class resource or a seen course resource names it
+unfoldable pub sees_resource : List (List ℕ) → List Record → Record → Bool
+sees_resource schools rows resource =
+    is_named_by (sees_class_resource schools rows) rows ClassResources (codes "resource") resource
+    || is_named_by (sees_course_resource schools rows) rows CourseResources (codes "resource") resource
+
 -- what is seen of each kind under a list of schools
 abbrev pub sees_at : List (List ℕ) → List Record → Kind → Record → Bool
 sees_at schools rows Orgs row = sees_org schools rows row
@@ -52,6 +66,9 @@ sees_at schools rows Demographics row = stands_where (sees_user schools rows) ro
 sees_at schools rows Categories row = true
 sees_at schools rows LineItems row = sees_line_item schools rows row
 sees_at schools rows Results row = leads_to (sees_line_item schools rows) rows (codes "lineItem") LineItems row
+sees_at schools rows Resources row = sees_resource schools rows row
+sees_at schools rows ClassResources row = sees_class_resource schools rows row
+sees_at schools rows CourseResources row = sees_course_resource schools rows row
 
 -- a row among others is seen
 unfoldable pub sees_row : Schools → List Record → Record → Bool

@@ -103,23 +103,103 @@ impl<'a, R: Refs> RowTest for SeesLineItem<'a, R> {
 }
 
 // The org of the course is seen, or a class that is seen names the course.
-#[tactic(auto, unfolding(hub_spec::specs::views::Seen::sees_course))]
-fn sees_course<R: Refs>(schools: &[Id], known: &KnownRows<'_, R>, course: &Row) -> bool
+#[derive(Drop)]
+struct SeesCourse<'a, R: Refs> {
+    schools: &'a [Id],
+    known: &'a KnownRows<'a, R>,
+    ghost listed: { known.now.schools.now ≡ Listed schools.now },
+}
+
+impl<'a, R: Refs> RowTest for SeesCourse<'a, R> {
+    ghost passes = { λ t course. spec.sees_course t.schools.now (R.rows t.known.now.rows.now) course };
+
+    #[tactic(auto, unfolding(hub_spec::specs::views::Seen::sees_course))]
+    fn passes(&self, course: &Row) -> bool {
+        let schools = self.schools;
+        let known = self.known;
+        leads_to(
+            known.rows,
+            &SeesOrg { schools, known },
+            "org",
+            Kind::Orgs,
+            course,
+        ) || is_named_by(
+            known.rows,
+            &IsAtSchool { schools },
+            Kind::Classes,
+            "course",
+            course,
+        )
+    }
+}
+
+// The class of the class resource is seen.
+#[derive(Drop)]
+struct SeesClassResource<'a, R: Refs> {
+    schools: &'a [Id],
+    rows: &'a R,
+}
+
+impl<'a, R: Refs> RowTest for SeesClassResource<'a, R> {
+    ghost passes = { λ t row. spec.sees_class_resource t.schools.now (R.rows t.rows.now) row };
+
+    #[tactic(auto, unfolding(hub_spec::specs::views::Seen::sees_class_resource))]
+    fn passes(&self, row: &Row) -> bool {
+        let schools = self.schools;
+        leads_to(
+            self.rows,
+            &IsAtSchool { schools },
+            "class",
+            Kind::Classes,
+            row,
+        )
+    }
+}
+
+// The course of the course resource is seen.
+#[derive(Drop)]
+struct SeesCourseResource<'a, R: Refs> {
+    schools: &'a [Id],
+    known: &'a KnownRows<'a, R>,
+    ghost listed: { known.now.schools.now ≡ Listed schools.now },
+}
+
+impl<'a, R: Refs> RowTest for SeesCourseResource<'a, R> {
+    ghost passes = { λ t row. spec.sees_course_resource t.schools.now (R.rows t.known.now.rows.now) row };
+
+    #[tactic(auto, unfolding(hub_spec::specs::views::Seen::sees_course_resource))]
+    fn passes(&self, row: &Row) -> bool {
+        let schools = self.schools;
+        let known = self.known;
+        leads_to(
+            known.rows,
+            &SeesCourse { schools, known },
+            "course",
+            Kind::Courses,
+            row,
+        )
+    }
+}
+
+// A class resource or a course resource that is seen names the resource.
+#[tactic(auto, unfolding(hub_spec::specs::views::Seen::sees_resource))]
+fn sees_resource<R: Refs>(schools: &[Id], known: &KnownRows<'_, R>, resource: &Row) -> bool
     requires { known.now.schools.now ≡ Listed schools.now }
-    ensures { result ≡ spec.sees_course schools.now (R.rows known.now.rows.now) course.now }
+    ensures { result ≡ spec.sees_resource schools.now (R.rows known.now.rows.now) resource.now }
 {
-    leads_to(
-        known.rows,
-        &SeesOrg { schools, known },
-        "org",
-        Kind::Orgs,
-        course,
+    let rows = known.rows;
+    is_named_by(
+        rows,
+        &SeesClassResource { schools, rows },
+        Kind::ClassResources,
+        "resource",
+        resource,
     ) || is_named_by(
-        known.rows,
-        &IsAtSchool { schools },
-        Kind::Classes,
-        "course",
-        course,
+        rows,
+        &SeesCourseResource { schools, known },
+        Kind::CourseResources,
+        "resource",
+        resource,
     )
 }
 
@@ -132,7 +212,7 @@ fn sees_at<R: Refs>(schools: &[Id], known: &KnownRows<'_, R>, row: &Row) -> bool
     match row.kind() {
         Kind::Orgs => SeesOrg { schools, known }.passes(row),
         Kind::AcademicSessions | Kind::Categories => true,
-        Kind::Courses => sees_course(schools, known, row),
+        Kind::Courses => SeesCourse { schools, known }.passes(row),
         Kind::Classes | Kind::Enrollments => IsAtSchool { schools }.passes(row),
         Kind::Users => SeesUser { schools, rows }.passes(row),
         Kind::Demographics => {
@@ -146,6 +226,9 @@ fn sees_at<R: Refs>(schools: &[Id], known: &KnownRows<'_, R>, row: &Row) -> bool
             Kind::LineItems,
             row,
         ),
+        Kind::Resources => sees_resource(schools, known, row),
+        Kind::ClassResources => SeesClassResource { schools, rows }.passes(row),
+        Kind::CourseResources => SeesCourseResource { schools, known }.passes(row),
     }
 }
 

@@ -3,7 +3,8 @@ use Rattle.std.specs.List.{flat_map}
 use Rattle.roster_types.specs.Keys.{count_of, is_after, is_of_kind}
 use Rattle.roster_types.specs.Records.{Record}
 use Rattle.reference_rules.proofs.CycleLemmas.{no_notes}
-use Rattle.reference_rules.proofs.Rest.{kind_from_place, look_up-found, next_kind, rest_at, rest_none, rest_of, rest_start}
+use Rattle.roster_values.proofs.KindLaws.{kind_from_place}
+use Rattle.reference_rules.proofs.Rest.{look_up-found, next_kind, rest_at, rest_none, rest_of, rest_start}
 use Rattle.reference_rules.specs.Faults.{row_faults}
 use Rattle.reference_rules.specs.Notes.{AreNotes}
 use Rattle.reference_rules.proofs.add_kind_faults.Goals as goal

@@ -68,7 +68,7 @@ fn listed_change(
     match feed.copy(alloc) {
         Ok(feed) => Ok(Some(stored_as(feed, listed, at))),
         Err(error) => {
-            // By name, since the check goes through all ten structs where a row is dropped unnamed.
+            // By name, since the check goes through the structs of all kinds where a row is dropped unnamed.
             drop(listed);
             Err(error)
         }

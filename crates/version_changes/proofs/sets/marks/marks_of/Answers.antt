@@ -1,4 +1,4 @@
-use Rattle.std.proofs.Common.{◌≡◌, ◌++◌, ℤ, List, filter, take, get_or, refl, sym, ap, subst, ◌∙◌, arith}
+use Rattle.std.proofs.Common.{◌≡◌, ◌++◌, ℤ, List, filter, take, get_or, length, refl, sym, ap, subst, ◌∙◌, arith}
 use Rattle.std.specs.List.{flat_map}
 use Rattle.std.specs.Option.{option_to_list}
 use Rattle.reference_rules.proofs.Rest.{by_kinds}
@@ -21,7 +21,7 @@ module _ (set : SetRecord) (at : ℤ) (index : List SetRow) (rows : List RowChan
   abbrev of_kind : Kind → List RowChange
   of_kind kind = marks_of set at index rows (filter (is_of_kind kind) (rows_of rows))
 
-  all_marks : (marks : List RowChange) (n : _) → AreChanges rows → marks ≡ flat_map of_kind (take n all_kinds) → n ≡ 10 → marks ≡ marks_of set at index rows (rows_of rows)
+  all_marks : (marks : List RowChange) (n : _) → AreChanges rows → marks ≡ flat_map of_kind (take n all_kinds) → n ≡ length all_kinds → marks ≡ marks_of set at index rows (rows_of rows)
   all_marks marks n up is all =
       is ∙ ap (λ m. flat_map of_kind (take m all_kinds)) all
       ∙ by_kinds (λ (row : Record). option_to_list (mark_at set at index rows (row_key row))) (rows_of rows) (is_sorted-rows_of rows ∙ up)

@@ -1,5 +1,5 @@
 use Rattle.version_changes.specs.sound.Behind.{AreFew}
-use Rattle.version_changes.proofs.SoundCounts.{each_kind}
+use Rattle.roster_values.proofs.KindLaws.{each_kind}
 use Rattle.version_changes.proofs.sound.counts.are_few.Goals as goal
 
 pub returns : goal.returns
