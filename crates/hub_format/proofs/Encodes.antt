@@ -41,11 +41,11 @@ use Rattle.hub_format.proofs.Folding.{Later, folded_is}
 use Rattle.hub_format.proofs.Marking.{fit_marked, marked_is}
 
 -- the first of a run
-first_run : (n : ℕ) (base : BaseVersion) (changes : List Change) → AreVersionsFrom n (versions_from base changes) → (base.number ≡ n) × IsVersion base
+pub first_run : (n : ℕ) (base : BaseVersion) (changes : List Change) → AreVersionsFrom n (versions_from base changes) → (base.number ≡ n) × IsVersion base
 first_run n base [] run = (run.0, run.1)
 first_run n base (change ∷ changes) run = (run.0, run.1)
 
-ahead : (m n : ℕ) (base : BaseVersion) (changes : List Change) → m ≤ n → AreVersionsFrom n (versions_from base changes) → Later m changes
+pub ahead : (m n : ℕ) (base : BaseVersion) (changes : List Change) → m ≤ n → AreVersionsFrom n (versions_from base changes) → Later m changes
 ahead m n base [] le run = tt
 ahead m n base (change ∷ changes) le run =
     let first = first_run (n + 1) (after base change) changes run.2 in
@@ -57,7 +57,7 @@ pub rise_of : (grants : Option (List GrantRow)) (others : List GrantRow) → Ris
 rise_of None others rise = λ x is. absurd cc
 rise_of (Some grants) others rise = λ x is. let same : grants ≡ x = cc in subst (RiseBy caller_of) same rise
 
-fit_laid : (base rows : List RowChange) → AllByRecursion IsReadBack base → AllByRecursion IsReadBack rows → AllByRecursion IsReadBack (overlaid change_key base rows)
+pub fit_laid : (base rows : List RowChange) → AllByRecursion IsReadBack base → AllByRecursion IsReadBack rows → AllByRecursion IsReadBack (overlaid change_key base rows)
 fit_laid base [] all news = all
 fit_laid base (row ∷ rows) all news = one (overlaid change_key base rows) (fit_laid base rows all news.1)
   where
@@ -69,7 +69,7 @@ fit_laid base (row ∷ rows) all news = one (overlaid change_key base rows) (fit
       | Greater ↦ (all.0, one others all.1)
     ]
 
-fit_taken : (grants : Option (List GrantRow)) (others : List GrantRow) → ForSome grants (AllByRecursion FitsGrant) → AllByRecursion FitsGrant others → AllByRecursion FitsGrant (unwrap_or grants others)
+pub fit_taken : (grants : Option (List GrantRow)) (others : List GrantRow) → ForSome grants (AllByRecursion FitsGrant) → AllByRecursion FitsGrant others → AllByRecursion FitsGrant (unwrap_or grants others)
 fit_taken None others fits all = all
 fit_taken (Some grants) others fits all = fits grants refl
 
@@ -80,7 +80,7 @@ goes_none keep base (oldest ∷ rest) few = let no : nat_lt keep (length (oldest
 goes_one : (keep : ℕ) (base : BaseVersion) (oldest : Change) (rest : List Change) → length rest ≡ keep → let_go keep base (oldest ∷ rest) ≡ folded keep base oldest
 goes_one keep base oldest rest full = let yes : nat_lt keep (length (oldest ∷ rest)) ≡ true = grind (arith, nat_tests) in rw yes refl
 
-split : (changes : List Change) (change : Change) → (oldest : Change) × (rest : List Change) × (changes ++ change ∷ [] ≡ oldest ∷ rest) × (length rest ≡ length changes)
+pub split : (changes : List Change) (change : Change) → (oldest : Change) × (rest : List Change) × (changes ++ change ∷ [] ≡ oldest ∷ rest) × (length rest ≡ length changes)
 split [] change = (change, [], refl, refl)
 split (x ∷ changes) change = (x, changes ++ change ∷ [], refl, omega (arith, length-append changes (change ∷ [])))
 

@@ -34,11 +34,11 @@ is_kept version label = not (is_between (number version) (number (version + 1)) 
 abbrev pub IsOf : ℕ → Entry → Type 0
 IsOf version e = (x : List ℕ) × (e.0 ≡ number version ++ x)
 
-gone : (version : ℕ) → version + 1 < 2 ^ 64 → (es : List Entry) → AllByRecursion (IsOf version) es → AllByRecursion (λ e. is_kept version e.0 ≡ false) es
+pub gone : (version : ℕ) → version + 1 < 2 ^ 64 → (es : List Entry) → AllByRecursion (IsOf version) es → AllByRecursion (λ e. is_kept version e.0 ≡ false) es
 gone version fits [] all = tt
 gone version fits (e ∷ es) all = (ap (is_kept version) all.0.1 ∙ ap not (of_version version all.0.0 fits), gone version fits es all.1)
 
-stays : (version other : ℕ) → version + 1 < 2 ^ 64 → other < 2 ^ 64 → (other ≡ version → ⊥) → (es : List Entry) → AllByRecursion (IsOf other) es → AllByRecursion (λ e. is_kept version e.0 ≡ true) es
+pub stays : (version other : ℕ) → version + 1 < 2 ^ 64 → other < 2 ^ 64 → (other ≡ version → ⊥) → (es : List Entry) → AllByRecursion (IsOf other) es → AllByRecursion (λ e. is_kept version e.0 ≡ true) es
 stays version other fits others apart [] all = tt
 stays version other fits others apart (e ∷ es) all = (ap (is_kept version) all.0.1 ∙ ap not (of_other version other all.0.0 fits others apart), stays version other fits others apart es all.1)
 
@@ -60,7 +60,7 @@ Later version changes = AllByRecursion (λ change. (version < change.version) ×
 
 -- what a version of its own has stays where another is cleared
 module _ (own : Change → List Entry) (is_of : (change : Change) → AllByRecursion (IsOf change.version) (own change)) (version : ℕ) (fits : version + 1 < 2 ^ 64) where
-  kept : (changes : List Change) → Later version changes → where_label (is_kept version) (of_changes own changes) ≡ of_changes own changes
+  pub kept : (changes : List Change) → Later version changes → where_label (is_kept version) (of_changes own changes) ≡ of_changes own changes
   kept [] later = refl
   kept (change ∷ changes) later =
       let here = later.0 in
@@ -68,7 +68,7 @@ module _ (own : Change → List Entry) (is_of : (change : Change) → AllByRecur
       ∙ ap (λ es. es ++ where_label (is_kept version) (own change)) (kept changes later.1)
       ∙ ap (λ es. of_changes own changes ++ es) (where_all (is_kept version) (own change) (stays version change.version fits (omega (arith, here.0, here.1)) (λ same. absurd (omega (arith, here.0, same))) (own change) (is_of change)))
 
-  cleared : (oldest : Change) (changes : List Change) → oldest.version ≡ version → Later version changes → where_label (is_kept version) (of_changes own (oldest ∷ changes)) ≡ of_changes own changes
+  pub cleared : (oldest : Change) (changes : List Change) → oldest.version ≡ version → Later version changes → where_label (is_kept version) (of_changes own (oldest ∷ changes)) ≡ of_changes own changes
   cleared oldest changes is later =
       where-append (is_kept version) (of_changes own changes) (own oldest)
       ∙ ap (λ es. es ++ where_label (is_kept version) (own oldest)) (kept changes later)
@@ -76,7 +76,7 @@ module _ (own : Change → List Entry) (is_of : (change : Change) → AllByRecur
       ∙ append-nil (of_changes own changes)
 
 -- lists of which a test passes the whole of one and nothing of the other may change places
-swapped : (p : List ℕ → Bool) (xs ys : List Entry) → where_label p xs ≡ [] → where_label p ys ≡ ys → Alike (xs ++ ys) (ys ++ xs)
+pub swapped : (p : List ℕ → Bool) (xs ys : List Entry) → where_label p xs ≡ [] → where_label p ys ≡ ys → Alike (xs ++ ys) (ys ++ xs)
 swapped p xs ys none all q =
     let alike : (x : List ℕ) → bytes_cmp q x ≡ Equal → p x ≡ p q = λ x tie. ap p (sym (same_bytes q x tie)) in
     let in_xs : None ≡ cond (p q) (found q xs) None = ap (found q) (sym none) ∙ find-where_key bytes_cmp p q alike xs in
@@ -92,11 +92,11 @@ swapped p xs ys none all q =
     go false o r no_o is = ap (or_else o) is ∙ sym (left o) ∙ ap (λ x. or_else x o) (sym is)
 
 -- what becomes of the base's grants
-abbrev moved_in : ℕ → List GrantRow → Option (List GrantRow) → Map → Map
+abbrev pub moved_in : ℕ → List GrantRow → Option (List GrantRow) → Map → Map
 moved_in version grants None m = filled (grants_under version grants) m
 moved_in version grants (Some others) m = m
 
-moved_act : (version : ℕ) (grants : List GrantRow) (others : Option (List GrantRow)) → Act (moved version grants others) (λ area m. if area == 5 then moved_in version grants others m else m)
+pub moved_act : (version : ℕ) (grants : List GrantRow) (others : Option (List GrantRow)) → Act (moved version grants others) (λ area m. if area == 5 then moved_in version grants others m else m)
 moved_act version grants None = puts_act 5 (grants_under version grants)
 moved_act version grants (Some others) = record { on = λ m area. same (area == 5) (m area) }
   where
@@ -129,7 +129,7 @@ module _ (keep : ℕ) (base : BaseVersion) (oldest : Change) (rest : List Change
   fits_base : base.number + 1 < 2 ^ 64
   fits_base = let lt = later.0.0 in let le = later.0.1 in omega (arith, lt, le)
 
-  state_alike : (e f : Entry) → e.0 ≡ f.0 → Alike (e ∷ f ∷ []) (e ∷ [])
+  pub state_alike : (e f : Entry) → e.0 ≡ f.0 → Alike (e ∷ f ∷ []) (e ∷ [])
   state_alike e f same q =
       elim (eq_by_cmp bytes_cmp q e.0) as (λ b. eq_by_cmp bytes_cmp q e.0 ≡ b → cond b (Some e.1) (found q (f ∷ [])) ≡ cond b (Some e.1) None) [
         | true ↦ λ at. refl
@@ -150,7 +150,7 @@ module _ (keep : ℕ) (base : BaseVersion) (oldest : Change) (rest : List Change
   rest_later = kept own_grants (λ change. own_are_of change.version change.grants) oldest.version fits_oldest rest after_oldest
 
   -- the grants of the base and the changes, and those of the next base and the changes left
-  grants_moved : (others : Option (List GrantRow))
+  pub grants_moved : (others : Option (List GrantRow))
       → retain_keys (moved_in oldest.version base.grants others (from_entries {R = bytes_cmp} ((of_changes own_grants rest ++ some_grants oldest.version others) ++ grants_under base.number base.grants))) (is_kept base.number)
       ≡ from_entries (of_changes own_grants rest ++ grants_under oldest.version (unwrap_or others base.grants))
   grants_moved None =

@@ -20,6 +20,10 @@ pub enum HubArea {
     Grants,
     /// The marks of callers' writes.
     Marks,
+    /// The rows of the base and of the changes, each with the version in which it came.
+    Spans,
+    /// The kinds and ids of the rows that each version behind the base changes.
+    Names,
 }
 
 impl HubArea {
@@ -35,6 +39,8 @@ impl HubArea {
             HubArea::ChangeRows => 4,
             HubArea::Grants => 5,
             HubArea::Marks => 6,
+            HubArea::Spans => 7,
+            HubArea::Names => 8,
         }
     }
 }

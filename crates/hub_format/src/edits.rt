@@ -18,7 +18,8 @@ use version_core::change::Change;
 use version_core::grant_row::GrantRow;
 use version_core::mark::MarkRow;
 
-pub(crate) fn number_bytes(alloc: Global, n: u64) -> Result<Vec<u8>, NoMemory>
+/// A number in 8 bytes.
+pub fn number_bytes(alloc: Global, n: u64) -> Result<Vec<u8>, NoMemory>
     ensures { IfOk result (λ bytes. bytes.items ≡ number n) }
 {
     let mut bytes = Vec::new(alloc);
@@ -37,8 +38,8 @@ pub fn put_format(alloc: Global, format: u64) -> Result<Edit, NoMemory>
     })
 }
 
-// The edit that stores a state whose base has the moment of these bytes.
-pub(crate) fn put_state(alloc: Global, keep: u64, base: u64, at: &[u8]) -> Result<Edit, NoMemory>
+/// The edit that stores a state whose base has the moment of these bytes.
+pub fn put_state(alloc: Global, keep: u64, base: u64, at: &[u8]) -> Result<Edit, NoMemory>
     ensures { IfOk result (λ edit. edit ≡ put_at 1 ([], number keep ++ number base ++ at.now)) }
 {
     let mut body = Vec::new(alloc);
@@ -62,8 +63,8 @@ pub fn first_edits(alloc: Global, keep: u32) -> Result<Vec<Edit>, NoMemory>
     Ok(edits)
 }
 
-// Adds the edits that store the grants of a version, where it has any of its own.
-fn put_some_grants(
+/// Adds the edits that store the grants of a version, where it has any of its own.
+pub fn put_some_grants(
     alloc: Global,
     edits: &mut Vec<Edit>,
     version: u64,
@@ -115,8 +116,8 @@ pub fn push_mark(
     }
 }
 
-// The edit that takes away what stands behind a version's number.
-pub(crate) fn clear_version(alloc: Global, area: HubArea, version: u64) -> Result<Edit, NoMemory>
+/// The edit that takes away what stands behind a version's number.
+pub fn clear_version(alloc: Global, area: HubArea, version: u64) -> Result<Edit, NoMemory>
     requires { version + 1 < 2 ^ 64 }
     ensures { IfOk result (λ edit. edit ≡ clear_version (area_number area) version) }
 {

@@ -49,8 +49,8 @@ fn push_moved(
     Ok(())
 }
 
-// Adds the edits by which the base's grants go along, where the version has none of its own.
-fn push_grants(
+/// Adds the edits by which the base's grants go along, where the version has none of its own.
+pub fn push_grants(
     alloc: Global,
     edits: &mut Vec<Edit>,
     flag: u8,
@@ -77,8 +77,8 @@ fn push_clears(alloc: Global, edits: &mut Vec<Edit>, base: u64) -> Result<(), No
     Ok(())
 }
 
-// The bytes of a change's moment, and whether it has grants.
-fn change_parts(body: &[u8]) -> Option<(&[u8], u8)>
+/// The bytes of a change's moment, and whether it has grants.
+pub fn change_parts(body: &[u8]) -> Option<(&[u8], u8)>
     ensures parts { IfSome result (λ p. body.now ≡ p.0.now ++ p.1 ∷ []) }
     ensures eight { IfSome result (λ p. length p.0.now ≡ 8) }
 {

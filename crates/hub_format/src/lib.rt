@@ -15,11 +15,17 @@ mod reading;
 mod writing;
 
 pub use area::HubArea;
-pub use edits::{first_edits, put_format};
+pub use edits::{
+    clear_version, first_edits, number_bytes, push_mark, put_format, put_some_grants, put_state,
+};
+pub use fold::{change_parts, push_grants};
 pub use pieces::{kind_byte, push_number, push_sized};
 pub use plan::{Oldest, commit_edits, lets_go};
 pub use read_grants::{grants_of, id_at};
 pub use read_marks::{marks_of, write_of};
-pub use read_rows::rows_of;
+pub use read_rows::{key_of, row_of_body, rows_of, with_id};
 pub use read_state::{state_of, version_of};
-pub use reading::{Format, format_of, number_at, only_body, only_number, sized_at, state_parts};
+pub use reading::{
+    Format, behind, format_of, number_at, only_body, only_number, sized_at, state_parts,
+};
+pub use writing::{change_body, put_version, row_body};

@@ -48,8 +48,8 @@ fn parts_of(body: &[u8]) -> Option<(u8, &[u8], &[u8])>
     }
 }
 
-// The row and the owner of a body, if it is one of a row of this kind.
-fn row_of_body(alloc: Global, kind: Kind, body: &[u8]) -> Result<Option<RowChange>, NoMemory>
+/// The row and the owner of a body, if it is one of a row of this kind.
+pub fn row_of_body(alloc: Global, kind: Kind, body: &[u8]) -> Result<Option<RowChange>, NoMemory>
     ensures row { (change : RowValue) → IsReadBack change → change.row.kind ≡ kind → body.now ≡ row_body change → IfOk result (λ o. IfSome o (λ found. found ≡ change)) }
     ensures kind { IfOk result (λ o. IfSome o (λ found. found.row.kind ≡ kind)) }
 {
@@ -72,16 +72,16 @@ fn row_of_body(alloc: Global, kind: Kind, body: &[u8]) -> Result<Option<RowChang
     }
 }
 
-// The kind and the id of a key's label.
-fn key_of(label: &[u8]) -> Option<(Kind, &[u8])>
+/// The kind and the id of a key's label.
+pub fn key_of(label: &[u8]) -> Option<(Kind, &[u8])>
     ensures { IfSome result (λ key. label.now ≡ place_of_kind key.0 ∷ key.1.now) }
 {
     let (byte, id) = label.split_first()?;
     Some((kind_of(*byte)?, id))
 }
 
-// The row, if this is its id.
-fn with_id(row: RowChange, id: &[u8]) -> Option<RowChange>
+/// The row, if this is its id.
+pub fn with_id(row: RowChange, id: &[u8]) -> Option<RowChange>
     ensures same { IfSome result (λ found. found ≡ row) }
     ensures id { IfSome result (λ found. found.row.id ≡ id.now) }
 {

@@ -38,7 +38,7 @@ pub fn only_number(bytes: &[u8]) -> Option<u64>
 }
 
 /// What stands behind so many bytes.
-pub(crate) fn behind(bytes: &[u8], skip: usize) -> &[u8]
+pub fn behind(bytes: &[u8], skip: usize) -> &[u8]
     ensures { result.now ≡ drop skip bytes.now }
 {
     if bytes.len() < skip {

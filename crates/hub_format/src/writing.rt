@@ -35,7 +35,7 @@ fn version_label(alloc: Global, version: u64) -> Result<Bytes, NoMemory>
 }
 
 /// The body of a change's version.
-pub(crate) fn change_body(alloc: Global, change: &Change) -> Result<Bytes, NoMemory>
+pub fn change_body(alloc: Global, change: &Change) -> Result<Bytes, NoMemory>
     ensures body { IfOk result (λ body. body ≡ change_body change.now) }
     ensures fits { OnOk result (FitsSigned w64 change.now.moment) }
 {
@@ -46,7 +46,7 @@ pub(crate) fn change_body(alloc: Global, change: &Change) -> Result<Bytes, NoMem
 }
 
 /// The edit that stores a change's version.
-pub(crate) fn put_version(alloc: Global, change: &Change) -> Result<Edit, NoMemory>
+pub fn put_version(alloc: Global, change: &Change) -> Result<Edit, NoMemory>
     ensures edit { IfOk result (λ edit. edit ≡ put_at 3 (version_entry change.now)) }
     ensures fits { OnOk result (FitsSigned w64 change.now.moment) }
 {
@@ -66,8 +66,8 @@ fn row_label(alloc: Global, prefix: &[u8], kind: Kind, id: &Id) -> Result<Bytes,
     Ok(Bytes::from_vec(label))
 }
 
-// A row's owner and its text, from which the row is read back.
-fn row_body(alloc: Global, change: &RowChange) -> Result<Bytes, NoMemory>
+/// A row's owner and its text, from which the row is read back.
+pub fn row_body(alloc: Global, change: &RowChange) -> Result<Bytes, NoMemory>
     ensures body { IfOk result (λ body. body ≡ row_body change.now) }
     ensures back { OnOk result (IsReadBack change.now) }
 {

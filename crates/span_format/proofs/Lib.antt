@@ -1,0 +1,16 @@
+pub mod Labels
+pub mod Areas
+pub mod Adding
+pub mod Putting
+pub mod Folding
+pub mod Marking
+pub mod Keeping
+pub mod Turning
+pub mod Told
+pub mod Unique
+pub mod Ids
+pub mod Steps
+pub mod Moving
+pub mod Planning
+pub mod Left
+pub mod Naming

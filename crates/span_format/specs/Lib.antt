@@ -1,0 +1,4 @@
+pub mod Format
+pub mod Edits
+pub mod Reading
+pub mod Oldest

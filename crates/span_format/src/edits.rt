@@ -1,0 +1,88 @@
+//! The edits that add a change, and those by which a store of format 1 becomes one of format 2.
+
+ghost use Rattle.std.specs.Prelude.{◌≡◌, ◌++◌, ◌∷◌, [], IfOk, OnOk, map};
+ghost use Rattle.std.specs.List.{AllByRecursion};
+ghost use Rattle.item_maps.specs.declared.item.Edit.TheVariants.{Clear};
+ghost use Rattle.hub_format.specs.Edits.{put_at, puts};
+ghost use Rattle.hub_format.specs.Format.{FitsChange, format_entry};
+ghost use Rattle.span_format.specs.Edits.{added, brought, turn_edits};
+ghost use Rattle.span_format.specs.Format.{FitSpans, HasPlainIds, own_names, own_spans};
+
+use crate::writing::{put_names, put_spans};
+use hub_format::{HubArea, put_format, put_some_grants, put_version};
+use item_maps::Edit;
+use roster_base::{Bytes, NoMemory};
+use std::alloc::Global;
+use version_core::change::Change;
+use version_core::hub_tables::HubTables;
+
+/// The edits that store one change more.
+pub(crate) fn added_edits(alloc: Global, change: &Change) -> Result<Vec<Edit>, NoMemory>
+    ensures edits { IfOk result (λ edits. edits.items ≡ added change.now) }
+    ensures fits { OnOk result (FitsChange change.now) }
+    ensures plain { OnOk result (HasPlainIds change.now) }
+{
+    let mut edits = Vec::new(alloc);
+    edits.push(put_version(alloc, change)?)?;
+    put_spans(alloc, &mut edits, change.version, change.rows.as_slice())?;
+    put_names(alloc, &mut edits, change.version, change.rows.as_slice())?;
+    put_some_grants(alloc, &mut edits, change.version, &change.grants)?;
+    Ok(edits)
+}
+
+// Adds the edits that store the spans and the names of a change.
+fn bring(alloc: Global, edits: &mut Vec<Edit>, change: &Change) -> Result<(), NoMemory>
+    ensures edits { OnOk result (edits.new.items ≡ edits.old.items ++ (puts 7 (own_spans change.now) ++ puts 8 (own_names change.now))) }
+    ensures plain { OnOk result (HasPlainIds change.now) }
+{
+    put_spans(alloc, edits, change.version, change.rows.as_slice())?;
+    put_names(alloc, edits, change.version, change.rows.as_slice())
+}
+
+fn bring_all(alloc: Global, edits: &mut Vec<Edit>, changes: &[Change]) -> Result<(), NoMemory>
+    ensures edits { OnOk result (edits.new.items ≡ edits.old.items ++ brought changes.now) }
+    ensures plain { OnOk result (AllByRecursion HasPlainIds changes.now) }
+{
+    for change in changes {
+        bring(alloc, edits, change)?;
+    }
+    Ok(())
+}
+
+// The edit that leaves an area of rows empty: all their labels lie below 255.
+fn clear_rows(alloc: Global, area: u32) -> Result<Edit, NoMemory>
+    ensures { IfOk result (λ edit. edit ≡ Clear area [] (255 ∷ [])) }
+{
+    Ok(Edit::Clear {
+        area,
+        from: Bytes::from_vec(Vec::new(alloc)),
+        to: Bytes::from_vec(Vec::from_slice(alloc, &[255])?),
+    })
+}
+
+// The number of the format, in place of 1, and no rows in the areas of format 1.
+fn format_edits(alloc: Global) -> Result<Vec<Edit>, NoMemory>
+    ensures { IfOk result (λ edits. edits.items ≡ put_at 0 (format_entry 2) ∷ Clear 2 [] (255 ∷ []) ∷ Clear 4 [] (255 ∷ []) ∷ []) }
+{
+    let mut edits = Vec::new(alloc);
+    edits.push(put_format(alloc, 2)?)?;
+    edits.push(clear_rows(alloc, HubArea::BaseRows.number())?)?;
+    edits.push(clear_rows(alloc, HubArea::ChangeRows.number())?)?;
+    Ok(edits)
+}
+
+/// The edits by which a store of format 1 becomes one of format 2, from its tables.
+pub fn turn_edits(alloc: Global, tables: &HubTables) -> Result<Vec<Edit>, NoMemory>
+    ensures edits { IfOk result (λ edits. edits.items ≡ turn_edits tables.now) }
+    ensures plain { OnOk result (FitSpans tables.now) }
+{
+    let mut edits = format_edits(alloc)?;
+    put_spans(
+        alloc,
+        &mut edits,
+        tables.base.number,
+        tables.base.rows.as_slice(),
+    )?;
+    bring_all(alloc, &mut edits, tables.changes.as_slice())?;
+    Ok(edits)
+}
