@@ -5,4 +5,5 @@ mod LeadLemmas
 mod ListSteps
 mod Lying
 mod Ordering
+mod Standing
 mod Telling

@@ -12,7 +12,7 @@ use Rattle.roster_values.specs.declared.kind.Kind.{Kind}
 use Rattle.row_deltas.specs.Sameness.{same_row}
 use Rattle.version_changes.specs.sets.Applying.{is_active, set_key}
 use Rattle.version_core.specs.Order.{overlaid}
-use Rattle.bulk_export.specs.Exports.{IsFile}
+use Rattle.bulk_export.specs.Exports.{AreHeld, IsFile}
 
 -- the rows of a kind in the parts of a set
 abbrev pub rows_in : Kind → List SetPart → List SetRow
@@ -38,11 +38,12 @@ pub record AreChanges (at : ℤ) (earlier : List SetRow) (held changes : List Re
   pub order : Ascends row_key changes
   pub entries : (k : Key) → look_up row_key k changes ≡ told at (look_up set_key k earlier) (look_up row_key k held)
 
--- the copy holds something, and the text is that of the changes of a kind
-pub record IsChangesExport (at : ℤ) (earlier : List SetRow) (kind : Kind) (copy : Copy) (text : List ℕ) : Type 0 where
-  pub some : copy.held ≡ None → ⊥
+-- the text is that of the changes of a kind that each of these copies holds
+pub record IsChangesExport (at : ℤ) (earlier : List SetRow) (kind : Kind) (copies : Copy → Type 0) (text : List ℕ) : Type 0 where
+  pub held : List Record
+  pub are : AreHeld kind copies held
   pub rows : List Record
-  pub changes : AreChanges at earlier (held_list copy kind) rows
+  pub changes : AreChanges at earlier held rows
   pub file : IsFile kind rows text
 
 -- the text of the changes has so many bytes

@@ -2,6 +2,7 @@
 use Rattle.std.specs.Prelude.{◌≡◌, ◌<◌, ◌++◌, ℕ, List, None, Ok, codes, length, map}
 use Rattle.std.specs.List.{flat_map}
 use Rattle.keeper_memory.specs.copy.Copies.{Copy, held_list}
+use Rattle.keeper_memory.specs.copy.Lists.{IsList}
 use Rattle.csv_sets.specs.Files.{file_of, largest}
 use Rattle.csv_sets.specs.Written.{dated, written_text}
 use Rattle.roster_base.specs.declared.keeper.KeeperError.{KeeperError}
@@ -28,10 +29,16 @@ pub record IsFile (kind : Kind) (rows : List Record) (text : List ℕ) : Type 0 
   pub is_text : text ≡ written_text kind rows
   pub back : (mode : Mode) → file_of kind mode text ≡ Ok (map dated rows)
 
--- the copy holds something, and the text is that of its rows of a kind
-pub record IsExport (kind : Kind) (copy : Copy) (text : List ℕ) : Type 0 where
-  pub some : copy.held ≡ None → ⊥
-  pub file : IsFile kind (held_list copy kind) text
+-- the rows, which stand in order of id, are those of the kind that each of these copies holds
+pub record AreHeld (kind : Kind) (copies : Copy → Type 0) (rows : List Record) : Type 0 where
+  pub list : IsList kind rows
+  pub held : (copy : Copy) → copies copy → IsHeld kind copy rows
+
+-- the text is that of the rows of a kind that each of these copies holds
+pub record IsExport (kind : Kind) (copies : Copy → Type 0) (text : List ℕ) : Type 0 where
+  pub rows : List Record
+  pub are : AreHeld kind copies rows
+  pub file : IsFile kind rows text
 
 -- the cause of an error: that nothing is held, that the keeper's count rose, or that the text has so many bytes
 abbrev pub CauseOf : (Copy → Type 0) → Type 0 → (Copy → ℕ → Type 0) → ExportError → Type 0

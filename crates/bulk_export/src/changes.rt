@@ -156,10 +156,11 @@ pub fn export_changes<C: CopyKeeper>(
     kind: Kind,
     at: Moment,
 ) -> Result<Vec<u8>, ExportError>
-    ensures text { IfOk result (λ v. (c : Copy) → C.stands_for copy.new c → IsChangesExport at (rows_in kind earlier.now.parts) kind c v.items) }
+    ensures text { IfOk result (λ v. IsChangesExport at (rows_in kind earlier.now.parts) kind (C.stands_for copy.new) v.items) }
     ensures same { (c : Copy) → C.stands_for copy.new c → C.stands_for copy.old c }
     ensures leads { C.leads copy.old copy.new }
     ensures later { C.fault_count copy.old ≤ C.fault_count copy.new }
+    ensures stood { OnOk result (C.fault_count copy.new ≡ C.fault_count copy.old) }
     ensures cause { IfErr result (λ e. CauseOf (C.stands_for copy.new) (Rose (C.fault_count copy.old) (C.fault_count copy.new)) (λ c n. HasTooMany at (rows_in kind earlier.now.parts) kind c n) e) }
 {
     let held = held_rows(alloc, copy, kind)?;

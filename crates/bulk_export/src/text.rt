@@ -1,6 +1,6 @@
 //! What the copy holds, and the text of a file.
 
-ghost use Rattle.std.specs.Prelude.{◌≡◌, ◌≤◌, IfErr, IfOk, Ok, None, Some, is_some, length, map};
+ghost use Rattle.std.specs.Prelude.{◌≡◌, ◌≤◌, IfErr, IfOk, Ok, None, OnOk, Some, is_some, length, map};
 ghost use Rattle.std.specs.List.{All};
 ghost use Rattle.bulk_export.specs.Exports.{CauseOf, IsHeld, IsLong};
 ghost use Rattle.csv_sets.specs.Files.{file_of, largest};
@@ -42,6 +42,7 @@ pub fn held_rows<C: CopyKeeper>(
     ensures same { (c : Copy) → C.stands_for copy.new c → C.stands_for copy.old c }
     ensures leads { C.leads copy.old copy.new }
     ensures later { C.fault_count copy.old ≤ C.fault_count copy.new }
+    ensures stood { OnOk result (C.fault_count copy.new ≡ C.fault_count copy.old) }
     ensures cause { IfErr result (λ e. CauseOf (C.stands_for copy.new) (Rose (C.fault_count copy.old) (C.fault_count copy.new)) (λ c n. ⊥) e) }
 {
     match holds(alloc, copy) {

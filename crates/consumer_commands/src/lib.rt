@@ -9,7 +9,7 @@ mod run;
 mod sending;
 
 pub use held::held_text;
-pub use line::{COPY_FAILED, sync_line, sync_status};
+pub use line::{COPY_FAILED, place_line, sync_line, sync_status};
 pub use outbox::outbox_text;
 pub use outbox_lines::{enter_line, enter_status, entered_line, send_line, send_status};
 pub use run::synchronise;

@@ -32,8 +32,8 @@ pub fn sync_status(answer: SyncAnswer) -> u8
     }
 }
 
-// A word, a kind and a number.
-fn place_line(alloc: Global, word: &str, kind: Kind, number: u64) -> Result<String, NoMemory>
+/// A word, a kind and a number.
+pub fn place_line(alloc: Global, word: &str, kind: Kind, number: u64) -> Result<String, NoMemory>
     ensures { IfOk result (λ t. string_bytes t ≡ lines.place_text word.now kind number) }
 {
     let mut line = String::from_str(alloc, word)?;

@@ -35,6 +35,11 @@ copies
                         1 to 1000, and tries each request TRIES times, 1 to 100; prints the version of
                         the copy
   list KIND             prints the rows of KIND that the copy holds, in order of id, as JSON
+  export manifest bulk  prints the manifest of a set with a file of each kind, all bulk
+  export manifest delta the same, all delta
+  export KIND           prints KIND.csv with the rows that the copy holds, in order of id
+  export KIND since DIR prints KIND.csv with the rows that differ from the set in the folder DIR, and the
+                        rows that the set has beside them, marked tobedeleted
 
 outbox
   enter put KIND ID FILE
@@ -71,18 +76,19 @@ status
    1  the output could not be written   10  the token doesn't open that write
    2  the words are no command          11  the hub has another write under the entry's number
    3  the folder failed                 12  the reply is none that a hub gives
-   4  the input is refused              13  the hub has too many rows
+   4  the input is refused              13  there are too many rows, or bytes of a file
    5  the hub's store failed            14  the hub failed
    6  the copy's store failed           15  the hub had no memory
    7  the peer wasn't reached           16  the last run or entry
    8  the version is kept no longer     17  memory ran out
                                         18  a server can't listen
+                                        21  the copy holds nothing
 ";
 
 const VERSION: &str = "hub 0.1.0, hub.db of format 1, copy.db of format 2\n";
 
 // The words of each command.
-static USAGES: [(&str, &str); 12] = [
+static USAGES: [(&str, &str); 13] = [
     (
         "publish",
         "usage: hub [--store DIR] [--folder DIR] [--keep N] publish FEED=DIR ..\n",
@@ -105,6 +111,10 @@ static USAGES: [(&str, &str); 12] = [
         "usage: hub [--store DIR] [--peer HOST:PORT] sync TOKEN LIMIT TRIES\n",
     ),
     ("list", "usage: hub [--store DIR] list KIND\n"),
+    (
+        "export",
+        "usage: hub [--store DIR] [--folder DIR] export KIND [since DIR]\n   or: hub export manifest bulk|delta\n",
+    ),
     (
         "enter",
         "usage: hub [--store DIR] [--folder DIR] enter put KIND ID FILE\n   or: hub [--store DIR] enter delete KIND ID\n",

@@ -25,23 +25,29 @@ use Rattle.std.specs.Prelude.{true, false, if◌then◌else◌}
 use Rattle.std.specs.Str.{is_utf8}
 use Rattle.version_core.specs.declared.mark.Write.{Write}
 use Rattle.keeper_memory.specs.Kept.{KeptState}
+use Rattle.csv_sets.specs.Written.{written_text}
+use Rattle.keeper_memory.specs.copy.Copies.{Copy, held_list}
 use Rattle.roster_base.specs.Faults.{Rose}
 use Rattle.roster_types.specs.declared.set_row.SetRow.{SetRow}
 use Rattle.roster_values.specs.declared.kind.Kind.{Kind}
+use Rattle.roster_values.specs.declared.mode.Mode.{Mode}
 use Rattle.roster_values.specs.declared.mode.Mode.TheVariants.{Bulk}
 use Rattle.hub_commands.specs.Answers.{IsPrinted, status_of, text_of}
 use Rattle.hub_commands.specs.ConsumerAnswers.{IsListAnswer, IsSyncAnswer, ReadEnds}
+use Rattle.hub_commands.specs.ExportAnswers.{ExportEnds, HasTooMany, IsChangesExport, IsExport, IsExportAnswer, IsManifestAnswer, IsSinceAnswer, RefusesExport, earlier_feed, rows_in}
 use Rattle.hub_commands.specs.OutboxAnswers.{IsEnterAnswer, IsEntered, IsOutboxAnswer, IsSendAnswer, IsWriteOf, ReadsWrite, or_bad_row, put_in}
 use Rattle.hub_commands.specs.Outside.{HaveRisen, HaveStood, NothingFailed, Outside}
 use Rattle.hub_commands.specs.Runs.{IsShowAnswer, LeadsFrom, WantsMemory}
 use Rattle.hub_cli.specs.Runs.{ConsumerRests, IsAnswer, IsCommandAnswer}
+use Rattle.hub_commands.specs.Steps.{ReadsSet}
 use Rattle.hub_commands.specs.Shows.{IsShown, answer_of_file, answer_of_rows}
 use Rattle.hub_words.specs.Words.{command_in}
 use Rattle.hub_commands.specs.declared.answer.Answer.{Answer}
 use Rattle.hub_commands.specs.declared.answer.End.{End}
 use Rattle.hub_commands.specs.declared.answer.End.TheVariants as ends
+use Rattle.hub_words.specs.declared.task.Feed.{Feed}
 use Rattle.hub_words.specs.declared.words.Command.{Command}
-use Rattle.hub_words.specs.declared.words.Command.TheVariants.{Ask, Enter, Grant, ListHeld, Make, Outbox, Publish, Rehearse, Send, Show, Sync}
+use Rattle.hub_words.specs.declared.words.Command.TheVariants.{Ask, Enter, Export, ExportManifest, ExportSince, Grant, ListHeld, Make, Outbox, Publish, Rehearse, Send, Show, Sync}
 use Rattle.hub_words.specs.declared.words.EnterTask.{EnterTask}
 use Rattle.hub_words.specs.declared.words.EnterTask.TheVariants.{Delete, Put}
 use Rattle.hub_words.specs.declared.words.Parsed.{Parsed}
@@ -86,6 +92,18 @@ module _ (copy : CopyRun) (link : LinkRun) where
   read-wants is_text a (inr (inl failed)) other = inr (inr (refl, failed.1))
   read-wants is_text a (inr (inr wants)) other = inr (inr (refl, wants.1))
 
+  manifest-wants : (mode : Mode) (a : Answer) → IsManifestAnswer mode a → a.end ≢ ends.Done → IsManifestAnswer mode (record a { end = ends.NoMemory })
+  manifest-wants mode a (inl told) other = absurd (other told.1)
+  manifest-wants mode a (inr wants) other = inr (wants.0, refl)
+
+  export-wants : (IsText : (Copy → Type 0) → List ℕ → Type 0) (HasBytes : Copy → ℕ → Type 0) (kind : Kind) (a : Answer) → ExportEnds IsText HasBytes kind copy a → a.end ≢ ends.Done → ExportEnds IsText HasBytes kind copy (record a { end = ends.NoMemory })
+  export-wants IsText HasBytes kind a (stays, inl reads) other = (stays, inl (read-wants (IsText copy.stands) a reads other))
+  export-wants IsText HasBytes kind a (stays, inr refused) other = (stays, inl (inr (inr (refl, refused.0))))
+
+  since-wants : (kind : Kind) (dir : List ℕ) (o : Outside) (a : Answer) → IsSinceAnswer kind dir o copy a → a.end ≢ ends.Done → IsSinceAnswer kind dir o copy (record a { end = ends.NoMemory })
+  since-wants kind dir o a (inl (end, same, reads, is)) other = inl (ends.NoMemory, same, tt, ap (λ (x : Answer). record x { end = ends.NoMemory }) is)
+  since-wants kind dir o a (inr (set, at, reads, moment, ends_so)) other = inr (set, at, reads, moment, export-wants (IsChangesExport at (rows_in kind set.parts) kind) (HasTooMany at (rows_in kind set.parts) kind) kind a ends_so other)
+
   send-wants : (task : Sending) (a : Answer) → IsSendAnswer task copy link a → IsSendAnswer task copy link (record a { end = ends.NoMemory })
   send-wants task a (none, s, is, how) = (none, s, is, inr refl)
 
@@ -110,6 +128,9 @@ module _ (copy : CopyRun) (link : LinkRun) where
   command-wants (Send task) o a before after is other = inl (is.0, is.1, send-wants task a is.2)
   command-wants Outbox o a before after is other = inl (is.0, is.1, is.2, (is.3.0, read-wants (IsOutboxText copy.stands) a is.3.1 other))
   command-wants (ListHeld kind) o a before after is other = inl (is.0, is.1, is.2, (is.3.0, read-wants (IsHeldText kind copy.stands) a is.3.1 other))
+  command-wants (ExportManifest mode) o a before after is other = inl (is.0, is.1, is.2, manifest-wants mode a is.3 other)
+  command-wants (Export kind) o a before after is other = inl (is.0, is.1, is.2, export-wants (IsExport kind) (λ c bytes. bytes ≡ length (written_text kind (held_list c kind))) kind a is.3 other)
+  command-wants (ExportSince kind dir) o a before after is other = inl (is.0, is.1, is.2, since-wants kind dir o a is.3 other)
   command-wants (Rehearse file) o a before after is other = inl (is.0, is.1, is.2, rehearse_wants o.files o.folder file a.done a.end is.3 other)
   command-wants (Make count) o a before after is other = inl (is.0, is.1, is.2, make_wants count a.done a.end is.3)
 
@@ -226,6 +247,30 @@ module _ (o : Outside) (copy : CopyRun) (link : LinkRun) where
   read-tells is_text a (inr (inl failed)) = subst Tells (sym failed.0) (record { words = λ e. cc e; folder = λ e. cc e; keeper = λ e. cc e; copy_says = λ e. failed.2 })
   read-tells is_text a (inr (inr wants)) = tells a.end (says_memory o a.end wants.0)
 
+  manifest-tells : (mode : Mode) (a : Answer) → IsManifestAnswer mode a → Tells a.end
+  manifest-tells mode a (inl told) = subst Tells (sym told.1) (tells ends.Done (says_done o ends.Done refl))
+  manifest-tells mode a (inr wants) = tells a.end (says_memory o a.end wants.1)
+
+  refused-tells : (HasBytes : Copy → ℕ → Type 0) (kind : Kind) (end : End) → RefusesExport HasBytes kind copy.stands end → Tells end
+  refused-tells HasBytes kind ends.NothingHeld refuses = tells_sync _ 21 refl (λ e. cc e) (λ e. cc e) (λ e. cc e) (λ e. cc e)
+  refused-tells HasBytes kind (ends.ExportTooLarge named bytes) refuses = tells_sync _ 13 refl (λ e. cc e) (λ e. cc e) (λ e. cc e) (λ e. cc e)
+  refused-tells HasBytes kind end refuses = absurd refuses
+
+  export-tells : (IsText : (Copy → Type 0) → List ℕ → Type 0) (HasBytes : Copy → ℕ → Type 0) (kind : Kind) (a : Answer) → ExportEnds IsText HasBytes kind copy a → Tells a.end
+  export-tells IsText HasBytes kind a (stays, inl reads) = read-tells (IsText copy.stands) a reads
+  export-tells IsText HasBytes kind a (stays, inr refused) = refused-tells HasBytes kind a.end refused.1
+
+  -- a set that isn't read
+  set-tells : (feed : Feed) (end : End) → ReadsSet o.files o.folder feed (Err end) → Tells end
+  set-tells feed ends.FolderFailed rose = record { words = λ e. cc e; folder = λ e. rose; keeper = λ e. cc e; copy_says = λ e. cc e }
+  set-tells feed (ends.Refused fault) reads = tells _ (says_refused o (ends.Refused fault) refl)
+  set-tells feed ends.NoMemory reads = tells _ (says_memory o ends.NoMemory refl)
+  set-tells feed end reads = absurd reads
+
+  since-tells : (kind : Kind) (dir : List ℕ) (a : Answer) → IsSinceAnswer kind dir o copy a → Tells a.end
+  since-tells kind dir a (inl (end, same, reads, is)) = subst (λ (x : Answer). Tells x.end) (sym is) (set-tells (earlier_feed dir) end reads)
+  since-tells kind dir a (inr (set, at, reads, moment, ends_so)) = export-tells (IsChangesExport at (rows_in kind set.parts) kind) (HasTooMany at (rows_in kind set.parts) kind) kind a ends_so
+
   sent-tells : (task : Sending) (s : SendAnswer) → IsSendOf task s copy link → Tells (ends.Sent s)
   sent-tells task (send.Settled count) is = tells_sync _ 0 refl (λ e. cc e) (λ e. cc e) (λ e. cc e) (λ e. cc e)
   sent-tells task (send.Interrupted number) is = tells_sync _ 7 refl (λ e. cc e) (λ e. cc e) (λ e. cc e) (λ e. cc e)
@@ -280,6 +325,9 @@ module _ (o : Outside) (copy : CopyRun) (link : LinkRun) where
   command-tells (Send task) a before after is = send-tells task a is.2
   command-tells Outbox a before after is = read-tells (IsOutboxText copy.stands) a is.3.1
   command-tells (ListHeld kind) a before after is = read-tells (IsHeldText kind copy.stands) a is.3.1
+  command-tells (ExportManifest mode) a before after is = manifest-tells mode a is.3
+  command-tells (Export kind) a before after is = export-tells (IsExport kind) (λ c bytes. bytes ≡ length (written_text kind (held_list c kind))) kind a is.3
+  command-tells (ExportSince kind dir) a before after is = since-tells kind dir a is.3
   command-tells (Rehearse file) a before after is =
       let says = rehearse_says o.files o.folder file a.done a.end is.3 in
       record { words = says.words; folder = says.folder_rose; keeper = λ e. absurd (says.keeper e); copy_says = λ e. absurd (says.copy e) }
@@ -423,6 +471,21 @@ module _ (o : Outside) (copy : CopyRun) (link : LinkRun) where
       → LeadsFrom stands stands (IsAnswer (Ok parsed) o copy link a)
   leads-listed stands parsed kind same nothing rests answer is =
       leads-told stands stands parsed (ListHeld kind) same answer (leads-nowhere stands (IsCommandAnswer (ListHeld kind) o copy link answer) (λ kept. (refl, nothing, rests, is)))
+
+  pub leads-manifest : (stands : KeptState → Type 0) (parsed : Parsed) (mode : Mode) → parsed.command ≡ ExportManifest mode → ConsumerRests copy link → NothingFailed o → (answer : Answer) → IsManifestAnswer mode answer → (a : Answer) → IsPrinted answer a
+      → LeadsFrom stands stands (IsAnswer (Ok parsed) o copy link a)
+  leads-manifest stands parsed mode same rests nothing answer is =
+      leads-told stands stands parsed (ExportManifest mode) same answer (leads-nowhere stands (IsCommandAnswer (ExportManifest mode) o copy link answer) (λ kept. (rests, refl, nothing, is)))
+
+  pub leads-exported : (stands : KeptState → Type 0) (parsed : Parsed) (kind : Kind) → parsed.command ≡ Export kind → NothingFailed o → link.same → (answer : Answer) → IsExportAnswer kind copy answer → (a : Answer) → IsPrinted answer a
+      → LeadsFrom stands stands (IsAnswer (Ok parsed) o copy link a)
+  leads-exported stands parsed kind same nothing rests answer is =
+      leads-told stands stands parsed (Export kind) same answer (leads-nowhere stands (IsCommandAnswer (Export kind) o copy link answer) (λ kept. (refl, nothing, rests, is)))
+
+  pub leads-exported-since : (stands : KeptState → Type 0) (parsed : Parsed) (kind : Kind) (dir : List ℕ) → parsed.command ≡ ExportSince kind dir → HaveStood o.keeper → link.same → (answer : Answer) → IsSinceAnswer kind dir o copy answer → (a : Answer) → IsPrinted answer a
+      → LeadsFrom stands stands (IsAnswer (Ok parsed) o copy link a)
+  leads-exported-since stands parsed kind dir same stood rests answer is =
+      leads-told stands stands parsed (ExportSince kind dir) same answer (leads-nowhere stands (IsCommandAnswer (ExportSince kind dir) o copy link answer) (λ kept. (refl, stood, rests, is)))
 
   pub leads-made-answer : (stands : KeptState → Type 0) (parsed : Parsed) (count : ℕ) → parsed.command ≡ Make count → ConsumerRests copy link → NothingFailed o → (answer : Answer) → IsMakeAnswer count answer.done answer.end → (a : Answer) → IsPrinted answer a
       → LeadsFrom stands stands (IsAnswer (Ok parsed) o copy link a)

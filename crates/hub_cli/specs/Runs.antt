@@ -3,6 +3,7 @@ use Rattle.std.specs.Prelude.{◌≡◌, ◌⊎◌, ℕ, [], Result, Ok, Err}
 use Rattle.consumer_commands.specs.Consumers.{CopyRun, LinkRun}
 use Rattle.hub_commands.specs.AskAnswers.{IsAskAnswer}
 use Rattle.hub_commands.specs.ConsumerAnswers.{IsListAnswer, IsSyncAnswer}
+use Rattle.hub_commands.specs.ExportAnswers.{IsExportAnswer, IsManifestAnswer, IsSinceAnswer}
 use Rattle.hub_commands.specs.GrantAnswers.{IsGrantAnswer}
 use Rattle.hub_commands.specs.OutboxAnswers.{IsEnterAnswer, IsOutboxAnswer, IsSendAnswer}
 use Rattle.hub_commands.specs.Outside.{HaveStood, NothingFailed, Outside}
@@ -10,7 +11,7 @@ use Rattle.hub_commands.specs.Runs.{IsPublishAnswer, IsShowAnswer, WantsMemory}
 use Rattle.hub_commands.specs.declared.answer.Answer.{Answer}
 use Rattle.hub_commands.specs.declared.answer.End.TheVariants.{BadWord}
 use Rattle.hub_words.specs.declared.words.Command.{Command}
-use Rattle.hub_words.specs.declared.words.Command.TheVariants.{Ask, Enter, Grant, ListHeld, Make, Outbox, Publish, Rehearse, Send, Show, Sync}
+use Rattle.hub_words.specs.declared.words.Command.TheVariants.{Ask, Enter, Export, ExportManifest, ExportSince, Grant, ListHeld, Make, Outbox, Publish, Rehearse, Send, Show, Sync}
 use Rattle.hub_words.specs.declared.words.Parsed.{Parsed}
 use Rattle.keeper_memory.specs.Kept.{KeptState}
 use Rattle.script_runs.specs.Makings.{IsMakeAnswer}
@@ -31,6 +32,9 @@ IsCommandAnswer (Enter task) outside copy link answer before after = (after ≡ 
 IsCommandAnswer (Send task) outside copy link answer before after = (after ≡ before) × NothingFailed outside × IsSendAnswer task copy link answer
 IsCommandAnswer Outbox outside copy link answer before after = (after ≡ before) × NothingFailed outside × link.same × IsOutboxAnswer copy answer
 IsCommandAnswer (ListHeld kind) outside copy link answer before after = (after ≡ before) × NothingFailed outside × link.same × IsListAnswer kind copy answer
+IsCommandAnswer (ExportManifest mode) outside copy link answer before after = ConsumerRests copy link × (after ≡ before) × NothingFailed outside × IsManifestAnswer mode answer
+IsCommandAnswer (Export kind) outside copy link answer before after = (after ≡ before) × NothingFailed outside × link.same × IsExportAnswer kind copy answer
+IsCommandAnswer (ExportSince kind dir) outside copy link answer before after = (after ≡ before) × HaveStood outside.keeper × link.same × IsSinceAnswer kind dir outside copy answer
 IsCommandAnswer (Rehearse file) outside copy link answer before after =
     ConsumerRests copy link × (after ≡ before) × HaveStood outside.keeper × IsRehearseAnswer outside.files outside.folder file answer.done answer.end
 IsCommandAnswer (Make count) outside copy link answer before after =

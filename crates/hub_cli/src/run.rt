@@ -25,10 +25,11 @@ ghost use Rattle.world_scripts.specs.declared.script.Line.{Line};
 use exchange_link::Link;
 use hub_commands::ask::ask;
 use hub_commands::enter::enter;
+use hub_commands::export::{export, export_since, manifest};
 use hub_commands::grant::grant;
 use hub_commands::list::list;
 use hub_commands::outbox::outbox;
-use hub_commands::printing::tell;
+use hub_commands::printing::{tell, tell_file};
 use hub_commands::publish::publish;
 use hub_commands::send::send;
 use hub_commands::show::show;
@@ -82,6 +83,15 @@ fn run_command<F: Folder, H: HubKeeper, C: CopyKeeper, L: Link, K: Clock, O: Sin
         Command::Send { task } => tell(alloc, send(alloc, task, copy, link), out),
         Command::Outbox => tell(alloc, outbox(alloc, copy), out),
         Command::ListHeld { kind } => tell(alloc, list(alloc, *kind, copy), out),
+        Command::ExportManifest { mode } => tell_file(alloc, manifest(alloc, *mode), out),
+        Command::Export { kind } => tell_file(alloc, export(alloc, *kind, copy), out),
+        Command::ExportSince { kind, dir } => {
+            tell_file(
+                alloc,
+                export_since(alloc, *kind, dir, folder, copy, clock),
+                out,
+            )
+        }
         Command::Rehearse { file } => rehearse(alloc, file, folder, out),
         Command::Make { task } => tell(alloc, make(alloc, task), out),
     }
@@ -154,7 +164,9 @@ fn run_words<F: Folder, H: HubKeeper, C: CopyKeeper, L: Link, K: Clock, O: Sink>
 /// - 6: the copy's keeper failed;
 /// - 7 to 16: the synchronisation ended before the copy was whole, or the outbox before its writes were settled, or no write was entered;
 ///   the line tells the answer;
-/// - 17: memory ran out, which says nothing of the input.
+/// - 13: the file of an export would be too large, too; the line tells its kind and size;
+/// - 17: memory ran out, which says nothing of the input;
+/// - 21: the copy that was to be exported holds nothing.
 pub fn run_hub<F: Folder, H: HubKeeper, C: CopyKeeper, L: Link, K: Clock, O: Sink>(
     alloc: Global,
     words: &[String],

@@ -34,7 +34,7 @@ use Rattle.hub_commands.specs.Runs.{LeadsFrom, Writes}
 use Rattle.hub_commands.specs.Steps.{end_of_error}
 use Rattle.hub_commands.specs.declared.answer.Answer.{Answer}
 use Rattle.hub_commands.specs.declared.answer.End.{End}
-use Rattle.hub_commands.specs.declared.answer.End.TheVariants.{BadRow, BadWord, CopyFailed, Done, FileNotUtf8, FileTooLarge, FolderFailed, GrantsRefused, HubFailed, MissingFile, NoMemory, NotEntered, NotPublished, Refused, RequestRefused, ScriptRefused, Sent, Synced}
+use Rattle.hub_commands.specs.declared.answer.End.TheVariants.{BadRow, BadWord, CopyFailed, Done, ExportTooLarge, FileNotUtf8, FileTooLarge, FolderFailed, GrantsRefused, HubFailed, MissingFile, NoMemory, NotEntered, NothingHeld, NotPublished, Refused, RequestRefused, ScriptRefused, Sent, Synced}
 
 some_same : {A : Type 0} {x y : A} → Some x ≡ Some y → x ≡ y
 some_same is = cc is
@@ -64,6 +64,8 @@ ends-wants bytes xs done (FileNotUtf8 a) is other = absurd is
 ends-wants bytes xs done (BadRow a) is other = absurd is
 ends-wants bytes xs done (ScriptRefused n) is other = absurd is
 ends-wants bytes xs done CopyFailed is other = absurd is
+ends-wants bytes xs done NothingHeld is other = absurd is
+ends-wants bytes xs done (ExportTooLarge k n) is other = absurd is
 
 is_some : (b : ℕ) (bytes : List ℕ) → (length (b ∷ bytes) == 0) ≡ false
 is_some b bytes = ne_eqb (length (b ∷ bytes)) 0 (λ e. absurd (omega (arith, e)))
@@ -260,6 +262,8 @@ module _ (o : Outside) (file : List ℕ) where
   stops-says (FileNotUtf8 a) stops = file-says (FileNotUtf8 a) stops.0
   stops-says (BadRow a) stops = file-says (BadRow a) stops.0
   stops-says CopyFailed stops = file-says CopyFailed stops.0
+  stops-says NothingHeld stops = file-says NothingHeld stops.0
+  stops-says (ExportTooLarge k n) stops = file-says (ExportTooLarge k n) stops.0
 
   ends-says : (bytes : List ℕ) (xs : List Exchange) (done : List ℕ) (end : End) → StreamEnds bytes xs done end → Says o end
   ends-says bytes xs done Done is = record { words = λ e. cc e; folder = λ e. cc e; keeper = λ e. cc e; copy = λ e. cc e }
@@ -280,6 +284,8 @@ module _ (o : Outside) (file : List ℕ) where
   ends-says bytes xs done (FileNotUtf8 a) is = absurd is
   ends-says bytes xs done (BadRow a) is = absurd is
   ends-says bytes xs done CopyFailed is = absurd is
+  ends-says bytes xs done NothingHeld is = absurd is
+  ends-says bytes xs done (ExportTooLarge k n) is = absurd is
 
   pub ask-says : (done : List ℕ) (end : End) (before after : KeptState) → IsAskAnswer o file done end before after → Says o end
   ask-says done end kept after (inl (none, same, stops)) = stops-says end stops
@@ -327,6 +333,8 @@ module _ (files : Option (List Stored)) (moment : Option ℤ) (folder : Faults) 
   read_stops keeper (FileNotUtf8 a) is = (is.0, record { folder = is.1; keeper = refl })
   read_stops keeper (BadRow a) is = (is.0, record { folder = is.1; keeper = refl })
   read_stops keeper CopyFailed is = (is.0, record { folder = is.1; keeper = refl })
+  read_stops keeper NothingHeld is = (is.0, record { folder = is.1; keeper = refl })
+  read_stops keeper (ExportTooLarge k n) is = (is.0, record { folder = is.1; keeper = refl })
 
   -- an end before which nothing was done, and of which a line is printed
   stopped_as : (o : Outside) (end : End) (a : Answer) (kept : KeptState) → StopsAsking o file end → IsPrinted (record { done = []; end = end }) a → IsAskAnswer o file a.done a.end kept kept

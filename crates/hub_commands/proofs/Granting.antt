@@ -22,7 +22,7 @@ use Rattle.hub_commands.proofs.Publishing.{Says, rose}
 use Rattle.rest_provider.specs.Moments.{IsMomentOf}
 use Rattle.hub_commands.specs.declared.answer.Answer.{Answer}
 use Rattle.hub_commands.specs.declared.answer.End.{End}
-use Rattle.hub_commands.specs.declared.answer.End.TheVariants.{BadRow, BadWord, CopyFailed, Done, FileNotUtf8, FileTooLarge, FolderFailed, GrantsRefused, HubFailed, MissingFile, NoMemory, NotEntered, NotPublished, Refused, RequestRefused, ScriptRefused, Sent, Synced}
+use Rattle.hub_commands.specs.declared.answer.End.TheVariants.{BadRow, BadWord, CopyFailed, Done, ExportTooLarge, FileNotUtf8, FileTooLarge, FolderFailed, GrantsRefused, HubFailed, MissingFile, NoMemory, NotEntered, NothingHeld, NotPublished, Refused, RequestRefused, ScriptRefused, Sent, Synced}
 use Rattle.hub_commands.specs.GrantAnswers.{GivesGrants, GrantsFile, IsGrantAnswer, IsGrantsOf, IsTold, ReadsGrants, SetsGrants, StopsGrant, grants_in, or_refused}
 use Rattle.hub_commands.specs.Outside.{Faults, HaveStood, Outside, faults_of, outside_of}
 use Rattle.hub_commands.specs.Runs.{LeadsFrom}
@@ -69,6 +69,8 @@ module _ (files : Option (List Stored)) (before now : ℕ) (name : List ℕ) (re
   reads_grants (Err (FileNotUtf8 a)) gives = ((read, told, gives), same)
   reads_grants (Err (BadRow a)) gives = ((read, told, gives), same)
   reads_grants (Err CopyFailed) gives = ((read, told, gives), same)
+  reads_grants (Err NothingHeld) gives = ((read, told, gives), same)
+  reads_grants (Err (ExportTooLarge k n)) gives = ((read, told, gives), same)
 
 -- ---- what the hub makes of it
 
@@ -95,6 +97,8 @@ module _ (files : Option (List Stored)) (moment : Option ℤ) (folder keeper : F
   end_of_grants (FileNotUtf8 a) kept is quiet = (is.0, record { folder = is.1; keeper = quiet }, refl)
   end_of_grants (BadRow a) kept is quiet = (is.0, record { folder = is.1; keeper = quiet }, refl)
   end_of_grants CopyFailed kept is quiet = (is.0, record { folder = is.1; keeper = quiet }, refl)
+  end_of_grants NothingHeld kept is quiet = (is.0, record { folder = is.1; keeper = quiet }, refl)
+  end_of_grants (ExportTooLarge k n) kept is quiet = (is.0, record { folder = is.1; keeper = quiet }, refl)
   end_of_grants NoMemory kept is quiet = inl refl
 
   module _ (entries : List GrantEntry) (at : ℤ) (is : IsGrantsOf files file (Ok entries)) (stood : HaveStood folder) (m : IsMomentOf moment at) where
@@ -132,6 +136,8 @@ module _ (o : Outside) (file : List ℕ) where
   stopped (FileNotUtf8 a) before after stops = (refl, stops)
   stopped (BadRow a) before after stops = (refl, stops)
   stopped CopyFailed before after stops = (refl, stops)
+  stopped NothingHeld before after stops = (refl, stops)
+  stopped (ExportTooLarge k n) before after stops = (refl, stops)
   stopped NoMemory before after stops = (refl, stops)
 
   -- what is told of what the hub made is the answer
@@ -173,6 +179,8 @@ module _ (o : Outside) (file : List ℕ) where
   grant-wants done (FileNotUtf8 a) before after is other = (is.0, inl is.1.2)
   grant-wants done (BadRow a) before after is other = (is.0, inl is.1.2)
   grant-wants done CopyFailed before after is other = (is.0, inl is.1.2)
+  grant-wants done NothingHeld before after is other = (is.0, inl is.1.2)
+  grant-wants done (ExportTooLarge k n) before after is other = (is.0, inl is.1.2)
   grant-wants done NoMemory before after is other = is
 
   -- what the status of an end says
@@ -194,6 +202,8 @@ module _ (o : Outside) (file : List ℕ) where
   grant-says done (FileNotUtf8 a) before after is = absurd (refused_file file is.1.0.0 (FileNotUtf8 a) is.1.0.2)
   grant-says done (BadRow a) before after is = absurd (refused_file file is.1.0.0 (BadRow a) is.1.0.2)
   grant-says done CopyFailed before after is = absurd (refused_file file is.1.0.0 CopyFailed is.1.0.2)
+  grant-says done NothingHeld before after is = absurd (refused_file file is.1.0.0 NothingHeld is.1.0.2)
+  grant-says done (ExportTooLarge k n) before after is = absurd (refused_file file is.1.0.0 (ExportTooLarge k n) is.1.0.2)
   grant-says done NoMemory before after is = record { words = λ e. cc e; folder = λ e. cc e; keeper = λ e. cc e; copy = λ e. cc e }
 
 -- ---- the whole command

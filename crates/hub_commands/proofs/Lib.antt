@@ -1,5 +1,6 @@
 pub mod Asking
 mod Entering
+mod Exporting
 pub mod Granting
 pub mod Leading
 pub mod Publishing

@@ -25,7 +25,7 @@ use Rattle.hub_commands.specs.Runs.{IsPublishAnswer, LeadsFrom}
 use Rattle.hub_commands.specs.Steps.{PublishesFeed, ReadsSet, end_of, end_of_error}
 use Rattle.hub_commands.specs.declared.answer.Answer.{Answer}
 use Rattle.hub_commands.specs.declared.answer.End.{End}
-use Rattle.hub_commands.specs.declared.answer.End.TheVariants.{BadRow, BadWord, CopyFailed, Done, FileNotUtf8, FileTooLarge, FolderFailed, GrantsRefused, HubFailed, MissingFile, NoMemory, NotEntered, NotPublished, Refused, RequestRefused, ScriptRefused, Sent, Synced}
+use Rattle.hub_commands.specs.declared.answer.End.TheVariants.{BadRow, BadWord, CopyFailed, Done, ExportTooLarge, FileNotUtf8, FileTooLarge, FolderFailed, GrantsRefused, HubFailed, MissingFile, NoMemory, NotEntered, NothingHeld, NotPublished, Refused, RequestRefused, ScriptRefused, Sent, Synced}
 use Rattle.hub_words.specs.declared.task.Feed.{Feed}
 use Rattle.hub_commands.proofs.Leading.{leads-nowhere, leads-on, leads-standing}
 
@@ -60,6 +60,8 @@ module _ (o : Outside) where
   stop-wants feed (FileNotUtf8 a) before after stops = absurd stops
   stop-wants feed (BadRow a) before after stops = absurd stops
   stop-wants feed CopyFailed before after stops = absurd stops
+  stop-wants feed NothingHeld before after stops = absurd stops
+  stop-wants feed (ExportTooLarge k n) before after stops = absurd stops
 
   pub run-wants : (feeds : List Feed) (done : List ℕ) (end : End) (before after : KeptState) → IsRunOf o feeds done end before after → IsRunOf o feeds done NoMemory before after
   run-wants [] done end before after run = (run.0, run.1, inr refl)
@@ -96,6 +98,8 @@ module _ (o : Outside) where
   stop-says feed (FileNotUtf8 a) before after stops = absurd stops
   stop-says feed (BadRow a) before after stops = absurd stops
   stop-says feed CopyFailed before after stops = absurd stops
+  stop-says feed NothingHeld before after stops = absurd stops
+  stop-says feed (ExportTooLarge k n) before after stops = absurd stops
   stop-says feed NoMemory before after stops = record { words = λ e. cc e; folder = λ e. cc e; keeper = λ e. cc e; copy = λ e. cc e }
 
   quiet-says : (end : End) → ((end ≡ Done) × NothingFailed o) ⊎ (end ≡ NoMemory) → Says end
@@ -280,6 +284,8 @@ module _ (files : Option (List Stored)) (moment : Option ℤ) (folder keeper : F
   end_of_set (FileNotUtf8 a) kept empty quiet = absurd empty
   end_of_set (BadRow a) kept empty quiet = absurd empty
   end_of_set CopyFailed kept empty quiet = absurd empty
+  end_of_set NothingHeld kept empty quiet = absurd empty
+  end_of_set (ExportTooLarge k n) kept empty quiet = absurd empty
   end_of_set NoMemory kept is quiet = inl refl
 
   module _ (set : SetRecord) (at : ℤ) (is : IsSetOf files feed (Ok set)) (stood : HaveStood folder) (m : IsMomentOf moment at) where

@@ -1,11 +1,11 @@
 -- What a command answers: its status and its text are functions of the answer alone.
 use Rattle.std.specs.Prelude.{◌≡◌, ◌≢◌, ◌⊎◌, ℕ, ◌++◌, List, [], codes}
 use Rattle.consumer_commands.specs.SendLines.{enter_status, enter_text, send_status, send_text}
-use Rattle.consumer_commands.specs.SyncLines.{sync_status, sync_text}
+use Rattle.consumer_commands.specs.SyncLines.{place_text, sync_status, sync_text}
 use Rattle.hub_commands.specs.declared.answer.Answer.{Answer}
 use Rattle.hub_commands.specs.declared.answer.End.{End}
-use Rattle.hub_commands.specs.declared.answer.End.TheVariants.{BadRow, BadWord, CopyFailed, Done, FileNotUtf8, FileTooLarge, FolderFailed, GrantsRefused, HubFailed, MissingFile, NoMemory, NotEntered, NotPublished, Refused, RequestRefused, ScriptRefused, Sent, Synced}
-use Rattle.hub_commands.specs.Lines.{bad_word_text, copy_failed, fault_text, folder_failed, grants_fault_text, hub_failed, named_file_text, no_memory, publish_fault_text, request_text, script_text}
+use Rattle.hub_commands.specs.declared.answer.End.TheVariants.{BadRow, BadWord, CopyFailed, Done, ExportTooLarge, FileNotUtf8, FileTooLarge, FolderFailed, GrantsRefused, HubFailed, MissingFile, NoMemory, NotEntered, NothingHeld, NotPublished, Refused, RequestRefused, ScriptRefused, Sent, Synced}
+use Rattle.hub_commands.specs.Lines.{bad_word_text, copy_failed, fault_text, folder_failed, grants_fault_text, hub_failed, named_file_text, no_memory, nothing_held, publish_fault_text, request_text, script_text}
 
 abbrev pub status_of : End → ℕ
 status_of Done = 0
@@ -25,6 +25,8 @@ status_of (Synced answer) = sync_status answer
 status_of (NotEntered error) = enter_status error
 status_of (Sent answer) = send_status answer
 status_of CopyFailed = 6
+status_of NothingHeld = 21
+status_of (ExportTooLarge kind bytes) = 13
 status_of NoMemory = 17
 
 -- the line that an end is told by
@@ -46,6 +48,8 @@ end_text (Synced answer) = sync_text answer
 end_text (NotEntered error) = enter_text error
 end_text (Sent answer) = send_text answer
 end_text CopyFailed = copy_failed
+end_text NothingHeld = nothing_held
+end_text (ExportTooLarge kind bytes) = place_text (codes "too large ") kind bytes
 end_text NoMemory = no_memory
 
 -- what was done, and how it ended

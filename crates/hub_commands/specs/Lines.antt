@@ -166,5 +166,8 @@ hub_failed = codes "hub store failed\n"
 abbrev pub copy_failed : List ℕ
 copy_failed = codes "copy store failed\n"
 
+abbrev pub nothing_held : List ℕ
+nothing_held = codes "nothing held\n"
+
 abbrev pub no_memory : List ℕ
 no_memory = codes "no memory\n"

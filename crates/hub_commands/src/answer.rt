@@ -5,17 +5,19 @@ ghost use Rattle.hub_commands.specs.Answers as answers;
 ghost use Rattle.hub_commands.specs.declared.answer.End.TheVariants as ends;
 
 use crate::lines::{
-    FOLDER_FAILED, HUB_FAILED, NO_MEMORY, bad_word_line, fault_line, grants_fault_line,
-    named_file_line, publish_fault_lines, request_line, script_line,
+    FOLDER_FAILED, HUB_FAILED, NO_MEMORY, NOTHING_HELD, bad_word_line, fault_line,
+    grants_fault_line, named_file_line, publish_fault_lines, request_line, script_line,
 };
 use consumer_commands::{
-    COPY_FAILED, enter_line, enter_status, send_line, send_status, sync_line, sync_status,
+    COPY_FAILED, enter_line, enter_status, place_line, send_line, send_status, sync_line,
+    sync_status,
 };
 use csv_sets::SetFault;
 use exchange_link::{EnterError, SendAnswer, SyncAnswer};
 use grant_files::GrantFault;
 use rest_provider::RequestFault;
 use roster_base::{NoMemory, Text};
+use roster_values::Kind;
 use std::alloc::Global;
 use version_changes::PublishFault;
 
@@ -55,6 +57,10 @@ pub enum End {
     Sent(SendAnswer),
     /// The copy's keeper failed, and its count of faults rose.
     CopyFailed,
+    /// A copy that was to be exported holds nothing.
+    NothingHeld,
+    /// The file of a kind would have so many bytes, more than a file may have.
+    ExportTooLarge { kind: Kind, bytes: u64 },
     /// Memory ran out, which says nothing of the input.
     NoMemory,
 }
@@ -90,7 +96,7 @@ impl Answer {
 }
 
 impl End {
-    /// The status of the process: 0, or 2 to 17.
+    /// The status of the process: 0, 2 to 17, or 21.
     pub fn status(&self) -> u8
         ensures value { result ≡ answers.status_of self.now }
         ensures other { result ≢ 1 }
@@ -108,6 +114,8 @@ impl End {
             End::NotEntered(error) => enter_status(*error),
             End::Sent(answer) => send_status(*answer),
             End::CopyFailed => 6,
+            End::NothingHeld => 21,
+            End::ExportTooLarge { .. } => 13,
             End::NoMemory => 17,
         }
     }
@@ -135,6 +143,8 @@ impl End {
             End::NotEntered(error) => enter_line(alloc, *error),
             End::Sent(answer) => send_line(alloc, *answer),
             End::CopyFailed => Ok(String::from_str(alloc, COPY_FAILED)?),
+            End::NothingHeld => Ok(String::from_str(alloc, NOTHING_HELD)?),
+            End::ExportTooLarge { kind, bytes } => place_line(alloc, "too large ", *kind, *bytes),
             End::NoMemory => Ok(String::from_str(alloc, NO_MEMORY)?),
         }
     }

@@ -4,6 +4,7 @@
 pub mod answer;
 pub mod ask;
 pub mod enter;
+pub mod export;
 pub mod grant;
 pub mod lines;
 pub mod list;

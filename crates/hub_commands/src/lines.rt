@@ -25,6 +25,9 @@ pub const FOLDER_FAILED: &str = "folder failed\n";
 /// Status 5.
 pub const HUB_FAILED: &str = "hub store failed\n";
 
+/// Status 21.
+pub const NOTHING_HELD: &str = "nothing held\n";
+
 /// Status 17.
 pub const NO_MEMORY: &str = "no memory\n";
 

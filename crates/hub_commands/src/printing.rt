@@ -5,24 +5,34 @@ ghost use Rattle.std.specs.Io.KnownBytes.{Appends};
 ghost use Rattle.outside_ports.specs.Written.{AppendsPart};
 ghost use Rattle.roster_base.specs.Faults.{Rose};
 ghost use Rattle.hub_commands.specs.Answers.{IsPrinted};
+ghost use Rattle.hub_commands.specs.ExportAnswers.{file_answer};
 ghost use Rattle.hub_commands.specs.Runs.{WritesBetween};
 
-use crate::answer::Answer;
+use crate::answer::{Answer, End};
 use crate::lines::NO_MEMORY;
 use outside_ports::Sink;
-use roster_base::NoMemory;
+use roster_base::{Bytes, NoMemory};
 use std::alloc::Global;
 
-/// Writes a text, and gives its status, or 1 where the sink failed and a front of the text was written.
+/// Writes bytes, and gives their status, or 1 where the sink failed and a front of the bytes was written.
+pub fn print_bytes<O: Sink>(out: &mut O, status: u8, bytes: &[u8]) -> u8
+    requires { status ≢ 1 }
+    ensures done { result ≢ 1 → (result ≡ status) × Appends (O.written out.old) (O.written out.new) bytes.now × (O.faults out.new ≡ O.faults out.old) }
+    ensures fault { result ≡ 1 → Rose (O.faults out.old) (O.faults out.new) × AppendsPart (O.written out.old) (O.written out.new) bytes.now }
+{
+    match out.write_all(bytes) {
+        Ok(()) => status,
+        Err(_) => 1,
+    }
+}
+
+/// Writes a text in the same way.
 pub fn print<O: Sink>(out: &mut O, status: u8, text: &str) -> u8
     requires { status ≢ 1 }
     ensures done { result ≢ 1 → (result ≡ status) × Appends (O.written out.old) (O.written out.new) text.now × (O.faults out.new ≡ O.faults out.old) }
     ensures fault { result ≡ 1 → Rose (O.faults out.old) (O.faults out.new) × AppendsPart (O.written out.old) (O.written out.new) text.now }
 {
-    match out.write_all(text.as_bytes()) {
-        Ok(()) => status,
-        Err(_) => 1,
-    }
+    print_bytes(out, status, text.as_bytes())
 }
 
 // Writes two texts, one behind the other, and gives the status likewise.
@@ -61,4 +71,18 @@ pub fn tell<O: Sink>(alloc: Global, answer: Answer, out: &mut O) -> u8
     let status = print_answer(alloc, &answer, out);
     drop(answer);
     status
+}
+
+/// Writes the bytes of a file, or what a command answers that has none, and gives the status.
+pub fn tell_file<O: Sink>(alloc: Global, file: Result<Bytes, End>, out: &mut O) -> u8
+    ensures { WritesBetween O.written O.faults out.old out.new result (IsPrinted (file_answer file)) }
+{
+    match file {
+        Ok(bytes) => {
+            let status = print_bytes(out, 0, bytes.as_slice());
+            drop(bytes);
+            status
+        }
+        Err(end) => tell(alloc, Answer::nothing_done(alloc, end), out),
+    }
 }

@@ -27,7 +27,7 @@ struct Case {
     ends: &'static [PortEnds],
 }
 
-static CASES: [Case; 9] = [
+static CASES: [Case; 10] = [
     Case {
         before: &[],
         line: "publish sis=lake sis=new",
@@ -264,6 +264,34 @@ static CASES: [Case; 9] = [
             Port::Copy(Calls::Reads),
             &["6 copy store failed\nhub 0\n", "0 all\nhub 0\n"],
         )],
+    },
+    Case {
+        before: &["sync tok-e 100 1"],
+        line: "export orgs since new",
+        reply: "",
+        ends: &[
+            (
+                Port::Folder,
+                &[
+                    "3 folder failed\nhub 0, run 1, version 2\n",
+                    "0 all\nhub 0, run 1, version 2\n",
+                ],
+            ),
+            (
+                Port::Sink,
+                &[
+                    "1 a front\nhub 0, run 1, version 2\n",
+                    "0 all\nhub 0, run 1, version 2\n",
+                ],
+            ),
+            (
+                Port::Copy(Calls::Reads),
+                &[
+                    "6 copy store failed\nhub 0, run 1, version 2\n",
+                    "0 all\nhub 0, run 1, version 2\n",
+                ],
+            ),
+        ],
     },
 ];
 

@@ -6,7 +6,7 @@ use std::alloc::Global;
 use std::test::Fail;
 
 // Words, and the line that names the first bad one.
-static BAD_WORDS: [(&str, &str); 74] = [
+static BAD_WORDS: [(&str, &str); 85] = [
     ("", "bad word 0\n"),
     ("hide", "bad word 0\n"),
     ("--help", "bad word 0\n"),
@@ -84,6 +84,17 @@ static BAD_WORDS: [(&str, &str); 74] = [
     ("list orgs orgs", "bad word 2\n"),
     ("list orgs --peer hub:80", "bad word 2\n"),
     ("lists orgs", "bad word 0\n"),
+    ("export", "bad word 1\n"),
+    ("export org", "bad word 1\n"),
+    ("export since lake", "bad word 1\n"),
+    ("export manifest", "bad word 2\n"),
+    ("export manifest absent", "bad word 2\n"),
+    ("export manifest bulk delta", "bad word 3\n"),
+    ("export orgs lake", "bad word 2\n"),
+    ("export orgs since", "bad word 3\n"),
+    ("export orgs since .lake", "bad word 3\n"),
+    ("export orgs since lake lake", "bad word 4\n"),
+    ("exports orgs", "bad word 0\n"),
 ];
 
 #[test]

@@ -10,8 +10,9 @@ use Rattle.roster_texts.specs.Signs.{digit_zero, dot}
 use Rattle.roster_texts.specs.Texts.{is_id, is_name, is_token}
 use Rattle.roster_values.specs.Kinds.{kind_of_word}
 use Rattle.roster_values.specs.declared.kind.Kind.{Kind}
+use Rattle.roster_values.specs.declared.mode.Mode.TheVariants.{Bulk, Delta}
 use Rattle.hub_words.specs.declared.words.Command.{Command}
-use Rattle.hub_words.specs.declared.words.Command.TheVariants.{Ask, Enter, Grant, ListHeld, Make, Outbox, Publish, Rehearse, Send, Show, Sync}
+use Rattle.hub_words.specs.declared.words.Command.TheVariants.{Ask, Enter, Export, ExportManifest, ExportSince, Grant, ListHeld, Make, Outbox, Publish, Rehearse, Send, Show, Sync}
 use Rattle.hub_words.specs.declared.words.EnterTask.TheVariants.{Delete, Put}
 use Rattle.hub_words.specs.declared.words.OptionWord.{OptionWord}
 use Rattle.hub_words.specs.declared.words.OptionWord.TheVariants.{Folder, Keep, Peer, Store}
@@ -173,6 +174,31 @@ abbrev pub send_words : ℕ → List (List ℕ) → Result Command ℕ
 send_words place [] = Err place
 send_words place (word ∷ words) = if is_token word then send_tries_words (place + 1) word words else Err place
 
+-- ---- an export
+
+-- the mode of a manifest, behind `manifest`
+abbrev pub mode_words : ℕ → List (List ℕ) → Result Command ℕ
+mode_words place [] = Err place
+mode_words place (word ∷ words) =
+    if bytes_eq word (codes "bulk") then ended (place + 1) (ExportManifest Bulk) words
+    else if bytes_eq word (codes "delta") then ended (place + 1) (ExportManifest Delta) words
+    else Err place
+
+-- nothing, or `since` and the folder of a set, behind a kind
+abbrev pub since_words : ℕ → Kind → List (List ℕ) → Result Command ℕ
+since_words place kind [] = Ok (Export kind)
+since_words place kind (word ∷ words) = if bytes_eq word (codes "since") then file_words (place + 1) (ExportSince kind) words else Err place
+
+abbrev pub export_of_kind : ℕ → Option Kind → List (List ℕ) → Result Command ℕ
+export_of_kind place None words = Err place
+export_of_kind place (Some kind) words = since_words (place + 1) kind words
+
+-- the manifest, or a kind, behind `export`
+abbrev pub export_words : ℕ → List (List ℕ) → Result Command ℕ
+export_words place [] = Err place
+export_words place (word ∷ words) =
+    if bytes_eq word (codes "manifest") then mode_words (place + 1) words else export_of_kind place (kind_of_word word) words
+
 -- ---- a district
 
 abbrev pub largest_count : ℕ
@@ -200,6 +226,7 @@ command_words place (word ∷ words) =
     else if bytes_eq word (codes "send") then send_words (place + 1) words
     else if bytes_eq word (codes "outbox") then ended (place + 1) Outbox words
     else if bytes_eq word (codes "list") then kind_words (place + 1) ListHeld words
+    else if bytes_eq word (codes "export") then export_words (place + 1) words
     else if bytes_eq word (codes "rehearse") then file_words (place + 1) Rehearse words
     else if bytes_eq word (codes "make") then make_words (place + 1) words
     else Err place

@@ -6,13 +6,13 @@ ghost use Rattle.keeper_memory.specs.copy.Copies.{IsGradebook};
 ghost use Rattle.roster_base.specs.Reading.{Gives};
 ghost use Rattle.hub_words.specs.Words as spec;
 ghost use Rattle.hub_words.specs.declared.words.Command.{Command as CommandValue};
-ghost use Rattle.hub_words.specs.declared.words.Command.TheVariants.{Ask, Grant, ListHeld, Rehearse, Show};
+ghost use Rattle.hub_words.specs.declared.words.Command.TheVariants.{Ask, ExportSince, Grant, ListHeld, Rehearse, Show};
 
 use crate::task::{Feed, GradebookObject, MakeTask, SendTask, ServeTask, SyncTask, is_gradebook};
 use roster_base::{Items, NoMemory, Refusal, Text};
 use roster_texts::digits::number;
 use roster_texts::{Id, Name, Token};
-use roster_values::Kind;
+use roster_values::{Kind, Mode};
 use std::alloc::Global;
 
 /// What is put into the outbox.
@@ -45,6 +45,12 @@ pub enum Command {
     Outbox,
     /// Prints the rows of a kind that the copy holds.
     ListHeld { kind: Kind },
+    /// Prints the manifest of a set with a file of each kind, all in one mode.
+    ExportManifest { mode: Mode },
+    /// Prints the file of the rows of a kind that the copy holds.
+    Export { kind: Kind },
+    /// Prints the file of what changed of a kind since the set in a folder.
+    ExportSince { kind: Kind, dir: Text },
     /// Runs the script of a file, in a world of its own.
     Rehearse { file: Text },
     /// Makes a district, and copies it, in a world of its own.
@@ -425,6 +431,55 @@ fn send(alloc: Global, place: usize, words: &[String]) -> Result<Command, WordEr
     }
 }
 
+// The mode of a manifest.
+fn manifest(place: usize, words: &[String]) -> Result<Command, WordError>
+    requires { place + length words.now < 2 ^ 63 }
+    ensures { Gives (λ c. c) result (spec.mode_words place (map string_bytes words.now)) }
+{
+    let (mode, words) = match words.split_first() {
+        Some((word, words)) if word.as_str() == "bulk" => (Mode::Bulk, words),
+        Some((word, words)) if word.as_str() == "delta" => (Mode::Delta, words),
+        _ => return Err(Refusal::Fault(place)),
+    };
+    end(place + 1, Command::ExportManifest { mode }, words)
+}
+
+// What is exported of a kind: all of it, or what changed since a set.
+fn export_kind(
+    alloc: Global,
+    place: usize,
+    kind: Kind,
+    words: &[String],
+) -> Result<Command, WordError>
+    requires { place + length words.now < 2 ^ 63 }
+    ensures { Gives (λ c. c) result (spec.since_words place kind (map string_bytes words.now)) }
+{
+    let Some((word, words)) = words.split_first() else {
+        return Ok(Command::Export { kind });
+    };
+    if word.as_str() != "since" {
+        return Err(Refusal::Fault(place));
+    }
+    let dir = file_at(alloc, place + 1, words)?;
+    Ok(Command::ExportSince { kind, dir })
+}
+
+fn export(alloc: Global, place: usize, words: &[String]) -> Result<Command, WordError>
+    requires { place + length words.now < 2 ^ 63 }
+    ensures { Gives (λ c. c) result (spec.export_words place (map string_bytes words.now)) }
+{
+    let Some((word, words)) = words.split_first() else {
+        return Err(Refusal::Fault(place));
+    };
+    if word.as_str() == "manifest" {
+        return manifest(place + 1, words);
+    }
+    match Kind::read(word.as_str()) {
+        Some(kind) => export_kind(alloc, place + 1, kind, words),
+        None => Err(Refusal::Fault(place)),
+    }
+}
+
 fn rehearse(alloc: Global, place: usize, words: &[String]) -> Result<Command, WordError>
     requires { place + length words.now < 2 ^ 63 }
     ensures { Gives (λ c. c) result (spec.file_words place Rehearse (map string_bytes words.now)) }
@@ -466,6 +521,7 @@ pub fn command_at(alloc: Global, place: usize, words: &[String]) -> Result<Comma
             end(place + 1, Command::Outbox, words)
         }
         Some((word, words)) if word.as_str() == "list" => list(place + 1, words),
+        Some((word, words)) if word.as_str() == "export" => export(alloc, place + 1, words),
         Some((word, words)) if word.as_str() == "rehearse" => rehearse(alloc, place + 1, words),
         Some((word, words)) if word.as_str() == "make" => make(place + 1, words),
         _ => Err(Refusal::Fault(place)),

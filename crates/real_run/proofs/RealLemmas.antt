@@ -23,15 +23,17 @@ use Rattle.roster_values.specs.declared.kind.Kind.{Kind}
 use Rattle.hub_commands.proofs.Telling.{told_count, told_done, told_part}
 use Rattle.hub_commands.specs.Answers.{status_of, text_of}
 use Rattle.hub_commands.specs.ConsumerAnswers.{CopyStays, IsListAnswer}
+use Rattle.hub_commands.specs.ExportAnswers.{ExportEnds, HasTooMany, IsChangesExport, IsExport, IsSinceAnswer, RefusesExport, rows_in}
 use Rattle.hub_commands.specs.OutboxAnswers.{IsOutboxAnswer}
 use Rattle.hub_commands.specs.Outside.{Faults, Outside, faults_of, outside_of}
 use Rattle.hub_commands.specs.Runs.{LeadsFrom, Writes}
 use Rattle.hub_cli.specs.Runs.{ConsumerRests, IsAnswer, IsCommandAnswer}
 use Rattle.hub_words.specs.Words.{keep_in, store_in}
 use Rattle.hub_commands.specs.declared.answer.Answer.{Answer}
+use Rattle.hub_commands.specs.declared.answer.End.{End}
 use Rattle.hub_commands.specs.declared.answer.End.TheVariants as ends
 use Rattle.hub_words.specs.declared.words.Command.{Command}
-use Rattle.hub_words.specs.declared.words.Command.TheVariants.{Ask, Enter, Grant, ListHeld, Make, Outbox, Publish, Rehearse, Send, Show, Sync}
+use Rattle.hub_words.specs.declared.words.Command.TheVariants.{Ask, Enter, Export, ExportManifest, ExportSince, Grant, ListHeld, Make, Outbox, Publish, Rehearse, Send, Show, Sync}
 use Rattle.hub_words.specs.declared.words.Parsed.{Parsed}
 use Rattle.real_run.specs.RealRuns.{AnswersFrom, AnswersOver, IsRealAnswer, RealCopy, RealLink, Runs, new_copy_run, new_hub, real_copy_run, silent_link_run, stored_copy_run}
 
@@ -127,6 +129,28 @@ module _ (stood stands stood_more stands_more : Copy → Type 0) (before now : �
   outbox-more a (stays, inl (done, t, same)) = (stays-more stays, inl (done, record { entries = t.entries; rise = t.rise; held = λ b s. t.held b (on b s); is = t.is }, same))
   outbox-more a (stays, inr how) = (stays-more stays, inr how)
 
+  export-text-more : (kind : Kind) (text : List ℕ) → IsExport kind stands text → IsExport kind stands_more text
+  export-text-more kind text is = record { rows = is.rows; are = record { list = is.are.list; held = λ b s. is.are.held b (on b s) }; file = is.file }
+
+  refused-more : (HasBytes : Copy → ℕ → Type 0) (kind : Kind) (end : End) → RefusesExport HasBytes kind stands end → RefusesExport HasBytes kind stands_more end
+  refused-more HasBytes kind ends.NothingHeld none = λ b s. none b (on b s)
+  refused-more HasBytes kind (ends.ExportTooLarge named bytes) is = (is.0, is.1, λ b s. is.2 b (on b s))
+  refused-more HasBytes kind end is = absurd is
+
+  export-more : (IsText : (Copy → Type 0) → List ℕ → Type 0) (HasBytes : Copy → ℕ → Type 0) → ((text : List ℕ) → IsText stands text → IsText stands_more text) → (kind : Kind) (a : Answer)
+      → ExportEnds IsText HasBytes kind copy_old a → ExportEnds IsText HasBytes kind copy_new a
+  export-more IsText HasBytes more kind a (stays, inl (inl (done, t, same))) = (stays-more stays, inl (inl (done, more a.done t, same)))
+  export-more IsText HasBytes more kind a (stays, inl (inr how)) = (stays-more stays, inl (inr how))
+  export-more IsText HasBytes more kind a (stays, inr (none, refuses)) = (stays-more stays, inr (none, refused-more HasBytes kind a.end refuses))
+
+  since-more : (kind : Kind) (dir : List ℕ) (o : Outside) (a : Answer) → IsSinceAnswer kind dir o copy_old a → IsSinceAnswer kind dir o copy_new a
+  since-more kind dir o a (inl (end, kept_same, reads, is)) = inl (end, c kept_same, reads, is)
+  since-more kind dir o a (inr (set, at, reads, moment, ends_so)) =
+      let IsText = IsChangesExport at (rows_in kind set.parts) kind in
+      let more : (text : List ℕ) → IsText stands text → IsText stands_more text
+      = λ text t. record { held = t.held; are = record { list = t.are.list; held = λ b s. t.are.held b (on b s) }; rows = t.rows; changes = t.changes; file = t.file } in
+      inr (set, at, reads, moment, export-more IsText (HasTooMany at (rows_in kind set.parts) kind) more kind a ends_so)
+
   command-more : (command : Command) (o : Outside) (a : Answer) (from to : KeptState) → IsCommandAnswer command o copy_old link_old a from to → IsCommandAnswer command o copy_new link_new a from to
   command-more (Show kind) o a from to is = (rests-more is.0, is.1, is.2)
   command-more (Publish feeds) o a from to is = (rests-more is.0, is.1)
@@ -138,6 +162,9 @@ module _ (stood stands stood_more stands_more : Copy → Type 0) (before now : �
   command-more (Send task) o a from to (same, nothing, (none, s, is, how)) = (same, nothing, (none, s, send-more task s is, how))
   command-more Outbox o a from to is = (is.0, is.1, l is.2, outbox-more a is.3)
   command-more (ListHeld kind) o a from to is = (is.0, is.1, l is.2, list-more kind a is.3)
+  command-more (ExportManifest mode) o a from to is = (rests-more is.0, is.1, is.2, is.3)
+  command-more (Export kind) o a from to is = (is.0, is.1, l is.2, export-more (IsExport kind) _ (export-text-more kind) kind a is.3)
+  command-more (ExportSince kind dir) o a from to is = (is.0, is.1, l is.2, since-more kind dir o a is.3)
   command-more (Rehearse file) o a from to is = (rests-more is.0, is.1, is.2, is.3)
   command-more (Make count) o a from to is = (rests-more is.0, is.1, is.2, is.3)
 

@@ -209,7 +209,10 @@ fn is_of_consumer(spelled: &Spelled) -> bool {
             | Command::Enter { .. }
             | Command::Send { .. }
             | Command::Outbox
-            | Command::ListHeld { .. } => true,
+            | Command::ListHeld { .. }
+            | Command::ExportManifest { .. }
+            | Command::Export { .. }
+            | Command::ExportSince { .. } => true,
             Command::Show { .. }
             | Command::Publish { .. }
             | Command::Grant { .. }

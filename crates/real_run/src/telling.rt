@@ -9,25 +9,31 @@ use roster_base::{NoMemory, Refusal};
 use std::alloc::Global;
 use std::path::Path;
 
-// Says that the folder of a feed isn't there.
+// Says that the folder of a set isn't there, behind what it is for.
 fn tell_folder(
     rt: HostRuntime,
     alloc: Global,
     root: &str,
-    feed: &str,
+    purpose: &str,
     folder: &str,
 ) -> Result<(), NoMemory> {
     let path = Path::new(root).join(alloc, folder)?.into_string();
     if !Path::new(path.as_str()).exists(&rt) {
-        let _ = eprintln!(rt; "feed {feed}: no folder {path}");
+        let _ = eprintln!(rt; "{purpose}: no folder {path}");
     }
     Ok(())
+}
+
+fn tell_folder_of(rt: HostRuntime, alloc: Global, root: &str, feed: &Feed) -> Result<(), NoMemory> {
+    let name = feed.name.as_str();
+    let purpose = format!(in alloc; "feed {name}")?;
+    tell_folder(rt, alloc, root, purpose.as_str(), feed.dir.as_str())
 }
 
 // Says which feeds have no folder. Where memory runs out, the run will say so.
 fn tell_folders(rt: HostRuntime, alloc: Global, root: &str, feeds: &[Feed]) {
     for feed in feeds {
-        let _ = tell_folder(rt, alloc, root, feed.name.as_str(), feed.dir.as_str());
+        let _ = tell_folder_of(rt, alloc, root, feed);
     }
 }
 
@@ -39,6 +45,9 @@ pub(crate) fn tell_before(rt: HostRuntime, alloc: Global, spelled: &Spelled) {
     match &parsed.command {
         Command::Publish { feeds } => {
             tell_folders(rt, alloc, root_of(spelled), feeds.as_slice());
+        }
+        Command::ExportSince { dir, .. } => {
+            let _ = tell_folder(rt, alloc, root_of(spelled), "since", dir.as_str());
         }
         Command::Sync { .. } | Command::Send { .. } if peer_of(spelled).is_none() => {
             let _ = eprintln!(rt; "no --peer HOST:PORT is named, so each try fails");

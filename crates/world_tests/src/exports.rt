@@ -9,6 +9,7 @@ use keeper_memory::MemCopy;
 use outside_ports::MemFolder;
 use roster_texts::{Moment, Name};
 use roster_types::set::RosterSet;
+use roster_types::set_row::SetRow;
 use roster_values::{Kind, Mode};
 use row_json::row_text;
 use std::alloc::Global;
@@ -31,16 +32,34 @@ fn copied(rt: &impl Abort, alloc: Global) -> Result<MemCopy, Fail> {
     }
 }
 
-const MANIFEST: &str = "propertyName,value\nmanifest.version,1.0\noneroster.version,1.1\n\
-    file.orgs,delta\nfile.academicSessions,delta\nfile.courses,delta\nfile.classes,delta\nfile.users,delta\n\
-    file.enrollments,delta\nfile.demographics,delta\nfile.categories,delta\nfile.lineItems,delta\nfile.results,delta\n\
-    file.resources,delta\nfile.classResources,delta\nfile.courseResources,delta\n\
-    source.systemName,hub\nsource.systemCode,hub\n";
+// The manifest of exports of one mode.
+macro_rules! manifest {
+    ($mode:literal) => {
+        concat!(
+            "propertyName,value\nmanifest.version,1.0\noneroster.version,1.1\n",
+            "file.orgs,", $mode, "\nfile.academicSessions,", $mode, "\nfile.courses,", $mode,
+            "\nfile.classes,", $mode, "\nfile.users,", $mode, "\nfile.enrollments,", $mode,
+            "\nfile.demographics,", $mode, "\nfile.categories,", $mode, "\nfile.lineItems,", $mode,
+            "\nfile.results,", $mode, "\nfile.resources,", $mode, "\nfile.classResources,", $mode,
+            "\nfile.courseResources,", $mode, "\nsource.systemName,hub\nsource.systemCode,hub\n"
+        )
+    };
+}
+
+/// The manifest of exports of whole files.
+pub const BULK: &str = manifest!("bulk");
+
+/// The manifest of exports of changes.
+pub const DELTA: &str = manifest!("delta");
 
 #[test]
 fn a_manifest_lists_each_kind(rt: HostRuntime) -> Result<(), Fail> {
-    let text = export_manifest(rt.alloc(), Mode::Delta)?;
-    assert_eq!(rt; text.as_slice(), MANIFEST.as_bytes());
+    let bulk = export_manifest(rt.alloc(), Mode::Bulk)?;
+    let delta = export_manifest(rt.alloc(), Mode::Delta)?;
+    assert_eq!(rt;
+        (bulk.as_slice(), delta.as_slice()),
+        (BULK.as_bytes(), DELTA.as_bytes())
+    );
     Ok(())
 }
 
@@ -53,11 +72,12 @@ fn an_empty_copy_is_not_exported(rt: HostRuntime) -> Result<(), Fail> {
     Ok(())
 }
 
-const CATEGORIES: &str =
+/// The categories that a caller of one school sees.
+pub const CATEGORIES: &str =
     "sourcedId,status,dateLastModified,title\nhw,active,2024-08-01T12:00:00.000Z,Homework\n";
 
-// Two enrollments of a class that the caller doesn't see.
-const GONE: &str =
+/// Two enrollments of a class that the caller doesn't see.
+pub const GONE: &str =
     "sourcedId,status,dateLastModified,classSourcedId,schoolSourcedId,userSourcedId,role,primary,beginDate,endDate\n\
     e2,tobedeleted,2024-08-01T12:00:00.000Z,k2,s2,u2,student,,,\n\
     e3,tobedeleted,2024-08-01T12:00:00.000Z,k2,s2,u3,teacher,true,,\n";
@@ -108,8 +128,24 @@ fn exported(alloc: Global, copy: &mut MemCopy) -> Result<MemFolder, Fail> {
     Ok(MemFolder::new(made, Vec::new(alloc)))
 }
 
-// The set that a folder's exports are read as.
-fn read_back(alloc: Global, folder: &mut MemFolder) -> Result<RosterSet, Fail> {
+/// The exports of what changed of all kinds since an earlier set, and their manifest.
+pub fn delta_folder(
+    alloc: Global,
+    copy: &mut MemCopy,
+    earlier: &RosterSet,
+    at: Moment,
+) -> Result<MemFolder, Fail> {
+    let mut made = Vec::new(alloc);
+    made.push(file_of(alloc, "manifest.csv", export_manifest(alloc, Mode::Delta)?)?)?;
+    for kind in &Kind::ALL {
+        let text = text_of(alloc, export_changes(alloc, copy, earlier, *kind, at))?;
+        made.push(file_of(alloc, kind.file_name(), text)?)?;
+    }
+    Ok(MemFolder::new(made, Vec::new(alloc)))
+}
+
+/// The set that the files of the folder `out` are read as.
+pub fn read_back(alloc: Global, folder: &mut MemFolder) -> Result<RosterSet, Fail> {
     let Some(feed) = Name::read(alloc, "hub")? else {
         return Err(Fail::new("no name"));
     };
@@ -119,15 +155,21 @@ fn read_back(alloc: Global, folder: &mut MemFolder) -> Result<RosterSet, Fail> {
     }
 }
 
+/// The rows of a kind in a set.
+pub fn rows_in(set: &RosterSet, kind: Kind) -> &[SetRow] {
+    for part in set.parts() {
+        if part.kind == kind {
+            return part.rows.as_slice();
+        }
+    }
+    &[]
+}
+
 // The texts of the rows of a kind in a set.
 fn texts_in(alloc: Global, set: &RosterSet, kind: Kind) -> Result<String, Fail> {
     let mut texts = String::new(alloc);
-    for part in set.parts() {
-        if part.kind == kind {
-            for listed in part.rows.as_slice() {
-                texts.push_str(row_text(alloc, &listed.row, None)?.as_str())?;
-            }
-        }
+    for listed in rows_in(set, kind) {
+        texts.push_str(row_text(alloc, &listed.row, None)?.as_str())?;
     }
     Ok(texts)
 }
@@ -143,7 +185,8 @@ fn has_all(alloc: Global, copy: &mut MemCopy, set: &RosterSet) -> Result<bool, F
     Ok(true)
 }
 
-fn comes_back(alloc: Global, copy: &mut MemCopy) -> Result<bool, Fail> {
+/// Whether the exports of all kinds are read back as what a copy holds.
+pub fn comes_back(alloc: Global, copy: &mut MemCopy) -> Result<bool, Fail> {
     let mut folder = exported(alloc, copy)?;
     let set = read_back(alloc, &mut folder)?;
     has_all(alloc, copy, &set)

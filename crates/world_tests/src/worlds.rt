@@ -6,6 +6,7 @@ ghost use Rattle.keeper_memory.specs.Kept.{oldest_kept};
 use crate::lake::folder;
 use crate::runs::{NOON, run_hub_over};
 use keeper_memory::MemHub;
+use outside_ports::MemFolder;
 use roster_texts::{Moment, Token};
 use std::alloc::Global;
 use std::process::Abort;
@@ -13,11 +14,16 @@ use std::test::Fail;
 use sync_world::world::keeps_all;
 use sync_world::{Fate, WorldLink};
 
-// Rows in version 1, grants in version 2.
-fn fill(rt: &impl Abort, alloc: Global, keeper: &mut MemHub) -> Result<(), Fail> {
-    let mut folder = folder(alloc)?;
-    for line in &["publish sis=lake", "grant g.csv"] {
-        let status = run_hub_over(alloc, line, &mut folder, keeper)?;
+// Rows in version 1, which these words publish, grants in version 2.
+fn fill(
+    rt: &impl Abort,
+    alloc: Global,
+    publish: &str,
+    folder: &mut MemFolder,
+    keeper: &mut MemHub,
+) -> Result<(), Fail> {
+    for line in &[publish, "grant g.csv"] {
+        let status = run_hub_over(alloc, line, folder, keeper)?;
         assert_eq!(rt; status, 0, "{line}");
     }
     Ok(())
@@ -31,21 +37,32 @@ fn noon(rt: &impl Abort) -> Moment {
 }
 
 // Fills a keeper, which keeps all from version 0 on then.
-fn fill_whole(rt: &impl Abort, alloc: Global, keeper: &mut MemHub) -> Result<(), Fail>
+fn fill_whole(
+    rt: &impl Abort,
+    alloc: Global,
+    publish: &str,
+    folder: &mut MemFolder,
+    keeper: &mut MemHub,
+) -> Result<(), Fail>
     ensures { OnOk result ((oldest_kept keeper.new.kept.versions).number ≡ 0) }
 {
-    fill(rt, alloc, keeper)?;
+    fill(rt, alloc, publish, folder, keeper)?;
     if !keeps_all(alloc, keeper)? {
         panic!(rt; "not from version 0 on");
     }
     Ok(())
 }
 
-fn filled(rt: &impl Abort, alloc: Global) -> Result<MemHub, Fail>
+fn filled(
+    rt: &impl Abort,
+    alloc: Global,
+    publish: &str,
+    folder: &mut MemFolder,
+) -> Result<MemHub, Fail>
     ensures { IfOk result (λ keeper. (oldest_kept keeper.kept.versions).number ≡ 0) }
 {
     let mut keeper = MemHub::new(alloc, 8);
-    match fill_whole(rt, alloc, &mut keeper) {
+    match fill_whole(rt, alloc, publish, folder, &mut keeper) {
         Ok(()) => Ok(keeper),
         Err(fail) => {
             drop(keeper);
@@ -79,6 +96,19 @@ fn with_losses(
     }
 }
 
+/// A world of what these words publish of a folder's files, and of its grants.
+pub fn world_of(
+    rt: &impl Abort,
+    alloc: Global,
+    publish: &str,
+    folder: &mut MemFolder,
+) -> Result<WorldLink, Fail> {
+    match WorldLink::over(alloc, filled(rt, alloc, publish, folder)?, noon(rt)) {
+        Ok(link) => Ok(link),
+        Err(_) => panic!(rt; "no world"),
+    }
+}
+
 /// A world of the district, of whose exchanges these are lost.
 pub fn world(
     rt: &impl Abort,
@@ -86,10 +116,9 @@ pub fn world(
     requests: Vec<u64>,
     replies: Vec<u64>,
 ) -> Result<WorldLink, Fail> {
-    match WorldLink::over(alloc, filled(rt, alloc)?, noon(rt)) {
-        Ok(link) => with_losses(link, requests, replies),
-        Err(_) => panic!(rt; "no world"),
-    }
+    let mut folder = folder(alloc)?;
+    let link = world_of(rt, alloc, "publish sis=lake", &mut folder)?;
+    with_losses(link, requests, replies)
 }
 
 /// The token of a caller who reads all at one school.

@@ -1,7 +1,8 @@
 use Rattle.std.proofs.Common.{refl}
 use Rattle.consumer_commands.specs.Consumers.{copy_between, link_between}
-use Rattle.hub_cli.proofs.Ending.{leads-command, leads-entered, leads-listed, leads-made-answer, leads-outbox, leads-rehearsed-answer, leads-resting, leads-sent, leads-shown, leads-synchronised, leads-told}
+use Rattle.hub_cli.proofs.Ending.{leads-command, leads-entered, leads-exported, leads-exported-since, leads-listed, leads-made-answer, leads-manifest, leads-outbox, leads-rehearsed-answer, leads-resting, leads-sent, leads-shown, leads-synchronised, leads-told}
 use Rattle.hub_commands.proofs.Telling.{writes_as}
+use Rattle.hub_commands.specs.ExportAnswers.{file_answer}
 use Rattle.hub_commands.specs.Outside.{faults_between, outside_between}
 use Rattle.hub_words.specs.declared.words.Command.TheVariants.{Ask, Grant, Publish}
 use Rattle.hub_cli.proofs.run.run_command.Goals as goal
@@ -110,6 +111,36 @@ returns-in-ListHeld g c =
     (link_between g.L.Link.tells g.L.Link.asked g.L.Link.missed g.L.Link.kept g.L.Link.fault_count c.args.link.now c.args.link.now)
     (g.H.HubKeeper.stands_for c.args.keeper.now) c.args.parsed.now c.in-ListHeld.kind c.in-ListHeld.is (record { folder = refl; keeper = refl }) refl c.list.result c.list.ensures)
     c.tell-in-ListHeld.ensures
+
+pub returns-in-ExportManifest : goal.returns-in-ExportManifest
+returns-in-ExportManifest g c =
+    writes_as _ _ _ _ _ _ _
+    (leads-manifest
+    (outside_between g.F.Folder.files g.F.Folder.faults c.args.folder.now c.args.folder.now (g.K.Clock.moment c.args.clock.now) (faults_between g.H.HubKeeper.fault_count c.args.keeper.now c.args.keeper.now))
+    (copy_between g.C.CopyKeeper.stands_for g.C.CopyKeeper.fault_count c.args.copy.now c.args.copy.now)
+    (link_between g.L.Link.tells g.L.Link.asked g.L.Link.missed g.L.Link.kept g.L.Link.fault_count c.args.link.now c.args.link.now)
+    (g.H.HubKeeper.stands_for c.args.keeper.now) c.args.parsed.now c.in-ExportManifest.mode c.in-ExportManifest.is (refl, refl) (record { folder = refl; keeper = refl }) (file_answer c.manifest.result) c.manifest.ensures)
+    c.tell_file.ensures
+
+pub returns-in-Export : goal.returns-in-Export
+returns-in-Export g c =
+    writes_as _ _ _ _ _ _ _
+    (leads-exported
+    (outside_between g.F.Folder.files g.F.Folder.faults c.args.folder.now c.args.folder.now (g.K.Clock.moment c.args.clock.now) (faults_between g.H.HubKeeper.fault_count c.args.keeper.now c.args.keeper.now))
+    (copy_between g.C.CopyKeeper.stands_for g.C.CopyKeeper.fault_count c.args.copy.now c.export.new.copy)
+    (link_between g.L.Link.tells g.L.Link.asked g.L.Link.missed g.L.Link.kept g.L.Link.fault_count c.args.link.now c.args.link.now)
+    (g.H.HubKeeper.stands_for c.args.keeper.now) c.args.parsed.now c.in-Export.kind c.in-Export.is (record { folder = refl; keeper = refl }) refl (file_answer c.export.result) c.export.ensures)
+    c.tell_file-in-Export.ensures
+
+pub returns-in-ExportSince : goal.returns-in-ExportSince
+returns-in-ExportSince g c =
+    writes_as _ _ _ _ _ _ _
+    (leads-exported-since
+    (outside_between g.F.Folder.files g.F.Folder.faults c.args.folder.now c.export_since.new.folder (g.K.Clock.moment c.args.clock.now) (faults_between g.H.HubKeeper.fault_count c.args.keeper.now c.args.keeper.now))
+    (copy_between g.C.CopyKeeper.stands_for g.C.CopyKeeper.fault_count c.args.copy.now c.export_since.new.copy)
+    (link_between g.L.Link.tells g.L.Link.asked g.L.Link.missed g.L.Link.kept g.L.Link.fault_count c.args.link.now c.args.link.now)
+    (g.H.HubKeeper.stands_for c.args.keeper.now) c.args.parsed.now c.in-ExportSince.kind c.in-ExportSince.dir c.in-ExportSince.is refl refl (file_answer c.export_since.result) (c.export_since.ensures (faults_between g.H.HubKeeper.fault_count c.args.keeper.now c.args.keeper.now)))
+    c.tell_file-in-ExportSince.ensures
 
 pub returns-in-Rehearse : goal.returns-in-Rehearse
 returns-in-Rehearse g c =
