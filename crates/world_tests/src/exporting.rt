@@ -13,8 +13,11 @@ use std::test::Fail;
 use sync_world::WorldLink;
 use test_lake::{File, file};
 
-// Words in turn over one copy, with their statuses and what they print. The set has its category without a date, so that it is always told.
-static TURNS: [(&str, u8, &str); 10] = [
+// Words, their status and what they print.
+type Turn = (&'static str, u8, &'static str);
+
+// Words in turn over one copy. The set has its category without a date, so that it is always told.
+static TURNS: [Turn; 10] = [
     ("export orgs", 21, "nothing held\n"),
     ("export orgs since lake", 21, "nothing held\n"),
     (
@@ -35,15 +38,27 @@ static TURNS: [(&str, u8, &str); 10] = [
     ),
 ];
 
+fn assert_turn(
+    rt: &impl Abort,
+    alloc: Global,
+    copy: &mut MemCopy,
+    link: &mut WorldLink,
+    turn: &Turn,
+) -> Result<(), Fail> {
+    let (line, status, want) = turn;
+    let (told, text) = run(alloc, line, copy, link)?;
+    assert_eq!(rt; (told, text.as_str()), (*status, *want), "{line}");
+    Ok(())
+}
+
 fn assert_turns(
     rt: &impl Abort,
     alloc: Global,
     copy: &mut MemCopy,
     link: &mut WorldLink,
 ) -> Result<(), Fail> {
-    for (line, status, want) in &TURNS {
-        let (told, text) = run(alloc, line, copy, link)?;
-        assert_eq!(rt; (told, text.as_str()), (*status, *want), "{line}");
+    for turn in &TURNS {
+        assert_turn(rt, alloc, copy, link, turn)?;
     }
     Ok(())
 }
