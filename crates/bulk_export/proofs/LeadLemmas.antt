@@ -8,7 +8,7 @@ use Rattle.roster_types.specs.Records.{Record}
 use Rattle.roster_types.specs.declared.set_row.SetRow.{SetRow}
 use Rattle.roster_types.specs.declared.status.Status.{Status}
 use Rattle.roster_types.specs.declared.status.Status.TheVariants.{Active, ToBeDeleted}
-use Rattle.row_deltas.proofs.LookUps.{KeepKeys, look_up-map}
+use Rattle.version_core.proofs.LookUps.{KeepKeys, look_up-map}
 use Rattle.row_deltas.proofs.SameLemmas.{row_decides}
 use Rattle.row_deltas.specs.Sameness.{same_row}
 use Rattle.version_changes.specs.sets.Applying.{is_active, set_key}

@@ -6,7 +6,7 @@ use Rattle.roster_types.specs.Keys.{Key, look_up}
 use Rattle.roster_types.specs.declared.set_row.SetRow.{SetRow}
 use Rattle.roster_values.specs.Kinds.{place_of_kind}
 use Rattle.roster_values.specs.declared.kind.Kind.{Kind}
-use Rattle.row_deltas.proofs.LookUps.{KeepKeys, look_up-map}
+use Rattle.version_core.proofs.LookUps.{KeepKeys, look_up-map}
 use Rattle.version_changes.specs.sets.Applying.{set_key}
 use Rattle.bulk_export.specs.Steps.{earlier_at, earlier_key, lying}
 use Rattle.bulk_export.specs.declared.earlier.EarlierRow.{EarlierRow}

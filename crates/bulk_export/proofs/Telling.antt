@@ -8,7 +8,7 @@ use Rattle.reference_rules.proofs.KeyOrder.{and_first, and_second, equal_from_is
 use Rattle.roster_types.specs.Keys.{Ascends, Key, key_cmp, look_up, row_key}
 use Rattle.roster_types.specs.Records.{Record}
 use Rattle.roster_types.specs.declared.set_row.SetRow.{SetRow}
-use Rattle.row_deltas.proofs.LookUps.{none_above}
+use Rattle.version_core.proofs.LookUps.{none_above}
 use Rattle.std.specs.FinMap.Entries as entries
 use Rattle.roster_types.specs.Keys.{keyed}
 use Rattle.version_changes.specs.sets.Applying.{is_active}

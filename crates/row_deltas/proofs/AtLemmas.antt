@@ -10,7 +10,7 @@ use Rattle.roster_types.specs.Records.{Record}
 use Rattle.roster_values.specs.Kinds.{place_of_kind}
 use Rattle.roster_values.specs.declared.kind.Kind.{Kind}
 use Rattle.row_deltas.proofs.DeltaLemmas.{Ascends-delta, difference_same, look_up-delta}
-use Rattle.row_deltas.proofs.LookUps.{both_true, none_above}
+use Rattle.version_core.proofs.LookUps.{both_true, none_above}
 use Rattle.version_core.proofs.OrderLemmas.{same_from_look_up}
 use Rattle.row_deltas.specs.Deltas.{AreOf, Cover, delta_of, difference, entries_at, entry_key, id_key}
 use Rattle.row_deltas.specs.Sameness.{same_row}

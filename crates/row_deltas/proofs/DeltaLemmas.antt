@@ -12,7 +12,7 @@ use Rattle.roster_types.specs.Keys.{Ascends, Key, is_of_kind, key_cmp, look_up, 
 use Rattle.roster_types.specs.Records.{Record}
 use Rattle.roster_values.specs.Kinds.{place_of_kind}
 use Rattle.roster_values.specs.declared.kind.Kind.{Kind}
-use Rattle.row_deltas.proofs.LookUps.{Ascends-filter, Ascends-map, KeepKeys, if_kept, look_up-filter, look_up-map}
+use Rattle.version_core.proofs.LookUps.{Ascends-filter, Ascends-map, KeepKeys, if_kept, look_up-filter, look_up-map}
 use Rattle.row_deltas.proofs.SameLemmas.{row_decides, row_same}
 use Rattle.row_deltas.specs.Deltas.{AreOf, applied, delta_of, difference, entry_key, gone_entry, is_lacking, stands_in, without}
 use Rattle.row_deltas.specs.Sameness.{same_row}
@@ -99,7 +99,7 @@ module _ (kind : Kind) where
         | Greater ↦ (all.0, all_put key P x ys here all.1)
       ]
 
-  all_overlaid : {X : Type 0} (key : X → Key) (P : X → Type 0) (base changes : List X) → AllByRecursion P base → AllByRecursion P changes → AllByRecursion P (overlaid key base changes)
+  pub all_overlaid : {X : Type 0} (key : X → Key) (P : X → Type 0) (base changes : List X) → AllByRecursion P base → AllByRecursion P changes → AllByRecursion P (overlaid key base changes)
   all_overlaid key P base [] all more = all
   all_overlaid key P base (x ∷ changes) all more = all_put key P x (overlaid key base changes) more.0 (all_overlaid key P base changes all more.1)
 
@@ -215,3 +215,13 @@ module _ (kind : Kind) where
   delta-same rows are up =
       same_from_look_up (entry_key kind) (delta_of kind rows rows) [] (Ascends-delta rows rows are are up up) refl (λ k.
       look_up-delta rows rows are are up up k ∙ difference_same (look_up row_key k rows))
+
+  pub same-delta : (old new : List Record) → AreOf kind old → AreOf kind new → Ascends row_key old → Ascends row_key new → delta_of kind old new ≡ [] → old ≡ new
+  same-delta old new are_old are_new up up' none = ap (λ (entries : List DeltaEntry). applied entries old) (sym none) ∙ applied-delta old new are_old are_new up up'
+
+  pub following-deltas : (old middle new : List Record) → AreOf kind old → AreOf kind middle → AreOf kind new → Ascends row_key old → Ascends row_key middle → Ascends row_key new
+      → applied (delta_of kind middle new) (applied (delta_of kind old middle) old) ≡ applied (delta_of kind old new) old
+  following-deltas old middle new are_old are_middle are_new up up' up'' =
+      ap (applied (delta_of kind middle new)) (applied-delta old middle are_old are_middle up up')
+      ∙ applied-delta middle new are_middle are_new up' up''
+      ∙ sym (applied-delta old new are_old are_new up up'')

@@ -1,6 +1,6 @@
 pub mod AtLemmas
 pub mod DeltaLemmas
-pub mod LookUps
+pub mod EntryLemmas
 pub mod MergeLemmas
 pub mod SameLemmas
 pub mod StepLemmas

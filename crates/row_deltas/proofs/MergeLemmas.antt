@@ -11,7 +11,7 @@ use Rattle.roster_types.specs.Records.{Record}
 use Rattle.roster_values.specs.Kinds.{place_of_kind}
 use Rattle.roster_values.specs.declared.kind.Kind.{Kind}
 use Rattle.row_deltas.proofs.DeltaLemmas.{Ascends-delta, after_entry, difference_leads, found_of, key_tells, look_up-delta}
-use Rattle.row_deltas.proofs.LookUps.{Ascends-filter, if_kept, look_up-filter, none_above}
+use Rattle.version_core.proofs.LookUps.{Ascends-filter, if_kept, look_up-filter, none_above}
 use Rattle.row_deltas.specs.Deltas.{AreOf, delta_of, entry_key, ids_gone, merged, rows_put}
 use Rattle.row_deltas.specs.declared.entry.DeltaEntry.{DeltaEntry}
 use Rattle.row_deltas.specs.declared.entry.DeltaEntry.TheVariants.{Put, Gone}

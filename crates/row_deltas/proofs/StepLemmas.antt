@@ -8,7 +8,7 @@ use Rattle.roster_types.specs.Keys.{Ascends, Key, key_cmp, keyed, look_up, row_k
 use Rattle.roster_types.specs.Records.{Record}
 use Rattle.roster_values.specs.declared.kind.Kind.{Kind}
 use Rattle.row_deltas.proofs.DeltaLemmas.{Ascends-delta, gone_keys, kept_of, key_of, look_up-delta, put_keys}
-use Rattle.row_deltas.proofs.LookUps.{below_kept, both_true, none_above, same_below}
+use Rattle.version_core.proofs.LookUps.{below_kept, both_true, none_above, same_below}
 use Rattle.row_deltas.specs.Deltas.{AreOf, delta_of, difference, entry_key, gone_entry, is_lacking, stands_in}
 use Rattle.row_deltas.specs.Sameness.{same_row}
 use Rattle.row_deltas.specs.declared.entry.DeltaEntry.TheVariants.{Put, Gone}

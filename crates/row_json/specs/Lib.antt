@@ -1,4 +1,5 @@
 pub mod CellTexts
+pub mod Deltas
 pub mod Json
 pub mod Puts
 pub mod Reading

@@ -2,6 +2,7 @@
 #![tactic(auto)]
 
 mod cell_texts;
+mod delta;
 mod fault;
 mod guess;
 mod members;
@@ -12,6 +13,7 @@ mod text;
 mod values;
 mod written;
 
+pub use delta::{delta_text, read_gone};
 pub use fault::{JsonError, JsonFault};
 pub use put::read_put;
 pub use read::{read_collection, read_row};

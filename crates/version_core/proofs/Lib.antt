@@ -7,6 +7,7 @@ pub mod IndexLemmas
 pub mod IndexedVersions
 pub mod KeptLemmas
 pub mod KindCounts
+pub mod LookUps
 pub mod MarkLemmas
 pub mod MergeLemmas
 pub mod NamingLemmas
@@ -24,6 +25,7 @@ pub mod RowsOf
 pub mod RunLemmas
 pub mod SayingLemmas
 pub mod SinceLemmas
+pub mod SpanLemmas
 pub mod TableLemmas
 pub mod TrimLemmas
 pub mod VersionLemmas

@@ -11,6 +11,7 @@ pub mod RefIndex
 pub mod References
 pub mod Room
 pub mod Since
+pub mod Spans
 pub mod Table
 pub mod Tables
 pub mod Version

@@ -19,6 +19,7 @@ pub mod row_change;
 mod since;
 pub mod sorted;
 pub mod sorted_rows;
+pub mod span;
 pub mod table;
 mod version_log;
 pub mod view;

@@ -7,6 +7,7 @@ ghost use Rattle.version_core.specs.Version.{Versions, IsVersion, after, empty_v
 
 use crate::change::Change;
 use crate::hub_tables::HubTables;
+use crate::span::Span;
 use crate::version_log::VersionLog;
 use crate::view::VersionView;
 use roster_base::{NoMemory, TryCopy};
@@ -95,6 +96,17 @@ impl Table {
         ensures number { result.number ≡ version }
     {
         self.log.rows_at(version)
+    }
+
+    /// Two versions that are kept, the second no older than the first. No memory is taken.
+    pub fn span(&self, before: u64, after: u64) -> Span<'_>
+        requires oldest { (oldest_of self.now).number ≤ before }
+        requires order { before ≤ after }
+        requires newest { after ≤ (newest_of self.now).number }
+        ensures before { slice_get self.now.versions (before - (oldest_of self.now).number) ≡ Some result.before }
+        ensures after { slice_get self.now.versions (after - (oldest_of self.now).number) ≡ Some result.after }
+    {
+        self.log.span(before, after)
     }
 
     /// The newest version. No memory is taken.

@@ -17,6 +17,7 @@ use crate::ref_runs::{limit_of, runs_of, sweep};
 use crate::reserved::{RowKey, keys_of, make_room, reserve_places};
 use crate::row_change::RowChange;
 use crate::since::{Since, standing, trim};
+use crate::span::Span;
 use crate::view::VersionView;
 use roster_base::{Items, NoMemory, TryCopy};
 use roster_texts::Moment;
@@ -189,6 +190,23 @@ impl VersionLog {
         // Read for the invariant.
         let _ = &self.number;
         self.rows_at(self.newest())
+    }
+
+    /// Two of the versions, the second no older than the first.
+    pub fn span(&self, before: u64, after: u64) -> Span<'_>
+        requires oldest { (first_or empty_version self.now.versions).number ≤ before }
+        requires order { before ≤ after }
+        requires newest { after ≤ (last_or empty_version self.now.versions).number }
+        ensures before { slice_get self.now.versions (before - (first_or empty_version self.now.versions).number) ≡ Some result.before }
+        ensures after { slice_get self.now.versions (after - (first_or empty_version self.now.versions).number) ≡ Some result.after }
+    {
+        Span {
+            first: self.rows_at(before),
+            last: self.rows_at(after),
+            from: before,
+            to: after,
+            histories: &self.histories,
+        }
     }
 
     /// Makes room for this change, so that `push` takes no memory.

@@ -91,8 +91,8 @@ fn count_through(histories: &[History], place: u64) -> usize
     histories.partition_point(|history| history.place() <= place)
 }
 
-// The histories of this kind, which lie side by side.
-fn histories_of_kind(histories: &[History], kind: Kind) -> &[History]
+/// The histories of this kind, which lie side by side.
+pub(crate) fn histories_of_kind(histories: &[History], kind: Kind) -> &[History]
     requires { ArePasts (pasts_of histories.now) }
     ensures { result.now ≡ filter (is_past_of kind) histories.now }
 {
