@@ -85,7 +85,7 @@ status
                                         21  the copy holds nothing
 ";
 
-const VERSION: &str = "hub 0.1.0, hub.db of format 1, copy.db of format 2\n";
+const VERSION: &str = "hub 0.1.0, hub.db of format 2, copy.db of format 2\n";
 
 // The words of each command.
 static USAGES: [(&str, &str); 13] = [

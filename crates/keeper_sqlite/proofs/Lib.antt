@@ -2,6 +2,7 @@ pub mod ChangesLemmas
 pub mod HubKeepingLemmas
 pub mod LoadLemmas
 pub mod ReadLemmas
+pub mod RowsLemmas
 pub mod TellingLemmas
 pub mod EntryLemmas
 pub mod CopyKeepingLemmas

@@ -1,29 +1,13 @@
 -- A commit to items that are trusted, or not.
-use Rattle.std.proofs.Common.{◌≡◌, ◌⊎◌, ℕ, [], ◌∷◌, Result, Ok, Err, IsErr, OnErr, OnOk, inl, inr, refl, sym, ap, ◌∙◌}
-use Rattle.item_maps.specs.Items.{Items, listed, no_items}
+use Rattle.std.proofs.Common.{◌≡◌, ◌⊎◌, Result, Ok, Err, IsErr, OnErr, OnOk, inl, inr, refl}
+use Rattle.item_maps.specs.Items.{Items}
 use Rattle.roster_base.specs.declared.keeper.KeeperError.{KeeperError}
 use Rattle.roster_base.specs.declared.keeper.KeeperError.TheVariants.{Failed, NoMemory}
 use Rattle.keeper_memory.specs.Commits.{Commits, with_commit}
 use Rattle.keeper_memory.specs.Kept.{KeptState}
 use Rattle.keeper_memory.specs.declared.hub_commit.HubCommit.{HubCommit}
-use Rattle.hub_format.specs.Format.{Keep, format_entry}
-use Rattle.hub_format.proofs.Told.{format_told}
-use Rattle.hub_format.proofs.Unique.{kept_once}
-use Rattle.keeper_sqlite.specs.hub.Keeping.{Became, ComeOf, KeepOrNew, Keeps}
+use Rattle.keeper_sqlite.specs.hub.Keeping.{Became, ComeOf, Keeps}
 use Rattle.keeper_sqlite.specs.hub.Telling.{KeepSome, StillKeep, Tells}
-use Rattle.keeper_sqlite.proofs.HubKeepingLemmas.{none_listed}
-
--- items keep one state at most, and no items keep version 0 alone
-not_both : (items : Items) (state : KeptState) → Keep items state → items ≡ no_items → ⊥
-not_both items state kept none =
-    let told : [] ≡ format_entry 1 ∷ [] = sym none_listed ∙ ap (listed 0 [] (0 ∷ [])) (sym none ∙ kept.stored) ∙ format_told kept.tables in
-    cc
-
-pub one_state : (keep : ℕ) (items : Items) (state other : KeptState) → KeepOrNew keep items state → KeepOrNew keep items other → state ≡ other
-one_state keep items state other (inl a) (inl b) = kept_once items state other a b
-one_state keep items state other (inl a) (inr b) = absurd (not_both items state a b.0)
-one_state keep items state other (inr a) (inl b) = absurd (not_both items other b a.0)
-one_state keep items state other (inr a) (inr b) = a.1 ∙ sym b.1
 
 -- what became of a commit that makes this of a state
 abbrev pub Came : {X : Type 0} → (X → X) → Result (Unit {0}) KeeperError → X → X → Type 0

@@ -1,3 +1,4 @@
--- What the items of a hub's store keep, and what is told of them.
+-- What the items of a hub's store keep, where its rows stand, and what is told of them.
 pub mod Keeping
+pub mod Rows
 pub mod Telling

@@ -5,6 +5,8 @@ pub mod item_hub;
 mod load;
 mod oldest;
 mod prepare;
+mod reading;
+mod rows;
 mod state;
 pub mod tables;
 

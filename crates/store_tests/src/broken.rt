@@ -10,21 +10,23 @@ use sqlite::{Alter, Connection};
 use std::alloc::Global;
 use std::test::Fail;
 
+const OTHER_FORMAT: &str = "UPDATE item SET body = x'0000000000000003' WHERE area = 0";
+
 // Statements that break a store of a base and two changes.
-static BREAKING: [(&str, u64); 16] = [
+static BREAKING: [(&str, u64); 17] = [
     // Another format.
-    (
-        "UPDATE item SET body = x'0000000000000002' WHERE area = 0",
-        0,
-    ),
+    (OTHER_FORMAT, 0),
     ("UPDATE item SET body = x'01' WHERE area = 0", 0),
     // What is cut, or overwritten.
     ("DELETE FROM item WHERE area = 1", 0),
     ("UPDATE item SET body = x'00' WHERE area = 1", 0),
-    ("UPDATE item SET body = x'00' WHERE area = 2", 0),
     ("UPDATE item SET body = x'00' WHERE area = 3", 0),
-    ("UPDATE item SET body = x'00' WHERE area = 4", 0),
     ("UPDATE item SET body = x'00' WHERE area = 5", 0),
+    ("UPDATE item SET body = x'00' WHERE area = 7", 0),
+    (
+        "UPDATE item SET body = x'00' WHERE area = 7 AND label = x'007333000000000000000003'",
+        0,
+    ),
     // More than is read: behind the state, behind a version's number, and a flag that is none.
     (
         "UPDATE item SET body = x'00000000000000020000000000000001000001910dcfae0000' WHERE area = 1",
@@ -40,16 +42,20 @@ static BREAKING: [(&str, u64); 16] = [
     ),
     // A row with another id than its label says, in the base and in a change.
     (
-        "UPDATE item SET label = x'007333' WHERE area = 2 AND label = x'007332'",
+        "UPDATE item SET label = x'007334000000000000000001' WHERE area = 7 AND label = x'007332000000000000000001'",
         0,
     ),
     (
-        "UPDATE item SET label = x'0000000000000003007334' WHERE area = 4 AND label = x'0000000000000003007333'",
+        "UPDATE item SET label = x'007334000000000000000003' WHERE area = 7 AND label = x'007333000000000000000003'",
         0,
     ),
-    // A row of another kind than its label says, and a mark without a number.
+    // A row of another kind than its label says, one whose label names no version, and a mark without a number.
     (
-        "UPDATE item SET label = x'0000000000000003017333' WHERE area = 4 AND label = x'0000000000000003007333'",
+        "UPDATE item SET label = x'017333000000000000000003' WHERE area = 7 AND label = x'007333000000000000000003'",
+        0,
+    ),
+    (
+        "UPDATE item SET label = x'007333' WHERE area = 7 AND label = x'007333000000000000000003'",
         0,
     ),
     (
@@ -59,7 +65,7 @@ static BREAKING: [(&str, u64); 16] = [
     // Another shape.
     (
         "DROP TABLE item; CREATE TABLE item (area INTEGER) STRICT; INSERT INTO item VALUES (0)",
-        9,
+        11,
     ),
 ];
 
@@ -97,7 +103,7 @@ fn push_items(bytes: &mut Vec<u8>, items: &[Item]) -> Result<(), NoMemory> {
 }
 
 // The areas of a hub, and those of a copy with orgs alone.
-static AREAS: [u32; 9] = [0, 1, 2, 3, 4, 5, 6, 32, 64];
+static AREAS: [u32; 11] = [0, 1, 2, 3, 4, 5, 6, 7, 8, 32, 64];
 
 // Labels and bodies of all areas, one behind the other.
 fn listing<I: StoredItems>(alloc: Global, items: &mut I) -> Result<Vec<u8>, NoMemory> {
@@ -165,8 +171,6 @@ fn broken_stores_fail(rt: HostRuntime) -> Result<(), Fail> {
     }
     Ok(())
 }
-
-const OTHER_FORMAT: &str = "UPDATE item SET body = x'0000000000000003' WHERE area = 0";
 
 // The last number becomes 0, where entry 1 stands.
 const BEYOND: &str =

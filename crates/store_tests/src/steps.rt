@@ -1,7 +1,7 @@
 //! Steps over a store: words over a hub, words over a consumer's copy with the replies to their exchanges, which are given beforehand, and
 //! looks at what the copy's store holds.
 
-use crate::stored::{aged_in, format_in, kept_in, stored_in};
+use crate::stored::{aged_in, areas_in, format_in, kept_in, stored_in};
 use crate::ten_kinds_items::Kept;
 use crate::words::{printed, run_line, told};
 use exchange_link::PeerLink;
@@ -21,7 +21,7 @@ pub type Reply = (&'static str, &'static str);
 pub struct Turn(pub &'static str, pub u64, pub &'static [Reply]);
 
 /// Words over a hub, the same once more over the same keeper where they fail, words over a hub of which only what is printed is told, a turn
-/// of a copy, a look at the copy's store or at its format, that store made one of format 1, or items put into a store.
+/// of a copy, a look at the copy's store or at its format, or at a hub's areas, a copy's store made one of format 1, or items put into a store.
 #[derive(Clone, Copy)]
 pub enum Step {
     Hub(&'static str),
@@ -30,6 +30,7 @@ pub enum Step {
     Copy(Turn),
     Store,
     Format,
+    Areas,
     Aged,
     Kept(&'static [Kept]),
 }
@@ -142,6 +143,7 @@ pub fn step_over<I: StoredItems>(
         Step::Copy(turn) => copy_over(alloc, items, turn),
         Step::Store => stored_in(alloc, items),
         Step::Format => format_in(alloc, items),
+        Step::Areas => areas_in(alloc, items),
         Step::Aged => aged_in(alloc, items),
         Step::Kept(kept) => kept_in(alloc, kept, items),
     }

@@ -3,6 +3,7 @@
 use crate::copies::{CREATED, LATER_ORG, LATER_ROWS, LATER_SHUT};
 use crate::kept::empty;
 use crate::steps::{Reply, Step, Turn, step_in};
+use crate::ten_kinds_items::HUB;
 use roster_base::NoMemory;
 use sqlite::Files;
 use sqlite_disk::{Crash, Disk, Fuse, Memory};
@@ -103,6 +104,14 @@ static AGED: [Case; 1] = [Case {
     step: Step::Store,
     between: &[],
     shown: &[Step::Format, Step::Store, OUTBOX, ORGS],
+}];
+
+// A hub's store of format 1 is taken over by a call that changes nothing else.
+static OLD_HUBS: [Case; 1] = [Case {
+    before: &[Step::Kept(HUB)],
+    step: Step::Printed("ask result.http"),
+    between: &[],
+    shown: &[Step::Areas, Step::Hub("ask result.http")],
 }];
 
 // The files that steps leave.
@@ -242,6 +251,14 @@ fn stops_leave_a_copy_before_or_after(rt: HostRuntime) -> Result<(), Fail> {
 #[test]
 fn stops_leave_a_stage_before_or_after(rt: HostRuntime) -> Result<(), Fail> {
     for case in &STAGES {
+        assert_stops(&rt, rt.alloc(), case)?;
+    }
+    Ok(())
+}
+
+#[test]
+fn stops_leave_a_hub_in_one_of_two_formats(rt: HostRuntime) -> Result<(), Fail> {
+    for case in &OLD_HUBS {
         assert_stops(&rt, rt.alloc(), case)?;
     }
     Ok(())

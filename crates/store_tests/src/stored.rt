@@ -1,4 +1,4 @@
-//! What the store of a consumer's copy holds, as a text.
+//! What the store of a consumer's copy holds, or how much that of a hub, as a text.
 
 use crate::ten_kinds_items::Kept;
 use item_maps::{Edit, Item};
@@ -45,6 +45,9 @@ fn state_told<C: CopyKeeper>(alloc: Global, copy: &mut C) -> Result<String, NoMe
 // The areas of a copy with orgs alone.
 static AREAS: [u32; 7] = [0, 1, 2, 3, 4, 32, 64];
 
+// The areas of a hub, in either format.
+static HUB_AREAS: [u32; 9] = [0, 1, 2, 3, 4, 5, 6, 7, 8];
+
 // How many items an area has, where it has any.
 fn push_area<I: StoredItems>(
     alloc: Global,
@@ -65,11 +68,12 @@ fn push_area<I: StoredItems>(
 
 fn with_areas<I: StoredItems>(
     alloc: Global,
-    state: Result<String, NoMemory>,
+    told: Result<String, NoMemory>,
+    areas: &[u32],
     items: &mut I,
 ) -> Result<String, NoMemory> {
-    let mut text = state?;
-    for area in &AREAS {
+    let mut text = told?;
+    for area in areas {
         push_area(alloc, &mut text, items, *area)?;
     }
     Ok(text)
@@ -80,7 +84,7 @@ pub fn stored_in<I: StoredItems>(alloc: Global, items: I) -> (Result<String, NoM
     let mut copy = ItemCopy::adopt(items);
     let state = state_told(alloc, &mut copy);
     let mut items = copy.release();
-    let told = with_areas(alloc, state, &mut items);
+    let told = with_areas(alloc, state, &AREAS, &mut items);
     (told, items)
 }
 
@@ -110,6 +114,13 @@ fn format_told<I: StoredItems>(alloc: Global, items: &mut I) -> Result<String, N
 /// Tells the number of the format of these items, and gives them back.
 pub fn format_in<I: StoredItems>(alloc: Global, mut items: I) -> (Result<String, NoMemory>, I) {
     let told = format_told(alloc, &mut items);
+    (told, items)
+}
+
+/// Tells the number of the format of a hub's items, and how many items each area has, and gives them back.
+pub fn areas_in<I: StoredItems>(alloc: Global, mut items: I) -> (Result<String, NoMemory>, I) {
+    let format = format_told(alloc, &mut items);
+    let told = with_areas(alloc, format, &HUB_AREAS, &mut items);
     (told, items)
 }
 

@@ -8,11 +8,20 @@ use std::process::Abort;
 use std::test::Fail;
 
 // The hub holds what it held, and none of the new kinds until a set brings some.
-static HUB_STEPS: [(Step, &str); 7] = [
+static HUB_STEPS: [(Step, &str); 10] = [
     (Step::Kept(HUB), ""),
+    (
+        Step::Areas,
+        "format 1, area 0: 1, area 1: 1, area 3: 2, area 4: 20, area 5: 2",
+    ),
     (
         Step::Printed("ask result.http"),
         "0 HTTP/1.1 200 OK\r\nContent-Type: application/json\r\nX-Hub-Version: 2\r\nContent-Length: 29\r\n\r\n{\"result\":{\"sourcedId\":\"r1\"}}",
+    ),
+    // The first call took it over.
+    (
+        Step::Areas,
+        "format 2, area 0: 1, area 1: 1, area 3: 2, area 5: 2, area 7: 20, area 8: 20",
     ),
     (
         Step::Printed("ask resource.http"),
@@ -20,6 +29,10 @@ static HUB_STEPS: [(Step, &str); 7] = [
     ),
     (Step::Printed("grant g3.csv"), "0 grants version 3\n"),
     (Step::Printed("publish sis=lake3"), "0 sis version 4\n"),
+    (
+        Step::Areas,
+        "format 2, area 0: 1, area 1: 1, area 3: 4, area 5: 3, area 7: 22, area 8: 22",
+    ),
     (
         Step::Printed("ask before.http"),
         "0 HTTP/1.1 404 Not Found\r\nContent-Type: application/json\r\nX-Hub-Version: 3\r\nContent-Length: 122\r\n\r\n{\"imsx_codeMajor\":\"failure\",\"imsx_codeMinor\":\"unknown_object\",\"imsx_description\":\"no such object\",\"imsx_severity\":\"error\"}",

@@ -1,4 +1,4 @@
-//! A copy's store of format 1, which is taken over.
+//! A copy's store of format 1, which is taken over; and what a hub's store of format 2 has, version after version.
 
 use crate::copies::SHUT;
 use crate::kept::empty;
@@ -53,6 +53,51 @@ fn a_store_of_format_1_is_taken_over(rt: HostRuntime) -> Result<(), Fail> {
     let mut files = empty(rt.alloc());
     for (step, want) in &STEPS {
         let (told, left) = step_in(rt.alloc(), files, 0, step);
+        files = left;
+        assert_eq!(rt; told?.as_str(), *want);
+    }
+    drop(files);
+    Ok(())
+}
+
+// A hub that keeps one version beside the newest: a row stands once, until the last version that shows it goes.
+static VERSIONS: [(Step, &str); 11] = [
+    (Step::Areas, "no format"),
+    (Step::Printed("publish sis=lake"), "0 sis version 1\n"),
+    (
+        Step::Areas,
+        "format 2, area 0: 1, area 1: 1, area 3: 1, area 7: 3, area 8: 3",
+    ),
+    // The base is version 1.
+    (Step::Printed("grant g.csv"), "0 grants version 2\n"),
+    (
+        Step::Areas,
+        "format 2, area 0: 1, area 1: 1, area 3: 1, area 5: 2, area 7: 3",
+    ),
+    // A row is changed and one is new.
+    (Step::Printed("publish sis=new"), "0 sis version 3\n"),
+    (
+        Step::Areas,
+        "format 2, area 0: 1, area 1: 1, area 3: 1, area 5: 2, area 7: 5, area 8: 2",
+    ),
+    // The new one is gone; what the changed one was no version shows.
+    (Step::Printed("publish sis=gone"), "0 sis version 4\n"),
+    (
+        Step::Areas,
+        "format 2, area 0: 1, area 1: 1, area 3: 1, area 5: 2, area 7: 5, area 8: 1",
+    ),
+    (Step::Printed("grant g2.csv"), "0 grants version 5\n"),
+    (
+        Step::Areas,
+        "format 2, area 0: 1, area 1: 1, area 3: 1, area 5: 3, area 7: 4",
+    ),
+];
+
+#[test]
+fn rows_are_kept_as_long_as_a_version_shows_them(rt: HostRuntime) -> Result<(), Fail> {
+    let mut files = empty(rt.alloc());
+    for (step, want) in &VERSIONS {
+        let (told, left) = step_in(rt.alloc(), files, 1, step);
         files = left;
         assert_eq!(rt; told?.as_str(), *want);
     }

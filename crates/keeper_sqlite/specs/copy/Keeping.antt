@@ -1,8 +1,6 @@
 -- Stores whose items keep a copy, by what they stand for.
-use Rattle.std.specs.Prelude.{◌≡◌, ◌≢◌, ◌⊎◌, ℕ, List, [], ◌∷◌}
-use Rattle.hub_format.specs.Format.{Entry}
-use Rattle.hub_format.specs.Pieces.{number}
-use Rattle.item_maps.specs.Items.{Items, listed, no_items}
+use Rattle.std.specs.Prelude.{◌≡◌, ◌⊎◌, ℕ, List}
+use Rattle.item_maps.specs.Items.{Items, no_items}
 use Rattle.item_maps.specs.declared.item.Edit.{Edit}
 use Rattle.keeper_memory.specs.copy.Copies.{Copy, IsCopy}
 use Rattle.keeper_memory.specs.copy.HeldCopy.{empty_copy}
@@ -20,13 +18,6 @@ KeepEither items c = Keep items c ⊎ KeepOne items c
 -- and no items keep the copy that holds nothing
 abbrev pub KeepOrNew : Items → Copy → Type 0
 KeepOrNew items c = Keep items c ⊎ (KeepOne items c ⊎ ((items ≡ no_items) × (c ≡ empty_copy)))
-
--- the items of the format say another number than 1 and 2
-pub record HasOtherFormat (items : Items) : Type 0 where
-  pub entry : Entry
-  pub only : listed 0 [] (0 ∷ []) items ≡ entry ∷ []
-  pub first : entry.1 ≢ number 1
-  pub second : entry.1 ≢ number 2
 
 -- a store that stands for the items of this copy, whose held rows stand on this side
 pub record HasCopy (stand : Items → Type 0) (side : ℕ) (c : Copy) : Type 0 where

@@ -7,8 +7,8 @@ ghost use Rattle.copy_format.specs.Format.{Keep};
 ghost use Rattle.keeper_memory.specs.copy.Changes.{CanChange, Commits, copy_after};
 ghost use Rattle.keeper_memory.specs.copy.Copies.{Copy, entry_after, held_list};
 ghost use Rattle.keeper_memory.specs.copy.States.{CanBe, CanBeEntry, CanBeList, Shows};
-ghost use Rattle.keeper_sqlite.specs.copy.Keeping.{CopyLeads, CopyTells, HasOtherFormat, KeepEither, KeepOrNew};
-ghost use Rattle.keeper_sqlite.specs.hub.Keeping.{Keeps};
+ghost use Rattle.keeper_sqlite.specs.copy.Keeping.{CopyLeads, CopyTells, KeepEither, KeepOrNew};
+ghost use Rattle.keeper_sqlite.specs.hub.Keeping.{HasOtherFormat, Keeps};
 ghost use Rattle.keeper_sqlite.specs.hub.Telling.{StillKeep, Tells};
 ghost use Rattle.keeper_sqlite.specs.Trust.{Clean};
 

@@ -5,8 +5,8 @@ ghost use Rattle.roster_base.specs.Faults.{CountsFailure};
 ghost use Rattle.item_maps.specs.Items.{Items};
 ghost use Rattle.keeper_memory.specs.copy.Copies.{Copy};
 ghost use Rattle.copy_format.specs.Format.{Keep, KeepOne};
-ghost use Rattle.keeper_sqlite.specs.hub.Keeping.{ComeOf, Keeps, Stay};
-ghost use Rattle.keeper_sqlite.specs.copy.Keeping.{HasOtherFormat, KeepEither, KeepOrNew};
+ghost use Rattle.keeper_sqlite.specs.hub.Keeping.{ComeOf, HasOtherFormat, Keeps, Stay};
+ghost use Rattle.keeper_sqlite.specs.copy.Keeping.{KeepEither, KeepOrNew};
 ghost use Rattle.keeper_sqlite.specs.Trust.{Clean};
 
 use crate::copy::stored::stored_root;

@@ -7,8 +7,8 @@ ghost use Rattle.keeper_memory.specs.copy.Copies.{Copy, entry_after, held_list};
 ghost use Rattle.keeper_memory.specs.copy.Lists.{IsList};
 ghost use Rattle.keeper_memory.specs.copy.States.{CanBe, CanBeEntry, Shows};
 ghost use Rattle.copy_format.specs.Format.{Keep};
-ghost use Rattle.keeper_sqlite.specs.hub.Keeping.{ComeOf, Keeps, Stay};
-ghost use Rattle.keeper_sqlite.specs.copy.Keeping.{HasOtherFormat, KeepEither, KeepOrNew};
+ghost use Rattle.keeper_sqlite.specs.hub.Keeping.{ComeOf, HasOtherFormat, Keeps, Stay};
+ghost use Rattle.keeper_sqlite.specs.copy.Keeping.{KeepEither, KeepOrNew};
 ghost use Rattle.keeper_sqlite.specs.Trust.{Clean};
 
 use crate::copy::prepare::prepare;

@@ -1,12 +1,13 @@
 //! A keeper of a hub's state over a store of items.
 
-ghost use Rattle.std.specs.Prelude.{IfOk, IsErr, OnOk, ◌≡◌};
+ghost use Rattle.std.specs.Prelude.{IfOk, IsErr, OnErr, OnOk, ◌≡◌};
 ghost use Rattle.roster_base.specs.Faults.{CountsFailure};
 ghost use Rattle.item_maps.specs.Items.{Items};
-ghost use Rattle.keeper_memory.specs.Commits.{CanCommit, Commits};
+ghost use Rattle.keeper_memory.specs.Commits.{CanCommit, Commits, with_commit};
 ghost use Rattle.keeper_memory.specs.Kept.{KeptState, kept_by};
 ghost use Rattle.version_core.specs.Tables.{AreTables};
-ghost use Rattle.keeper_sqlite.specs.hub.Keeping.{HasOtherFormat, KeepOrNew, Keeps};
+ghost use Rattle.span_format.specs.Format.{KeepSpans};
+ghost use Rattle.keeper_sqlite.specs.hub.Keeping.{HasOtherFormat, KeepEither, KeepOrNew, Keeps};
 ghost use Rattle.keeper_sqlite.specs.hub.Telling.{HubLeads, HubTells, StillKeep, Tells};
 ghost use Rattle.keeper_sqlite.specs.Trust.{Clean};
 
@@ -98,6 +99,11 @@ impl<S: StoredItems> HubKeeper for ItemHub<S> {
         ensures leads { HubLeads S.shows self.old self.new }
         // Over a clean disk a call that succeeds leaves the store trusted, so that it tells what it keeps.
         ensures live { S.shows self.new.0 Clean → OnOk result (S.is_trusted self.new.0) }
+        // A call that succeeds leaves items of format 2, whatever they were before it.
+        ensures turned { (state : KeptState) → Keeps (KeepOrNew self.old.2) (S.stands_for self.old.0) state → S.is_trusted self.new.0
+            → OnOk result (Keeps KeepSpans (S.stands_for self.new.0) state) }
+        // And any call leaves the state whole, in one of the two formats.
+        ensures whole { (state : KeptState) → Keeps KeepEither (S.stands_for self.old.0) state → S.is_trusted self.new.0 → Keeps KeepEither (S.stands_for self.new.0) state }
         // Items of another format are refused, and stay as they are.
         ensures other { (m : Items) → S.stands_for self.old.0 m → HasOtherFormat m → S.is_trusted self.new.0 → IsErr result × S.stands_for self.new.0 m }
     {
@@ -112,6 +118,11 @@ impl<S: StoredItems> HubKeeper for ItemHub<S> {
         ensures leads { HubLeads S.shows self.old self.new }
         // Over a clean disk a call that succeeds leaves the store trusted, so that it tells what it keeps.
         ensures live { S.shows self.new.0 Clean → OnOk result (S.is_trusted self.new.0) }
+        // A call that succeeds leaves items of format 2, whatever they were before it, with its change and its mark.
+        ensures turned { (state : KeptState) → Keeps (KeepOrNew self.old.2) (S.stands_for self.old.0) state → CanCommit state commit.now → S.is_trusted self.new.0
+            → OnOk result (Keeps KeepSpans (S.stands_for self.new.0) (with_commit state commit.now)) }
+        // And one that doesn't leaves the state whole, in one of the two formats.
+        ensures whole { (state : KeptState) → Keeps KeepEither (S.stands_for self.old.0) state → S.is_trusted self.new.0 → OnErr result (Keeps KeepEither (S.stands_for self.new.0) state) }
         // Items of another format are refused, and stay as they are.
         ensures other { (m : Items) → S.stands_for self.old.0 m → HasOtherFormat m → S.is_trusted self.new.0 → IsErr result × S.stands_for self.new.0 m }
     {

@@ -1,6 +1,6 @@
-//! What a store keeps, read back.
+//! What a store keeps beside the base's rows, read back.
 
-ghost use Rattle.std.specs.Prelude.{◌≡◌, ◌∷◌, ◌++◌, ◌+◌, ◌<◌, ◌≤◌, ◌^◌, [], ℕ, List, Option, None, Some, IfOk, IfSome, OnOk, false, length, map, true};
+ghost use Rattle.std.specs.Prelude.{◌≡◌, ◌∷◌, ◌++◌, ◌+◌, ◌<◌, ◌≤◌, ◌^◌, [], List, Option, None, Some, IfOk, OnOk, false, map, true};
 ghost use Rattle.std.specs.List.{AllByRecursion};
 ghost use Rattle.std.specs.Option.{ForSome};
 ghost use Rattle.roster_base.specs.Faults.{CountsFailure};
@@ -10,65 +10,22 @@ ghost use Rattle.version_core.specs.Version.{last_version};
 ghost use Rattle.version_core.specs.declared.change.Change.{Change as ChangeValue};
 ghost use Rattle.version_core.specs.declared.grant_row.GrantRow.{GrantRow as GrantValue};
 ghost use Rattle.version_core.specs.declared.hub_tables.HubTables.{HubTables as Tables};
-ghost use Rattle.version_core.specs.declared.row_change.RowChange.{RowChange as RowValue};
-ghost use Rattle.hub_format.specs.Format.{Entry, FitsChange, FitsGrant, grants_under, own_grants, own_rows, own_version, rows_under, some_grants};
-ghost use Rattle.hub_format.specs.Pieces.{IsReadBack, has_grants, number};
-ghost use Rattle.keeper_sqlite.specs.hub.Keeping.{HasTables, Stay};
+ghost use Rattle.hub_format.specs.Format.{Entry, FitsChange, FitsGrant, grants_under, own_grants, own_version, some_grants};
+ghost use Rattle.hub_format.specs.Pieces.{has_grants, number};
+ghost use Rattle.keeper_sqlite.specs.hub.Keeping.{Stay};
+ghost use Rattle.keeper_sqlite.specs.hub.Rows.{HasChanges, HasTables, TellChange};
 ghost use Rattle.keeper_sqlite.specs.Trust.{Clean};
 
+use crate::hub::rows::{StoredRows, change_rows};
 use crate::hub::state::of_version;
 use crate::stored_items::StoredItems;
-use hub_format::{HubArea, grants_of, marks_of, rows_of, version_of};
+use hub_format::{HubArea, grants_of, marks_of, version_of};
 use item_maps::Item;
 use roster_base::{Items, KeeperError, NoMemory};
 use std::alloc::Global;
-use version_changes::are_changes;
 use version_core::change::Change;
 use version_core::grant_row::GrantRow;
 use version_core::mark::MarkRow;
-use version_core::row_change::RowChange;
-use version_core::sorted_rows::SortedRows;
-
-// The rows, if they stand in order.
-fn in_order(rows: Vec<RowChange>) -> Option<SortedRows>
-    ensures { IfSome result (λ sorted. sorted ≡ rows.items) }
-{
-    if are_changes(rows.as_slice()) {
-        Some(SortedRows::from_vec(rows))
-    } else {
-        None
-    }
-}
-
-// The rows of items whose labels have so many bytes in front of the rows' keys.
-fn rows_in(alloc: Global, skip: usize, items: &[Item]) -> Result<Option<SortedRows>, NoMemory>
-    ensures { (prefix : List ℕ) (rows : List RowValue) → length prefix ≡ skip → AllByRecursion IsReadBack rows → map entry_of items.now ≡ rows_under prefix rows
-        → IfOk result (λ o. IfSome o (λ found. found ≡ rows)) }
-{
-    match rows_of(alloc, skip, items)? {
-        Some(rows) => Ok(in_order(rows)),
-        None => Ok(None),
-    }
-}
-
-// The rows of the base.
-pub(crate) fn base_rows<S: StoredItems>(
-    alloc: Global,
-    store: &mut S,
-) -> Result<SortedRows, KeeperError>
-    ensures rows { (t : Tables) → HasTables (S.stands_for store.old) t → S.is_trusted store.new → IfOk result (λ rows. rows ≡ t.base.rows) }
-    ensures same { Stay (S.stands_for store.old) (S.stands_for store.new) }
-    ensures cause { CountsFailure (S.fault_count store.old) (S.fault_count store.new) result }
-    ensures trust { S.is_trusted store.new → S.is_trusted store.old }
-    ensures held { Stay (S.may_hold store.new) (S.may_hold store.old) }
-    ensures signs { Stay (S.shows store.new) (S.shows store.old) }
-{
-    let items = store.all_of(alloc, HubArea::BaseRows.number(), &[], &[255])?;
-    match rows_in(alloc, 0, items.as_slice())? {
-        Some(rows) => Ok(rows),
-        None => Err(store.refuse()),
-    }
-}
 
 // The grants behind a version's number.
 pub(crate) fn grants_at<S: StoredItems>(
@@ -139,13 +96,13 @@ fn own_grants_at<S: StoredItems>(
 fn change_of<S: StoredItems>(
     alloc: Global,
     store: &mut S,
+    laid: &StoredRows,
     version: u64,
     items: &[Item],
 ) -> Result<Change, KeeperError>
     requires { version + 1 < 2 ^ 64 }
     ensures change { (m : Kept) (change : ChangeValue) → S.stands_for store.old m → FitsChange change → version ≡ change.version → map entry_of items.now ≡ own_version change
-        → listed 4 (number version) (number (version + 1)) m ≡ own_rows change → listed 5 (number version) (number (version + 1)) m ≡ own_grants change
-        → S.is_trusted store.new → IfOk result (λ found. found ≡ change) }
+        → TellChange laid.now m change → listed 5 (number version) (number (version + 1)) m ≡ own_grants change → S.is_trusted store.new → IfOk result (λ found. found ≡ change) }
     ensures same { Stay (S.stands_for store.old) (S.stands_for store.new) }
     ensures cause { CountsFailure (S.fault_count store.old) (S.fault_count store.new) result }
     ensures trust { S.is_trusted store.new → S.is_trusted store.old }
@@ -156,11 +113,7 @@ fn change_of<S: StoredItems>(
         Some(parts) => parts,
         None => return Err(store.refuse()),
     };
-    let laid = of_version(alloc, store, HubArea::ChangeRows, version)?;
-    let rows = match rows_in(alloc, 8, laid.as_slice())? {
-        Some(rows) => rows,
-        None => return Err(store.refuse()),
-    };
+    let rows = change_rows(alloc, store, laid, version)?;
     let grants = own_grants_at(alloc, store, version, flag)?;
     Ok(Change {
         version,
@@ -185,11 +138,12 @@ fn has_none(items: &[Item]) -> bool
 fn change_at<S: StoredItems>(
     alloc: Global,
     store: &mut S,
+    laid: &StoredRows,
     version: u64,
 ) -> Result<Option<Change>, KeeperError>
     requires { version + 1 < 2 ^ 64 }
     ensures change { (m : Kept) (change : ChangeValue) → S.stands_for store.old m → FitsChange change → version ≡ change.version
-        → listed 3 (number version) (number (version + 1)) m ≡ own_version change → listed 4 (number version) (number (version + 1)) m ≡ own_rows change
+        → listed 3 (number version) (number (version + 1)) m ≡ own_version change → TellChange laid.now m change
         → listed 5 (number version) (number (version + 1)) m ≡ own_grants change → S.is_trusted store.new → IfOk result (λ found. found ≡ Some change) }
     ensures none { (m : Kept) → S.stands_for store.old m → listed 3 (number version) (number (version + 1)) m ≡ [] → S.is_trusted store.new → IfOk result (λ found. found ≡ None) }
     ensures same { Stay (S.stands_for store.old) (S.stands_for store.new) }
@@ -202,7 +156,7 @@ fn change_at<S: StoredItems>(
     if has_none(items.as_slice()) {
         return Ok(None);
     }
-    let change = change_of(alloc, store, version, items.as_slice())?;
+    let change = change_of(alloc, store, laid, version, items.as_slice())?;
     Ok(Some(change))
 }
 
@@ -217,11 +171,12 @@ fn push_change(found: &mut Vec<Change>, change: Change) -> Result<(), NoMemory>
 pub(crate) fn changes_in<S: StoredItems>(
     alloc: Global,
     store: &mut S,
+    laid: &StoredRows,
     base: u64,
     keep: u32,
 ) -> Result<Items<Change>, KeeperError>
     requires { base ≤ last_version }
-    ensures changes { (t : Tables) → HasTables (S.stands_for store.old) t → base ≡ t.base.number → keep ≡ t.keep → S.is_trusted store.new
+    ensures changes { (t : Tables) → HasChanges (S.stands_for store.old) laid.now t → base ≡ t.base.number → keep ≡ t.keep → S.is_trusted store.new
         → IfOk result (λ changes. changes ≡ t.changes) }
     ensures same { Stay (S.stands_for store.old) (S.stands_for store.new) }
     ensures cause { CountsFailure (S.fault_count store.old) (S.fault_count store.new) result }
@@ -231,7 +186,7 @@ pub(crate) fn changes_in<S: StoredItems>(
 {
     let mut found = Vec::new(alloc);
     for place in 0..keep {
-        let change = match change_at(alloc, store, base + 1 + place as u64)? {
+        let change = match change_at(alloc, store, laid, base + 1 + place as u64)? {
             Some(change) => change,
             None => return Ok(Items::from_vec(found)),
         };

@@ -4,21 +4,23 @@ ghost use Rattle.std.specs.Prelude.{◌≡◌, [], ◌+◌, ◌-◌, ◌<◌, �
 ghost use Rattle.std.specs.Option.{ForSome};
 ghost use Rattle.roster_base.specs.Faults.{CountsFailure};
 ghost use Rattle.version_core.specs.declared.hub_tables.HubTables.{HubTables};
-ghost use Rattle.hub_format.specs.Oldest.{AreOldest, AreOldestFor};
-ghost use Rattle.keeper_sqlite.specs.hub.Keeping.{HasTables, Stay};
+ghost use Rattle.span_format.specs.Oldest.{AreOldest, AreOldestFor};
+ghost use Rattle.keeper_sqlite.specs.hub.Keeping.{Stay};
+ghost use Rattle.keeper_sqlite.specs.hub.Rows.{HasSpans};
 
 use crate::hub::state::of_version;
 use crate::stored_items::StoredItems;
-use hub_format::{HubArea, Oldest, lets_go};
+use hub_format::{HubArea, lets_go};
 use roster_base::KeeperError;
+use span_format::Oldest;
 use std::alloc::Global;
 use version_core::change::Change;
 
-// The grants of the base, and the version and the rows of the change behind it.
+// The grants of the base, and the version and the rows' names of the change behind it.
 fn oldest_of<S: StoredItems>(alloc: Global, store: &mut S, base: u64) -> Result<Oldest, KeeperError>
     requires { base + 2 < 2 ^ 64 }
-    ensures oldest { (t : HubTables) → HasTables (S.stands_for store.old) t → base ≡ t.base.number → S.is_trusted store.new
-        → IfOk result (λ o. AreOldest t o.grants.items o.version.items o.rows.items) }
+    ensures oldest { (t : HubTables) → HasSpans (S.stands_for store.old) t → base ≡ t.base.number → S.is_trusted store.new
+        → IfOk result (λ o. AreOldest t o.grants.items o.version.items o.names.items) }
     ensures same { Stay (S.stands_for store.old) (S.stands_for store.new) }
     ensures cause { CountsFailure (S.fault_count store.old) (S.fault_count store.new) result }
     ensures trust { S.is_trusted store.new → S.is_trusted store.old }
@@ -27,11 +29,11 @@ fn oldest_of<S: StoredItems>(alloc: Global, store: &mut S, base: u64) -> Result<
 {
     let grants = of_version(alloc, store, HubArea::Grants, base)?;
     let version = of_version(alloc, store, HubArea::Versions, base + 1)?;
-    let rows = of_version(alloc, store, HubArea::ChangeRows, base + 1)?;
+    let names = of_version(alloc, store, HubArea::Names, base + 1)?;
     Ok(Oldest {
         grants,
         version,
-        rows,
+        names,
     })
 }
 
@@ -54,8 +56,8 @@ pub(crate) fn oldest_for<S: StoredItems>(
     change: &Option<Change>,
 ) -> Result<Oldest, KeeperError>
     requires { base + 2 < 2 ^ 64 }
-    ensures oldest { (t : HubTables) → HasTables (S.stands_for store.old) t → base ≡ t.base.number → S.is_trusted store.new
-        → IfOk result (λ o. AreOldestFor t keep base change.now o.grants.items o.version.items o.rows.items) }
+    ensures oldest { (t : HubTables) → HasSpans (S.stands_for store.old) t → base ≡ t.base.number → S.is_trusted store.new
+        → IfOk result (λ o. AreOldestFor t keep base change.now o.grants.items o.version.items o.names.items) }
     ensures same { Stay (S.stands_for store.old) (S.stands_for store.new) }
     ensures cause { CountsFailure (S.fault_count store.old) (S.fault_count store.new) result }
     ensures trust { S.is_trusted store.new → S.is_trusted store.old }
@@ -68,6 +70,6 @@ pub(crate) fn oldest_for<S: StoredItems>(
     Ok(Oldest {
         grants: Vec::new(alloc),
         version: Vec::new(alloc),
-        rows: Vec::new(alloc),
+        names: Vec::new(alloc),
     })
 }

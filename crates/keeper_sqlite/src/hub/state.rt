@@ -12,7 +12,8 @@ ghost use Rattle.version_core.specs.declared.hub_tables.HubTables.{HubTables};
 ghost use Rattle.hub_format.specs.Areas.{area_number};
 ghost use Rattle.hub_format.specs.Format.{state_entry};
 ghost use Rattle.hub_format.specs.Pieces.{number};
-ghost use Rattle.keeper_sqlite.specs.hub.Keeping.{HasTables, Stay};
+ghost use Rattle.keeper_sqlite.specs.hub.Keeping.{Stay};
+ghost use Rattle.keeper_sqlite.specs.hub.Rows.{HasTables};
 
 use crate::stored_items::StoredItems;
 use hub_format::{HubArea, state_of};

@@ -1,6 +1,6 @@
 use Rattle.std.proofs.Common.{◌∙◌, inl, inr, refl}
-use Rattle.hub_format.specs.Format.{Keep}
-use Rattle.keeper_sqlite.proofs.HubKeepingLemmas.{can_here, commit_keeps, committed, keeps_on, on_any, on_err, on_ok, tables_of}
+use Rattle.span_format.specs.Format.{KeepSpans}
+use Rattle.keeper_sqlite.proofs.HubKeepingLemmas.{can_here, commit_keeps, committed, keeps_on, on_any, on_err, on_ok, spans_of}
 use Rattle.std.proofs.lemmas.Result.{err_from_is_err_and}
 use Rattle.keeper_sqlite.proofs.HoldingLemmas.{became}
 use Rattle.keeper_memory.specs.Commits.{with_commit}
@@ -10,17 +10,17 @@ pub returns-clause-ok : goal.returns-clause-ok
 returns-clause-ok g c state this can sure =
     let old = g.S.StoredItems.stands_for c.args.store.now in
     let commit = c.args.commit.now in
-    let is = c.in_ok-edits.ensures.edits this.kept.tables (tables_of old state this) (can_here old state commit this can) (c.commit.ensures.trust sure) in
+    let is = c.in_ok-edits.ensures.edits this.kept.tables (spans_of old state this) (can_here old state commit this can) (c.commit.ensures.trust sure) in
     on_ok c.commit.result (committed old (g.S.StoredItems.stands_for c.commit.new.self) state commit this c.as_slice.result.now can c.in_ok-edits.ensures.fits (c.as_slice.ensures.value ∙ is))
     (c.commit.ensures.ok this.items (c.in_ok-edits.ensures.same this.items this.stands))
 
 pub returns-in_err-edits-clause-err : goal.returns-in_err-edits-clause-err
 returns-in_err-edits-clause-err g c state this =
-    on_any c.from_residual.result (keeps_on Keep (g.S.StoredItems.stands_for c.args.store.now) (g.S.StoredItems.stands_for c.edits_for.new.store) state this (c.edits_for.ensures.same this.items this.stands))
+    on_any c.from_residual.result (keeps_on KeepSpans (g.S.StoredItems.stands_for c.args.store.now) (g.S.StoredItems.stands_for c.edits_for.new.store) state this (c.edits_for.ensures.same this.items this.stands))
 
 pub returns-clause-err : goal.returns-clause-err
 returns-clause-err g c state this =
-    on_err c.commit.result (keeps_on Keep (g.S.StoredItems.stands_for c.args.store.now) (g.S.StoredItems.stands_for c.commit.new.self) state this)
+    on_err c.commit.result (keeps_on KeepSpans (g.S.StoredItems.stands_for c.args.store.now) (g.S.StoredItems.stands_for c.commit.new.self) state this)
     (c.commit.ensures.err this.items (c.in_ok-edits.ensures.same this.items this.stands))
 
 pub returns-in_err-edits-clause-made : goal.returns-in_err-edits-clause-made
@@ -33,8 +33,8 @@ returns-clause-made g c n held = elim (c.commit.ensures.made n held) [
   | inr came ↦ inr (
     c.in_ok-edits.ensures.trust came.0,
     λ state this can.
-        let goes = c.in_ok-edits.ensures.edits this.kept.tables (tables_of (g.S.StoredItems.stands_for c.args.store.now) state this) (can_here (g.S.StoredItems.stands_for c.args.store.now) state c.args.commit.now this can) came.0 in
-        became Keep (λ state. with_commit state c.args.commit.now) c.commit.result c.as_slice.result.now this.items n state this.kept (commit_keeps this.items state c.args.commit.now this.kept c.as_slice.result.now can c.in_ok-edits.ensures.fits (c.as_slice.ensures.value ∙ goes))
+        let goes = c.in_ok-edits.ensures.edits this.kept.tables (spans_of (g.S.StoredItems.stands_for c.args.store.now) state this) (can_here (g.S.StoredItems.stands_for c.args.store.now) state c.args.commit.now this can) came.0 in
+        became KeepSpans (λ state. with_commit state c.args.commit.now) c.commit.result c.as_slice.result.now this.items n state this.kept (commit_keeps this.items state c.args.commit.now this.kept c.as_slice.result.now can c.in_ok-edits.ensures.fits (c.as_slice.ensures.value ∙ goes))
         (came.1 this.items (c.in_ok-edits.ensures.same this.items this.stands)),
   )
 ]

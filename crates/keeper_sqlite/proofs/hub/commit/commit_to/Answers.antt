@@ -1,16 +1,16 @@
-use Rattle.keeper_sqlite.proofs.HubKeepingLemmas.{keeps_or_new, on_any, on_err, on_ok}
+use Rattle.keeper_sqlite.proofs.HubKeepingLemmas.{keeps_either, keeps_on, keeps_or_new, on_any, on_err, some_keeps}
 use Rattle.keeper_memory.specs.Commits.{with_commit}
 use Rattle.std.proofs.Common.{inl, inr, refl}
 use Rattle.std.proofs.lemmas.Result.{err_from_is_err_and}
 use Rattle.keeper_sqlite.proofs.HoldingLemmas.{became_more, nothing_became}
-use Rattle.hub_format.specs.Format.{Keep}
-use Rattle.keeper_sqlite.specs.hub.Keeping.{KeepOrNew}
+use Rattle.span_format.specs.Format.{KeepSpans}
+use Rattle.keeper_sqlite.specs.hub.Keeping.{KeepEither, KeepOrNew}
 use Rattle.keeper_sqlite.proofs.hub.commit.commit_to.Goals as goal
 
 pub returns-clause-ok : goal.returns-clause-ok
 returns-clause-ok g c state this can sure =
     let ready = c.in_ok-prepare.ensures.ok state this (c.commit_ready.ensures.trust sure) in
-    on_ok c.commit_ready.result (keeps_or_new c.args.keep (g.S.StoredItems.stands_for c.commit_ready.new.store) (with_commit state c.args.commit.now)) (c.commit_ready.ensures.ok state ready can sure)
+    c.commit_ready.ensures.ok state ready can sure
 
 pub returns-clause-err : goal.returns-clause-err
 returns-clause-err g c state this sure =
@@ -18,7 +18,19 @@ returns-clause-err g c state this sure =
     on_err c.commit_ready.result (keeps_or_new c.args.keep (g.S.StoredItems.stands_for c.commit_ready.new.store) state) (c.commit_ready.ensures.err state ready)
 
 pub returns-in_err-prepare-clause-err : goal.returns-in_err-prepare-clause-err
-returns-in_err-prepare-clause-err g c state this sure = on_any c.from_residual.result (c.in_err-prepare.ensures.err state this)
+returns-in_err-prepare-clause-err g c state this sure =
+    on_any c.from_residual.result
+    (keeps_on (KeepOrNew c.args.keep) (g.S.StoredItems.stands_for c.args.store.now) (g.S.StoredItems.stands_for c.prepare.new.store) state this (c.in_err-prepare.ensures.err this.items this.stands))
+
+pub returns-clause-whole : goal.returns-clause-whole
+returns-clause-whole g c state this sure =
+    let s = g.S.StoredItems.stands_for in
+    let ready = c.in_ok-prepare.ensures.ok state (some_keeps c.args.keep (s c.args.store.now) state this) (c.commit_ready.ensures.trust sure) in
+    on_err c.commit_ready.result (keeps_either (s c.commit_ready.new.store) state) (c.commit_ready.ensures.err state ready)
+
+pub returns-in_err-prepare-clause-whole : goal.returns-in_err-prepare-clause-whole
+returns-in_err-prepare-clause-whole g c state this sure =
+    on_any c.from_residual.result (keeps_on KeepEither (g.S.StoredItems.stands_for c.args.store.now) (g.S.StoredItems.stands_for c.prepare.new.store) state this (c.in_err-prepare.ensures.err this.items this.stands))
 
 pub returns-in_err-prepare-clause-made : goal.returns-in_err-prepare-clause-made
 returns-in_err-prepare-clause-made g c n held =
@@ -37,6 +49,6 @@ returns-clause-made g c n held = elim (c.commit_ready.ensures.made n held) [
   | inr came ↦ inr (
     c.in_ok-prepare.ensures.trust came.0,
     λ state this can.
-        became_more Keep (λ state. with_commit state c.args.commit.now) (KeepOrNew c.args.keep) (λ m s kept. inl kept) c.commit_ready.result state n (came.1 state (c.in_ok-prepare.ensures.ok state this came.0) can),
+        became_more KeepSpans (λ state. with_commit state c.args.commit.now) (KeepOrNew c.args.keep) (λ m s kept. inl kept) c.commit_ready.result state n (came.1 state (c.in_ok-prepare.ensures.ok state this came.0) can),
   )
 ]

@@ -1,6 +1,4 @@
-use Rattle.std.proofs.Common.{ap, ◌∙◌, arith}
-use Rattle.hub_format.specs.Format.{items_of}
-use Rattle.hub_format.proofs.Told.{listed_of}
+use Rattle.std.proofs.Common.{◌∙◌, arith}
 use Rattle.keeper_sqlite.proofs.ChangesLemmas.{found_all, found_kept, found_more}
 use Rattle.keeper_sqlite.proofs.hub.load.changes_in.Goals as goal
 
@@ -12,20 +10,21 @@ loop-place-preserved g c = record {
   signs = λ sign h. c.loop-place.invariant.signs sign (c.in_ok-change.ensures.signs sign h);
   faults = c.in_ok-change.ensures.cause ∙ c.loop-place.invariant.faults;
   found = λ t has bases sure.
-      let m = items_of t in
-      let stands = c.loop-place.invariant.same m has.stands in
-      found_more t has.are has.fit c.args.base c.loop-place.place c.loop-place.found.items _ c.in-Some.change bases (c.loop-place.invariant.found t has bases (c.in_ok-change.ensures.trust sure)) c.in_ok-push_change.ensures
-      (λ here. rw c.in-Some.is at (c.in_ok-change.ensures.change m here.change stands here.fits here.number (ap (λ v. listed_of 3 v m) here.number ∙ here.told.version) (ap (λ v. listed_of 4 v m) here.number ∙ here.told.rows) (ap (λ v. listed_of 5 v m) here.number ∙ here.told.grants) sure))
+      let m = has.tables.items in
+      let stands = c.loop-place.invariant.same m has.tables.stands in
+      found_more (g.S.StoredItems.stands_for c.args.store.now) c.args.laid.now t has c.args.base c.loop-place.place c.loop-place.found.items _ c.in-Some.change bases (c.loop-place.invariant.found t has bases (c.in_ok-change.ensures.trust sure))
+      c.in_ok-push_change.ensures (λ here. rw c.in-Some.is at (c.in_ok-change.ensures.change m here.change stands here.fits here.number here.own here.rows here.grants sure))
       (λ none. rw c.in-Some.is at (c.in_ok-change.ensures.none m stands none sure));
 }
 
 pub returns-in-None-clause-changes : goal.returns-in-None-clause-changes
 returns-in-None-clause-changes g c t has bases keeps sure =
-    let m = items_of t in
-    let stands = c.loop-place.invariant.same m has.stands in
-    c.from_vec.ensures ∙ found_all t has.are has.fit c.args.base c.loop-place.place c.loop-place.found.items bases (c.loop-place.invariant.found t has bases (c.in_ok-change.ensures.trust sure))
-    (λ here. rw c.in-None.is at (c.in_ok-change.ensures.change m here.change stands here.fits here.number (ap (λ v. listed_of 3 v m) here.number ∙ here.told.version) (ap (λ v. listed_of 4 v m) here.number ∙ here.told.rows) (ap (λ v. listed_of 5 v m) here.number ∙ here.told.grants) sure))
+    let m = has.tables.items in
+    let stands = c.loop-place.invariant.same m has.tables.stands in
+    c.from_vec.ensures ∙ found_all (g.S.StoredItems.stands_for c.args.store.now) c.args.laid.now t has c.args.base c.loop-place.place c.loop-place.found.items bases (c.loop-place.invariant.found t has bases (c.in_ok-change.ensures.trust sure))
+    (λ here. rw c.in-None.is at (c.in_ok-change.ensures.change m here.change stands here.fits here.number here.own here.rows here.grants sure))
 
 pub returns-clause-changes : goal.returns-clause-changes
 returns-clause-changes g c t has bases keeps sure =
-    c.from_vec-2.ensures ∙ found_kept t has.are c.args.keep c.loop-place.place c.loop-place.found.items keeps (c.loop-place.invariant.found t has bases sure) (omega (arith, c.loop-place-test.false))
+    c.from_vec-2.ensures
+    ∙ found_kept (g.S.StoredItems.stands_for c.args.store.now) c.args.laid.now t has c.args.keep c.loop-place.place c.loop-place.found.items keeps (c.loop-place.invariant.found t has bases sure) (omega (arith, c.loop-place-test.false))

@@ -1,8 +1,9 @@
-use Rattle.std.proofs.Common.{map, ap, ◌∙◌, arith}
+use Rattle.std.proofs.Common.{[], ◌∷◌, map, ap, ◌∙◌, arith}
 use Rattle.item_maps.specs.Edits.{entry_of}
 use Rattle.version_core.specs.Version.{IsVersion}
 use Rattle.version_core.proofs.TableLemmas.{base_meets}
 use Rattle.hub_format.specs.Format.{items_of}
+use Rattle.keeper_sqlite.proofs.HubKeepingLemmas.{listed_alike}
 use Rattle.hub_format.proofs.Told.{state_told}
 use Rattle.keeper_sqlite.proofs.hub.state.state_of_store.Goals as goal
 
@@ -10,4 +11,4 @@ pub returns-in-Some-clause-state : goal.returns-in-Some-clause-state
 returns-in-Some-clause-state g c t has sure =
     let le = (base_meets IsVersion t.base t.changes has.are.versions).number in
     c.in-Some.ensures.state t.keep t.base has.fit.keep (omega (arith, le)) has.fit.moment
-    (ap (map entry_of) c.as_slice.ensures.value ∙ (rw c.number.ensures at (c.in_ok-items.ensures.items (items_of t) has.stands sure)) ∙ state_told t)
+    (ap (map entry_of) c.as_slice.ensures.value ∙ (rw c.number.ensures at (c.in_ok-items.ensures.items has.items has.stands sure)) ∙ listed_alike 1 [] (0 ∷ []) has.items (items_of t) has.state ∙ state_told t)

@@ -2,7 +2,7 @@ use Rattle.std.proofs.Common.{◌≡◌, refl}
 use Rattle.keeper_memory.specs.Kept.{kept_by}
 use Rattle.keeper_sqlite.specs.hub.Keeping.{KeepOrNew}
 use Rattle.keeper_sqlite.proofs.ReadLemmas.{each_shown, still_kept, told_before}
-use Rattle.keeper_sqlite.proofs.TellingLemmas.{one_state}
+use Rattle.keeper_sqlite.proofs.HubKeepingLemmas.{one_state}
 use Rattle.keeper_sqlite.proofs.hub.item_hub.ItemHubHubKeeper.load.Goals as goal
 
 pub invariant_of-self : goal.invariant_of-self
@@ -29,3 +29,9 @@ returns-clause-shown g c =
 
 pub returns-clause-leads : goal.returns-clause-leads
 returns-clause-leads g c = rw (← c.self.view_is) (refl, refl, c.load_from.ensures.signs)
+
+pub returns-clause-turned : goal.returns-clause-turned
+returns-clause-turned g c = rw (← c.self.view_is) c.load_from.ensures.turned
+
+pub returns-clause-whole : goal.returns-clause-whole
+returns-clause-whole g c = rw (← c.self.view_is) c.load_from.ensures.whole

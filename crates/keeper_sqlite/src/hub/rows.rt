@@ -1,0 +1,166 @@
+//! Where a store has its rows, and the rows read back.
+
+ghost use Rattle.std.specs.Prelude.{◌≡◌, ◌+◌, ◌<◌, ◌^◌, ◌&&◌, ℕ, List, IfOk, IfSome, length, map, nat_le};
+ghost use Rattle.std.specs.List.{AllByRecursion};
+ghost use Rattle.roster_base.specs.Faults.{CountsFailure};
+ghost use Rattle.item_maps.specs.Edits.{entry_of};
+ghost use Rattle.item_maps.specs.Items.{Items as Kept};
+ghost use Rattle.version_core.specs.declared.change.BaseVersion.{BaseVersion as BaseValue};
+ghost use Rattle.version_core.specs.declared.change.Change.{Change as ChangeValue};
+ghost use Rattle.version_core.specs.declared.row_change.RowChange.{RowChange as RowValue};
+ghost use Rattle.hub_format.specs.Format.{rows_under};
+ghost use Rattle.hub_format.specs.Pieces.{IsReadBack};
+ghost use Rattle.span_format.specs.Format.{Span, span_entry};
+ghost use Rattle.span_format.specs.Reading.{FitsSpan, came, came_within, where_label};
+ghost use Rattle.keeper_sqlite.specs.hub.Keeping.{Stay};
+ghost use Rattle.keeper_sqlite.specs.hub.Rows.{TellBase, TellChange};
+
+use crate::hub::state::of_version;
+use crate::stored_items::StoredItems;
+use hub_format::{HubArea, rows_of};
+use item_maps::Item;
+use roster_base::{Items, KeeperError, NoMemory};
+use span_format::rows_within;
+use std::alloc::Global;
+use version_changes::are_changes;
+use version_core::row_change::RowChange;
+use version_core::sorted_rows::SortedRows;
+
+/// Where a store has the rows of the base and of the changes.
+#[derive(Drop)]
+pub enum StoredRows {
+    /// In areas of their own, as in format 1.
+    Areas,
+    /// In these items of spans, which have been read.
+    Spans(Items<Item>),
+}
+
+// Whether the number at the end of a span's label is at most this.
+fn came_by(version: u64, label: &[u8]) -> bool
+    ensures { result ≡ (nat_le 8 (length label.now) && nat_le (came label.now) version) }
+{
+    match label.split_last_chunk::<8>() {
+        Some((_, first)) => u64::from_be_bytes(*first) <= version,
+        None => false,
+    }
+}
+
+// The items without those of spans that came up to this version.
+fn later_items(items: Items<Item>, version: u64) -> Items<Item>
+    ensures { (v : ℕ) → version < v → where_label (came_within v v) (map entry_of result) ≡ where_label (came_within v v) (map entry_of items) }
+{
+    let mut items = items.into_vec();
+    items.retain(|item| !came_by(version, item.label.as_slice()));
+    Items::from_vec(items)
+}
+
+impl StoredRows {
+    /// Without what has no row of a later change; no memory is taken.
+    pub(crate) fn behind(self, version: u64) -> StoredRows
+        ensures { (m : Kept) (change : ChangeValue) → version < change.version → TellChange self m change → TellChange result m change }
+    {
+        match self {
+            StoredRows::Areas => StoredRows::Areas,
+            StoredRows::Spans(items) => StoredRows::Spans(later_items(items, version)),
+        }
+    }
+}
+
+// The rows, if they stand in order.
+fn in_order(rows: Vec<RowChange>) -> Option<SortedRows>
+    ensures { IfSome result (λ sorted. sorted ≡ rows.items) }
+{
+    if are_changes(rows.as_slice()) {
+        Some(SortedRows::from_vec(rows))
+    } else {
+        None
+    }
+}
+
+// The rows of items whose labels have so many bytes in front of the rows' keys.
+fn rows_in(alloc: Global, skip: usize, items: &[Item]) -> Result<Option<SortedRows>, NoMemory>
+    ensures { (prefix : List ℕ) (rows : List RowValue) → length prefix ≡ skip → AllByRecursion IsReadBack rows → map entry_of items.now ≡ rows_under prefix rows
+        → IfOk result (λ o. IfSome o (λ found. found ≡ rows)) }
+{
+    match rows_of(alloc, skip, items)? {
+        Some(rows) => Ok(in_order(rows)),
+        None => Ok(None),
+    }
+}
+
+// The rows of the spans among these items that came in these versions.
+fn rows_came(
+    alloc: Global,
+    low: u64,
+    high: u64,
+    items: &[Item],
+) -> Result<Option<SortedRows>, NoMemory>
+    ensures { (spans : List Span) → AllByRecursion FitsSpan spans → where_label (came_within low high) (map entry_of items.now) ≡ map span_entry spans
+        → IfOk result (λ o. IfSome o (λ found. found ≡ map (λ s. s.change) spans)) }
+{
+    match rows_within(alloc, low, high, items)? {
+        Some(rows) => Ok(in_order(rows)),
+        None => Ok(None),
+    }
+}
+
+/// The rows of the base.
+pub(crate) fn base_rows<S: StoredItems>(
+    alloc: Global,
+    store: &mut S,
+    laid: &StoredRows,
+    number: u64,
+) -> Result<SortedRows, KeeperError>
+    ensures rows { (m : Kept) (base : BaseValue) → S.stands_for store.old m → AllByRecursion IsReadBack base.rows → number ≡ base.number → TellBase laid.now m base
+        → S.is_trusted store.new → IfOk result (λ rows. rows ≡ base.rows) }
+    ensures same { Stay (S.stands_for store.old) (S.stands_for store.new) }
+    ensures cause { CountsFailure (S.fault_count store.old) (S.fault_count store.new) result }
+    ensures trust { S.is_trusted store.new → S.is_trusted store.old }
+    ensures held { Stay (S.may_hold store.new) (S.may_hold store.old) }
+    ensures signs { Stay (S.shows store.new) (S.shows store.old) }
+{
+    match laid {
+        StoredRows::Areas => {
+            let items = store.all_of(alloc, HubArea::BaseRows.number(), &[], &[255])?;
+            match rows_in(alloc, 0, items.as_slice())? {
+                Some(rows) => Ok(rows),
+                None => Err(store.refuse()),
+            }
+        }
+        StoredRows::Spans(items) => match rows_came(alloc, 0, number, items.as_slice())? {
+            Some(rows) => Ok(rows),
+            None => Err(store.refuse()),
+        },
+    }
+}
+
+/// The rows of the change to a version.
+pub(crate) fn change_rows<S: StoredItems>(
+    alloc: Global,
+    store: &mut S,
+    laid: &StoredRows,
+    version: u64,
+) -> Result<SortedRows, KeeperError>
+    requires { version + 1 < 2 ^ 64 }
+    ensures rows { (m : Kept) (change : ChangeValue) → S.stands_for store.old m → AllByRecursion IsReadBack change.rows → version ≡ change.version → TellChange laid.now m change
+        → S.is_trusted store.new → IfOk result (λ rows. rows ≡ change.rows) }
+    ensures same { Stay (S.stands_for store.old) (S.stands_for store.new) }
+    ensures cause { CountsFailure (S.fault_count store.old) (S.fault_count store.new) result }
+    ensures trust { S.is_trusted store.new → S.is_trusted store.old }
+    ensures held { Stay (S.may_hold store.new) (S.may_hold store.old) }
+    ensures signs { Stay (S.shows store.new) (S.shows store.old) }
+{
+    match laid {
+        StoredRows::Areas => {
+            let items = of_version(alloc, store, HubArea::ChangeRows, version)?;
+            match rows_in(alloc, 8, items.as_slice())? {
+                Some(rows) => Ok(rows),
+                None => Err(store.refuse()),
+            }
+        }
+        StoredRows::Spans(items) => match rows_came(alloc, version, version, items.as_slice())? {
+            Some(rows) => Ok(rows),
+            None => Err(store.refuse()),
+        },
+    }
+}
