@@ -11,8 +11,7 @@ use Rattle.hub_format.specs.Format.{FitsChange, items_of, own_grants, own_versio
 use Rattle.hub_format.specs.Pieces.{number}
 use Rattle.hub_format.proofs.Told.{IsToldBy, changes_told, listed_of, newest_from, none_told}
 use Rattle.keeper_sqlite.proofs.HubKeepingLemmas.{listed_alike}
-use Rattle.keeper_sqlite.specs.declared.hub.rows.StoredRows.{StoredRows}
-use Rattle.keeper_sqlite.specs.hub.Rows.{HasChanges, TellChange}
+use Rattle.keeper_sqlite.specs.hub.Rows.{HasChanges}
 
 version_at : (n : ℕ) (changes : List Change) (k : ℕ) (d : Change) → LeadOn n changes → k < length changes → (get_or changes k d).version ≡ n + 1 + k
 version_at n [] k d lead lt = absurd (omega arith)
@@ -38,16 +37,16 @@ abbrev no_change : Change
 no_change = record { version = 0; moment = pos 0; rows = []; grants = None }
 
 -- the change that is stored at a place
-pub record IsStored (laid : StoredRows) (m : Items) (t : HubTables) (k version : ℕ) : Type 0 where
+pub record IsStored (tell : Items → Change → Type 0) (m : Items) (t : HubTables) (k version : ℕ) : Type 0 where
   pub change : Change
   pub more : take (k + 1) t.changes ≡ take k t.changes ++ change ∷ []
   pub fits : FitsChange change
   pub number : version ≡ change.version
   pub own : listed_of 3 version m ≡ own_version change
-  pub rows : TellChange laid m change
+  pub rows : tell m change
   pub grants : listed_of 5 version m ≡ own_grants change
 
-module _ (stand : Items → Type 0) (laid : StoredRows) (t : HubTables) (has : HasChanges stand laid t) where
+module _ (stand : Items → Type 0) (tell : Items → Change → Type 0) (t : HubTables) (has : HasChanges stand tell t) where
   abbrev m : Items
   m = has.tables.items
 
@@ -57,7 +56,7 @@ module _ (stand : Items → Type 0) (laid : StoredRows) (t : HubTables) (has : H
   grants_alike : (version : ℕ) → listed_of 5 version m ≡ listed_of 5 version (items_of t)
   grants_alike version = listed_alike 5 (number version) (number (version + 1)) m (items_of t) has.tables.grants
 
-  stored_at : (k version : ℕ) → version ≡ t.base.number + 1 + k → k < length t.changes → IsStored laid m t k version
+  stored_at : (k version : ℕ) → version ≡ t.base.number + 1 + k → k < length t.changes → IsStored tell m t k version
   stored_at k version is lt =
       let change = get_or t.changes k no_change in
       let told : IsToldBy (items_of t) change = at_place (IsToldBy (items_of t)) t.changes k no_change (changes_told t has.tables.are has.tables.fit) lt in
@@ -68,7 +67,7 @@ module _ (stand : Items → Type 0) (laid : StoredRows) (t : HubTables) (has : H
         fits = at_place FitsChange t.changes k no_change has.tables.fit.changes lt;
         number = same;
         own = alike version ∙ ap (λ v. listed_of 3 v (items_of t)) same ∙ told.version;
-        rows = at_place (TellChange laid m) t.changes k no_change has.rows lt;
+        rows = at_place (tell m) t.changes k no_change has.rows lt;
         grants = grants_alike version ∙ ap (λ v. listed_of 5 v (items_of t)) same ∙ told.grants;
       }
 
@@ -80,7 +79,7 @@ module _ (stand : Items → Type 0) (laid : StoredRows) (t : HubTables) (has : H
       alike version ∙ ap (λ v. listed_of 3 v (items_of t)) same ∙ none_told t has.tables.are has.tables.fit
 
   pub found_more : (base k : ℕ) (found new : List Change) (change : Change) → base ≡ t.base.number → (found ≡ take k t.changes) × (k ≤ length t.changes) → new ≡ found ++ change ∷ []
-      → ((here : IsStored laid m t k (base + 1 + k)) → Some change ≡ Some here.change) → (listed_of 3 (base + 1 + k) m ≡ [] → Some change ≡ None) → (new ≡ take (k + 1) t.changes) × (k + 1 ≤ length t.changes)
+      → ((here : IsStored tell m t k (base + 1 + k)) → Some change ≡ Some here.change) → (listed_of 3 (base + 1 + k) m ≡ [] → Some change ≡ None) → (new ≡ take (k + 1) t.changes) × (k + 1 ≤ length t.changes)
   found_more base k found new change bases so_far is some none =
       let le = so_far.1 in
       elim (cases_lt k (length t.changes)) [
@@ -92,7 +91,7 @@ module _ (stand : Items → Type 0) (laid : StoredRows) (t : HubTables) (has : H
       ]
 
   -- where none is stored at a place, all are found before it
-  pub found_all : (base k : ℕ) (found : List Change) → base ≡ t.base.number → (found ≡ take k t.changes) × (k ≤ length t.changes) → ((here : IsStored laid m t k (base + 1 + k)) → None ≡ Some here.change) → found ≡ t.changes
+  pub found_all : (base k : ℕ) (found : List Change) → base ≡ t.base.number → (found ≡ take k t.changes) × (k ≤ length t.changes) → ((here : IsStored tell m t k (base + 1 + k)) → None ≡ Some here.change) → found ≡ t.changes
   found_all base k found bases so_far none = elim (cases_lt k (length t.changes)) [
     | inl lt ↦ absurd (let told = none (stored_at k (base + 1 + k) (omega (arith, bases)) lt) in cc)
     | inr ge ↦ so_far.0 ∙ take_all k t.changes (omega (arith, ge))

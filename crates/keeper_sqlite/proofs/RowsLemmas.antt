@@ -1,8 +1,9 @@
 -- Rows where a store has them.
-use Rattle.std.proofs.Common.{◌≡◌, ◌<◌, ◌≤◌, ◌^◌, ◌&&◌, ℕ, List, [], ◌∷◌, Bool, true, false, cond, filter, length, map, not, refl, sym, ap, subst, ◌∙◌, arith}
+use Rattle.std.proofs.Common.{◌≡◌, ◌≢◌, ◌<◌, ◌≤◌, ◌^◌, ◌&&◌, ℕ, List, [], ◌∷◌, ◌++◌, Bool, BTreeMap, true, false, map, refl, sym, ap, subst, ◌∙◌, append-nil, arith, inl, inr}
 use Rattle.std.specs.Prelude.{nat_le}
 use Rattle.std.specs.List.{AllByRecursion}
-use Rattle.std.proofs.lemmas.Bool.{and_parts}
+use Rattle.std.proofs.lemmas.Bool.{cases_eq, cases_lt}
+use Rattle.std.proofs.lemmas.List.{map-append}
 use Rattle.std.proofs.lemmas.Bool.Decides.{nat_tests}
 use Rattle.item_maps.specs.Edits.{entry_of}
 use Rattle.item_maps.specs.Items.{Items}
@@ -13,45 +14,54 @@ use Rattle.version_core.specs.declared.change.Change.{Change}
 use Rattle.version_core.specs.declared.hub_tables.HubTables.{HubTables}
 use Rattle.version_core.specs.declared.row_change.RowChange.{RowChange}
 use Rattle.hub_format.specs.Pieces.{IsReadBack}
+use Rattle.hub_format.proofs.Finds.{where-append}
 use Rattle.span_format.specs.Format.{Span, span_entry, spans_from}
 use Rattle.span_format.specs.Reading.{FitsSpan, came, came_within, where_label}
 use Rattle.span_format.proofs.Turning.{rows_are}
 use Rattle.keeper_sqlite.proofs.HubKeepingLemmas.{tables_stay}
+use Rattle.keeper_sqlite.specs.declared.hub.rows.ChangeRows.{ChangeRows}
 use Rattle.keeper_sqlite.specs.declared.hub.rows.StoredRows.{StoredRows}
 use Rattle.keeper_sqlite.specs.declared.hub.rows.StoredRows.TheVariants.{Spans}
 use Rattle.keeper_sqlite.specs.hub.Keeping.{Stay}
-use Rattle.keeper_sqlite.specs.hub.Rows.{HasChanges, TellBase, TellChange}
+use Rattle.keeper_sqlite.specs.hub.Rows.{AreLaid, HasChanges, TellBase, TellChange, TellLater, laid_at}
 
--- ---- items that are left out
+-- ---- items that are laid out
 
--- where a list lacks only what doesn't pass, the same passes
-pub same_pass : (test : Item → Bool) (p : List ℕ → Bool) → ((x : Item) → test x ≡ false → p x.label ≡ false) → (items : List Item) → where_label p (map entry_of (filter test items)) ≡ where_label p (map entry_of items)
-same_pass test p misses [] = refl
-same_pass test p misses (x ∷ items) = go (test x) refl (same_pass test p misses items)
+apart : (v n : ℕ) → (v ≡ n → ⊥) → (nat_le v n && nat_le n v) ≡ false
+apart v n other = elim (cases_lt v n) [
+  | inl lt ↦ let no : nat_le n v ≡ false = grind (arith, nat_tests) in rw no (and_none (nat_le v n))
+  | inr ge ↦ let no : nat_le v n ≡ false = grind (arith, nat_tests) in rw no refl
+]
   where
-    go : (b : Bool) → test x ≡ b → where_label p (map entry_of (filter test items)) ≡ where_label p (map entry_of items)
-        → where_label p (map entry_of (cond b (x ∷ filter test items) (filter test items))) ≡ where_label p (map entry_of (x ∷ items))
-    go true is rest = ap (λ es. cond (p x.label) (entry_of x ∷ es) es) rest
-    go false is rest = rw (misses x is) rest
+    and_none : (b : Bool) → (b && false) ≡ false
+    and_none true = refl
+    and_none false = refl
 
--- the test of what came up to a version
-abbrev pub is_later : ℕ → Item → Bool
-is_later version item = not (nat_le 8 (length item.label) && nat_le (came item.label) version)
+module _ (base : ℕ) (item : Item) (items : List Item) (old : BTreeMap ℕ (List Item)) (laid : AreLaid base items old) where
+  more : (p : List ℕ → Bool) (xs : List Item) → where_label p (map entry_of (xs ++ item ∷ [])) ≡ where_label p (map entry_of xs) ++ where_label p (entry_of item ∷ [])
+  more p xs = ap (where_label p) (map-append entry_of xs (item ∷ [])) ∙ where-append p (map entry_of xs) (entry_of item ∷ [])
 
-not_within : (version v : ℕ) (label : List ℕ) → version < v → not (nat_le 8 (length label) && nat_le (came label) version) ≡ false → came_within v v label ≡ false
-not_within version v label lt is =
-    let both : (nat_le 8 (length label) && nat_le (came label) version) ≡ true = was (nat_le 8 (length label) && nat_le (came label) version) is in
-    let early = (and_parts (nat_le 8 (length label)) (nat_le (came label) version) both).1 in
-    let no : nat_le v (came label) ≡ false = grind (arith, nat_tests, early, lt) in
-    rw no refl
-  where
-    was : (b : Bool) → not b ≡ false → b ≡ true
-    was true is = refl
-    was false is = absurd cc
+  misses : (p : List ℕ → Bool) (xs : List Item) → p item.label ≡ false → where_label p (map entry_of xs) ≡ where_label p (map entry_of (xs ++ item ∷ []))
+  misses p xs miss = sym (more p xs ∙ rw miss (append-nil (where_label p (map entry_of xs))))
 
-pub later_left : (version : ℕ) (items left : List Item) → left ≡ filter (is_later version) items → (v : ℕ) → version < v → where_label (came_within v v) (map entry_of left) ≡ where_label (came_within v v) (map entry_of items)
-later_left version items left is v lt =
-    ap (λ xs. where_label (came_within v v) (map entry_of xs)) is ∙ same_pass (is_later version) (came_within v v) (λ x off. not_within version v x.label lt off) items
+  -- an item that came by the base is left out
+  pub laid_same : (version : ℕ) → version ≡ came item.label → version ≤ base → AreLaid base (items ++ item ∷ []) old
+  laid_same version is le = λ v lt. laid v lt ∙ misses (came_within v v) items (apart v (came item.label) (λ same. omega (arith, is, le, lt, same)))
+
+  -- and one that came later lies under its version
+  pub laid_more : (new : BTreeMap ℕ (List Item)) (version : ℕ) → version ≡ came item.label → laid_at new version ≡ laid_at old version ++ item ∷ []
+      → ((v : ℕ) → v ≢ version → laid_at new v ≡ laid_at old v) → AreLaid base (items ++ item ∷ []) new
+  laid_more new version is here others = λ v lt.
+      let p = came_within v v in
+      elim (cases_eq v version) [
+        | inl same ↦
+            ap (λ xs. where_label p (map entry_of xs)) (subst (λ n. laid_at new n ≡ laid_at old n ++ item ∷ []) (sym same) here)
+            ∙ more p (laid_at old v) ∙ ap (λ es. es ++ where_label p (entry_of item ∷ [])) (laid v lt) ∙ sym (more p items)
+        | inr other ↦ ap (λ xs. where_label p (map entry_of xs)) (others v other) ∙ laid v lt ∙ misses p items (apart v (came item.label) (λ same. other (same ∙ sym is)))
+      ]
+
+pub laid_none : (base : ℕ) (laid : BTreeMap ℕ (List Item)) → laid.entries ≡ [] → AreLaid base [] laid
+laid_none base laid none = λ v lt. let nothing : laid_at laid v ≡ [] = rw none refl in ap (λ xs. where_label (came_within v v) (map entry_of xs)) nothing
 
 -- ---- spans that are read back
 
@@ -86,15 +96,15 @@ change_in_spans items seen m change version small versions same back told = (
 -- ---- the rows of the changes, once the base's are read
 
 -- each change has a version behind the base
-tell_later : (laid later : StoredRows) (m : Items) (base n : ℕ) → base ≤ n → ((change : Change) → base < change.version → TellChange laid m change → TellChange later m change)
-    → (changes : List Change) → LeadOn n changes → AllByRecursion (TellChange laid m) changes → AllByRecursion (TellChange later m) changes
+tell_later : (laid : StoredRows) (later : ChangeRows) (m : Items) (base n : ℕ) → base ≤ n → ((change : Change) → base < change.version → TellChange laid m change → TellLater later m change)
+    → (changes : List Change) → LeadOn n changes → AllByRecursion (TellChange laid m) changes → AllByRecursion (TellLater later m) changes
 tell_later laid later m base n le keeps [] lead told = tt
 tell_later laid later m base n le keeps (change ∷ changes) lead told =
     let next = lead.0 in
     (keeps change (omega (arith, next, le)) told.0, tell_later laid later m base change.version (omega (arith, next, le)) keeps changes lead.1 told.1)
 
-pub changes_later : (old new : Items → Type 0) (laid later : StoredRows) (t : HubTables) (base : ℕ) → base ≡ t.base.number → Stay old new
-    → ((m : Items) (change : Change) → base < change.version → TellChange laid m change → TellChange later m change) → HasChanges old laid t → HasChanges new later t
+pub changes_later : (old new : Items → Type 0) (laid : StoredRows) (later : ChangeRows) (t : HubTables) (base : ℕ) → base ≡ t.base.number → Stay old new
+    → ((m : Items) (change : Change) → base < change.version → TellChange laid m change → TellLater later m change) → HasChanges old (TellChange laid) t → HasChanges new (TellLater later) t
 changes_later old new laid later t base bases stay keeps has = record {
   tables = tables_stay old new t stay has.tables;
   rows = tell_later laid later has.tables.items base t.base.number (omega (arith, bases)) (keeps has.tables.items) t.changes has.tables.are.lead has.rows;

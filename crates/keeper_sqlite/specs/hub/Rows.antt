@@ -1,8 +1,11 @@
 -- Stores that stand for the items of tables, and where these have their rows.
-use Rattle.std.specs.Prelude.{◌≡◌, ◌+◌, List, [], ◌∷◌, map}
+use Rattle.std.specs.Prelude.{◌≡◌, ◌+◌, ◌<◌, ℕ, List, [], ◌∷◌, map, unwrap_or}
+use Rattle.std.specs.BTreeMap.{BTreeMap, get}
 use Rattle.std.specs.List.{AllByRecursion}
+use Rattle.std.specs.Ordering.{nat_cmp}
 use Rattle.item_maps.specs.Edits.{entry_of}
 use Rattle.item_maps.specs.Items.{Items, listed}
+use Rattle.item_maps.specs.declared.item.Item.{Item}
 use Rattle.version_core.specs.Tables.{AreTables}
 use Rattle.version_core.specs.declared.change.BaseVersion.{BaseVersion}
 use Rattle.version_core.specs.declared.change.Change.{Change}
@@ -11,6 +14,8 @@ use Rattle.hub_format.specs.Format.{Fit, items_of, own_rows, rows_under}
 use Rattle.hub_format.specs.Pieces.{number}
 use Rattle.span_format.specs.Format.{AreSpans, FitSpans, Span, items_in, own_spans, span_entry}
 use Rattle.span_format.specs.Reading.{came_within, where_label}
+use Rattle.keeper_sqlite.specs.declared.hub.rows.ChangeRows.{ChangeRows}
+use Rattle.keeper_sqlite.specs.declared.hub.rows.ChangeRows.TheVariants.{Area, Laid}
 use Rattle.keeper_sqlite.specs.declared.hub.rows.StoredRows.{StoredRows}
 use Rattle.keeper_sqlite.specs.declared.hub.rows.StoredRows.TheVariants.{Areas, Spans}
 
@@ -44,12 +49,25 @@ abbrev pub TellChange : StoredRows → Items → Change → Type 0
 TellChange Areas m change = listed 4 (number change.version) (number (change.version + 1)) m ≡ own_rows change
 TellChange (Spans items) m change = where_label (came_within change.version change.version) (map entry_of items) ≡ own_spans change
 
--- a store that stands for items of these tables, which has the rows of the changes there
-pub record HasChanges (stand : Items → Type 0) (laid : StoredRows) (t : HubTables) : Type 0 where
-  pub tables : HasTables stand t
-  pub rows : AllByRecursion (TellChange laid tables.items) t.changes
+-- the items that are laid out under a version
+abbrev pub laid_at : BTreeMap ℕ (List Item) → ℕ → List Item
+laid_at laid version = unwrap_or (get nat_cmp laid version) []
 
--- and those of the base
+-- under each version behind the base lie the items that came in it
+abbrev pub AreLaid : ℕ → List Item → BTreeMap ℕ (List Item) → Type 0
+AreLaid base items laid = (v : ℕ) → base < v → where_label (came_within v v) (map entry_of (laid_at laid v)) ≡ where_label (came_within v v) (map entry_of items)
+
+-- the rows of a change, once the base's are read: as before, or among the items under its version
+abbrev pub TellLater : ChangeRows → Items → Change → Type 0
+TellLater Area m change = TellChange Areas m change
+TellLater (Laid laid) m change = TellChange (Spans (laid_at laid change.version)) m change
+
+-- a store that stands for items of these tables, in which each change's rows are told so
+pub record HasChanges (stand : Items → Type 0) (tell : Items → Change → Type 0) (t : HubTables) : Type 0 where
+  pub tables : HasTables stand t
+  pub rows : AllByRecursion (tell tables.items) t.changes
+
+-- a store that stands for items of these tables, which has their rows there
 pub record HasRows (stand : Items → Type 0) (laid : StoredRows) (t : HubTables) : Type 0 where
-  pub changes : HasChanges stand laid t
+  pub changes : HasChanges stand (TellChange laid) t
   pub base : TellBase laid changes.tables.items t.base

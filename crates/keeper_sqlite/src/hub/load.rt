@@ -13,10 +13,10 @@ ghost use Rattle.version_core.specs.declared.hub_tables.HubTables.{HubTables as 
 ghost use Rattle.hub_format.specs.Format.{Entry, FitsChange, FitsGrant, grants_under, own_grants, own_version, some_grants};
 ghost use Rattle.hub_format.specs.Pieces.{has_grants, number};
 ghost use Rattle.keeper_sqlite.specs.hub.Keeping.{Stay};
-ghost use Rattle.keeper_sqlite.specs.hub.Rows.{HasChanges, HasTables, TellChange};
+ghost use Rattle.keeper_sqlite.specs.hub.Rows.{HasChanges, HasTables, TellLater};
 ghost use Rattle.keeper_sqlite.specs.Trust.{Clean};
 
-use crate::hub::rows::{StoredRows, change_rows};
+use crate::hub::rows::{ChangeRows, change_rows};
 use crate::hub::state::of_version;
 use crate::stored_items::StoredItems;
 use hub_format::{HubArea, grants_of, marks_of, version_of};
@@ -96,13 +96,13 @@ fn own_grants_at<S: StoredItems>(
 fn change_of<S: StoredItems>(
     alloc: Global,
     store: &mut S,
-    laid: &StoredRows,
+    laid: &ChangeRows,
     version: u64,
     items: &[Item],
 ) -> Result<Change, KeeperError>
     requires { version + 1 < 2 ^ 64 }
     ensures change { (m : Kept) (change : ChangeValue) → S.stands_for store.old m → FitsChange change → version ≡ change.version → map entry_of items.now ≡ own_version change
-        → TellChange laid.now m change → listed 5 (number version) (number (version + 1)) m ≡ own_grants change → S.is_trusted store.new → IfOk result (λ found. found ≡ change) }
+        → TellLater laid.now m change → listed 5 (number version) (number (version + 1)) m ≡ own_grants change → S.is_trusted store.new → IfOk result (λ found. found ≡ change) }
     ensures same { Stay (S.stands_for store.old) (S.stands_for store.new) }
     ensures cause { CountsFailure (S.fault_count store.old) (S.fault_count store.new) result }
     ensures trust { S.is_trusted store.new → S.is_trusted store.old }
@@ -138,12 +138,12 @@ fn has_none(items: &[Item]) -> bool
 fn change_at<S: StoredItems>(
     alloc: Global,
     store: &mut S,
-    laid: &StoredRows,
+    laid: &ChangeRows,
     version: u64,
 ) -> Result<Option<Change>, KeeperError>
     requires { version + 1 < 2 ^ 64 }
     ensures change { (m : Kept) (change : ChangeValue) → S.stands_for store.old m → FitsChange change → version ≡ change.version
-        → listed 3 (number version) (number (version + 1)) m ≡ own_version change → TellChange laid.now m change
+        → listed 3 (number version) (number (version + 1)) m ≡ own_version change → TellLater laid.now m change
         → listed 5 (number version) (number (version + 1)) m ≡ own_grants change → S.is_trusted store.new → IfOk result (λ found. found ≡ Some change) }
     ensures none { (m : Kept) → S.stands_for store.old m → listed 3 (number version) (number (version + 1)) m ≡ [] → S.is_trusted store.new → IfOk result (λ found. found ≡ None) }
     ensures same { Stay (S.stands_for store.old) (S.stands_for store.new) }
@@ -171,12 +171,12 @@ fn push_change(found: &mut Vec<Change>, change: Change) -> Result<(), NoMemory>
 pub(crate) fn changes_in<S: StoredItems>(
     alloc: Global,
     store: &mut S,
-    laid: &StoredRows,
+    laid: &ChangeRows,
     base: u64,
     keep: u32,
 ) -> Result<Items<Change>, KeeperError>
     requires { base ≤ last_version }
-    ensures changes { (t : Tables) → HasChanges (S.stands_for store.old) laid.now t → base ≡ t.base.number → keep ≡ t.keep → S.is_trusted store.new
+    ensures changes { (t : Tables) → HasChanges (S.stands_for store.old) (TellLater laid.now) t → base ≡ t.base.number → keep ≡ t.keep → S.is_trusted store.new
         → IfOk result (λ changes. changes ≡ t.changes) }
     ensures same { Stay (S.stands_for store.old) (S.stands_for store.new) }
     ensures cause { CountsFailure (S.fault_count store.old) (S.fault_count store.new) result }

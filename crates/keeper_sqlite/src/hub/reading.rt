@@ -38,7 +38,10 @@ fn read_tables<S: StoredItems>(
         Err(_) => return Err(store.refuse()),
     };
     let rows = base_rows(alloc, store, &laid, number)?;
-    let later = laid.behind(number);
+    let later = match laid.behind(alloc, number)? {
+        Some(later) => later,
+        None => return Err(store.refuse()),
+    };
     let grants = grants_at(alloc, store, number)?;
     let changes = changes_in(alloc, store, &later, number, keep)?;
     let marks = marks_in(alloc, store)?;

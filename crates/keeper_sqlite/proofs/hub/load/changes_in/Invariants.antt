@@ -1,7 +1,7 @@
 use Rattle.std.proofs.Common.{◌≡◌, ◌≤◌, length, take}
 use Rattle.version_core.specs.declared.hub_tables.HubTables.{HubTables}
 use Rattle.keeper_sqlite.specs.hub.Keeping.{Stay}
-use Rattle.keeper_sqlite.specs.hub.Rows.{HasChanges}
+use Rattle.keeper_sqlite.specs.hub.Rows.{HasChanges, TellLater}
 use Rattle.keeper_sqlite.proofs.hub.load.changes_in.Given as goal
 
 abbrev pub invariant-loop-place : goal.invariant-loop-place
@@ -13,5 +13,5 @@ invariant-loop-place g l =
       held : Stay (s.may_hold l.store) (s.may_hold l.fn.store);
       signs : Stay (s.shows l.store) (s.shows l.fn.store);
       faults : s.fault_count l.store ≡ s.fault_count l.fn.store;
-      found : (t : HubTables) → HasChanges (s.stands_for l.fn.store) l.laid t → l.base ≡ t.base.number → s.is_trusted l.store → (l.found.items ≡ take l.place t.changes) × (l.place ≤ length t.changes);
+      found : (t : HubTables) → HasChanges (s.stands_for l.fn.store) (TellLater l.laid) t → l.base ≡ t.base.number → s.is_trusted l.store → (l.found.items ≡ take l.place t.changes) × (l.place ≤ length t.changes);
     }
