@@ -3,27 +3,23 @@ use Rattle.std.proofs.Common.{◌≡◌, ◌+◌, ◌≤◌, ◌<◌, ◌^◌, �
 use Rattle.std.specs.FinMap.{from_entries, retain_keys}
 use Rattle.std.specs.FinMap.Entries.{find-where_key}
 use Rattle.std.specs.List.{AllByRecursion}
-use Rattle.std.specs.Ordering.{eq_by_cmp}
 use Rattle.item_maps.proofs.ItemLemmas.{same_bytes}
 use Rattle.item_maps.specs.Items.{bytes_cmp, is_between}
-use Rattle.item_maps.specs.Edits.{after as after_edits}
 use Rattle.roster_base.specs.Order.{RiseBy}
 use Rattle.version_core.specs.Changes.{AreChanges, change_key}
 use Rattle.version_core.specs.Grants.{caller_of}
-use Rattle.version_core.specs.Order.{overlaid}
-use Rattle.version_core.specs.Version.{after, last_version}
+use Rattle.version_core.specs.Version.{last_version}
 use Rattle.version_core.specs.declared.change.BaseVersion.{BaseVersion}
 use Rattle.version_core.specs.declared.change.Change.{Change}
 use Rattle.version_core.specs.declared.grant_row.GrantRow.{GrantRow}
-use Rattle.version_core.specs.declared.hub_tables.HubTables.{HubTables}
 use Rattle.version_core.specs.declared.mark.MarkRow.{MarkRow}
 use Rattle.version_core.specs.declared.row_change.RowChange.{RowChange}
-use Rattle.hub_format.specs.Edits.{folded, moved}
-use Rattle.hub_format.specs.Format.{Entry, grants_under, items_of, of_changes, own_grants, own_rows, own_version, rows_under, some_grants, state_entry}
+use Rattle.hub_format.specs.Edits.{moved}
+use Rattle.hub_format.specs.Format.{Entry, grants_under, of_changes, own_grants, rows_under, some_grants}
 use Rattle.hub_format.specs.Pieces.{caller_label, key_label, number}
-use Rattle.hub_format.proofs.Acts.{Act, Map, both, by_area, clear_act, clear_map, next, put_act, put_map, puts_act, puts_map}
+use Rattle.hub_format.proofs.Acts.{Act, Map, puts_act}
 use Rattle.hub_format.proofs.Finds.{Alike, alike_map, filled, filled_is, found, found-append, or_else, retained, where-append, where_all, where_label, where_none}
-use Rattle.hub_format.proofs.Labels.{all_laid, grants_differ, rows_differ}
+use Rattle.hub_format.proofs.Labels.{grants_differ}
 use Rattle.hub_format.proofs.Orders.{of_other, of_version}
 
 -- the label isn't one behind the version's number
@@ -107,34 +103,11 @@ moved_act version grants (Some others) = record { on = λ m area. same (area == 
 module _ (keep : ℕ) (base : BaseVersion) (oldest : Change) (rest : List Change) (marks : List MarkRow)
     (are : AreChanges oldest.rows) (rise : RiseBy caller_of base.grants)
     (later : Later base.number (oldest ∷ rest)) (after_oldest : Later oldest.version rest) where
-  abbrev old_tables : HubTables
-  old_tables = record { keep = keep; base = base; changes = oldest ∷ rest; marks = marks }
-
-  abbrev new_tables : HubTables
-  new_tables = record { keep = keep; base = after base oldest; changes = rest; marks = marks }
-
-  abbrev does : ℕ → Map → Map
-  does = next (put_map 1 (state_entry keep (after base oldest)))
-      (next (next (puts_map 2 (rows_under [] oldest.rows)) (λ area m. if area == 5 then moved_in oldest.version base.grants oldest.grants m else m))
-      (next (clear_map 3 oldest.version) (next (clear_map 4 oldest.version) (clear_map 5 base.number))))
-
-  acts : Act (folded keep base oldest) does
-  acts = both (put_act 1 (state_entry keep (after base oldest)))
-      (both (both (puts_act 2 (rows_under [] oldest.rows)) (moved_act oldest.version base.grants oldest.grants))
-      (both (clear_act 3 oldest.version) (both (clear_act 4 oldest.version) (clear_act 5 base.number))))
-
   fits_oldest : oldest.version + 1 < 2 ^ 64
   fits_oldest = let le = later.0.1 in omega (arith, le)
 
   fits_base : base.number + 1 < 2 ^ 64
   fits_base = let lt = later.0.0 in let le = later.0.1 in omega (arith, lt, le)
-
-  pub state_alike : (e f : Entry) → e.0 ≡ f.0 → Alike (e ∷ f ∷ []) (e ∷ [])
-  state_alike e f same q =
-      elim (eq_by_cmp bytes_cmp q e.0) as (λ b. eq_by_cmp bytes_cmp q e.0 ≡ b → cond b (Some e.1) (found q (f ∷ [])) ≡ cond b (Some e.1) None) [
-        | true ↦ λ at. refl
-        | false ↦ λ at. let away = subst (λ l. eq_by_cmp bytes_cmp q l ≡ false) same at in rw away refl
-      ] refl
 
   base_gone : where_label (is_kept base.number) (grants_under base.number base.grants) ≡ []
   base_gone = where_none (is_kept base.number) _ (gone base.number fits_base _ (grants_are_of base.number base.grants))
@@ -171,19 +144,3 @@ module _ (keep : ℕ) (base : BaseVersion) (oldest : Change) (rest : List Change
       ∙ ap (from_entries {R = bytes_cmp}) (where-append (is_kept base.number) (xs ++ new) old
       ∙ ap (λ ys. ys ++ where_label (is_kept base.number) old) (where-append (is_kept base.number) xs new)
       ∙ (λ i. (rest_stays i ++ oldest_stays others i) ++ base_gone i) ∙ append-nil (xs ++ new))
-
-  at : (area : ℕ) → does area (items_of old_tables area) ≡ items_of new_tables area
-  at = by_area (λ area. does area (items_of old_tables area) ≡ items_of new_tables area)
-      refl
-      (alike_map (state_entry keep (after base oldest) ∷ state_entry keep base ∷ []) (state_entry keep (after base oldest) ∷ []) (state_alike (state_entry keep (after base oldest)) (state_entry keep base) refl))
-      (filled_is (rows_under [] oldest.rows) (rows_under [] base.rows) (rows_differ [] oldest.rows are) ∙ alike_map (rows_under [] oldest.rows ++ rows_under [] base.rows) (rows_under [] (overlaid change_key base.rows oldest.rows)) (λ q. sym (all_laid [] base.rows oldest.rows q)))
-      (retained (is_kept oldest.version) (of_changes own_version (oldest ∷ rest))
-      ∙ ap (from_entries {R = bytes_cmp}) (cleared own_version (λ change. (([], refl), tt)) oldest.version fits_oldest oldest rest refl after_oldest))
-      (retained (is_kept oldest.version) (of_changes own_rows (oldest ∷ rest))
-      ∙ ap (from_entries {R = bytes_cmp}) (cleared own_rows (λ change. rows_are_of change.version change.rows) oldest.version fits_oldest oldest rest refl after_oldest))
-      (grants_moved oldest.grants)
-      refl
-      (λ a n0 n1 n2 n3 n4 n5 n6. rw (n0, n1, n2, n3, n4, n5, n6) refl)
-
-  pub folded_is : after_edits (folded keep base oldest) (items_of old_tables) ≡ items_of new_tables
-  folded_is = λ i area. (acts.on (items_of old_tables) area ∙ at area) i

@@ -4,4 +4,3 @@ pub mod Format
 pub mod Edits
 pub mod Behind
 pub mod Moves
-pub mod Oldest

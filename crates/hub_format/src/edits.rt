@@ -1,20 +1,19 @@
-//! The edits of a commit.
+//! The edits of which those of a commit are made.
 
 ghost use Rattle.std.specs.Prelude.{◌≡◌, ◌++◌, ◌∷◌, [], ◌+◌, ◌<◌, ◌^◌, IfOk, OnOk};
 ghost use Rattle.std.specs.List.{AllByRecursion};
 ghost use Rattle.std.specs.Option.{ForSome};
 ghost use Rattle.hub_format.specs.Areas.{area_number};
-ghost use Rattle.hub_format.specs.Edits.{added, clear_version, first_edits, mark_edits, put_at, puts};
-ghost use Rattle.hub_format.specs.Format.{FitsChange, FitsGrant, FitsMark, format_entry, some_grants};
+ghost use Rattle.hub_format.specs.Edits.{clear_version, mark_edits, put_at, puts};
+ghost use Rattle.hub_format.specs.Format.{FitsGrant, FitsMark, format_entry, some_grants};
 ghost use Rattle.hub_format.specs.Pieces.{number};
 
 use crate::area::HubArea;
 use crate::pieces::push_number;
-use crate::writing::{put_grants, put_mark, put_rows, put_version};
+use crate::writing::{put_grants, put_mark};
 use item_maps::Edit;
 use roster_base::{Bytes, Items, NoMemory};
 use std::alloc::Global;
-use version_core::change::Change;
 use version_core::grant_row::GrantRow;
 use version_core::mark::MarkRow;
 
@@ -53,16 +52,6 @@ pub fn put_state(alloc: Global, keep: u64, base: u64, at: &[u8]) -> Result<Edit,
     })
 }
 
-/// The edits of a new store, which keeps version 0 and so many versions beside the newest.
-pub fn first_edits(alloc: Global, keep: u32) -> Result<Vec<Edit>, NoMemory>
-    ensures { IfOk result (λ edits. edits.items ≡ first_edits keep) }
-{
-    let mut edits = Vec::new(alloc);
-    edits.push(put_format(alloc, 1)?)?;
-    edits.push(put_state(alloc, u64::from(keep), 0, &[0; 8])?)?;
-    Ok(edits)
-}
-
 /// Adds the edits that store the grants of a version, where it has any of its own.
 pub fn put_some_grants(
     alloc: Global,
@@ -77,25 +66,6 @@ pub fn put_some_grants(
         Some(grants) => put_grants(alloc, edits, version, grants.as_slice()),
         None => Ok(()),
     }
-}
-
-/// The edits that store one change more.
-pub fn added_edits(alloc: Global, change: &Change) -> Result<Vec<Edit>, NoMemory>
-    ensures edits { IfOk result (λ edits. edits.items ≡ added change.now) }
-    ensures fits { OnOk result (FitsChange change.now) }
-{
-    let mut edits = Vec::new(alloc);
-    edits.push(put_version(alloc, change)?)?;
-    let prefix = number_bytes(alloc, change.version)?;
-    put_rows(
-        alloc,
-        &mut edits,
-        HubArea::ChangeRows,
-        prefix.as_slice(),
-        change.rows.as_slice(),
-    )?;
-    put_some_grants(alloc, &mut edits, change.version, &change.grants)?;
-    Ok(edits)
 }
 
 /// Adds the edit that stores a mark, where there is one.

@@ -1,27 +1,12 @@
 //! What items of a hub's state are worth.
 
-ghost use Rattle.std.specs.Prelude.{◌≡◌, ◌<◌, ◌^◌, ◌+◌, [], ◌∷◌, ℕ, map};
-ghost use Rattle.item_maps.specs.Edits.{after};
-ghost use Rattle.item_maps.specs.Items.{Items, listed, no_items};
-ghost use Rattle.keeper_memory.specs.Commits.{CanCommit, with_commit};
-ghost use Rattle.keeper_memory.specs.Kept.{KeptState, kept_by};
-ghost use Rattle.keeper_memory.specs.declared.hub_commit.HubCommit.{HubCommit as Commit};
+ghost use Rattle.std.specs.Prelude.{◌≡◌, ◌+◌, [], ◌∷◌, map};
+ghost use Rattle.item_maps.specs.Items.{Items, listed};
+ghost use Rattle.keeper_memory.specs.Kept.{KeptState};
 ghost use Rattle.version_core.specs.Tables.{AreTables};
 ghost use Rattle.version_core.specs.declared.hub_tables.HubTables.{HubTables};
-ghost use Rattle.hub_format.specs.Edits.{edits, first_edits};
-ghost use Rattle.hub_format.specs.Format.{Fit, FitsCommit, Keep, format_entry, grants_under, items_of, mark_entry, new_tables, rows_under, state_entry};
+ghost use Rattle.hub_format.specs.Format.{Fit, Keep, format_entry, grants_under, items_of, mark_entry, rows_under, state_entry};
 ghost use Rattle.hub_format.specs.Pieces.{number};
-
-/// Where items keep a state, the edits of a commit lead to items that keep the state after it.
-pub fn edits_keep_the_state_after_a_commit()
-    ensures { (items : Items) (kept : KeptState) (commit : Commit) (keep : Keep items kept) → CanCommit kept commit → FitsCommit commit
-        → Keep (after (edits keep.tables commit) items) (with_commit kept commit) }
-{}
-
-/// The first edits of a store lead to items that keep version 0 alone.
-pub fn first_edits_keep_version_0()
-    ensures { (keep : ℕ) → keep < 2 ^ 64 → Keep (after (first_edits keep) no_items) (kept_by (new_tables keep)) }
-{}
 
 /// Items keep one state at most.
 pub fn items_keep_one_state()

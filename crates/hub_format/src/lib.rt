@@ -1,4 +1,4 @@
-//! The items in which a hub's state is kept: their labels and bodies as definitions, written and read, and the edits of a commit.
+//! The items in which a hub's state is kept: their labels and bodies as definitions, written and read, and the edits that store them.
 #![tactic(auto)]
 
 mod area;
@@ -15,12 +15,10 @@ mod reading;
 mod writing;
 
 pub use area::HubArea;
-pub use edits::{
-    clear_version, first_edits, number_bytes, push_mark, put_format, put_some_grants, put_state,
-};
+pub use edits::{clear_version, number_bytes, push_mark, put_format, put_some_grants, put_state};
 pub use fold::{change_parts, push_grants};
 pub use pieces::{kind_byte, push_number, push_sized};
-pub use plan::{Oldest, commit_edits, lets_go};
+pub use plan::lets_go;
 pub use read_grants::{grants_of, id_at};
 pub use read_marks::{marks_of, write_of};
 pub use read_rows::{key_of, row_of_body, rows_of, with_id};

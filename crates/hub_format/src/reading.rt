@@ -1,6 +1,6 @@
 //! What items say, read back.
 
-ghost use Rattle.std.specs.Prelude.{◌≡◌, ◌≢◌, ◌↔◌, ◌⊎◌, ◌++◌, ◌∷◌, [], IfOk, IfSome, drop, map, true};
+ghost use Rattle.std.specs.Prelude.{◌≡◌, ◌≢◌, ◌↔◌, ◌++◌, ◌∷◌, [], IfOk, IfSome, drop, map, true};
 ghost use Rattle.item_maps.specs.Edits.{entry_of};
 ghost use Rattle.hub_format.specs.declared.reading.Format.TheVariants as format;
 ghost use Rattle.roster_values.specs.Kinds.{place_of_kind};
@@ -133,7 +133,6 @@ fn is_two(body: &[u8]) -> bool
 fn format_in(body: &[u8]) -> Format
     ensures one { body.now ≡ number 1 → result ≡ format.One }
     ensures two { body.now ≡ number 2 → result ≡ format.Two }
-    ensures later { body.now ≢ number 1 → (result ≡ format.Two) ⊎ (result ≡ format.Other) }
     ensures other { body.now ≢ number 1 → body.now ≢ number 2 → result ≡ format.Other }
 {
     if is_one(body) {
@@ -150,7 +149,6 @@ pub fn format_of(items: &[Item]) -> Format
     ensures none { map entry_of items.now ≡ [] → result ≡ format.New }
     ensures one { map entry_of items.now ≡ format_entry 1 ∷ [] → result ≡ format.One }
     ensures two { map entry_of items.now ≡ format_entry 2 ∷ [] → result ≡ format.Two }
-    ensures later { (entry : Entry) → map entry_of items.now ≡ entry ∷ [] → entry.1 ≢ number 1 → (result ≡ format.Two) ⊎ (result ≡ format.Other) }
     ensures other { (entry : Entry) → map entry_of items.now ≡ entry ∷ [] → entry.1 ≢ number 1 → entry.1 ≢ number 2 → result ≡ format.Other }
 {
     match items {

@@ -1,14 +1,12 @@
-//! The edits that store versions, rows, grants and marks.
+//! The edits that store versions, grants and marks, and the body of a row.
 
 ghost use Rattle.std.specs.Prelude.{◌≡◌, ◌++◌, ◌<◌, ◌^◌, IfOk, OnOk};
 ghost use Rattle.std.specs.Int.{w64};
 ghost use Rattle.std.specs.Int.RustNames.{FitsSigned};
 ghost use Rattle.std.specs.List.{AllByRecursion};
-ghost use Rattle.roster_values.specs.Kinds.{place_of_kind};
-ghost use Rattle.hub_format.specs.Areas.{area_number};
 ghost use Rattle.hub_format.specs.Edits.{put_at, puts};
-ghost use Rattle.hub_format.specs.Format.{FitsGrant, FitsMark, grant_entry, grants_under, mark_entry, row_entry, rows_under, version_entry};
-ghost use Rattle.hub_format.specs.Pieces.{AreSized, HasNoZero, IsReadBack, IsSized, caller_label, change_body, grant_body, key_label, mark_body, mark_label, number, row_body};
+ghost use Rattle.hub_format.specs.Format.{FitsGrant, FitsMark, grant_entry, grants_under, mark_entry, version_entry};
+ghost use Rattle.hub_format.specs.Pieces.{AreSized, HasNoZero, IsReadBack, IsSized, caller_label, change_body, grant_body, mark_body, mark_label, number, row_body};
 
 use crate::area::HubArea;
 use crate::pieces::{
@@ -17,8 +15,7 @@ use crate::pieces::{
 use grant_scopes::Grant;
 use item_maps::Edit;
 use roster_base::{Bytes, NoMemory};
-use roster_texts::{Id, Name};
-use roster_values::Kind;
+use roster_texts::Name;
 use row_json::single_text;
 use std::alloc::Global;
 use version_core::change::Change;
@@ -57,15 +54,6 @@ pub fn put_version(alloc: Global, change: &Change) -> Result<Edit, NoMemory>
     })
 }
 
-fn row_label(alloc: Global, prefix: &[u8], kind: Kind, id: &Id) -> Result<Bytes, NoMemory>
-    ensures { IfOk result (λ label. label ≡ prefix.now ++ key_label (place_of_kind kind, id.now)) }
-{
-    let mut label = Vec::from_slice(alloc, prefix)?;
-    label.push(kind_byte(kind))?;
-    label.extend_from_slice(id.as_str().as_bytes())?;
-    Ok(Bytes::from_vec(label))
-}
-
 /// A row's owner and its text, from which the row is read back.
 pub fn row_body(alloc: Global, change: &RowChange) -> Result<Bytes, NoMemory>
     ensures body { IfOk result (λ body. body ≡ row_body change.now) }
@@ -76,39 +64,6 @@ pub fn row_body(alloc: Global, change: &RowChange) -> Result<Bytes, NoMemory>
     let text = single_text(alloc, &change.row, None)?;
     push_sized(&mut body, text.as_bytes())?;
     Ok(Bytes::from_vec(body))
-}
-
-fn put_row(
-    alloc: Global,
-    area: HubArea,
-    prefix: &[u8],
-    change: &RowChange,
-) -> Result<Edit, NoMemory>
-    ensures edit { IfOk result (λ edit. edit ≡ put_at (area_number area) (row_entry prefix.now change.now)) }
-    ensures back { OnOk result (IsReadBack change.now) }
-{
-    Ok(Edit::Put {
-        area: area.number(),
-        label: row_label(alloc, prefix, change.row.kind(), change.row.id())?,
-        body: row_body(alloc, change)?,
-    })
-}
-
-/// Adds the edits that store rows behind a prefix.
-pub(crate) fn put_rows(
-    alloc: Global,
-    edits: &mut Vec<Edit>,
-    area: HubArea,
-    prefix: &[u8],
-    rows: &[RowChange],
-) -> Result<(), NoMemory>
-    ensures edits { OnOk result (edits.new.items ≡ edits.old.items ++ puts (area_number area) (rows_under prefix.now rows.now)) }
-    ensures back { OnOk result (AllByRecursion IsReadBack rows.now) }
-{
-    for row in rows {
-        edits.push(put_row(alloc, area, prefix, row)?)?;
-    }
-    Ok(())
 }
 
 fn grant_label(alloc: Global, version: u64, caller: &Name) -> Result<Bytes, NoMemory>

@@ -1,5 +1,0 @@
-use Rattle.hub_format.proofs.Encodes.{Keep-commit}
-use Rattle.hub_format.proofs.laws.edits_keep_the_state_after_a_commit.Goals as goal
-
-pub returns : goal.returns
-returns c = Keep-commit
