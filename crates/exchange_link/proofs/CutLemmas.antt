@@ -32,7 +32,7 @@ use Rattle.version_core.specs.declared.grant_row.GrantRow.{GrantRow}
 use Rattle.version_core.specs.declared.row_change.RowChange.{RowChange}
 use Rattle.exchange_link.specs.Sayings.{list_of}
 
-abbrev AreOf : Kind → List Record → Type 0
+abbrev pub AreOf : Kind → List Record → Type 0
 AreOf kind rows = AllByRecursion (λ row. is_of_kind kind row ≡ true) rows
 
 are_of_kept : (kind : Kind) (rows : List Record) → AreOf kind (filter (is_of_kind kind) rows)
@@ -47,7 +47,7 @@ same_place : (kind : Kind) (row other : Record) → is_of_kind kind row ≡ true
 same_place kind row other e f = grind (arith, nat_tests)
 
 -- the first of some rows, where there is one, is above an id
-abbrev First : Option (List ℕ) → List Record → Type 0
+abbrev pub First : Option (List ℕ) → List Record → Type 0
 First last [] = Unit {0}
 First last (row ∷ rows) = is_after last row.id ≡ true
 
@@ -60,12 +60,12 @@ next_first kind row [] is are below = tt
 next_first kind row (other ∷ rows) is are below = ap is_lt (ids_less _ _ row.id other.id (same_place kind row other is are.0) (less_from_is_lt _ (and_first _ _ below)))
 
 -- rows of one kind in order are in order of id
-ids_ascend : (kind : Kind) (last : Option (List ℕ)) (rows : List Record) → AreOf kind rows → Ascends row_key rows → First last rows → ascends last rows ≡ true
-ids_ascend kind last [] are up first = refl
-ids_ascend kind last (row ∷ rows) are up first =
-    both_true _ _ first (ids_ascend kind (Some row.id) rows are.1 (and_second _ _ up) (next_first kind row rows are.0 are.1 (and_first _ _ up)))
+pub rows_ascend : (kind : Kind) (last : Option (List ℕ)) (rows : List Record) → AreOf kind rows → Ascends row_key rows → First last rows → ascends last rows ≡ true
+rows_ascend kind last [] are up first = refl
+rows_ascend kind last (row ∷ rows) are up first =
+    both_true _ _ first (rows_ascend kind (Some row.id) rows are.1 (and_second _ _ up) (next_first kind row rows are.0 are.1 (and_first _ _ up)))
 
-any_first : (rows : List Record) → First None rows
+pub any_first : (rows : List Record) → First None rows
 any_first [] = tt
 any_first (row ∷ rows) = refl
 
@@ -105,7 +105,7 @@ kind_good grant changes kind up few =
     let le = few_kept p (is_of_kind kind) rows in
     chosen_good (opens grant.scopes kind Read) (filter (is_of_kind kind) (filter p rows)) (record {
       few = omega (arith, le, length-filter (is_of_kind kind) rows, few);
-      ordered = ids_ascend kind None _ (are_of_kept kind (filter p rows)) (ascends_kept (is_of_kind kind) (filter p rows) (ascends_kept p rows (is_sorted-rows_of changes ∙ up))) (any_first _);
+      ordered = rows_ascend kind None _ (are_of_kept kind (filter p rows)) (ascends_kept (is_of_kind kind) (filter p rows) (ascends_kept p rows (is_sorted-rows_of changes ∙ up))) (any_first _);
     })
 
 good_at : (f : Kind → List Record) (kinds : List Kind) (place : ℕ) → ((kind : Kind) → IsGood (f kind)) → IsGood (get_or (map f kinds) place [])

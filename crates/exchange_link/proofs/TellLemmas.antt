@@ -49,9 +49,9 @@ use Rattle.exchange_link.specs.Sayings.{Gone, IsRead, Listed, Shut, Tells, Unkno
 -- ---- the rows of a list are rows of its kind
 
 -- a row of this kind
-record IsOf (kind : Kind) (row : Record) : Type 0 where
-  is : IsHeld row
-  of : row.kind ≡ kind
+pub record IsOf (kind : Kind) (row : Record) : Type 0 where
+  pub is : IsHeld row
+  pub of : row.kind ≡ kind
 
 abbrev AreRows : List Record → Type 0
 AreRows rows = AllByRecursion IsRow rows
@@ -97,7 +97,7 @@ rows_for : (by : Option GrantRow) (rows : List Record) (kind : Kind) → AreRows
 rows_for None rows kind all = subst (AllByRecursion (IsOf kind)) (sym (none_at all_kinds (place_of_kind kind))) tt
 rows_for (Some by) rows kind all = subst (AllByRecursion (IsOf kind)) (sym (kind_in_cut by.grant rows kind)) (cut_rows by.grant rows kind all)
 
-list_rows : (version : BaseVersion) → HoldsRows version → (token : List ℕ) (kind : Kind) → AllByRecursion (IsOf kind) (list_in version token kind)
+pub list_rows : (version : BaseVersion) → HoldsRows version → (token : List ℕ) (kind : Kind) → AllByRecursion (IsOf kind) (list_in version token kind)
 list_rows version holds token kind = rows_for (grant_of token version.grants) (rows_of version.rows) kind (held_rows version.rows holds)
 
 dropped : (P : Record → Type 0) (n : ℕ) (rows : List Record) → AllByRecursion P rows → AllByRecursion P (drop n rows)
@@ -110,11 +110,11 @@ taken P zero rows all = tt
 taken P (suc n) [] all = tt
 taken P (suc n) (row ∷ rows) all = (all.0, taken P n rows all.1)
 
-are_held : (kind : Kind) (rows : List Record) → AllByRecursion (IsOf kind) rows → AllByRecursion IsHeld rows
+pub are_held : (kind : Kind) (rows : List Record) → AllByRecursion (IsOf kind) rows → AllByRecursion IsHeld rows
 are_held kind [] all = tt
 are_held kind (row ∷ rows) all = (all.0.is, are_held kind rows all.1)
 
-are_kind : (kind : Kind) (rows : List Record) → AllByRecursion (IsOf kind) rows → AllByRecursion (λ (row : Record). row.kind ≡ kind) rows
+pub are_kind : (kind : Kind) (rows : List Record) → AllByRecursion (IsOf kind) rows → AllByRecursion (λ (row : Record). row.kind ≡ kind) rows
 are_kind kind [] all = tt
 are_kind kind (row ∷ rows) all = (all.0.of, are_kind kind rows all.1)
 
@@ -136,16 +136,16 @@ below_max n a b lt = below n a b lt
     below : (n a b : ℕ) → n < max a b → (n < a) ⊎ (n < b)
     below n a b lt = elim (split n a) as (λ _. (n < a) ⊎ (n < b)) [ inl here ↦ inl here | inr le ↦ inr (omega arith) ]
 
-outside : (pin oldest since newest : ℕ) → (pin < max oldest since) ⊎ (newest < pin) → (pin < oldest) ⊎ ((pin < since) ⊎ (newest < pin))
+pub outside : (pin oldest since newest : ℕ) → (pin < max oldest since) ⊎ (newest < pin) → (pin < oldest) ⊎ ((pin < since) ⊎ (newest < pin))
 outside pin oldest since newest (inl lt) = elim (below_max pin oldest since lt) as (λ _. (pin < oldest) ⊎ ((pin < since) ⊎ (newest < pin))) [ inl a ↦ inl a | inr b ↦ inr (inl b) ]
 outside pin oldest since newest (inr lt) = inr (inr lt)
 
-body_is : (reply : Reply) → reply.cause ≡ cause.Done → reply.headless ≡ false → body_text reply ≡ reply.body
+pub body_is : (reply : Reply) → reply.cause ≡ cause.Done → reply.headless ≡ false → body_text reply ≡ reply.body
 unfolding body_text
 body_is reply done whole = ap (λ c. cond reply.headless [] (cond (status_of c == 200) reply.body (cond (status_of c == 204) [] (status_body c)))) done ∙ ap (λ b. cond b [] reply.body) whole
 
 module _ (state : HubState) (hub : IsHub state) (page : Page) where
-  read_at : (by : GrantRow) (version : ℕ) → grant_of page.token (version_at state version).grants ≡ Some by → asking.IsRead state by page.pin version → IsRead state page version
+  pub read_at : (by : GrantRow) (version : ℕ) → grant_of page.token (version_at state version).grants ≡ Some by → asking.IsRead state by page.pin version → IsRead state page version
   read_at by version found read = record {
     standing = (let le = read.stands in let some = some_version state hub.state in omega arith);
     known = ap is_some found;

@@ -4,6 +4,8 @@ pub mod Bounds
 pub mod Causes
 pub mod Coming
 pub mod Completeness
+pub mod DeltaPages
+pub mod DeltaSayings
 pub mod Entering
 pub mod Exchanges
 pub mod Marks

@@ -10,21 +10,20 @@ use Rattle.grant_scopes.specs.Opens.{opens}
 use Rattle.hub_replies.proofs.Checking.{EitherIs, IfRefused, check_is, either_is, found_is, then_either, then_is}
 use Rattle.hub_spec.specs.requests.Requests.{query_for_path, query_or_cause, wanted_by}
 use Rattle.hub_spec.specs.rules.Answers.{Answered, Answers, Entered, Written, cause_of, causes, reply_to_write, write_of, write_result}
-use Rattle.hub_spec.specs.rules.Checks.{Entry, check, entry_of, grant_in, is_open, method_refused, pin_refused, query_or, refused, refused_at, version_at, version_read}
-use Rattle.hub_spec.specs.rules.Reads.{contents_of, read_at, read_result}
+use Rattle.hub_spec.specs.rules.Checks.{Entry, base_checked, base_refused, check, entry_of, grant_in, is_base, is_open, method_refused, pin_refused, query_or, refused, refused_at, version_read}
+use Rattle.hub_spec.specs.rules.Reads.{Contents, contents_at, read_at, read_result}
 use Rattle.hub_spec.specs.rules.Runs.{Acts, Answer, Fails, Replied, Steps, Take, WantsMemory}
 use Rattle.hub_spec.specs.rules.Verdicts.{Leads, Refused, Repeat, Same, Verdict}
 use Rattle.hub_spec.specs.rules.Wanted.{Wanted, access_of, allows, is_good_mark, is_write}
 use Rattle.hub_spec.specs.rules.Written.{done_of}
+use Rattle.hub_spec.specs.views.Links.{base_for}
 use Rattle.hub_spec.specs.views.Lists.{kind_of_path}
-use Rattle.hub_spec.specs.views.Seen.{seen}
 use Rattle.rest_paths.specs.Paths.{PathParts}
 use Rattle.roster_texts.specs.Results.{found_or}
 use Rattle.status_info.specs.declared.cause.Cause.{Cause}
 use Rattle.status_info.specs.declared.cause.Cause.TheVariants as cause
 use Rattle.status_info.specs.declared.reply.Reply.{Reply}
 use Rattle.status_info.specs.declared.request.Request.{Request}
-use Rattle.version_core.specs.Changes.{rows_of}
 use Rattle.version_core.specs.HubStates.{HubState, newest_number}
 
 abbrev blames : Cause → Bool
@@ -57,6 +56,7 @@ query_spares fault.FilterValue = refl
 query_spares fault.EmptyFields = refl
 query_spares fault.Version = refl
 query_spares fault.Repeated = refl
+query_spares fault.Since = refl
 
 module _ (request : Request) (state : HubState) where
   abbrev wanted : Wanted
@@ -84,15 +84,21 @@ module _ (request : Request) (state : HubState) where
         by None = refl
         by (Some path) = read (query_of (kind_of_path path) request.query)
 
+    base_spares : (version : ℕ) (base : Option ℕ) → IfRefused Spares (base_checked state entry.by wanted version base)
+    base_spares version None = tt
+    base_spares version (Some base) = check_is Spares (is_base state entry.by version base) (base_refused state entry.by wanted version) refl
+
     at_spares : (version : ℕ) → EitherIs Spares (read_at state wanted entry version)
     unfolding read_at
     at_spares version =
-        let contents = contents_of (seen entry.by.grant.schools (rows_of (version_at state version).rows)) version entry.path in
+        let base : Query → Option ℕ = λ query. base_for entry.path.route query.since in
+        let contents : Query → Option Contents = λ query. contents_at state entry version query (base query) in
         then_either Spares (check (opens entry.by.grant.scopes (kind_of_path entry.path) (access_of wanted.verb)) (refused_at wanted version cause.ScopeMissing)) _
         (check_is Spares (opens entry.by.grant.scopes (kind_of_path entry.path) (access_of wanted.verb)) (refused_at wanted version cause.ScopeMissing) refl) (λ _ _.
         then_either Spares (query_or wanted version wanted.query) _ (query_or_spares version) (λ query _.
+        then_either Spares (base_checked state entry.by wanted version (base query)) _ (base_spares version (base query)) (λ _ _.
         then_either Spares (check (is_good_mark wanted.mark) (refused_at wanted version cause.BadMark)) _ (check_is Spares (is_good_mark wanted.mark) (refused_at wanted version cause.BadMark) refl) (λ _ _.
-        then_either Spares (found_or (refused_at wanted version cause.NoSuchObject) (contents query)) _ (found_is Spares (refused_at wanted version cause.NoSuchObject) (contents query) refl) (λ shown _. refl))))
+        then_either Spares (found_or (refused_at wanted version cause.NoSuchObject) (contents query)) _ (found_is Spares (refused_at wanted version cause.NoSuchObject) (contents query) refl) (λ shown _. refl)))))
 
     write_spares : IfRefused Spares (write_result state wanted entry)
     write_spares =

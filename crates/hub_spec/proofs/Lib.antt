@@ -5,7 +5,10 @@ pub mod PageLemmas
 pub mod Sorting
 pub mod OnceLemmas
 pub mod Being
+pub mod CutDeltas
 pub mod Cutting
+pub mod DeltaRequestLemmas
+mod DeltaSaying
 pub mod Following
 pub mod GrantKeeping
 pub mod Growing

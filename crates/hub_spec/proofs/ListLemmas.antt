@@ -39,7 +39,7 @@ ascends_kept p (row ∷ rows) up =
 abbrev AreOf : Kind → List Record → Type 0
 AreOf kind rows = AllByRecursion (λ row. is_of_kind kind row ≡ true) rows
 
-are_of_kept : (kind : Kind) (rows : List Record) → AreOf kind (filter (is_of_kind kind) rows)
+pub are_of_kept : (kind : Kind) (rows : List Record) → AreOf kind (filter (is_of_kind kind) rows)
 are_of_kept kind [] = tt
 are_of_kept kind (row ∷ rows) =
     elim (is_of_kind kind row) as (λ b. is_of_kind kind row ≡ b → AreOf kind (cond b (row ∷ filter (is_of_kind kind) rows) (filter (is_of_kind kind) rows))) [

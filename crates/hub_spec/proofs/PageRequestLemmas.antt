@@ -7,7 +7,7 @@ use Rattle.std.specs.Prelude.{IfSome}
 use Rattle.filter_grammar.specs.Parameters.{all_parameters, given, has_good_escapes, is_of, is_repeated, is_text_pair}
 use Rattle.filter_grammar.specs.Escapes.{is_form_text}
 use Rattle.std.specs.Prelude.{count_by, find, nat_lt, option_and_then, option_map}
-use Rattle.filter_grammar.specs.Queries.{limit_of, offset_of, only_of, order_of, pin_in, query_of, test_of, version_of, has_unknown_sort}
+use Rattle.filter_grammar.specs.Queries.{limit_of, offset_of, only_of, order_of, pin_in, query_of, since_of, test_of, version_of, has_unknown_sort}
 use Rattle.filter_grammar.specs.declared.parameter.Parameter.{Parameter}
 use Rattle.filter_grammar.specs.declared.parameter.Parameter.TheVariants as parameter
 use Rattle.form_urlencoded.specs.Form as form
@@ -85,6 +85,7 @@ module _ (limit offset : ℕ) (limit_small : limit < 10 ^ 18) (offset_small : of
       among None parameter.Filter = refl
       among None parameter.Fields = refl
       among None parameter.HubVersion = refl
+      among None parameter.HubSince = refl
       among (Some n) parameter.Limit = refl
       among (Some n) parameter.Offset = refl
       among (Some n) parameter.Sort = refl
@@ -92,6 +93,7 @@ module _ (limit offset : ℕ) (limit_small : limit < 10 ^ 18) (offset_small : of
       among (Some n) parameter.Filter = refl
       among (Some n) parameter.Fields = refl
       among (Some n) parameter.HubVersion = refl
+      among (Some n) parameter.HubSince = refl
 
   once : (pin : Option ℕ) → IfSome pin (λ p. p < 10 ^ 18) → (p : Parameter) → is_repeated (text pin) p ≡ false
   unfolding is_repeated pairs_of
@@ -105,6 +107,7 @@ module _ (limit offset : ℕ) (limit_small : limit < 10 ^ 18) (offset_small : of
       among None parameter.Filter = refl
       among None parameter.Fields = refl
       among None parameter.HubVersion = refl
+      among None parameter.HubSince = refl
       among (Some n) parameter.Limit = refl
       among (Some n) parameter.Offset = refl
       among (Some n) parameter.Sort = refl
@@ -112,6 +115,7 @@ module _ (limit offset : ℕ) (limit_small : limit < 10 ^ 18) (offset_small : of
       among (Some n) parameter.Filter = refl
       among (Some n) parameter.Fields = refl
       among (Some n) parameter.HubVersion = refl
+      among (Some n) parameter.HubSince = refl
 
   good : (pin : Option ℕ) → IfSome pin (λ p. p < 10 ^ 18) → has_good_escapes (text pin) ≡ true
   unfolding has_good_escapes pairs_of
@@ -124,7 +128,7 @@ module _ (limit offset : ℕ) (limit_small : limit < 10 ^ 18) (offset_small : of
       each None small = rw (pair (codes "limit") limit refl limit_small, pair (codes "offset") offset refl offset_small) refl
       each (Some p) small = rw (pair (codes "limit") limit refl limit_small, pair (codes "offset") offset refl offset_small, pair (codes "hubVersion") p refl small) refl
 
-limit_read : (limit : ℕ) → 1 ≤ limit → limit ≤ 1000 → limit_of (Some (decimal limit)) ≡ Ok limit
+pub limit_read : (limit : ℕ) → 1 ≤ limit → limit ≤ 1000 → limit_of (Some (decimal limit)) ≡ Ok limit
 unfolding limit_of
 limit_read limit some most =
     let counted = count_of-decimal limit (omega arith) in
@@ -132,17 +136,17 @@ limit_read limit some most =
     let least : min limit 1000 ≡ limit = omega arith in
     rw (counted, not_none, least) refl
 
-offset_read : (offset : ℕ) → offset < 10 ^ 18 → offset_of (Some (decimal offset)) ≡ Ok offset
+pub offset_read : (offset : ℕ) → offset < 10 ^ 18 → offset_of (Some (decimal offset)) ≡ Ok offset
 unfolding offset_of
 offset_read offset small = rw (count_of-decimal offset small) refl
 
-version_read : (pin : Option ℕ) → IfSome pin (λ p. p < 10 ^ 18) → version_of (option_map (λ p. decimal p) pin) ≡ Ok pin
+pub version_read : (pin : Option ℕ) → IfSome pin (λ p. p < 10 ^ 18) → version_of (option_map (λ p. decimal p) pin) ≡ Ok pin
 unfolding version_of
 version_read None small = refl
 version_read (Some p) small = rw (count_of-decimal p small) refl
 
 -- the path of a whole collection
-path_of-whole : (kind : Kind) → path_of (codes "/ims/oneroster/v1p1/" ++ plural_of kind) ≡ Some (whole kind)
+pub path_of-whole : (kind : Kind) → path_of (codes "/ims/oneroster/v1p1/" ++ plural_of kind) ≡ Some (whole kind)
 unfolding path_of ids_at
 path_of-whole kind =
     ap (λ (r : Option Route). r >>= λ route. ids_at (places_of route) (codes "/ims/oneroster/v1p1/" ++ plural_of kind) >>= λ ids. Some (made route ids)) (collection_found kind)
@@ -156,14 +160,14 @@ module _ (ask : Asking) (can : CanAsk ask) where
 
   none_repeated : list_any (is_repeated (page_query ask.limit ask.offset ask.pin)) all_parameters ≡ false
   none_repeated = let r = once ask.limit ask.offset limit_small can.offset ask.pin can.pin in
-      rw (r parameter.Limit, r parameter.Offset, r parameter.Sort, r parameter.OrderBy, r parameter.Filter, r parameter.Fields, r parameter.HubVersion) refl
+      rw (r parameter.Limit, r parameter.Offset, r parameter.Sort, r parameter.OrderBy, r parameter.Filter, r parameter.Fields, r parameter.HubVersion, r parameter.HubSince) refl
 
   pub query_read : (kind : Kind) → query_of kind (page_query ask.limit ask.offset ask.pin) ≡ Ok (query_for ask)
-  unfolding query_of order_of test_of only_of has_unknown_sort
+  unfolding query_of order_of test_of only_of has_unknown_sort since_of
   query_read kind =
       let g = gives ask.limit ask.offset limit_small can.offset ask.pin can.pin in
       rw (good ask.limit ask.offset limit_small can.offset ask.pin can.pin, none_repeated)
-      (simp (g parameter.Limit, g parameter.Offset, g parameter.Sort, g parameter.OrderBy, g parameter.Filter, g parameter.Fields, g parameter.HubVersion, limit_read ask.limit can.some can.limit, offset_read ask.offset can.offset, version_read ask.pin can.pin) refl)
+      (simp (g parameter.Limit, g parameter.Offset, g parameter.Sort, g parameter.OrderBy, g parameter.Filter, g parameter.Fields, g parameter.HubVersion, g parameter.HubSince, limit_read ask.limit can.some can.limit, offset_read ask.offset can.offset, version_read ask.pin can.pin) refl)
 
   pub pin_read : pin_in (page_query ask.limit ask.offset ask.pin) ≡ ask.pin
   unfolding pin_in

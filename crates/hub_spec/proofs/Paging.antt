@@ -29,7 +29,7 @@ use Rattle.roster_values.specs.declared.kind.Kind.TheVariants.{Orgs, Users, Demo
 use Rattle.status_info.specs.declared.reply.LinkItem.{LinkItem}
 
 abbrev query : ℕ → ℕ → Query
-query limit offset = record { limit = limit; offset = offset; sort = None; order_by = None; filter = None; test = None; fields = None; only = None; version = None; warnings = record { sort = false; selection = false } }
+query limit offset = record { limit = limit; offset = offset; sort = None; order_by = None; filter = None; test = None; fields = None; only = None; version = None; since = None; warnings = record { sort = false; selection = false } }
 
 abbrev path : Route → List (List ℕ) → Path
 path r ids = record { route = r; ids = ids }
@@ -91,6 +91,7 @@ oaks offset = record {
   fields = None;
   only = None;
   version = None;
+  since = None;
   warnings = record { sort = false; selection = false };
 }
 

@@ -34,7 +34,7 @@ use Rattle.version_core.specs.HubStates.{HubState, newest_number}
 use Rattle.version_core.specs.declared.grant_row.GrantRow.{GrantRow}
 
 -- what the test of a pin says
-within : (pin low high : ℕ) → (not (nat_lt pin low) && not (nat_lt high pin)) ≡ true → (low ≤ pin) × (pin ≤ high)
+pub within : (pin low high : ℕ) → (not (nat_lt pin low) && not (nat_lt high pin)) ≡ true → (low ≤ pin) × (pin ≤ high)
 within pin low high e =
     let one = and_first (not (nat_lt pin low)) _ e in
     let two = and_second (not (nat_lt pin low)) _ e in
@@ -43,7 +43,7 @@ within pin low high e =
     not_below : (n m : ℕ) → not (nat_lt n m) ≡ true → m ≤ n
     not_below n m e = elim (nat_lt n m) as (λ b. nat_lt n m ≡ b → not b ≡ true → m ≤ n) [ true ↦ λ _ e. cc | false ↦ λ f _. grind (arith, nat_tests) ] refl e
 
-outside : (pin low high : ℕ) → (not (nat_lt pin low) && not (nat_lt high pin)) ≡ false → (pin < low) ⊎ (high < pin)
+pub outside : (pin low high : ℕ) → (not (nat_lt pin low) && not (nat_lt high pin)) ≡ false → (pin < low) ⊎ (high < pin)
 outside pin low high e =
     elim (nat_lt pin low) as (λ b. nat_lt pin low ≡ b → (not b && not (nat_lt high pin)) ≡ false → (pin < low) ⊎ (high < pin)) [
       | true ↦ λ f _. inl (grind (arith, nat_tests))
@@ -54,16 +54,16 @@ outside pin low high e =
     above n m e = elim (nat_lt n m) as (λ b. nat_lt n m ≡ b → not b ≡ false → n < m) [ true ↦ λ f _. grind (arith, nat_tests) | false ↦ λ _ e. cc ] refl e
 
 module _ (state : HubState) (by : GrantRow) (pin : ℕ) where
-  open_read : {p : Option ℕ} → p ≡ Some pin → is_open state by pin ≡ true → IsRead state by p pin
+  pub open_read : {p : Option ℕ} → p ≡ Some pin → is_open state by pin ≡ true → IsRead state by p pin
   open_read asked opened =
       let facts = within pin (first_open state by) (newest_number state) opened in
       let low = facts.0 in
       record { pinned = sym (ap (λ o. unwrap_or o (newest_number state)) asked); kept = omega arith; since = omega arith; stands = facts.1 }
 
-  closed_pin : is_open state by pin ≡ false → (pin < first_open state by) ⊎ (newest_number state < pin)
+  pub closed_pin : is_open state by pin ≡ false → (pin < first_open state by) ⊎ (newest_number state < pin)
   closed_pin closed = outside pin (first_open state by) (newest_number state) closed
 
-newest_read : (state : HubState) (by : GrantRow) {p : Option ℕ} → p ≡ None → by.grant.since ≤ newest_number state → IsRead state by p (newest_number state)
+pub newest_read : (state : HubState) (by : GrantRow) {p : Option ℕ} → p ≡ None → by.grant.since ≤ newest_number state → IsRead state by p (newest_number state)
 newest_read state by asked since =
     record { pinned = sym (ap (λ o. unwrap_or o (newest_number state)) asked); kept = omega arith; since = since; stands = omega arith }
 

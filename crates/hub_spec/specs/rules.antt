@@ -2,6 +2,7 @@
 pub mod Answers
 pub mod Asking
 pub mod Checks
+pub mod DeltaAsking
 pub mod Growth
 pub mod Marked
 pub mod Reads

@@ -8,4 +8,4 @@ pub mod requests;
 pub mod rules;
 pub mod views;
 
-pub use views::Page;
+pub use views::{DeltaPage, Page};

@@ -1,6 +1,6 @@
-//! The laws of what a caller sees, and the type of a page.
+//! The laws of what a caller sees, and the types of a page.
 
 pub mod laws;
 pub mod page;
 
-pub use page::Page;
+pub use page::{DeltaPage, Page};

@@ -8,6 +8,8 @@ mod bytes;
 #[cfg(test)]
 mod consuming;
 #[cfg(test)]
+mod differing;
+#[cfg(test)]
 mod failing;
 #[cfg(test)]
 mod keeping;

@@ -70,7 +70,7 @@ fn replied(
 }
 
 // Requests, and what is written for them.
-static REPLIES: [(&str, &str); 10] = [
+static REPLIES: [(&str, &str); 13] = [
     (
         "GET /ims/oneroster/v1p1/orgs?limit=1 HTTP/1.1\r\nAuthorization: Bearer tok-e\r\nHost: hub\r\n\r\n",
         "HTTP/1.1 200 OK\r\nContent-Type: application/json\r\nX-Total-Count: 2\r\nLink: </ims/oneroster/v1p1/orgs?limit=1&offset=1&hubVersion=2>; rel=\"next\", </ims/oneroster/v1p1/orgs?limit=1&offset=0&hubVersion=2>; rel=\"first\", </ims/oneroster/v1p1/orgs?limit=1&offset=1&hubVersion=2>; rel=\"last\"\r\nX-Hub-Version: 2\r\nContent-Length: 125\r\n\r\n\
@@ -100,6 +100,21 @@ static REPLIES: [(&str, &str); 10] = [
         "GET /ims/oneroster/v1p1/orgs?hubVersion=1 HTTP/1.1\r\nAuthorization: Bearer tok-e\r\nHost: hub\r\n\r\n",
         "HTTP/1.1 404 Not Found\r\nContent-Type: application/json\r\nX-Hub-Version: 2\r\nX-Hub-Oldest: 2\r\nContent-Length: 126\r\n\r\n\
 {\"imsx_codeMajor\":\"failure\",\"imsx_codeMinor\":\"version_not_kept\",\"imsx_description\":\"version not kept\",\"imsx_severity\":\"error\"}",
+    ),
+    (
+        "GET /ims/oneroster/v1p1/orgs?hubSince=2 HTTP/1.1\r\nAuthorization: Bearer tok-e\r\nHost: hub\r\n\r\n",
+        "HTTP/1.1 200 OK\r\nContent-Type: application/json\r\nX-Total-Count: 0\r\nLink: </ims/oneroster/v1p1/orgs?limit=100&offset=0&hubSince=2&hubVersion=2>; rel=\"first\", </ims/oneroster/v1p1/orgs?limit=100&offset=0&hubSince=2&hubVersion=2>; rel=\"last\"\r\nX-Hub-Version: 2\r\nContent-Length: 24\r\n\r\n\
+{\"hubGone\":[],\"orgs\":[]}",
+    ),
+    (
+        "GET /ims/oneroster/v1p1/orgs?hubSince=1 HTTP/1.1\r\nAuthorization: Bearer tok-e\r\nHost: hub\r\n\r\n",
+        "HTTP/1.1 404 Not Found\r\nContent-Type: application/json\r\nX-Hub-Version: 2\r\nX-Hub-Oldest: 2\r\nContent-Length: 126\r\n\r\n\
+{\"imsx_codeMajor\":\"failure\",\"imsx_codeMinor\":\"version_not_kept\",\"imsx_description\":\"version not kept\",\"imsx_severity\":\"error\"}",
+    ),
+    (
+        "GET /ims/oneroster/v1p1/orgs?hubSince=2&sort=name HTTP/1.1\r\nAuthorization: Bearer tok-e\r\nHost: hub\r\n\r\n",
+        "HTTP/1.1 400 Bad Request\r\nContent-Type: application/json\r\nX-Hub-Version: 2\r\nContent-Length: 118\r\n\r\n\
+{\"imsx_codeMajor\":\"failure\",\"imsx_codeMinor\":\"invalid_data\",\"imsx_description\":\"bad hubSince\",\"imsx_severity\":\"error\"}",
     ),
     (
         "GET /ims/oneroster/v1p1/orgs HTTP/1.1\r\nAuthorization: Bearer tok-e\r\nX-Hub-Mark: x\r\nHost: hub\r\n\r\n",

@@ -2,8 +2,8 @@
 use Rattle.std.proofs.Common.{◌≡◌, ℕ, List, ◌++◌, Option, Some, None, codes, decimal, option_map, refl, ap, sym, ◌∙◌, append_assoc}
 use Rattle.filter_grammar.specs.declared.query.Query.{Query}
 use Rattle.rest_paths.specs.Paths.{PathParts}
-use Rattle.hub_spec.specs.views.Links.{given_parameter, number_parameter, order_word, path_text, target}
-use Rattle.query_pages.specs.Targets.{given_text, manner_text, paging_text}
+use Rattle.hub_spec.specs.views.Links.{base_for, base_parameter, given_parameter, number_parameter, order_word, path_text, target}
+use Rattle.query_pages.specs.Targets.{base_text, given_text, manner_text, paging_text}
 
 given_is : (name : List ℕ) (value : Option (List ℕ)) → given_text (codes "&" ++ name ++ codes "=") value ≡ given_parameter name value
 given_is name None = refl
@@ -35,13 +35,19 @@ in_manner text query =
       given_is (codes "fields") query.fields,
     ) refl
 
--- a target is its path, which page is asked for, how the list is asked for, and the version
+base_is : (base : Option ℕ) → base_text base ≡ base_parameter base
+base_is None = refl
+base_is (Some n) = refl
+
+-- a target is its path, which page is asked for, how the list is asked for, the base and the version
 pub target_is : (path : PathParts) (query : Query) (version offset : ℕ)
-    → path_text path ++ paging_text query.limit offset ++ manner_text query ++ (codes "&hubVersion=" ++ decimal version) ≡ target path query version offset
+    → path_text path ++ paging_text query.limit offset ++ manner_text query ++ base_text (base_for path.route query.since) ++ (codes "&hubVersion=" ++ decimal version) ≡ target path query version offset
 unfolding target
 target_is path query version offset =
     let front = path_text path ++ paging_text query.limit offset in
-    sym (append_assoc (front ++ manner_text query) (codes "&") (number_parameter (codes "hubVersion") version))
-    ∙ ap (λ xs. xs ++ codes "&" ++ number_parameter (codes "hubVersion") version)
+    let base = base_for path.route query.since in
+    sym (append_assoc (front ++ manner_text query ++ base_text base) (codes "&") (number_parameter (codes "hubVersion") version))
+    ∙ ap (λ xs. front ++ manner_text query ++ xs ++ codes "&" ++ number_parameter (codes "hubVersion") version) (base_is base)
+    ∙ ap (λ xs. xs ++ base_parameter base ++ codes "&" ++ number_parameter (codes "hubVersion") version)
     (ap (λ xs. xs ++ manner_text query) (paged (path_text path) query.limit offset)
     ∙ in_manner (path_text path ++ codes "?" ++ number_parameter (codes "limit") query.limit ++ codes "&" ++ number_parameter (codes "offset") offset) query)

@@ -37,6 +37,11 @@ manner_text query =
     ++ given_text (codes "&filter=") query.filter
     ++ given_text (codes "&fields=") query.fields
 
+-- the base, where there is one
+abbrev pub base_text : Option ℕ → List ℕ
+base_text None = []
+base_text (Some base) = codes "&hubSince=" ++ decimal base
+
 -- which page of a list
 abbrev pub paging_text : ℕ → ℕ → List ℕ
 paging_text limit offset = codes "?limit=" ++ decimal limit ++ (codes "&offset=" ++ decimal offset)

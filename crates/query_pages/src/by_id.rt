@@ -3,7 +3,7 @@
 ghost use Rattle.std.specs.Prelude.{◌≡◌, IfOk, OnOk, filter, length};
 ghost use Rattle.hub_spec.specs.views.Pages.{slice};
 ghost use Rattle.roster_types.specs.Keys.{Ascends, row_key};
-ghost use Rattle.query_pages.specs.Parts.{with_row};
+ghost use Rattle.row_walks.specs.Parts.{with_row};
 ghost use Rattle.row_walks.specs.Walks.{Covers};
 
 use crate::list_part::Part;

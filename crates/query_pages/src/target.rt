@@ -5,7 +5,7 @@ ghost use Rattle.std.specs.List.{flat_map};
 ghost use Rattle.form_urlencoded.specs.Form as form;
 ghost use Rattle.hub_spec.specs.views.Links as spec;
 ghost use Rattle.rest_paths.specs.Routes.{word_of};
-ghost use Rattle.query_pages.specs.Targets.{given_text, manner_text, objects_text, listed_text, paging_text};
+ghost use Rattle.query_pages.specs.Targets.{base_text, given_text, manner_text, objects_text, listed_text, paging_text};
 ghost use Rattle.roster_types.specs.Hrefs.{encoded_byte};
 
 use filter_grammar::{Order, Query};
@@ -148,6 +148,26 @@ fn push_paging(alloc: Global, text: &mut String, limit: u64, offset: u64) -> Res
     push_number(alloc, text, "&offset=", offset)
 }
 
+/// The version from which on a read is told what differs: a kind's collection takes one, and any other path passes it over.
+pub fn base_of(path: &Path, query: &Query) -> Option<u64>
+    ensures { result ≡ spec.base_for path.now.route query.now.since }
+{
+    match path.route() {
+        Route::All(Collection::Of(_)) => query.since,
+        _ => None,
+    }
+}
+
+// Adds the base, where there is one.
+fn push_base(alloc: Global, text: &mut String, base: Option<u64>) -> Result<(), NoMemory>
+    ensures { OnOk result (string_bytes text.new ≡ string_bytes text.old ++ base_text base) }
+{
+    match base {
+        Some(base) => push_number(alloc, text, "&hubSince=", base),
+        None => Ok(()),
+    }
+}
+
 /// The path and the query of the page at an offset of the same list, in one version.
 pub fn target(
     alloc: Global,
@@ -162,6 +182,7 @@ pub fn target(
     push_path(&mut text, path)?;
     push_paging(alloc, &mut text, query.limit, offset)?;
     push_manner(&mut text, query)?;
+    push_base(alloc, &mut text, base_of(path, query))?;
     push_number(alloc, &mut text, "&hubVersion=", version)?;
     Ok(Text::from_string(text))
 }

@@ -9,7 +9,7 @@ use std::alloc::Global;
 use std::test::Fail;
 
 // Queries on users, and their first fault.
-static FAULTS: [(&str, Option<QueryFault>); 16] = [
+static FAULTS: [(&str, Option<QueryFault>); 20] = [
     ("", None),
     ("limit=5000&other=1&other=2", None),
     ("x=%&limit=0&limit=0", Some(QueryFault::Escape)),
@@ -32,6 +32,10 @@ static FAULTS: [(&str, Option<QueryFault>); 16] = [
     ("filter=grades%3E'9'", Some(QueryFault::FilterValue)),
     ("fields=&hubVersion=x", Some(QueryFault::EmptyFields)),
     ("hubVersion=", Some(QueryFault::Version)),
+    ("hubVersion=x&hubSince=x", Some(QueryFault::Version)),
+    ("hubSince=-1", Some(QueryFault::Since)),
+    ("hubSince=2&sort=name", Some(QueryFault::Since)),
+    ("hubSince=2&hubSince=2", Some(QueryFault::Repeated)),
 ];
 
 // The fault of a query, where memory is left.

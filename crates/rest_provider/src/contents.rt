@@ -1,19 +1,19 @@
 //! What a 200 has, beside what every reply has.
 
 ghost use Rattle.std.specs.Prelude.{◌≡◌, true, ℕ, IfOk, option_map};
-ghost use Rattle.hub_spec.specs.rules.Reads.{contents_of, object_shown, page_shown};
+ghost use Rattle.hub_spec.specs.rules.Reads.{contents_of, delta_shown, object_shown, page_shown};
 ghost use Rattle.hub_spec.specs.views.Lists.{is_single};
 ghost use Rattle.rest_provider.specs.Shown.{contents_shown};
 ghost use Rattle.roster_values.specs.declared.kind.Kind as kinds;
 
 use filter_grammar::Query;
-use hub_spec::Page;
+use hub_spec::{DeltaPage, Page};
 use query_pages::one;
 use rest_paths::Path;
 use roster_base::{Items, NoMemory, Text};
 use roster_types::row::Row;
 use roster_values::Kind;
-use row_json::{collection_text, single_text};
+use row_json::{collection_text, delta_text, single_text};
 use status_info::LinkItem;
 use std::alloc::Global;
 use version_core::references::Refs;
@@ -74,6 +74,18 @@ pub fn page_contents(
     ensures { IfOk result (λ c. contents_shown c ≡ page_shown kind query.now page) }
 {
     let text = collection_text(alloc, kind, page.rows.as_slice(), chosen(query))?;
+    Ok(Contents {
+        body: Text::from_string(text),
+        total: Some(page.total),
+        links: page.links,
+    })
+}
+
+/// A page of what differs of the rows of a kind.
+pub fn delta_contents(alloc: Global, kind: Kind, page: DeltaPage) -> Result<Contents, NoMemory>
+    ensures { IfOk result (λ c. contents_shown c ≡ delta_shown kind page) }
+{
+    let text = delta_text(alloc, kind, page.rows.as_slice(), page.gone.as_slice())?;
     Ok(Contents {
         body: Text::from_string(text),
         total: Some(page.total),

@@ -1,6 +1,6 @@
 //! A read of one version, by a caller who is known.
 
-ghost use Rattle.std.specs.Prelude.{◌≡◌, ◌≤◌, true, false, IfOk, Ok, Err, Some, option_map};
+ghost use Rattle.std.specs.Prelude.{◌≡◌, ◌≤◌, true, false, IfOk, IfSome, Ok, Err, Some, option_map};
 ghost use Rattle.filter_grammar.specs.Queries.{query_of};
 ghost use Rattle.hub_spec.specs.requests.Requests.{query_or_cause, wanted_by};
 ghost use Rattle.hub_spec.specs.rules.Answers.{write_result};
@@ -10,7 +10,9 @@ ghost use Rattle.hub_spec.specs.rules.Wanted.{access_of, is_good_mark};
 ghost use Rattle.grant_scopes.specs.Opens as opening;
 ghost use Rattle.hub_spec.specs.views.Lists.{is_single, kind_of_path};
 ghost use Rattle.hub_spec.specs.views.Seen.{seen};
-ghost use Rattle.rest_provider.specs.Replies.{entry, query_read};
+ghost use Rattle.rest_provider.specs.Replies.{IsReadOf, entry, query_read};
+ghost use Rattle.hub_spec.specs.views.Deltas.{kind_delta, page_of_delta};
+ghost use Rattle.version_core.specs.Version.{newest_of, oldest_of};
 ghost use Rattle.rest_provider.specs.Shown.{contents_shown};
 ghost use Rattle.roster_base.specs.Reading.{Gives};
 ghost use Rattle.roster_base.specs.declared.refusal.Refusal.TheVariants as refusal;
@@ -21,25 +23,29 @@ ghost use Rattle.version_core.specs.HubStates.{HubState, newest_number};
 ghost use Rattle.version_core.specs.declared.grant_row.GrantRow.{GrantRow};
 
 use crate::checks::{access_of, is_good_mark};
-use crate::contents::{Contents, one_contents, page_contents};
-use crate::refusals::{Stop, refused_at};
+use crate::contents::{Contents, delta_contents, one_contents, page_contents};
+use crate::refusals::{Stop, pin_refused, refused_at};
 use filter_grammar::{Query, read_query};
 use grant_scopes::{Grant, opens};
-use query_pages::{SeenRows, version_page};
+use query_pages::{SeenRows, base_of, delta_page, version_page};
 use rest_paths::{Path, Route};
 use roster_base::{NoMemory, Refusal};
 use roster_values::Kind;
 use status_info::{Cause, Reply, Request};
 use std::alloc::Global;
+use version_core::span::Span;
+use version_core::table::Table;
 use version_core::view::VersionView;
 
-/// A request for a path, who makes it, and the number of the version that it reads, or that a write is told of.
+/// A request for a path, who makes it, the number of the version that it reads, or that a write is told of, and that of the oldest
+/// which its caller may read.
 #[derive(Clone, Copy)]
 pub struct Reading<'a> {
     pub request: &'a Request,
     pub path: &'a Path,
     pub grant: &'a Grant,
     pub version: u64,
+    pub oldest: u64,
 }
 
 impl<'a> Reading<'a> {
@@ -93,6 +99,22 @@ impl<'a> Reading<'a> {
         }
     }
 
+    // The check of the base, where there is one.
+    fn based(self, alloc: Global, base: Option<u64>) -> Result<(), Stop>
+        ensures base { (state : HubState) (by : GrantRow) → spec.first_open state by ≡ self.entry.oldest
+            → Gives (λ _. true) result (spec.base_checked state by (wanted_by self.entry.request.now) self.entry.version base) }
+        ensures within { IfOk result (λ _. IfSome base (λ b. (self.entry.oldest ≤ b) × (b ≤ self.entry.version))) }
+    {
+        let Some(base) = base else {
+            return Ok(());
+        };
+        if self.oldest <= base && base <= self.version {
+            return Ok(());
+        }
+        let reply = pin_refused(alloc, self.request, self.version, self.oldest);
+        Err(Refusal::Fault(reply))
+    }
+
     /// The checks of a write that stand before its verdict: scope, mark.
     pub fn may_write(self, alloc: Global) -> Result<(), Stop>
         ensures { (state : HubState) (by : GrantRow) → newest_number state ≡ self.entry.version → by.grant ≡ self.entry.grant.now
@@ -142,8 +164,8 @@ impl<'a> Reading<'a> {
         }
     }
 
-    // What the path shows of the seen rows.
-    fn contents(
+    // What the path shows of the seen rows of one version.
+    fn whole_contents(
         self,
         alloc: Global,
         view: &VersionView<'_>,
@@ -159,13 +181,58 @@ impl<'a> Reading<'a> {
         }
     }
 
-    // It, where each object that the path names is seen.
-    fn found(self, alloc: Global, view: &VersionView<'_>, query: &Query) -> Result<Contents, Stop>
+    // What differs of the seen rows between two versions.
+    fn difference(self, alloc: Global, span: &Span<'_>, query: &Query) -> Result<Contents, NoMemory>
         requires { 1 ≤ query.now.limit }
-        ensures { Gives contents_shown result (found_or (spec.refused_at (wanted_by self.entry.request.now) self.entry.version cause.NoSuchObject)
-            (reads.contents_of (seen self.entry.grant.now.schools (rows_of view.now.rows)) self.entry.version self.entry.path.now query.now)) }
+        ensures { IfOk result (λ c. contents_shown c ≡ reads.delta_shown (kind_of_path self.entry.path.now) (page_of_delta self.entry.path.now query.now self.entry.version
+            (kind_delta (kind_of_path self.entry.path.now) (seen self.entry.grant.now.schools (rows_of span.now.before.rows)) (seen self.entry.grant.now.schools (rows_of span.now.after.rows))))) }
     {
-        match self.contents(alloc, view, query)? {
+        let schools = &self.grant.schools;
+        let page = delta_page(alloc, span, schools, self.version, self.path, query)?;
+        delta_contents(alloc, self.kind(), page)
+    }
+
+    // What the path shows of the versions.
+    fn contents(
+        self,
+        alloc: Global,
+        table: &Table,
+        query: &Query,
+        base: Option<u64>,
+    ) -> Result<Option<Contents>, NoMemory>
+        requires limit { 1 ≤ query.now.limit }
+        requires oldest { (oldest_of table.now).number ≤ self.version }
+        requires newest { self.version ≤ (newest_of table.now).number }
+        requires base { IfSome base (λ b. ((oldest_of table.now).number ≤ b) × (b ≤ self.version)) }
+        ensures { (state : HubState) (by : GrantRow) → IsReadOf table.now state → by.grant ≡ self.entry.grant.now
+            → IfOk result (λ c. option_map contents_shown c ≡ reads.contents_at state (entry self.entry.path.now by) self.entry.version query.now base) }
+    {
+        match base {
+            None => self.whole_contents(alloc, &table.rows_at(self.version), query),
+            Some(base) => {
+                let span = table.span(base, self.version);
+                Ok(Some(self.difference(alloc, &span, query)?))
+            }
+        }
+    }
+
+    // It, where each object that the path names is seen.
+    fn found(
+        self,
+        alloc: Global,
+        table: &Table,
+        query: &Query,
+        base: Option<u64>,
+    ) -> Result<Contents, Stop>
+        requires limit { 1 ≤ query.now.limit }
+        requires oldest { (oldest_of table.now).number ≤ self.version }
+        requires newest { self.version ≤ (newest_of table.now).number }
+        requires base { IfSome base (λ b. ((oldest_of table.now).number ≤ b) × (b ≤ self.version)) }
+        ensures { (state : HubState) (by : GrantRow) → IsReadOf table.now state → by.grant ≡ self.entry.grant.now
+            → Gives contents_shown result (found_or (spec.refused_at (wanted_by self.entry.request.now) self.entry.version cause.NoSuchObject)
+            (reads.contents_at state (entry self.entry.path.now by) self.entry.version query.now base)) }
+    {
+        match self.contents(alloc, table, query, base)? {
             Some(contents) => Ok(contents),
             None => self.refused(alloc, Cause::NoSuchObject),
         }
@@ -184,31 +251,34 @@ impl<'a> Reading<'a> {
     }
 
     // The checks behind the query's.
-    fn answer_query(
-        self,
-        alloc: Global,
-        view: &VersionView<'_>,
-        query: &Query,
-    ) -> Result<Reply, Stop>
-        requires { 1 ≤ query.now.limit }
-        ensures { Gives (λ r. r) result (query_read (wanted_by self.entry.request.now) self.entry.version self.entry.path.now
-            (seen self.entry.grant.now.schools (rows_of view.now.rows)) query.now) }
+    fn answer_query(self, alloc: Global, table: &Table, query: &Query) -> Result<Reply, Stop>
+        requires limit { 1 ≤ query.now.limit }
+        requires oldest { (oldest_of table.now).number ≤ self.version }
+        requires newest { self.version ≤ (newest_of table.now).number }
+        requires open { (oldest_of table.now).number ≤ self.oldest }
+        ensures { (state : HubState) (by : GrantRow) → IsReadOf table.now state → by.grant ≡ self.entry.grant.now → spec.first_open state by ≡ self.entry.oldest
+            → Gives (λ r. r) result (query_read state (wanted_by self.entry.request.now) (entry self.entry.path.now by) self.entry.version query.now) }
     {
+        let base = base_of(self.path, query);
+        self.based(alloc, base)?;
         self.marked(alloc)?;
-        let contents = self.found(alloc, view, query)?;
+        let contents = self.found(alloc, table, query, base)?;
         Ok(self.shown(alloc, query, contents))
     }
 
-    /// The reply that answers the read of the version, or the first check that it fails: scope, query, mark, object.
+    /// The reply that answers the read of the version, or the first check that it fails: scope, query, base, mark, object.
     #[tactic(auto, unfolding(hub_spec::specs::rules::Reads::read_at))]
-    pub fn answer(self, alloc: Global, view: &VersionView<'_>) -> Result<Reply, Stop>
-        ensures { (state : HubState) (by : GrantRow) → spec.version_at state self.entry.version ≡ view.now → by.grant ≡ self.entry.grant.now
+    pub fn answer(self, alloc: Global, table: &Table) -> Result<Reply, Stop>
+        requires oldest { (oldest_of table.now).number ≤ self.version }
+        requires newest { self.version ≤ (newest_of table.now).number }
+        requires open { (oldest_of table.now).number ≤ self.oldest }
+        ensures { (state : HubState) (by : GrantRow) → IsReadOf table.now state → by.grant ≡ self.entry.grant.now → spec.first_open state by ≡ self.entry.oldest
             → (wanted_by self.entry.request.now).path ≡ Some self.entry.path.now
             → Gives (λ r. r) result (reads.read_at state (wanted_by self.entry.request.now) (entry self.entry.path.now by) self.entry.version) }
     {
         self.opened(alloc)?;
         let query = self.query(alloc)?;
-        let answered = self.answer_query(alloc, view, &query);
+        let answered = self.answer_query(alloc, table, &query);
         drop(query);
         answered
     }

@@ -40,8 +40,9 @@ fn read_granted(
         path,
         grant,
         version,
+        oldest: table.oldest().max(grant.since),
     };
-    reading.answer(alloc, &table.rows_at(version))
+    reading.answer(alloc, table)
 }
 
 // The read of a path, by the caller that the request's token names.

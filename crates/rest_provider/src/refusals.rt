@@ -62,11 +62,11 @@ pub fn method_refused(alloc: Global, request: &Request, path: &Path) -> Reply
     reply
 }
 
-/// The reply that refuses a pin, with the newest version and the oldest that may be asked for.
-pub fn pin_refused(alloc: Global, request: &Request, newest: u64, oldest: u64) -> Reply
-    ensures { result ≡ pin_reply (wanted_by request.now) newest oldest }
+/// The reply that refuses a pin or a base, with the version that it speaks of and the oldest that may be asked for.
+pub fn pin_refused(alloc: Global, request: &Request, version: u64, oldest: u64) -> Reply
+    ensures { result ≡ pin_reply (wanted_by request.now) version oldest }
 {
-    let mut reply = refused_at(alloc, request, newest, Cause::VersionNotKept);
+    let mut reply = refused_at(alloc, request, version, Cause::VersionNotKept);
     reply.oldest = Some(oldest);
     reply
 }

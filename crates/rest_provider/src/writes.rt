@@ -116,6 +116,7 @@ fn asked_at(alloc: Global, table: &Table, request: &Request, path: &Path) -> Res
         path,
         grant,
         version: table.newest(),
+        oldest: table.oldest().max(grant.since),
     };
     match reading.may_write(alloc) {
         Ok(()) => Ok(asked_by(alloc, request, path, caller, grant)?),

@@ -24,7 +24,7 @@ use Rattle.row_json.specs.CellTexts.{each, item_text, list_text, listed_id, list
 use Rattle.row_json.specs.Json.{reference_data, user_id_data, value_data}
 use Rattle.row_json.specs.Reading.{field_in}
 
-each-read : {A : Type 0} (read : Data → Result (List ℕ) ValueFault) (made : A → Data) (text : A → List ℕ) (good : A → Bool) → ((x : A) → good x ≡ true → read (made x) ≡ Ok (text x))
+pub each-read : {A F : Type 0} (read : Data → Result (List ℕ) F) (made : A → Data) (text : A → List ℕ) (good : A → Bool) → ((x : A) → good x ≡ true → read (made x) ≡ Ok (text x))
     → (xs : List A) → list_all good xs ≡ true → each read (items_of (map made xs)) ≡ Ok (map text xs)
 unfolding each
 each-read read made text good h [] all = refl
@@ -36,7 +36,7 @@ item-read : (t : List ℕ) → is_item t ≡ true → item_text TextsForm (strin
 unfolding item_text without_comma
 item-read t h = rw (and_parts (is_plain_text t) (list_all is_no_comma t) h).1 refl
 
-id-trimmed : (id : List ℕ) → is_id id ≡ true → trimmed id ≡ id
+pub id-trimmed : (id : List ℕ) → is_id id ≡ true → trimmed id ≡ id
 id-trimmed id h = let p = and_parts (is_filled id) (has_plain_ends id) (id_plain id h) in trimmed_same id p.0 p.1
 
 id-filled : (id : List ℕ) → is_id id ≡ true → (length id == 0) ≡ false

@@ -19,7 +19,7 @@ two_members name d other e =
     ap (λ (ts : List Token). begin_object ∷ key name ∷ ts) (append_assoc (data_tokens d) (key other ∷ data_tokens e) (end_object ∷ []))
 
 -- no kind's word is that of the ids
-apart : (kind : Kind) → is_eq (slice_cmp nat_cmp gone_word (plural_of kind)) ≡ false
+pub apart : (kind : Kind) → is_eq (slice_cmp nat_cmp gone_word (plural_of kind)) ≡ false
 apart Orgs = refl
 apart kind = refl
 

@@ -1,5 +1,6 @@
 pub mod CellBack
 pub mod Collecting
+pub mod DeltaBack
 pub mod DeltaTexts
 pub mod EntriesRise
 pub mod FieldSteps

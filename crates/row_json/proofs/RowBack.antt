@@ -93,7 +93,7 @@ row-kept r h = object-kept 2 _ (metadata-kept r.metadata _ (fields-kept (table r
 
 -- ---- each member is found under its name
 
-apart : (k q : List ℕ) → is_same k q ≡ false → q ≡ k → ⊥
+pub apart : (k q : List ℕ) → is_same k q ≡ false → q ≡ k → ⊥
 apart k q differs e = true≢false (sym (ap is_eq (tied_itself nat_list_cmp_total k)) ∙ ap (is_same k) (sym e) ∙ differs)
 
 lacks : (q : List ℕ) (ms : Members) → has_name q ms ≡ false → get_member q ms ≡ None
@@ -272,18 +272,18 @@ single-back r text h e u =
     let kept = object-kept 3 _ (put-kept 3 (single_of r.kind) _ no_members (row-kept r h.row) (none-kept 3)) in
     rw (u, e, read-kept _ (deeper 4 127 _ (omega arith) kept), get_member-put (single_of r.kind) (row_data None r) no_members) (row-back r h)
 
-rows-back : (kind : Kind) (rs : List Record) → All IsHeld rs → All (λ (r : Record). r.kind ≡ kind) rs → each (row_in Delta kind) (items_of (map (row_data None) rs)) ≡ Ok rs
+pub rows-back : (kind : Kind) (rs : List Record) → All IsHeld rs → All (λ (r : Record). r.kind ≡ kind) rs → each (row_in Delta kind) (items_of (map (row_data None) rs)) ≡ Ok rs
 unfolding each
 rows-back kind [] h k = refl
 rows-back kind (r ∷ rs) h k =
     let rest = rows-back kind rs (All-tail IsHeld r rs h) (All-tail (λ (r : Record). r.kind ≡ kind) r rs k) in
     rw (subst (λ l. row_in Delta l (row_data None r) ≡ Ok r) (All-head (λ (r : Record). r.kind ≡ kind) r rs k) (row-back r (All-head IsHeld r rs h)), rest) refl
 
-rows-kept : (rs : List Record) → All IsHeld rs → ItemsKept 3 (items_of (map (row_data None) rs))
+pub rows-kept : (rs : List Record) → All IsHeld rs → ItemsKept 3 (items_of (map (row_data None) rs))
 rows-kept [] h = tt
 rows-kept (r ∷ rs) h = (row-kept r (All-head IsHeld r rs h).row, rows-kept rs (All-tail IsHeld r rs h))
 
-all-objects : (rs : List Record) → are_objects (items_of (map (row_data None) rs)) ≡ true
+pub all-objects : (rs : List Record) → are_objects (items_of (map (row_data None) rs)) ≡ true
 unfolding row_data
 all-objects [] = refl
 all-objects (r ∷ rs) = all-objects rs

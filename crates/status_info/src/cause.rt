@@ -80,6 +80,8 @@ pub enum Cause {
     StoreFailed,
     /// Memory ran out.
     NoMemory,
+    /// The base in a query is no number, or stands beside a choice.
+    BadHubSince,
 }
 
 impl Cause {
@@ -103,7 +105,8 @@ impl Cause {
             | Cause::BadHubVersion
             | Cause::RepeatedParameter
             | Cause::BadMark
-            | Cause::BadBody => 400,
+            | Cause::BadBody
+            | Cause::BadHubSince => 400,
             Cause::NoSuchPath | Cause::VersionNotKept | Cause::NoSuchObject => 404,
             Cause::MethodNotAllowed => 405,
             Cause::NoKnownToken => 401,
@@ -135,7 +138,8 @@ impl Cause {
             | Cause::BadHubVersion
             | Cause::RepeatedParameter
             | Cause::BadMark
-            | Cause::BadBody => "invalid_data",
+            | Cause::BadBody
+            | Cause::BadHubSince => "invalid_data",
             Cause::NoSuchPath | Cause::NoSuchObject => "unknown_object",
             Cause::MethodNotAllowed => "not_supported",
             Cause::NoKnownToken => "unauthorized",
@@ -186,6 +190,7 @@ impl Cause {
             Cause::LastVersion => "last version",
             Cause::StoreFailed => "store failed",
             Cause::NoMemory => "no memory",
+            Cause::BadHubSince => "bad hubSince",
         }
     }
 
@@ -233,6 +238,7 @@ impl Cause {
             Cause::LastVersion => refusal!("last_version", "last version"),
             Cause::StoreFailed => refusal!("server_error", "store failed"),
             Cause::NoMemory => refusal!("no_memory", "no memory"),
+            Cause::BadHubSince => refusal!("invalid_data", "bad hubSince"),
         }
     }
 }

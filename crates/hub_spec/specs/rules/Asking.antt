@@ -39,6 +39,7 @@ query_for ask = record {
   fields = None;
   only = None;
   version = ask.pin;
+  since = None;
   warnings = record { sort = false; selection = false };
 }
 

@@ -1,4 +1,4 @@
--- The checks that a request meets on its way: path, method, token, pin, query.
+-- The checks that a request meets on its way: path, method, token, pin, query, base.
 use Rattle.std.specs.Prelude.{ℕ, ◌&&◌, Bool, true, false, not, List, Option, Some, None, Result, Ok, Err, if◌then◌else◌, max, nat_lt, option_and_then, slice_index_or}
 use Rattle.hub_spec.specs.rules.Verdicts.{newest_in}
 use Rattle.hub_spec.specs.rules.Wanted.{Wanted, allows, takes_writes}
@@ -67,6 +67,18 @@ pin_refused state by wanted = record (refused_at wanted (newest_number state) ca
 abbrev pub version_read : HubState → GrantRow → Wanted → Option ℕ → Result ℕ Reply
 version_read state by wanted None = Ok (newest_number state)
 version_read state by wanted (Some pin) = if is_open state by pin then Ok pin else Err (pin_refused state by wanted)
+
+-- a base may be read: it is kept, not older than the grant, and not above the version that is read
+abbrev pub is_base : HubState → GrantRow → ℕ → ℕ → Bool
+is_base state by version base = not (nat_lt base (first_open state by)) && not (nat_lt version base)
+
+abbrev pub base_refused : HubState → GrantRow → Wanted → ℕ → Reply
+base_refused state by wanted version = record (refused_at wanted version cause.VersionNotKept) { oldest = Some (first_open state by) }
+
+-- the check of a base, where there is one
+abbrev pub base_checked : HubState → GrantRow → Wanted → ℕ → Option ℕ → Result Bool Reply
+base_checked state by wanted version None = Ok true
+base_checked state by wanted version (Some base) = check (is_base state by version base) (base_refused state by wanted version)
 
 -- the query, or the reply to its first fault
 abbrev pub query_or : Wanted → ℕ → Result Query Cause → Result Query Reply

@@ -5,6 +5,9 @@ use Rattle.std.specs.List.{flat_map}
 use Rattle.form_urlencoded.specs.Form.{byte_serialize}
 use Rattle.rest_paths.specs.Paths.{PathParts}
 use Rattle.rest_paths.specs.Routes.{Object, Segment, Word, segments_of}
+use Rattle.rest_paths.specs.declared.route.Collection.TheVariants.{Of}
+use Rattle.rest_paths.specs.declared.route.Route.{Route}
+use Rattle.rest_paths.specs.declared.route.Route.TheVariants as route
 use Rattle.filter_grammar.specs.declared.query.Order.{Order}
 use Rattle.filter_grammar.specs.declared.query.Order.TheVariants.{Asc, Desc}
 use Rattle.filter_grammar.specs.declared.query.Query.{Query}
@@ -35,6 +38,15 @@ abbrev pub given_parameter : List ℕ → Option (List ℕ) → List ℕ
 given_parameter name None = []
 given_parameter name (Some value) = codes "&" ++ name ++ codes "=" ++ byte_serialize value
 
+-- the version from which on a read is told what differs: a kind's collection takes one, and any other path passes it over
+abbrev pub base_for : Route → Option ℕ → Option ℕ
+base_for (route.All (Of kind)) since = since
+base_for _ since = None
+
+abbrev pub base_parameter : Option ℕ → List ℕ
+base_parameter None = []
+base_parameter (Some base) = codes "&" ++ number_parameter (codes "hubSince") base
+
 -- the page at an offset of the same list, in one version
 unfoldable pub target : PathParts → Query → ℕ → ℕ → List ℕ
 target path query version offset =
@@ -45,6 +57,7 @@ target path query version offset =
     ++ given_parameter (codes "orderBy") (option_map order_word query.order_by)
     ++ given_parameter (codes "filter") query.filter
     ++ given_parameter (codes "fields") query.fields
+    ++ base_parameter (base_for path.route query.since)
     ++ codes "&" ++ number_parameter (codes "hubVersion") version
 
 abbrev pub link : (ℕ → List ℕ) → Rel → ℕ → LinkItem

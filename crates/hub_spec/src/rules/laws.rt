@@ -4,6 +4,7 @@ ghost use Rattle.std.specs.Prelude.{◌≡◌, ℕ, ℤ, List, Option, drop, fal
 ghost use Rattle.version_changes.specs.grants.Next.{IsNext};
 ghost use Rattle.hub_spec.specs.rules.Answers.{Answers};
 ghost use Rattle.hub_spec.specs.rules.Asking.{Asking, Says, asking};
+ghost use Rattle.hub_spec.specs.rules.DeltaAsking.{SaysFrom, asking_from};
 ghost use Rattle.hub_spec.specs.rules.Growth.{Goes, Grew, IsNewMark, IsRunMark};
 ghost use Rattle.hub_spec.specs.rules.Runs.{Answer, Command, Runs, Step, Steps, end_of};
 ghost use Rattle.hub_spec.specs.rules.States.{AreCommands, IsCommand, IsHub, ReadsAs};
@@ -37,6 +38,12 @@ pub fn a_read_leaves_the_state()
 /// cut of the version that is read to the token.
 pub fn a_consumer_is_told_of_the_cut()
     ensures { (state : HubState) → IsHub state → (token : List ℕ) (ask : Asking) (echo : Option Echo) (at : ℤ) (reply : Reply) (after : HubState) → Answers state (asking token ask echo) at reply after → Says state token ask reply × (after ≡ state) }
+{}
+
+/// And its request for what differs from a base on is answered with one of five: no grant has its token, its pin or its base can't be
+/// read, its scopes don't open the kind, or here is a page of what differs between the cuts of both versions to the token.
+pub fn a_consumer_is_told_of_the_delta()
+    ensures { (state : HubState) → IsHub state → (token : List ℕ) (ask : Asking) (base : ℕ) (echo : Option Echo) (at : ℤ) (reply : Reply) (after : HubState) → Answers state (asking_from token ask base echo) at reply after → SaysFrom state token ask base reply × (after ≡ state) }
 {}
 
 /// In a step a state grows, and a mark that is new is that of the request which the step takes.

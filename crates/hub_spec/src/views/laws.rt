@@ -3,7 +3,10 @@
 ghost use Rattle.std.specs.Prelude.{◌≡◌, ◌≤◌, ◌*◌, ℕ, List, Some, filter, length, map};
 ghost use Rattle.std.specs.List.Sorted.{IsPermutation, IsSortedBy, IsStableBy};
 ghost use Rattle.filter_grammar.specs.declared.query.Query.{Query};
-ghost use Rattle.hub_spec.specs.views.Cuts.{cut};
+ghost use Rattle.hub_spec.specs.views.Cuts.{cut, list_in};
+ghost use Rattle.hub_spec.specs.views.Deltas.{delta};
+ghost use Rattle.row_deltas.specs.Deltas.{ids_gone, merged, rows_put};
+ghost use Rattle.version_core.specs.Version.{IsVersion};
 ghost use Rattle.rest_paths.specs.Paths.{PathParts};
 ghost use Rattle.hub_spec.specs.views.Lists.{is_listed, list_of};
 ghost use Rattle.filter_grammar.specs.rows.Orders.{Sorting, arranged, comes_before};
@@ -35,6 +38,12 @@ pub fn a_list_has_each_of_its_rows_once()
 /// A cut looks at the rows and the grant of a version alone.
 pub fn a_cut_looks_at_rows_and_grant_alone()
     ensures { (one other : BaseVersion) (token : List ℕ) → rows_of one.rows ≡ rows_of other.rows → grant_of token one.grants ≡ grant_of token other.grants → cut one token ≡ cut other token }
+{}
+
+/// Put over the list of a kind in the cut of one version, what differs gives the list in the cut of the other.
+pub fn a_delta_leads_from_cut_to_cut()
+    ensures { (before after : BaseVersion) → IsVersion before → IsVersion after → (token : List ℕ) (kind : Kind)
+        → merged (list_in before token kind) (rows_put (delta before after token kind)) (ids_gone (delta before after token kind)) ≡ list_in after token kind }
 {}
 
 /// The list of a whole collection without filter and order is the rows of its kind, as they stand.

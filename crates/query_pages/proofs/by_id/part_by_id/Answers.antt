@@ -3,7 +3,7 @@ use Rattle.hub_spec.specs.views.Pages.{slice}
 use Rattle.roster_types.specs.Keys.{count_of}
 use Rattle.roster_types.specs.Records.{Record}
 use Rattle.query_pages.proofs.Listed.{listed_few}
-use Rattle.query_pages.proofs.Parting.{Parts, part_end, part_on, part_start}
+use Rattle.row_walks.proofs.Parting.{Parts, part_end, part_on, part_start}
 use Rattle.row_walks.proofs.Walking.{walk_at, walk_rest, walked_here, walked_none, walked_past, walked_start}
 use Rattle.query_pages.proofs.by_id.part_by_id.Goals as goal
 

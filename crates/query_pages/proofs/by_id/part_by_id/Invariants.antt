@@ -1,6 +1,6 @@
 use Rattle.std.proofs.Common.{◌≡◌, ◌+◌, filter, length, option_copied}
 use Rattle.hub_spec.specs.views.Pages.{slice}
-use Rattle.query_pages.proofs.Parting.{Parts}
+use Rattle.row_walks.proofs.Parting.{Parts}
 use Rattle.row_walks.proofs.Walking.{walk_rest}
 use Rattle.query_pages.proofs.by_id.part_by_id.Given as goal
 

@@ -2,7 +2,7 @@ use Rattle.std.proofs.Common.{◌≤◌, ◌∙◌, ap, arith, length}
 use Rattle.std.proofs.lemmas.List.{take_all}
 use Rattle.hub_spec.specs.views.Pages.{slice}
 use Rattle.query_pages.specs.Placed.{row_of, rows_placed}
-use Rattle.query_pages.proofs.Parting.{slice-map}
+use Rattle.row_walks.proofs.Parting.{slice-map}
 use Rattle.query_pages.proofs.in_order.copied.Goals as goal
 
 pub returns : goal.returns

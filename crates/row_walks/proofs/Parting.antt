@@ -2,7 +2,7 @@
 use Rattle.std.proofs.Common.{◌≡◌, ℕ, zero, suc, ◌+◌, ◌-◌, ◌<◌, ◌≤◌, List, [], ◌∷◌, ◌++◌, append_assoc, append-nil, true, false, ◌&&◌, cond, drop, map, take, length, leb, ltb, refl, sym, ap, ◌∙◌, arith}
 use Rattle.std.proofs.lemmas.Bool.Decides.{nat_tests}
 use Rattle.std.proofs.lemmas.List.{length-append}
-use Rattle.query_pages.specs.Parts.{with_row}
+use Rattle.row_walks.specs.Parts.{with_row}
 use Rattle.hub_spec.specs.views.Pages.{slice}
 
 module _ {A : Type 0} where

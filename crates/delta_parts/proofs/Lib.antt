@@ -1,0 +1,6 @@
+pub mod Covering
+pub mod Listing
+pub mod Optional
+pub mod Resting
+pub mod Turning
+pub mod Walking
