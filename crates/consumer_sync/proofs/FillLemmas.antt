@@ -146,10 +146,10 @@ on_after : (token : List ℕ) (o : Option Stage) (s : Stage) (rows : List Record
 on_after token None s rows total d x = (grows_after s rows total d).token ∙ x
 on_after token (Some f) s rows total d x = grows_trans f s _ x (grows_after s rows total d)
 
-fills_open : (token : List ℕ) (pin : ℕ) (before mid : Copy) → Fills token before mid → Fills token before (open_copy pin token mid)
+pub fills_open : (token : List ℕ) (pin : ℕ) (before mid : Copy) → Fills token before mid → Fills token before (open_copy pin token mid)
 fills_open token pin before mid f = record { run = f.run; held = f.held; entries = f.entries; last_number = f.last_number; stage = on_open token pin before.stage mid.stage f.stage }
 
-fills_taken : (token : List ℕ) (k : Taking) (before mid : Copy) → Fills token before mid → Fills token before (taken k token mid)
+pub fills_taken : (token : List ℕ) (k : Taking) (before mid : Copy) → Fills token before mid → Fills token before (taken k token mid)
 fills_taken token k before mid f = record {
   run = f.run;
   held = f.held;

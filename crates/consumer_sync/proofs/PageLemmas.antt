@@ -36,10 +36,10 @@ digits_sent (c ∷ ds) x =
     let (low, high) = digit_from_value c x.0 in
     all_true (is_sent_byte c) (list_all is_sent_byte ds) (or_left (is_ascii_alphanumeric c) _ (sent_digit c low high)) (digits_sent ds x.1)
 
-decimal_sent : (n : ℕ) → n < 2 ^ 64 → list_all is_sent_byte (decimal n) ≡ true
+pub decimal_sent : (n : ℕ) → n < 2 ^ 64 → list_all is_sent_byte (decimal n) ≡ true
 decimal_sent n small = let (numeral, value) = decimal_is_IsNumeral n small in digits_sent (decimal n) numeral.1
 
-both : (xs ys : List ℕ) → list_all is_sent_byte xs ≡ true → list_all is_sent_byte ys ≡ true → list_all is_sent_byte (xs ++ ys) ≡ true
+pub both : (xs ys : List ℕ) → list_all is_sent_byte xs ≡ true → list_all is_sent_byte ys ≡ true → list_all is_sent_byte (xs ++ ys) ≡ true
 both xs ys e f = list_all-append is_sent_byte xs ys ∙ and_true (list_all is_sent_byte xs) (list_all is_sent_byte ys) e f
   where
     and_true : (a b : Bool) → a ≡ true → b ≡ true → (a && b) ≡ true
@@ -54,22 +54,22 @@ word_short : (kind : Kind) → length (plural_of kind) ≤ 20
 word_short Orgs = omega arith
 word_short _ = omega arith
 
-decimal_short : (n : ℕ) → n < 2 ^ 64 → length (decimal n) ≤ 20
+pub decimal_short : (n : ℕ) → n < 2 ^ 64 → length (decimal n) ≤ 20
 decimal_short n small = length-decimal-le 20 n (omega arith) (omega (arith, small)) small
 
-pin_sent : (pin : Option ℕ) → IfSome pin (λ n. n < 2 ^ 64) → list_all is_sent_byte (pin_text pin) ≡ true
+pub pin_sent : (pin : Option ℕ) → IfSome pin (λ n. n < 2 ^ 64) → list_all is_sent_byte (pin_text pin) ≡ true
 pin_sent None x = refl
 pin_sent (Some n) x = both (codes "&hubVersion=") (decimal n) refl (decimal_sent n x)
 
-pin_short : (pin : Option ℕ) → IfSome pin (λ n. n < 2 ^ 64) → length (pin_text pin) ≤ 40
+pub pin_short : (pin : Option ℕ) → IfSome pin (λ n. n < 2 ^ 64) → length (pin_text pin) ≤ 40
 pin_short None x = omega arith
 pin_short (Some n) x = omega (arith, length-append (codes "&hubVersion=") (decimal n), decimal_short n x)
 
-path_sent : (kind : Kind) → list_all is_sent_byte (page_path kind) ≡ true
+pub path_sent : (kind : Kind) → list_all is_sent_byte (page_path kind) ≡ true
 unfolding page_path
 path_sent kind = both (codes "/ims/oneroster/v1p1/") (plural_of kind) refl (word_sent kind)
 
-path_short : (kind : Kind) → (0 < length (page_path kind)) × (length (page_path kind) ≤ 40)
+pub path_short : (kind : Kind) → (0 < length (page_path kind)) × (length (page_path kind) ≤ 40)
 unfolding page_path
 path_short kind = let e = length-append (codes "/ims/oneroster/v1p1/") (plural_of kind) in (omega (arith, e), omega (arith, e, word_short kind))
 

@@ -31,7 +31,7 @@ use roster_values::Kind;
 use std::alloc::Global;
 
 /// How many kinds there are.
-const KINDS: u8 = Kind::ALL.len() as u8;
+pub const KINDS: u8 = Kind::ALL.len() as u8;
 
 /// Stages page after page. `None`: all kinds are done.
 pub fn fill<C: CopyKeeper, L: Link>(

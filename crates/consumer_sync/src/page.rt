@@ -27,8 +27,9 @@ use roster_values::Kind;
 use status_info::{MarkField, Request, Verb};
 use std::alloc::Global;
 
+/// The path of a kind's pages.
 #[tactic(auto, unfolding(hub_spec::specs::requests::PageRequests::page_path))]
-fn path_text(alloc: Global, kind: Kind) -> Result<String, NoMemory>
+pub fn path_text(alloc: Global, kind: Kind) -> Result<String, NoMemory>
     ensures { IfOk result (λ s. string_bytes s ≡ page_path kind) }
 {
     let mut path = String::from_str(alloc, "/ims/oneroster/v1p1/")?;
@@ -36,7 +37,8 @@ fn path_text(alloc: Global, kind: Kind) -> Result<String, NoMemory>
     Ok(path)
 }
 
-fn pin_text(alloc: Global, pin: Option<u64>) -> Result<String, NoMemory>
+/// What a query says of the version that is pinned, if one is.
+pub fn pin_text(alloc: Global, pin: Option<u64>) -> Result<String, NoMemory>
     ensures { IfOk result (λ s. string_bytes s ≡ pin_text pin) }
 {
     let mut text = String::new(alloc);

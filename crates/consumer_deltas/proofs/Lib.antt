@@ -1,0 +1,12 @@
+pub mod DeltaEntryLemmas
+pub mod DeltaFitLemmas
+pub mod DeltaGatherLemmas
+pub mod DeltaJudgeLemmas
+pub mod DeltaListLemmas
+pub mod DeltaMeantLemmas
+pub mod DeltaMergeLemmas
+pub mod DeltaPageLemmas
+pub mod DeltaStageLemmas
+pub mod DeltaTellLemmas
+pub mod DeltaToldLemmas
+pub mod LastLemmas

@@ -1,0 +1,15 @@
+-- Whether a delta fits what is held.
+use Rattle.std.specs.Prelude.{ℕ, ◌&&◌, not, Bool, true, List, [], ◌∷◌, is_some}
+use Rattle.roster_types.specs.Keys.{look_up, row_key}
+use Rattle.roster_types.specs.Records.{Record}
+use Rattle.roster_values.specs.declared.kind.Kind.{Kind}
+use Rattle.row_deltas.specs.Deltas.{id_key}
+
+-- a row of the kind has the id
+abbrev pub has_id : Kind → List Record → List ℕ → Bool
+has_id kind rows id = is_some (look_up row_key (id_key kind id) rows)
+
+-- no id is gone of which a row is put, and each is that of a row which is held
+abbrev pub fits : Kind → List Record → List Record → List (List ℕ) → Bool
+fits kind held puts [] = true
+fits kind held puts (id ∷ gone) = has_id kind held id && (not (has_id kind puts id) && fits kind held puts gone)

@@ -1,0 +1,126 @@
+-- What a reply to a request for what differs means.
+use Rattle.std.specs.Prelude.{◌≡◌, ⊤, ℕ, ◌+◌, ◌-◌, ◌==◌, ◌&&◌, ◌++◌, not, Bool, true, false, nat_lt, min, List, [], ◌∷◌, length, Option, Some, None, Result, Ok, Err, if◌then◌else◌}
+use Rattle.std.specs.List.{All}
+use Rattle.keeper_memory.specs.copy.Lists.{ascends, last_from}
+use Rattle.http_wire.specs.declared.answer.WireReply.{WireReply}
+use Rattle.roster_types.specs.Keys.{is_after}
+use Rattle.roster_types.specs.Records.{Record}
+use Rattle.roster_values.specs.declared.kind.Kind.{Kind}
+use Rattle.row_json.specs.Deltas.{gone_of}
+use Rattle.row_json.specs.Reading.{rows_of}
+use Rattle.row_json.specs.declared.fault.JsonFault.{JsonFault}
+use Rattle.consumer_sync.specs.Judging.{agrees}
+use Rattle.consumer_deltas.specs.declared.gathered.Entries.{Entries}
+use Rattle.consumer_deltas.specs.declared.gathered.Gathered.TheInside.{Inside}
+use Rattle.consumer_deltas.specs.declared.judging.DeltaAct.{DeltaAct}
+use Rattle.consumer_deltas.specs.declared.judging.DeltaAct.TheVariants.{Take, Close, PinGone, BaseGone, UnknownToken, TooLarge, BadReply, HubFault, HubNoMemory}
+use Rattle.consumer_deltas.specs.declared.judging.Place.{Place}
+
+-- what has come of the delta of a kind: the rows that are put, the ids that are gone, and how many entries there are in all
+pub record Sofar : Type 0 where
+  pub puts : List Record
+  pub gone : List (List ℕ)
+  pub total : Option ℕ
+
+abbrev pub sofar_of : Inside → Sofar
+sofar_of g = record { puts = g.puts.items; gone = g.gone.items; total = g.total }
+
+abbrev pub nothing_yet : Sofar
+nothing_yet = record { puts = []; gone = []; total = None }
+
+-- how many entries have come: the offset of the next page
+abbrev pub count_in : Sofar → ℕ
+count_in sofar = length sofar.puts + length sofar.gone
+
+-- with the entries of one more page
+abbrev pub with_page : Sofar → Entries → ℕ → Sofar
+with_page sofar page total = record { puts = sofar.puts ++ page.puts; gone = sofar.gone ++ page.gone; total = Some total }
+
+abbrev pub is_total : Option ℕ → ℕ → Bool
+is_total None n = false
+is_total (Some total) n = total == n
+
+-- all entries have come
+abbrev pub is_whole : Sofar → Bool
+is_whole sofar = is_total sofar.total (count_in sofar)
+
+-- each id is above the one before it, and the first above `last`
+abbrev pub ids_ascend : Option (List ℕ) → List (List ℕ) → Bool
+ids_ascend last [] = true
+ids_ascend last (id ∷ ids) = is_after last id && ids_ascend (Some id) ids
+
+abbrev pub last_id : Option (List ℕ) → List (List ℕ) → Option (List ℕ)
+last_id last [] = last
+last_id last (id ∷ ids) = last_id (Some id) ids
+
+-- the most entries that a delta may have
+abbrev pub entry_limit : ℕ
+entry_limit = 2000000
+
+-- the base isn't kept
+abbrev pub base_act : ℕ → ℕ → DeltaAct
+base_act base oldest = if nat_lt base oldest then BaseGone oldest else BadReply
+
+-- a version that isn't kept: the pin, or else the base; a first request has no pin
+abbrev pub lost_act : ℕ → Option ℕ → Option ℕ → DeltaAct
+lost_act base pin None = BadReply
+lost_act base None (Some oldest) = base_act base oldest
+lost_act base (Some pin) (Some oldest) = if nat_lt pin oldest then PinGone pin oldest else base_act base oldest
+
+-- a kind that isn't opened; of one of which something came already it is none that a hub says
+abbrev pub closed_act : Option ℕ → Bool → Option ℕ → DeltaAct
+closed_act pin is_fresh None = BadReply
+closed_act pin is_fresh (Some v) = if agrees pin v && is_fresh then Close v else BadReply
+
+-- a page's entries follow those that came
+abbrev pub part_act : Sofar → ℕ → ℕ → ℕ → Entries → DeltaAct
+part_act sofar limit v t page =
+    if not (length page.puts + length page.gone == min limit (t - count_in sofar)) then BadReply
+    else if not (ascends (last_from None sofar.puts) page.puts) then BadReply
+    else if not (ids_ascend (last_id None sofar.gone) page.gone) then BadReply
+    else Take v page t
+
+-- the entries that the body of a page says
+abbrev pub entries_from : Result (List Record) JsonFault → Result (List (List ℕ)) JsonFault → Option Entries
+entries_from (Ok puts) (Ok gone) = Some (record { puts = puts; gone = gone })
+entries_from (Ok puts) (Err fault) = None
+entries_from (Err fault) gone = None
+
+abbrev pub entries_of : Kind → List ℕ → Option Entries
+entries_of kind body = entries_from (rows_of kind body) (gone_of body)
+
+abbrev pub read_act : Sofar → ℕ → ℕ → ℕ → Option Entries → DeltaAct
+read_act sofar limit v t None = BadReply
+read_act sofar limit v t (Some page) = part_act sofar limit v t page
+
+abbrev pub page_act : Kind → Sofar → Option ℕ → ℕ → ℕ → ℕ → List ℕ → DeltaAct
+page_act kind sofar pin limit v t body =
+    if not (agrees pin v) then BadReply
+    else if nat_lt entry_limit t then TooLarge t
+    else if not (agrees sofar.total t) then BadReply
+    else read_act sofar limit v t (entries_of kind body)
+
+abbrev pub differing_act : Kind → Sofar → Option ℕ → ℕ → Option ℕ → Option ℕ → List ℕ → DeltaAct
+differing_act kind sofar pin limit (Some v) (Some t) body = page_act kind sofar pin limit v t body
+differing_act kind sofar pin limit (Some v) None body = BadReply
+differing_act kind sofar pin limit None t body = BadReply
+
+-- the act by the status
+abbrev pub by_status : ℕ → Place → Sofar → WireReply → DeltaAct
+by_status status place sofar w =
+    if status == 200 then differing_act place.kind sofar place.pin place.limit w.version w.total w.body
+    else if status == 403 then closed_act place.pin place.is_fresh w.version
+    else if status == 404 then lost_act place.base place.pin w.oldest
+    else if status == 401 then UnknownToken
+    else if status == 500 then HubFault
+    else if status == 503 then HubNoMemory
+    else BadReply
+
+-- the rows that an act carries are of this kind
+abbrev pub ArePuts : Kind → DeltaAct → Type 0
+ArePuts kind (Take pin page total) = All (λ row. row.kind ≡ kind) page.puts
+ArePuts kind a = ⊤
+
+-- what the own reply to a request means
+abbrev pub delta_judged : Place → Sofar → WireReply → DeltaAct
+delta_judged place sofar w = by_status w.status place sofar w

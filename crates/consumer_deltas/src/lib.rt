@@ -1,0 +1,13 @@
+//! The incremental synchronisation: of each kind what differs from the held version on, merged with what is held.
+
+pub mod answer;
+mod fits;
+mod gather;
+mod gathered;
+mod judging;
+pub mod laws;
+mod merged;
+mod request;
+mod staged;
+
+pub use answer::DeltaAnswer;

@@ -1,0 +1,131 @@
+//! The delta of a kind, merged with what is held of it, and staged.
+
+ghost use Rattle.std.specs.Prelude.{◌≡◌, ◌⊎◌, ◌<◌, ◌≤◌, [], true, false, None, Some, IfOk, IfSome, length, map};
+ghost use Rattle.consumer_deltas.specs.DeltaFits.{fits};
+ghost use Rattle.consumer_deltas.specs.DeltaGathering.{AreEntries};
+ghost use Rattle.consumer_deltas.specs.DeltaJudging.{ids_ascend};
+ghost use Rattle.consumer_deltas.specs.DeltaMerging.{Merges, StagesList, Unmerged};
+ghost use Rattle.consumer_sync.specs.Judging.{opened, paged};
+ghost use Rattle.consumer_sync.specs.Staging.{IsBroken};
+ghost use Rattle.exchange_link.specs.Places.{kind_at, kinds_of};
+ghost use Rattle.keeper_memory.specs.copy.Copies.{Copy};
+ghost use Rattle.keeper_memory.specs.copy.Lists.{IsList, kind_count};
+ghost use Rattle.keeper_memory.specs.copy.States.{stage_of};
+ghost use Rattle.keeper_memory.specs.declared.copy.state.TheConstants.{LAST};
+ghost use Rattle.roster_base.specs.Faults.{Rose};
+ghost use Rattle.row_deltas.specs.Deltas.{merged};
+ghost use Rattle.version_core.specs.Version.{row_limit};
+
+use crate::fits::fits;
+use crate::gathered::Gathered;
+use crate::staged::{ListAt, stage_rows};
+use consumer_sync::judging::{MAX_ROWS, kind};
+use consumer_sync::staging::broken;
+use exchange_link::SyncAnswer;
+use keeper_memory::{CopyKeeper, StageState};
+use roster_base::NoMemory;
+use roster_texts::{Id, Token};
+use roster_types::row::Row;
+use roster_values::Kind;
+use row_merges::merge;
+use std::alloc::Global;
+
+// Stages a whole list of the next kind, where it isn't too long.
+fn stage_list<C: CopyKeeper>(
+    alloc: Global,
+    copy: &mut C,
+    stage: &mut Option<StageState>,
+    token: &Token,
+    pin: u64,
+    rows: &[&Row],
+) -> Option<SyncAnswer>
+    requires holds { (c : Copy) → C.stands_for copy.old c → stage_of c ≡ stage.old }
+    requires last { pin ≤ LAST }
+    requires room { kinds_of stage.old < kind_count }
+    requires rows { IsList (kind_at (kinds_of stage.old)) (map (λ row. row.now) rows.now) }
+    ensures on { result ≡ None → stage.new ≡ Some (paged (opened stage.old pin token.now) [] 0 true) }
+    ensures holds { result ≡ None → (c : Copy) → C.stands_for copy.new c → stage_of c ≡ stage.new }
+    ensures told { (after : Copy) → C.stands_for copy.new after → (before : Copy) × C.stands_for copy.old before
+        × StagesList (kind_at (kinds_of stage.old)) stage.old pin token.now (map (λ row. row.now) rows.now) result before after }
+    ensures ends { (result ≡ None) ⊎ (IsBroken result ⊎ ((row_limit < length rows.now) × (result ≡ Some (SyncAnswer.TooLarge (kind_at (kinds_of stage.old)) (length rows.now))))) }
+    ensures later { C.fault_count copy.old ≤ C.fault_count copy.new }
+    ensures copy_leads { C.leads copy.old copy.new }
+    ensures cause { result ≡ Some SyncAnswer.KeeperFault → Rose (C.fault_count copy.old) (C.fault_count copy.new) }
+{
+    let kind = kind(stage);
+    let total = rows.len() as u64;
+    if MAX_ROWS < total {
+        return Some(SyncAnswer::TooLarge { kind, total });
+    }
+    let list = ListAt {
+        token,
+        pin,
+        kind,
+        total,
+    };
+    stage_rows(alloc, copy, stage, list, rows)
+}
+
+// The rows that are held of a kind, with those that are put and without those that are gone; none where these don't fit them.
+fn merged_rows<'r>(
+    alloc: Global,
+    kind: Kind,
+    held: &'r [Row],
+    puts: &'r [Row],
+    gone: &[Id],
+) -> Result<Option<Vec<&'r Row>>, NoMemory>
+    requires held { IsList kind held.now }
+    requires puts { IsList kind puts.now }
+    requires gone { ids_ascend None gone.now ≡ true }
+    ensures some { IfOk result (λ o. IfSome o (λ rows. (fits kind held.now puts.now gone.now ≡ true) × (map (λ row. row.now) rows.items ≡ merged held.now puts.now gone.now))) }
+    ensures none { IfOk result (λ o. o ≡ None → fits kind held.now puts.now gone.now ≡ false) }
+{
+    if fits(kind, held, puts, gone) {
+        let rows = merge(alloc, kind, held, puts, gone)?;
+        Ok(Some(rows))
+    } else {
+        Ok(None)
+    }
+}
+
+/// Merges what differs of the next kind with the rows that are held of it, and stages the list.
+pub fn stage_delta<C: CopyKeeper>(
+    alloc: Global,
+    copy: &mut C,
+    stage: &mut Option<StageState>,
+    token: &Token,
+    pin: u64,
+    entries: &Gathered,
+) -> Option<SyncAnswer>
+    requires holds { (c : Copy) → C.stands_for copy.old c → stage_of c ≡ stage.old }
+    requires last { pin ≤ LAST }
+    requires room { kinds_of stage.old < kind_count }
+    requires entries { AreEntries (kind_at (kinds_of stage.old)) entries.now }
+    ensures on { result ≡ None → stage.new ≡ Some (paged (opened stage.old pin token.now) [] 0 true) }
+    ensures holds { result ≡ None → (c : Copy) → C.stands_for copy.new c → stage_of c ≡ stage.new }
+    ensures told { (after : Copy) → C.stands_for copy.new after → (before : Copy) × C.stands_for copy.old before
+        × Merges (kind_at (kinds_of stage.old)) entries.now stage.old pin token.now result before after }
+    ensures ends { IfSome result (Unmerged (Rose (C.fault_count copy.old) (C.fault_count copy.new)) (C.stands_for copy.new) (kind_at (kinds_of stage.old)) entries.now) }
+    ensures later { C.fault_count copy.old ≤ C.fault_count copy.new }
+    ensures copy_leads { C.leads copy.old copy.new }
+    ensures cause { result ≡ Some SyncAnswer.KeeperFault → Rose (C.fault_count copy.old) (C.fault_count copy.new) }
+{
+    let kind = kind(stage);
+    match copy.held(alloc, kind) {
+        Err(error) => Some(broken(error)),
+        Ok(held) => match merged_rows(
+            alloc,
+            kind,
+            held.as_slice(),
+            entries.puts(),
+            entries.gone(),
+        ) {
+            Err(_) => Some(SyncAnswer::NoMemory),
+            Ok(None) => {
+                let offset = entries.count();
+                Some(SyncAnswer::BadReply { kind, offset })
+            }
+            Ok(Some(rows)) => stage_list(alloc, copy, stage, token, pin, rows.as_slice()),
+        },
+    }
+}

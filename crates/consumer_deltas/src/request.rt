@@ -1,0 +1,128 @@
+//! Requests for pages of what differs.
+
+ghost use Rattle.std.specs.Prelude.{◌≡◌, ◌≢◌, ◌+◌, ◌-◌, ◌*◌, ◌^◌, ◌<◌, ◌≤◌, IfOk, IfSome, Some, string_bytes};
+ghost use Rattle.consumer_deltas.specs.DeltaRequests.{delta_unnumbered, page_asked};
+ghost use Rattle.consumer_sync.specs.Requests.{IsUnmarked};
+ghost use Rattle.exchange_link.specs.Asked.{IsTry, SendsOn};
+ghost use Rattle.exchange_link.specs.Causes.{IsLast, IsMore, IsOwnReply, RoseBy};
+ghost use Rattle.exchange_link.specs.DeltaPages.{delta_page_request};
+ghost use Rattle.exchange_link.specs.Exchanges.{Told};
+ghost use Rattle.exchange_link.specs.Owning.{IsOwnRead};
+ghost use Rattle.exchange_link.specs.Requests.{Asks, IfOwn, IsReady, number, numbered};
+ghost use Rattle.http_wire.specs.Answers.{IsNoReply, IsReplyText};
+ghost use Rattle.http_wire.specs.Sending.{CanSend, IsSentEcho};
+ghost use Rattle.http_wire.specs.declared.answer.WireReply.{WireReply as Reply};
+ghost use Rattle.hub_spec.specs.requests.DeltaRequests.{delta_query};
+ghost use Rattle.keeper_memory.specs.declared.copy.state.TheConstants.{LAST};
+ghost use Rattle.status_info.specs.declared.request.Echo.{Echo as Number};
+
+use crate::judging::Place;
+use consumer_sync::page::{path_text, pin_text};
+use exchange_link::{Link, Outcome, ask};
+use roster_base::{Bytes, NoMemory, Text, TryCopy};
+use roster_texts::Token;
+use status_info::{MarkField, Request, Verb};
+use std::alloc::Global;
+
+/// What each request of a call has: whose it is, the base from which it asks, how many entries it asks for, its run, and how often it is
+/// tried.
+#[derive(Clone, Copy)]
+pub struct Asker<'a> {
+    pub token: &'a Token,
+    pub base: u64,
+    pub limit: u64,
+    pub run: u64,
+    pub tries: u64,
+}
+
+#[tactic(auto, unfolding(hub_spec::specs::requests::DeltaRequests::delta_query))]
+fn query_text(
+    alloc: Global,
+    limit: u64,
+    offset: u64,
+    base: u64,
+    pin: Option<u64>,
+) -> Result<String, NoMemory>
+    ensures { IfOk result (λ s. string_bytes s ≡ delta_query limit offset base pin) }
+{
+    let mut query = String::from_str(alloc, "limit=")?;
+    query.push_str(format!(in alloc; "{limit}")?.as_str())?;
+    query.push_str("&offset=")?;
+    query.push_str(format!(in alloc; "{offset}")?.as_str())?;
+    query.push_str("&hubSince=")?;
+    query.push_str(format!(in alloc; "{base}")?.as_str())?;
+    query.push_str(pin_text(alloc, pin)?.as_str())?;
+    Ok(query)
+}
+
+fn request_for(alloc: Global, token: &Token, place: Place, offset: u64) -> Result<Request, NoMemory>
+    ensures { IfOk result (λ q. q ≡ delta_unnumbered (page_asked token.now place offset) place.base) }
+{
+    Ok(Request {
+        verb: Verb::Get,
+        path: Text::from_string(path_text(alloc, place.kind)?),
+        query: Text::from_string(query_text(alloc, place.limit, offset, place.base, place.pin)?),
+        token: Some(token.copy(alloc)?),
+        mark: MarkField::Nothing,
+        echo: None,
+        close: false,
+        body: Bytes::from_vec(Vec::new(alloc)),
+    })
+}
+
+// The request for a page, still without a number; it may be sent under each.
+fn page_request(
+    alloc: Global,
+    token: &Token,
+    place: Place,
+    offset: u64,
+) -> Result<Request, NoMemory>
+    requires limit { place.limit < 2 ^ 64 }
+    requires base { place.base < 2 ^ 64 }
+    requires pin { IfSome place.pin (λ n. n < 2 ^ 64) }
+    ensures request { IfOk result (λ q. q ≡ delta_unnumbered (page_asked token.now place offset) place.base) }
+    ensures can { IfOk result (λ q. (n : Number) → IsSentEcho n → CanSend (numbered q n)) }
+{
+    // Read for what a token is.
+    let _good = token.as_str();
+    let request = request_for(alloc, token, place, offset)?;
+    Ok(request)
+}
+
+/// The request for a page of a kind's delta, tried at most so often, each time under the next count of its run.
+pub fn fetch<L: Link>(
+    alloc: Global,
+    link: &mut L,
+    by: Asker<'_>,
+    place: Place,
+    offset: u64,
+    count: &mut u64,
+) -> Outcome
+    requires limit { place.limit < 2 ^ 64 }
+    requires base { place.base < 2 ^ 64 }
+    requires pin { IfSome place.pin (λ n. n < 2 ^ 64) }
+    requires run { (1 ≤ by.run) × (by.run ≤ LAST) }
+    requires tries { (0 < by.tries) × (by.tries ≤ 100) }
+    requires few { count.old + by.tries ≤ 100 * LAST }
+    ensures count { (count.old ≤ count.new) × (count.new ≤ count.old + by.entry.tries) }
+    ensures asked { IsMore (L.asked link.old) (count.new - count.old) (L.asked link.new) }
+    ensures later { L.fault_count link.old ≤ L.fault_count link.new }
+    ensures link_leads { L.leads link.old link.new }
+    ensures own { IfOwn result (λ w. IsOwnReply (L.kept link.new) by.entry.run count.new w) }
+    ensures none { result ≡ Outcome.NoReply → (1 ≤ count.new) × IsNoReply (L.kept link.new) × ((after : Told) → L.tells link.new after → ⊥) }
+    ensures missed { result ≡ Outcome.Missed → (count.new ≡ count.old + by.entry.tries) × (by.entry.tries ≤ L.missed link.new)
+        × RoseBy by.entry.tries (L.fault_count link.old) (L.fault_count link.new)
+        × ((w : Reply) → IsReplyText (L.kept link.new) w → w.echo ≡ Some (number by.entry.run count.new) → ⊥) }
+    ensures told { (after : Told) → L.tells link.new after → (before : Told) × L.tells link.old before
+        × Asks by.entry.run count.old count.new IsUnmarked before after
+        × (IsReady by.entry.run count.old before.sent → IfOwn result (λ w. IsOwnRead before after (delta_page_request (page_asked by.entry.token.now place offset) place.base (number by.entry.run count.new)) w)) }
+    ensures last { result ≢ Outcome.NoMemory → (after : Told) → L.tells link.new after
+        → IsLast (delta_page_request (page_asked by.entry.token.now place offset) place.base (number by.entry.run count.new)) after.sent }
+    ensures asks { (after : Told) → L.tells link.new after → (before : Told) × L.tells link.old before
+        × SendsOn (IsTry (delta_page_request (page_asked by.entry.token.now place offset) place.base)) by.entry.run count.old count.new (result ≡ Outcome.NoMemory) before.sent after.sent }
+{
+    match page_request(alloc, by.token, place, offset) {
+        Ok(request) => ask(alloc, link, request, by.run, count, by.tries),
+        Err(_) => Outcome::NoMemory,
+    }
+}
