@@ -1,13 +1,13 @@
 //! What a set that a feed publishes makes of the newest version.
 
-mod draft;
+pub mod draft;
 mod index;
 pub mod laws;
 mod listed;
 mod marks;
 pub mod publish;
 pub mod publish_fault;
-mod refusals;
+pub mod refusals;
 mod soundness;
 
 pub use marks::{is_active, marked};

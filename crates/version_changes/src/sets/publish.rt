@@ -58,8 +58,8 @@ fn changes_of(
     merged(alloc, marks, listed)
 }
 
-// The rows that a set changes, each as it becomes.
-fn changed_rows(
+/// The rows that a set changes, each as it becomes.
+pub fn changed_rows(
     alloc: Global,
     view: &VersionView,
     set: RosterSet,

@@ -79,8 +79,8 @@ pub fn owned_by_other(
     Ok(None)
 }
 
-// The refusal of the first of these kinds that has too many rows.
-fn too_many<R: Rows>(rows: &R, kinds: &[Kind]) -> Option<PublishFault>
+/// The refusal of the first of these kinds that has too many rows.
+pub fn too_many<R: Rows>(rows: &R, kinds: &[Kind]) -> Option<PublishFault>
     ensures { result ≡ too_many (R.rows rows.now) kinds.now }
 {
     for kind in kinds {

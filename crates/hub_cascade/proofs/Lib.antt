@@ -1,0 +1,7 @@
+mod Answering
+mod Differing
+mod Leading
+mod Listing
+mod Ordering
+mod Outcomes
+mod Serving

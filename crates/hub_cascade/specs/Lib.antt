@@ -1,0 +1,4 @@
+pub mod Answers
+pub mod Cascading
+pub mod Held
+pub mod Steps

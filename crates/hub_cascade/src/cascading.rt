@@ -1,0 +1,157 @@
+//! A copy cascaded into a hub.
+
+ghost use Rattle.std.specs.Prelude.{◌≡◌, ◌≤◌, Err, IfOk, Ok, Some, false, true};
+ghost use Rattle.std.specs.Option.{ForSome};
+ghost use Rattle.hub_cascade.specs.Answers.{CountsCopy, CountsHub, LeavesOpen, MakesCascade, TellsHeld, answer_of};
+ghost use Rattle.hub_cascade.specs.Cascading.{active_rows, current_rows};
+ghost use Rattle.hub_cascade.specs.Held.{CascadesHeld, held_rows};
+ghost use Rattle.hub_cascade.specs.Steps.{MakesListed};
+ghost use Rattle.hub_core.specs.Made.{Adopts};
+ghost use Rattle.hub_core.specs.Standing.{IsStanding, KeeperFits};
+ghost use Rattle.hub_core.specs.Steps.{CountsFault, LeavesOpen as LeavesHubOpen};
+ghost use Rattle.keeper_memory.specs.Commits.{CanLead};
+ghost use Rattle.keeper_memory.specs.Kept.{KeptState, newest_kept};
+ghost use Rattle.keeper_memory.specs.copy.Copies.{Copy};
+
+use crate::change::held_change;
+use crate::error::CascadeError;
+use crate::held::held_set;
+use hub_core::{Hub, HubError, Published};
+use keeper_memory::{CopyKeeper, HubCommit, HubKeeper};
+use roster_base::Refusal;
+use roster_texts::{Moment, Name};
+use roster_types::set::RosterSet;
+use std::alloc::Global;
+use version_changes::PublishFault;
+use version_core::change::Change;
+
+// Adds the version that a change leads to.
+fn add_version<H: HubKeeper>(
+    alloc: Global,
+    hub: &mut Hub,
+    keeper: &mut H,
+    change: Change,
+) -> Result<Published, HubError>
+    requires fits { KeeperFits (H.stands_for keeper.old) hub.old }
+    requires settled { hub.old.is_open ≡ false }
+    requires can { CanLead hub.old.kept.versions change }
+    ensures fits { KeeperFits (H.stands_for keeper.new) hub.new }
+    ensures told { (after : KeptState) → IsStanding hub.new after → (H.stands_for keeper.new after → H.stands_for keeper.old hub.old.kept) × Adopts (Ok (Some change)) result hub.old.kept after }
+    ensures keeps { hub.new.keeps ≡ hub.old.keeps }
+    ensures settled { LeavesHubOpen result hub.new.is_open }
+    ensures cause { CountsFault (H.fault_count keeper.old) (H.fault_count keeper.new) result }
+    ensures leads { H.leads keeper.old keeper.new }
+{
+    let version = change.version;
+    let commit = HubCommit {
+        change: Some(change),
+        mark: None,
+    };
+    match hub.install(alloc, keeper, commit) {
+        Ok(()) => Ok(Published::New { version }),
+        Err(error) => Err(error),
+    }
+}
+
+// Makes what is due, where anything is.
+fn adopt<H: HubKeeper>(
+    alloc: Global,
+    hub: &mut Hub,
+    keeper: &mut H,
+    due: Result<Option<Change>, Refusal<PublishFault>>,
+) -> Result<Published, HubError>
+    requires fits { KeeperFits (H.stands_for keeper.old) hub.old }
+    requires settled { hub.old.is_open ≡ false }
+    requires can { IfOk due (λ change. ForSome change (CanLead hub.old.kept.versions)) }
+    ensures fits { KeeperFits (H.stands_for keeper.new) hub.new }
+    ensures told { (after : KeptState) → IsStanding hub.new after → (H.stands_for keeper.new after → H.stands_for keeper.old hub.old.kept) × Adopts due result hub.old.kept after }
+    ensures keeps { hub.new.keeps ≡ hub.old.keeps }
+    ensures settled { LeavesHubOpen result hub.new.is_open }
+    ensures cause { CountsFault (H.fault_count keeper.old) (H.fault_count keeper.new) result }
+    ensures leads { H.leads keeper.old keeper.new }
+{
+    match due {
+        Ok(Some(change)) => add_version(alloc, hub, keeper, change),
+        Ok(None) => Ok(Published::Same {
+            version: hub.table().newest(),
+        }),
+        Err(Refusal::Fault(fault)) => Err(HubError::Refused(fault)),
+        Err(Refusal::NoMemory) => Err(HubError::NoMemory),
+    }
+}
+
+// Makes the rows that a set lists those of its feed, where it lists all that a copy holds.
+fn publish_held<H: HubKeeper>(
+    alloc: Global,
+    hub: &mut Hub,
+    keeper: &mut H,
+    set: RosterSet,
+    at: Moment,
+) -> Result<Published, HubError>
+    requires { KeeperFits (H.stands_for keeper.old) hub.old }
+    ensures fits { KeeperFits (H.stands_for keeper.new) hub.new }
+    ensures told { (after : KeptState) → IsStanding hub.new after → (before : KeptState) × IsStanding hub.old before × (H.stands_for keeper.new after → H.stands_for keeper.old before) × MakesListed set at result before after }
+    ensures keeps { hub.new.keeps ≡ hub.old.keeps }
+    ensures settled { LeavesHubOpen result hub.new.is_open }
+    ensures cause { CountsFault (H.fault_count keeper.old) (H.fault_count keeper.new) result }
+    ensures leads { H.leads keeper.old keeper.new }
+{
+    match hub.ready(alloc, keeper) {
+        Ok(()) => {
+            let due = held_change(alloc, hub.table(), set, at);
+            adopt(alloc, hub, keeper, due)
+        }
+        Err(error) => {
+            drop(set);
+            Err(error)
+        }
+    }
+}
+
+// The answer of a cascade, by that of the hub's calls.
+fn answer_of(made: Result<Published, HubError>) -> Result<Published, CascadeError>
+    ensures { result ≡ answer_of made }
+{
+    match made {
+        Ok(published) => Ok(published),
+        Err(error) => Err(CascadeError::from(error)),
+    }
+}
+
+/// Makes the rows that a copy holds those of a feed, at a moment: the next version, where a row of the newest changes. Each held row
+/// stands with its own date, an active row of the feed that isn't held is marked as deleted, and all else stays. Rows that are named
+/// and lacking are no fault, since a copy may lack them. The copy stays as it is.
+///
+/// # Errors
+///
+/// `CopyKeeper` and `HubKeeper` where that keeper failed: after `HubKeeper` the version was added or not, after all others it was not.
+/// `NothingHeld` exactly where the copy holds nothing, unless its keeper failed or memory ran out. `Refused` exactly where the rows are
+/// refused, unless a keeper failed or memory ran out: for the first held row whose id stands with another owner, for the first kind that
+/// would have too many rows, or where a version is due and the newest has the last number. `NoMemory`.
+pub fn cascade<H: HubKeeper, C: CopyKeeper>(
+    alloc: Global,
+    hub: &mut Hub,
+    keeper: &mut H,
+    copy: &mut C,
+    feed: &Name,
+    at: Moment,
+) -> Result<Published, CascadeError>
+    requires { KeeperFits (H.stands_for keeper.old) hub.old }
+    ensures fits { KeeperFits (H.stands_for keeper.new) hub.new }
+    ensures told { (after : KeptState) → IsStanding hub.new after → (before : KeptState) × IsStanding hub.old before × (H.stands_for keeper.new after → H.stands_for keeper.old before) × MakesCascade (CascadesHeld (C.stands_for copy.new) feed.now at) result before after }
+    ensures held { TellsHeld (C.stands_for copy.new) result }
+    ensures served { IfOk result (λ _. (c : Copy) → C.stands_for copy.new c → current_rows feed.now (newest_kept hub.new.kept.versions).rows ≡ active_rows (held_rows c)) }
+    ensures same { (c : Copy) → C.stands_for copy.new c → C.stands_for copy.old c }
+    ensures settled { LeavesOpen result hub.new.is_open }
+    ensures keeps { hub.new.keeps ≡ hub.old.keeps }
+    ensures hub_cause { CountsHub (H.fault_count keeper.old) (H.fault_count keeper.new) result }
+    ensures copy_cause { CountsCopy (C.fault_count copy.old) (C.fault_count copy.new) result }
+    ensures hub_leads { H.leads keeper.old keeper.new }
+    ensures copy_leads { C.leads copy.old copy.new }
+    ensures later { C.fault_count copy.old ≤ C.fault_count copy.new }
+{
+    match held_set(alloc, copy, feed) {
+        Ok(set) => answer_of(publish_held(alloc, hub, keeper, set, at)),
+        Err(error) => Err(error),
+    }
+}
