@@ -1,5 +1,5 @@
 -- The entries of a kind's delta, page after page.
-use Rattle.std.proofs.Common.{◌≡◌, ◌+◌, ◌-◌, ◌<◌, ◌≤◌, ℕ, true, false, length, length-append, List, Option, Some, None, refl, sym, ap, subst, ◌∙◌, arith, min}
+use Rattle.std.proofs.Common.{◌≡◌, ◌⊎◌, ⊎_elim, inl, inr, ◌+◌, ◌-◌, ◌<◌, ◌≤◌, ℕ, true, false, length, length-append, List, Option, Some, None, refl, sym, ap, subst, ◌∙◌, arith, min}
 use Rattle.std.specs.Prelude.{◌==◌, IfSome, Result, Ok, Err}
 use Rattle.std.specs.List.{All}
 use Rattle.std.proofs.lemmas.Bool.Decides.{nat_tests}
@@ -73,17 +73,17 @@ module _ (place : Place) (sofar : Sofar) (w : WireReply) (pin : ℕ) (page : Ent
   pub entries_whole : is_whole joined ≡ true → AreEntries place.kind joined
   entries_whole whole = record { whole = whole; few = small; puts = puts_on; gone = gone_on }
 
-  less : is_whole joined ≡ false → count_in joined < total
-  less other = let e : (total == count_in joined) ≡ false = other in grind (arith, nat_tests, e, not_more)
+  pub less_yet : is_whole joined ≡ false → count_in joined < total
+  less_yet other = let e : (total == count_in joined) ≡ false = other in grind (arith, nat_tests, e, not_more)
 
   -- or one in between
   pub entries_open : is_whole joined ≡ false → AreOpen place.kind joined
-  entries_open other = record { among = (less other, part.few); puts = puts_on; gone = gone_on }
+  entries_open other = record { among = (less_yet other, part.few); puts = puts_on; gone = gone_on }
 
   pub left_less : 0 < place.limit → is_whole joined ≡ false → left_of joined.total (count_in joined) < left_of sofar.total (count_in sofar)
   left_less some other =
       subst (λ n. left_of (Some total) n < left_of sofar.total (count_in sofar)) (sym counted)
-      (left_falls sofar.total (count_in sofar) (length page.puts + length page.gone) place.limit total far.among part.same part.few some part.count (let l = less other in omega (arith, counted, l)))
+      (left_falls sofar.total (count_in sofar) (length page.puts + length page.gone) place.limit total far.among part.same part.few some part.count (let l = less_yet other in omega (arith, counted, l)))
 
 -- before the first page
 pub open_first : (kind : Kind) → AreOpen kind nothing_yet
@@ -103,14 +103,30 @@ open_small kind sofar far = few_came sofar.total (count_in sofar) far.among
 pub open_left : (kind : Kind) (sofar : Sofar) → AreOpen kind sofar → 1 ≤ left_of sofar.total (count_in sofar)
 open_left kind sofar far = some_left sofar.total (count_in sofar) far.among
 
+-- the pin of a page is the call's, or the call had none
+abbrev pub IsPinOf : Option ℕ → Option ℕ → Type 0
+IsPinOf here first = (here ≡ first) ⊎ (first ≡ None)
+
+pub pin_first : (first : Option ℕ) (pin : ℕ) → agrees first pin ≡ true → IsPinOf (Some pin) first
+pin_first None pin same = inr refl
+pin_first (Some n) pin same = let e : n ≡ pin = grind (arith, nat_tests, same) in inl (ap Some (sym e))
+
+pub pin_on : (there here first : Option ℕ) → IsPinOf there here → IsPinOf here first → IsPinOf there first
+pin_on there here first x y =
+    ⊎_elim (λ (e : here ≡ first). ⊎_elim (λ (d : there ≡ here). inl (d ∙ e)) (λ (none : here ≡ None). inr (sym e ∙ none)) x) (λ (none : first ≡ None). inr none) y
+
+-- what is asked for is what is read
+pub pin_is : (o : Option ℕ) (p pin : ℕ) → agrees o pin ≡ true → o ≡ Some p → p ≡ pin
+pin_is o p pin same e = let test : agrees (Some p) pin ≡ true = sym (ap (λ o. agrees o pin) e) ∙ same in grind (arith, nat_tests, test)
+
 -- why the pages end, at the first of them
-pub stops_on : (kept : List ℕ) (run count : ℕ) (missed given : Type 0) (here place : Place) (a : DeltaAnswer) → here.kind ≡ place.kind → here.base ≡ place.base → here.limit ≡ place.limit → (missed → given)
+pub stops_on : (kept : List ℕ) (run count : ℕ) (missed given : Type 0) (here place : Place) (a : DeltaAnswer) → here.kind ≡ place.kind → here.base ≡ place.base → here.limit ≡ place.limit → IsPinOf here.pin place.pin → (missed → given)
     → Stops kept run count missed here a → Stops kept run count given place a
-stops_on kept run count missed given here place a kind base limit f (Given x) =
-    Given (record { sofar = x.sofar; here = x.here; reply = x.reply; own = x.own; kind = x.kind ∙ kind; base = x.base ∙ base; limit = x.limit ∙ limit; given = x.given })
-stops_on kept run count missed given here place a kind base limit f (NoneCame offset m e) = NoneCame offset (f m) (e ∙ ap (λ k. Ended (answer.Interrupted k offset)) kind)
-stops_on kept run count missed given here place a kind base limit f (NoReply offset none e) = NoReply offset none (e ∙ ap (λ k. Ended (answer.BadReply k offset)) kind)
-stops_on kept run count missed given here place a kind base limit f (Wants e) = Wants e
+stops_on kept run count missed given here place a kind base limit pin f (Given x) =
+    Given (record { sofar = x.sofar; here = x.here; reply = x.reply; own = x.own; kind = x.kind ∙ kind; base = x.base ∙ base; limit = x.limit ∙ limit; pin = pin_on x.here.pin here.pin place.pin x.pin pin; given = x.given })
+stops_on kept run count missed given here place a kind base limit pin f (NoneCame offset m unlike e) = NoneCame offset (f m) unlike (e ∙ ap (λ k. Ended (answer.Interrupted k offset)) kind)
+stops_on kept run count missed given here place a kind base limit pin f (NoReply offset none e) = NoReply offset none (e ∙ ap (λ k. Ended (answer.BadReply k offset)) kind)
+stops_on kept run count missed given here place a kind base limit pin f (Wants e) = Wants e
 
 -- the tries of one request are requests of the call
 pub sends_delta : (token : List ℕ) (place : Place) (offset run from to : ℕ) (wants given : Type 0) (x y : List Request) → (wants → given)

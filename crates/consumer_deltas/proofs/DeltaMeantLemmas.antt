@@ -1,6 +1,6 @@
 -- What the hub's own reply means for the delta of a kind, over a link that tells.
-use Rattle.std.proofs.Common.{◌≡◌, ◌≢◌, ◌+◌, ◌-◌, ◌<◌, ◌≤◌, ◌^◌, ◌⊎◌, ⊎_elim, inl, inr, ℕ, Bool, true, false, not, List, [], length, min, Option, Some, None, Ok, refl, sym, ap, subst, ◌∙◌, arith}
-use Rattle.std.specs.Prelude.{◌==◌, ◌&&◌, nat_lt, if◌then◌else◌, IfSome, IsSomeAnd, max, unwrap_or}
+use Rattle.std.proofs.Common.{◌≡◌, ◌≢◌, ◌+◌, ◌-◌, ◌<◌, ◌≤◌, ◌^◌, ◌⊎◌, ⊎_elim, inl, inr, ℕ, Bool, true, false, not, List, [], length, min, Option, Some, None, Ok, refl, sym, ap, subst, ◌∙◌, arith, length-append}
+use Rattle.std.specs.Prelude.{Result, ◌==◌, ◌&&◌, nat_lt, if◌then◌else◌, IfSome, IsSomeAnd, max, unwrap_or}
 use Rattle.std.proofs.lemmas.Bool.Decides.{nat_tests}
 use Rattle.exchange_link.proofs.AskLemmas.{grew_on, grew_refl}
 use Rattle.exchange_link.proofs.CutLemmas.{list_good}
@@ -44,15 +44,18 @@ use Rattle.version_core.specs.declared.grant_row.GrantRow.{GrantRow}
 use Rattle.consumer_sync.specs.Judging.{agrees}
 use Rattle.consumer_deltas.proofs.DeltaEntryLemmas.{delta_short, gone_next, gone_up, part_count, puts_next, puts_up}
 use Rattle.consumer_deltas.proofs.DeltaJudgeLemmas.{IsClosed, IsPart, closed_taken, closes_on, goes_on, not_both, part_taken, takes_on}
+use Rattle.consumer_deltas.proofs.DeltaGatherLemmas.{pin_is}
+use Rattle.consumer_deltas.proofs.DeltaPagesLemmas.{Paged, paged_end, paged_next}
 use Rattle.consumer_deltas.proofs.DeltaTellLemmas.{PinLaw, delta_law_of, delta_told_of}
 use Rattle.consumer_deltas.proofs.DeltaToldLemmas.{first_on, first_whole, part_told}
 use Rattle.consumer_deltas.specs.DeltaAnswers.{DeltaTold}
 use Rattle.consumer_deltas.specs.DeltaGathering.{AreFirst, IsDelta, IsPartOf, IsShutAt, ending_of}
 use Rattle.consumer_deltas.specs.DeltaJudging.{Sofar, base_act, by_status, closed_act, count_in, delta_judged, differing_act, entries_from, entry_limit, ids_ascend, is_whole, last_id, lost_act, nothing_yet, read_act, with_page}
 use Rattle.consumer_deltas.specs.DeltaRequests.{page_asked}
-use Rattle.consumer_deltas.specs.DeltaTelling.{IsPinFrom, MayAsk}
+use Rattle.consumer_deltas.specs.DeltaTelling.{IsAtPin, IsPinFrom, MayAsk, PagesBounded}
 use Rattle.consumer_deltas.specs.declared.answer.DeltaAnswer.{DeltaAnswer}
 use Rattle.consumer_deltas.specs.declared.answer.DeltaAnswer.TheVariants as delta_answer
+use Rattle.consumer_deltas.specs.declared.gather.Delta.{Delta}
 use Rattle.consumer_deltas.specs.declared.gathered.Entries.{Entries}
 use Rattle.consumer_deltas.specs.declared.judging.DeltaAct.{DeltaAct}
 use Rattle.consumer_deltas.specs.declared.judging.DeltaAct.TheVariants as act
@@ -502,6 +505,24 @@ module _ (before : HubState) (a b : Told) (hub : IsHub a.hub) (grew : Grew a.hub
       let told = whole_told a.hub b.hub token here sofar pin page total grew x.known means (ap is_whole (sym joined) ∙ whole) in
       (subst (λ s. IsDelta b.hub token place pin s) (sym joined) (same_delta_at b.hub token here place pin (with_page sofar page total) base kind told), x.pin pin means.from)
 
+  -- one page more, which isn't the last
+  pub paged_on : here.base ≡ place.base → here.kind ≡ place.kind → here.limit ≡ place.limit → (pin : ℕ) (page : Entries) (total : ℕ) → act.Take pin page total ≡ delta_judged here sofar w → (next : Sofar) (there : Place) → next ≡ with_page sofar page total
+      → there ≡ next_place here pin → count_in (with_page sofar page total) < total → (from at to tries : ℕ) → from ≤ at → at ≤ to → to ≤ at + tries → Paged before a.hub token place here sofar tries (at - from) → Paged before b.hub token place there next tries (to - from)
+  paged_on base kind limit pin page total e next there joined at less start mid to tries le le' most so =
+      let means = taken_means a b token here sofar w said pin page total (sym e) in
+      let part = part_taken here sofar w pin page total (sym e) in
+      let all : total ≡ length (delta (version_at b.hub place.base) (version_at b.hub pin) token place.kind) =
+      means.part.total_is ∙ (λ i. length (delta (version_at b.hub (base i)) (version_at b.hub pin) token (kind i))) in
+      let stands = x.known.based in
+      let sum : (mid - start) + (to - mid) ≡ to - start = omega (arith, le, le') in
+      let counted : count_in (with_page sofar page total) ≡ count_in sofar + (length page.puts + length page.gone) = omega (arith, length-append sofar.puts page.puts, length-append sofar.gone page.gone) in
+      let count : count_in next ≡ count_in sofar + min place.limit (length (delta (version_at b.hub place.base) (version_at b.hub pin) token place.kind) - count_in sofar) =
+      ap count_in joined ∙ counted ∙ ap (λ c. count_in sofar + c) (part.count ∙ (λ i. min (limit i) (all i - count_in sofar))) in
+      let few_next : count_in next < length (delta (version_at b.hub place.base) (version_at b.hub pin) token place.kind) = omega (arith, ap count_in joined, less, all) in
+      subst (λ k. Paged before b.hub token place there next tries k) sum
+      (paged_next before a.hub b.hub token place here sofar tries (mid - start) (to - mid) grew (omega (arith, stands, base)) (omega (arith, some, limit)) (omega (arith, le', most)) pin there next
+      (λ p asked. pin_is here.pin p pin part.pinned asked) (ap (λ (p : Place). p.pin) at) (x.pin pin means.from) means.part.standing count few_next so)
+
   pub closed_tells : here.kind ≡ place.kind → (pin : ℕ) → act.Close pin ≡ delta_judged here sofar w → IsShutAt b.hub token place pin × IsPinFrom place.pin before pin
   closed_tells kind pin e =
       let means = closed_means a b token here sofar w said pin (sym e) in
@@ -511,6 +532,15 @@ module _ (before : HubState) (a b : Told) (hub : IsHub a.hub) (grew : Grew a.hub
   ends_tell y e ends offset at =
       let told = ends_mean a b token here sofar w said x.known (ap goes_on (sym e) ∙ ends) in
       subst (λ m. DeltaTold token a b (ending_of y here m)) (sym at) (subst (λ z. DeltaTold token a b (ending_of z here (count_in sofar))) (sym e) told)
+
+-- to the end of the pages
+pub paged_to : (before : HubState) (a b : HubState) → Grew a b → (token : List ℕ) (place here : Place) (sofar : Sofar) → here.base ≡ place.base → 0 < place.limit → Gathering before a token place here sofar
+    → (from at to tries : ℕ) → from ≤ at → at ≤ to → to ≤ at + tries → (r : Result Delta DeltaAnswer) → ((v : ℕ) → here.pin ≡ Some v → IsAtPin r v) → Paged before a token place here sofar tries (at - from) → PagesBounded before b token place tries (to - from) r
+paged_to before a b grew token place here sofar base some x from at to tries le le' most r named so =
+    let stands = x.known.based in
+    let sum : (at - from) + (to - at) ≡ to - from = omega (arith, le, le') in
+    subst (λ k. PagesBounded before b token place tries k r) sum
+    (paged_end before a b token place here sofar tries (at - from) (to - at) grew (omega (arith, stands, base)) some (omega (arith, le', most)) r named so)
 
 -- ---- from an earlier state on
 

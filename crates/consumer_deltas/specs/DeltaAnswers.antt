@@ -21,12 +21,12 @@ HasBase base token c = IsSomeAnd c.held (λ held. (held.version ≡ base) × (he
 abbrev pub LacksBase : List ℕ → Copy → Type 0
 LacksBase token c = held_token c ≡ Some token → ⊥
 
--- what a call leaves of a copy: without a base it changes nothing, and a base that is gone leaves all but the run and the stage, which
--- goes on
+-- what a call leaves of a copy: without a base it changes nothing, and where the held version is gone all stays but the run and the stage,
+-- which goes on
 abbrev pub DeltaLeaves : List ℕ → DeltaAnswer → Copy → Copy → Type 0
 DeltaLeaves token (Ended a) before after = Leaves token a before after
 DeltaLeaves token NoBase before after = after ≡ before
-DeltaLeaves token (BaseGone held oldest) before after = Leaves token answer.HubFault before after
+DeltaLeaves token (BaseGone held oldest) before after = HasBase held token before × Leaves token answer.HubFault before after
 
 -- a call ends without a base exactly where none is held under its token
 pub record BaseLaw (token : List ℕ) (a : DeltaAnswer) (before : Copy) : Type 0 where

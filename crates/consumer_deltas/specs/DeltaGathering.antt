@@ -1,5 +1,5 @@
 -- The delta of a kind, page after page.
-use Rattle.std.specs.Prelude.{◌≡◌, ◌+◌, ◌*◌, ◌<◌, ◌≤◌, ◌++◌, ℕ, true, List, [], None, length}
+use Rattle.std.specs.Prelude.{◌≡◌, ◌⊎◌, ◌+◌, ◌*◌, ◌<◌, ◌≤◌, ◌++◌, ℕ, true, List, [], None, length}
 use Rattle.consumer_deltas.specs.DeltaJudging.{Sofar, count_in, delta_judged, entry_limit, ids_ascend, is_whole}
 use Rattle.consumer_sync.specs.Judging.{agrees}
 use Rattle.consumer_deltas.specs.declared.answer.DeltaAnswer.{DeltaAnswer}
@@ -66,12 +66,13 @@ pub record IsGiven (kept : List ℕ) (run count : ℕ) (place : Place) (a : Delt
   pub kind : here.kind ≡ place.kind
   pub base : here.base ≡ place.base
   pub limit : here.limit ≡ place.limit
+  pub pin : (here.pin ≡ place.pin) ⊎ (place.pin ≡ None)
   pub given : a ≡ ending_of (delta_judged here sofar reply) here (count_in sofar)
 
 -- why the pages of a kind end before the delta is whole
 pub data Stops (kept : List ℕ) (run count : ℕ) (missed : Type 0) (place : Place) (a : DeltaAnswer) : Type 0 where
   Given : IsGiven kept run count place a → Stops kept run count missed place a
-  NoneCame : (offset : ℕ) → missed → a ≡ Ended (answer.Interrupted place.kind offset) → Stops kept run count missed place a
+  NoneCame : (offset : ℕ) → missed → ((w : WireReply) → IsOwnReply kept run count w → ⊥) → a ≡ Ended (answer.Interrupted place.kind offset) → Stops kept run count missed place a
   NoReply : (offset : ℕ) → IsNoReply kept → a ≡ Ended (answer.BadReply place.kind offset) → Stops kept run count missed place a
   Wants : a ≡ Ended answer.NoMemory → Stops kept run count missed place a
 

@@ -1,11 +1,18 @@
 -- What the pages of a kind tell, over a link that tells.
-use Rattle.std.specs.Prelude.{◌≡◌, ◌≢◌, ◌<◌, ◌≤◌, ℕ, false, List, [], Option, Some, None, IfSome, IsSomeAnd, length}
+use Rattle.std.specs.Prelude.{◌≡◌, ◌≢◌, ◌⊎◌, ◌*◌, ◌<◌, ◌≤◌, ℕ, false, List, [], Option, Some, None, IfErr, IfOk, IfSome, IsSomeAnd, Result, Ok, Err, length, ⊤}
+use Rattle.consumer_deltas.specs.DeltaAnswers.{DeltaTold}
 use Rattle.consumer_deltas.specs.DeltaGathering.{IsDelta, IsShutAt}
+use Rattle.consumer_deltas.specs.declared.answer.DeltaAnswer.{DeltaAnswer}
+use Rattle.consumer_deltas.specs.declared.answer.DeltaAnswer.TheVariants.{Ended}
 use Rattle.consumer_deltas.specs.declared.gather.Delta.{Delta}
 use Rattle.consumer_deltas.specs.declared.gather.Delta.TheVariants as delta
 use Rattle.consumer_deltas.specs.declared.judging.Place.{Place}
+use Rattle.exchange_link.specs.Bounds.{pages}
+use Rattle.exchange_link.specs.Exchanges.{Told}
 use Rattle.exchange_link.specs.Sayings.{list_of}
+use Rattle.exchange_link.specs.declared.answer.SyncAnswer.TheVariants as answer
 use Rattle.hub_spec.specs.rules.Checks.{version_at}
+use Rattle.hub_spec.specs.views.Deltas.{delta as what_differs}
 use Rattle.roster_values.specs.Kinds.{place_of_kind}
 use Rattle.version_core.specs.HubStates.{HubState, newest_number}
 
@@ -24,3 +31,31 @@ pub record MayAsk (h : HubState) (token : List ℕ) (place : Place) : Type 0 whe
 abbrev pub Tells : HubState → HubState → List ℕ → Place → Delta → Type 0
 Tells before after token place (delta.Closed pin) = IsShutAt after token place pin × IsPinFrom place.pin before pin
 Tells before after token place (delta.Whole pin entries) = IsDelta after token place pin entries × IsPinFrom place.pin before pin
+
+-- the pin that an answer names
+abbrev pub NamesPin : DeltaAnswer → ℕ → Type 0
+NamesPin (Ended (answer.PinGone pin oldest)) v = v ≡ pin
+NamesPin a v = ⊤
+
+abbrev pub IsAtPin : Result Delta DeltaAnswer → ℕ → Type 0
+IsAtPin (Ok (delta.Closed pin)) v = v ≡ pin
+IsAtPin (Ok (delta.Whole pin entries)) v = v ≡ pin
+IsAtPin (Err a) v = NamesPin a v
+
+-- an answer names the pin, where there was one
+abbrev pub GonePin : Option ℕ → HubState → DeltaAnswer → Type 0
+GonePin pin h (Ended (answer.PinGone v oldest)) = IsPinFrom pin h v
+GonePin pin h a = ⊤
+
+-- how many exchanges are made for a kind: the tries of one request, or tries * pages of the delta at the pin
+abbrev pub PagesBounded : HubState → HubState → List ℕ → Place → ℕ → ℕ → Result Delta DeltaAnswer → Type 0
+PagesBounded before after token place tries n result =
+    (n ≤ tries) ⊎ ((v : ℕ) × IsPinFrom place.pin before v × (v < length after.published) × IsAtPin result v
+    × (n ≤ tries * pages place.limit (length (what_differs (version_at after place.base) (version_at after v) token place.kind))))
+
+-- what the pages of a kind tell: what is gathered is the delta, no reply is bad, and no page more is asked for
+pub record PagesTold (before after : Told) (token : List ℕ) (place : Place) (tries n : ℕ) (result : Result Delta DeltaAnswer) : Type 0 where
+  pub whole : IfOk result (Tells before.hub after.hub token place)
+  pub cause : IfErr result (DeltaTold token before after)
+  pub gone : IfErr result (GonePin place.pin before.hub)
+  pub bound : PagesBounded before.hub after.hub token place tries n result

@@ -1,4 +1,7 @@
 pub mod DeltaAnswers
+pub mod DeltaCalls
+pub mod DeltaCauses
+pub mod DeltaFilling
 pub mod DeltaFits
 pub mod DeltaGathering
 pub mod DeltaJudging

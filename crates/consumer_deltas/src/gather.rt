@@ -2,13 +2,14 @@
 
 ghost use Rattle.std.specs.Prelude.{◌≡◌, ◌+◌, ◌-◌, ◌*◌, ◌^◌, ◌<◌, ◌≤◌, false, Err, IfErr, IfOk, IfSome, OnOk, Some};
 ghost use Rattle.consumer_deltas.specs.DeltaAnswers.{DeltaTold};
+ghost use Rattle.consumer_deltas.specs.DeltaFilling.{IsPinGone};
 ghost use Rattle.consumer_deltas.specs.DeltaGathering.{IsGathered, Stops, ending_of, most_asked};
 ghost use Rattle.consumer_deltas.specs.DeltaJudging.{ArePuts, count_in, delta_judged, is_whole, with_page};
 ghost use Rattle.consumer_deltas.specs.DeltaRequests.{IsDeltaUnder, page_asked};
-ghost use Rattle.consumer_deltas.specs.DeltaTelling.{MayAsk, Tells};
+ghost use Rattle.consumer_deltas.specs.DeltaTelling.{MayAsk, PagesTold};
 ghost use Rattle.consumer_sync.specs.Requests.{IsUnmarked};
 ghost use Rattle.exchange_link.specs.Asked.{SendsOn};
-ghost use Rattle.exchange_link.specs.Causes.{IsMore, IsOwnReply, RoseBy};
+ghost use Rattle.exchange_link.specs.Causes.{IsMore, IsOwnReply, IsPageStatus, RoseBy};
 ghost use Rattle.exchange_link.specs.DeltaPages.{delta_page_request};
 ghost use Rattle.exchange_link.specs.Exchanges.{Told};
 ghost use Rattle.exchange_link.specs.Owning.{IsOwnRead};
@@ -81,6 +82,7 @@ fn next_act<L: Link>(
     ensures act { IfOk result (λ a. (w : Reply) × IsOwnReply (L.kept link.new) by.entry.run count.new w × (a ≡ delta_judged place sofar.now w)) }
     ensures kinds { IfOk result (ArePuts place.kind) }
     ensures cause { IfErr result (Stops (L.kept link.new) by.entry.run count.new ((by.entry.tries ≤ L.missed link.new) × (by.entry.tries ≤ count.new) × RoseBy by.entry.tries (L.fault_count link.old) (L.fault_count link.new)) place) }
+    ensures gone { IfErr result (λ a. IsPinGone a → ⊥) }
     // Over a link that tells, where no number was used twice, the reply is the hub's own.
     ensures told { (after : Told) → L.tells link.new after → (before : Told) × L.tells link.old before
         × Asks by.entry.run count.old count.new IsUnmarked before after
@@ -147,14 +149,12 @@ pub fn gather<L: Link>(
     ensures asked { IsMore (L.asked link.old) (count.new - count.old) (L.asked link.new) }
     ensures later { L.fault_count link.old ≤ L.fault_count link.new }
     ensures link_leads { L.leads link.old link.new }
-    ensures told { (after : Told) → L.tells link.new after → (before : Told) × L.tells link.old before × Asks by.entry.run count.old count.new IsUnmarked before after }
+    ensures page { IfOk result (λ d. (w : Reply) → IsOwnReply (L.kept link.new) by.entry.run count.new w → IsPageStatus w.status) }
     ensures asks { (after : Told) → L.tells link.new after → (before : Told) × L.tells link.old before
         × SendsOn (IsDeltaUnder by.entry.token.now place.limit place.base) by.entry.run count.old count.new (result ≡ Err (DeltaAnswer.Ended SyncAnswer.NoMemory)) before.sent after.sent }
-    // Over a link that tells, where no number was used twice: what is gathered is the delta, and no reply is bad.
-    ensures tells { (after : Told) → L.tells link.new after → (before : Told) × L.tells link.old before
-        × (IsReady by.entry.run count.old before.sent → MayAsk before.hub by.entry.token.now place → IfOk result (Tells before.hub after.hub by.entry.token.now place)) }
-    ensures cause_told { (after : Told) → L.tells link.new after → (before : Told) × L.tells link.old before
-        × (IsReady by.entry.run count.old before.sent → MayAsk before.hub by.entry.token.now place → IfErr result (DeltaTold by.entry.token.now before after)) }
+    // Over a link that tells; and where no number was used twice.
+    ensures told { (after : Told) → L.tells link.new after → (before : Told) × L.tells link.old before × Asks by.entry.run count.old count.new IsUnmarked before after
+        × (IsReady by.entry.run count.old before.sent → MayAsk before.hub by.entry.token.now place → PagesTold before after by.entry.token.now place by.entry.tries (count.new - count.old) result) }
 {
     let mut sofar = Gathered::new(alloc);
     let mut here = place;

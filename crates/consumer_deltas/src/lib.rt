@@ -1,6 +1,7 @@
 //! The incremental synchronisation: of each kind what differs from the held version on, merged with what is held.
 
 pub mod answer;
+mod fill;
 mod fits;
 mod gather;
 mod gathered;
@@ -8,6 +9,8 @@ mod judging;
 pub mod laws;
 mod merged;
 mod request;
+mod run;
 mod staged;
 
 pub use answer::DeltaAnswer;
+pub use run::delta_sync;

@@ -1,16 +1,23 @@
-use Rattle.std.proofs.Common.{◌≡◌, ◌+◌, ◌^◌, ◌<◌, ◌≤◌, true, false, arith, refl, sym, ap, subst, ◌∙◌}
+use Rattle.std.proofs.Common.{◌≡◌, ◌+◌, ◌^◌, ◌<◌, ◌≤◌, ℕ, Some, Ok, Err, inl, inr, true, false, arith, refl, sym, ap, subst, ◌∙◌}
 use Rattle.std.specs.Prelude.{IfSome}
 use Rattle.exchange_link.proofs.AskLemmas.{asks_refl, asks_trans}
 use Rattle.exchange_link.proofs.AskedLemmas.{sends_refl}
 use Rattle.exchange_link.specs.Requests.{number}
+use Rattle.exchange_link.specs.Causes.{IsPageStatus}
+use Rattle.http_wire.proofs.AnswerLemmas.{one_answer}
+use Rattle.http_wire.specs.declared.answer.WireReply.{WireReply}
 use Rattle.consumer_sync.specs.Judging.{agrees}
-use Rattle.consumer_deltas.proofs.DeltaGatherLemmas.{AreOpen, asked_on, entries_open, entries_whole, left_less, left_of, low_version, open_first, open_left, open_small, same_next, sends_end, sends_page, small, stops_on}
+use Rattle.consumer_deltas.proofs.DeltaGatherLemmas.{AreOpen, IsPinOf, asked_on, entries_open, entries_whole, left_less, left_of, less_yet, low_version, open_first, open_left, open_small, pin_first, pin_is, same_next, sends_end, sends_page, small, stops_on}
 use Rattle.consumer_deltas.proofs.DeltaJudgeLemmas.{closed_taken, ends_not, not_both, part_taken}
-use Rattle.consumer_deltas.proofs.DeltaMeantLemmas.{closed_tells, ends_tell, gathering_first, gathering_next, told_back, whole_tells}
+use Rattle.consumer_deltas.proofs.DeltaMeantLemmas.{closed_tells, ends_tell, gathering_first, gathering_next, paged_on, paged_to, told_back, whole_tells}
+use Rattle.consumer_deltas.proofs.DeltaPagesLemmas.{NoneYet}
+use Rattle.consumer_deltas.proofs.DeltaStopLemmas.{GoneAt, ending_gone, ending_names, gone_at, none_gone, none_named}
 use Rattle.consumer_deltas.specs.DeltaAnswers.{DeltaTold}
 use Rattle.consumer_deltas.specs.DeltaGathering.{AreEntries, Given, Wants, ending_of}
 use Rattle.consumer_deltas.specs.DeltaJudging.{ArePuts, Sofar, count_in, delta_judged, entry_limit, is_whole, with_page}
+use Rattle.consumer_deltas.specs.DeltaTelling.{GonePin, IsPinFrom, NamesPin}
 use Rattle.consumer_deltas.specs.declared.answer.DeltaAnswer.{DeltaAnswer}
+use Rattle.consumer_deltas.specs.declared.gather.Delta.TheVariants as delta
 use Rattle.consumer_deltas.specs.declared.judging.DeltaAct.TheVariants as act
 use Rattle.consumer_deltas.specs.declared.judging.Place.{Place}
 use Rattle.roster_values.specs.declared.kind.Kind.{Kind}
@@ -26,6 +33,7 @@ pages-init g c =
       limit = refl;
       pin = c.requires.pin;
       same = λ pin e. e;
+      asked_for = inl refl;
       fresh = λ e. e;
       entries = subst (λ (s : Sofar). AreOpen c.args.place.kind s) (sym none) (open_first c.args.place.kind);
       count = omega arith;
@@ -33,7 +41,7 @@ pages-init g c =
       asked = record { least = omega arith; most = omega arith };
       later = omega arith;
       link_leads = g.met.L.Link.stays _;
-      told = λ after tells. (after, tells, asks_refl _ _ _ _, λ ready may. gathering_first after.hub c.args.by.token.now c.args.place _ none may);
+      told = λ after tells. (after, tells, asks_refl _ _ _ _, λ ready may. (gathering_first after.hub c.args.by.token.now c.args.place _ none may, NoneYet (omega arith) (ap count_in none) refl));
       asks = λ after tells. (after, tells, sends_refl _ _ _ _ _);
     }
 
@@ -85,12 +93,14 @@ pages-preserved g c =
     let fell : left_of c.add.new.sofar.total (count_in c.add.new.sofar) < left_of sofar.total (count_in sofar) =
     subst (λ (s : Sofar). left_of s.total (count_in s) < left_of sofar.total (count_in sofar)) (sym joined) (left_less here sofar w.0 pin page total far part kinds some other) in
     let low = low_version _ c.args.by.run c.next_act.new.count w.0 pin w.1 part.version in
+    let less = less_yet here sofar w.0 pin page total far part kinds other in
     record {
       kind = ap (λ (p : Place). p.kind) at ∙ i.kind;
       base = ap (λ (p : Place). p.base) at ∙ i.base;
       limit = ap (λ (p : Place). p.limit) at ∙ i.limit;
       pin = subst (λ (p : Place). IfSome p.pin (λ n. n < 2 ^ 64)) (sym at) (let n : pin < 2 ^ 64 = omega (arith, low) in n);
       same = λ p same. same_next c.args.place.pin pin (i.same pin part.pinned) p (ap (λ (q : Place). agrees q.pin p) (sym at) ∙ same);
+      asked_for = subst (λ (p : Place). IsPinOf p.pin c.args.place.pin) (sym at) (pin_first c.args.place.pin pin (i.same pin part.pinned));
       fresh = λ fresh. absurd (not_both _ fresh (ap (λ (p : Place). p.is_fresh) at));
       entries = subst (λ (s : Sofar). AreOpen c.args.place.kind s) (sym joined) (subst (λ (k : Kind). AreOpen k (with_page sofar page total)) i.kind (entries_open here sofar w.0 pin page total far part kinds other));
       count = omega (arith, i.count, c.next_act.ensures.count.0);
@@ -106,8 +116,11 @@ pages-preserved g c =
             asks_trans _ _ _ _ _ _ _ _ z.2 y.2,
             λ ready may.
                 let own = y.3 (z.2.ready ready) in
-                gathering_next z.0.hub y.0 after (g.met.L.Link.is_hub c.pages.link y.0 y.1) (y.2).moved.grew c.args.by.token.now c.args.place here sofar (number c.args.by.run c.next_act.new.count) own.0 some few came (z.3 ready may) own.1
-                pin page total (sym c.in-Take.is ∙ own.2) c.add.new.sofar c.behind-here.result joined at,
+                let on = z.3 ready may in (
+                  gathering_next z.0.hub y.0 after (g.met.L.Link.is_hub c.pages.link y.0 y.1) (y.2).moved.grew c.args.by.token.now c.args.place here sofar (number c.args.by.run c.next_act.new.count) own.0 some few came on.0 own.1
+                      pin page total (sym c.in-Take.is ∙ own.2) c.add.new.sofar c.behind-here.result joined at,
+                  paged_on z.0.hub y.0 after (g.met.L.Link.is_hub c.pages.link y.0 y.1) (y.2).moved.grew c.args.by.token.now c.args.place here sofar (number c.args.by.run c.next_act.new.count) own.0 some few came on.0 own.1 i.base i.kind i.limit pin page total (sym c.in-Take.is ∙ own.2) c.add.new.sofar c.behind-here.result joined at less c.args.count.now c.pages.count c.next_act.new.count c.args.by.tries i.count c.next_act.ensures.count.0 c.next_act.ensures.count.1 on.1,
+                ),
           );
       asks = λ after tells.
           let y = c.in-Ok.ensures.asks after tells in
@@ -136,7 +149,7 @@ pages-smaller g c =
 pub returns-in-Err-clause-cause : goal.returns-in-Err-clause-cause
 returns-in-Err-clause-cause g c =
     let i = c.pages.invariant in
-    stops_on _ c.args.by.run c.next_act.new.count _ _ c.pages.here c.args.place c.in-Err.answer i.kind i.base i.limit (λ m. (m.0, m.1, let rose = m.2 in omega (arith, rose, i.later))) c.in-Err.ensures.cause
+    stops_on _ c.args.by.run c.next_act.new.count _ _ c.pages.here c.args.place c.in-Err.answer i.kind i.base i.limit i.asked_for (λ m. (m.0, m.1, let rose = m.2 in omega (arith, rose, i.later))) c.in-Err.ensures.cause
 
 pub returns-in-Err-clause-count : goal.returns-in-Err-clause-count
 returns-in-Err-clause-count g c =
@@ -159,9 +172,21 @@ returns-in-Err-clause-link_leads g c =
 
 pub returns-in-Err-clause-told : goal.returns-in-Err-clause-told
 returns-in-Err-clause-told g c after tells =
+    let i = c.pages.invariant in
     let y = c.in-Err.ensures.told after tells in
-    let z = c.pages.invariant.told y.0 y.1 in
-    (z.0, z.1, asks_trans _ _ _ _ _ _ _ _ z.2 y.2)
+    let z = i.told y.0 y.1 in (
+      z.0,
+      z.1,
+      asks_trans _ _ _ _ _ _ _ _ z.2 y.2,
+      λ ready may.
+          let on = z.3 ready may in
+          record {
+            whole = tt;
+            cause = told_back c.args.by.token.now z.0 y.0 after c.in-Err.answer (z.2).moved y.4;
+            gone = none_gone c.args.place.pin z.0.hub c.in-Err.answer c.in-Err.ensures.gone;
+            bound = paged_to z.0.hub y.0.hub after.hub (y.2).moved.grew c.args.by.token.now c.args.place c.pages.here c.pages.sofar i.base c.requires.limit.0 on.0 c.args.count.now c.pages.count c.next_act.new.count c.args.by.tries i.count c.next_act.ensures.count.0 c.next_act.ensures.count.1 (Err c.in-Err.answer) (λ v e. none_named c.in-Err.answer v c.in-Err.ensures.gone) on.1;
+          },
+    )
 
 pub returns-in-Err-clause-asks : goal.returns-in-Err-clause-asks
 returns-in-Err-clause-asks g c after tells =
@@ -169,18 +194,6 @@ returns-in-Err-clause-asks g c after tells =
     let y = c.in-Err.ensures.asks after tells in
     let z = i.asks y.0 y.1 in
     (z.0, z.1, sends_end c.args.by.token.now c.pages.here c.args.place c.args.by.run _ _ _ i.limit i.base _ _ _ z.2 c.in-Err.answer y.2)
-
-pub returns-in-Err-clause-tells : goal.returns-in-Err-clause-tells
-returns-in-Err-clause-tells g c after tells =
-    let y = c.in-Err.ensures.told after tells in
-    let z = c.pages.invariant.told y.0 y.1 in
-    (z.0, z.1, λ ready may. tt)
-
-pub returns-in-Err-clause-cause_told : goal.returns-in-Err-clause-cause_told
-returns-in-Err-clause-cause_told g c after tells =
-    let y = c.in-Err.ensures.told after tells in
-    let z = c.pages.invariant.told y.0 y.1 in
-    (z.0, z.1, λ ready may. told_back c.args.by.token.now z.0 y.0 after c.in-Err.answer (z.2).moved y.4)
 
 -- ---- there was no memory for the entries
 
@@ -209,9 +222,22 @@ returns-in-Err-add-clause-link_leads g c =
 
 pub returns-in-Err-add-clause-told : goal.returns-in-Err-add-clause-told
 returns-in-Err-add-clause-told g c after tells =
+    let i = c.pages.invariant in
+    let wants = sym c.in-Err-add.ensures.wants in
     let y = c.in-Ok.ensures.told after tells in
-    let z = c.pages.invariant.told y.0 y.1 in
-    (z.0, z.1, asks_trans _ _ _ _ _ _ _ _ z.2 y.2)
+    let z = i.told y.0 y.1 in (
+      z.0,
+      z.1,
+      asks_trans _ _ _ _ _ _ _ _ z.2 y.2,
+      λ ready may.
+          let on = z.3 ready may in
+          record {
+            whole = tt;
+            cause = subst (λ (a : DeltaAnswer). DeltaTold c.args.by.token.now z.0 after a) wants tt;
+            gone = subst (λ (a : DeltaAnswer). GonePin c.args.place.pin z.0.hub a) wants tt;
+            bound = paged_to z.0.hub y.0.hub after.hub (y.2).moved.grew c.args.by.token.now c.args.place c.pages.here c.pages.sofar i.base c.requires.limit.0 on.0 c.args.count.now c.pages.count c.next_act.new.count c.args.by.tries i.count c.next_act.ensures.count.0 c.next_act.ensures.count.1 (Err c.in-Err-add.answer) (λ v e. subst (λ (a : DeltaAnswer). NamesPin a v) wants tt) on.1;
+          },
+    )
 
 pub returns-in-Err-add-clause-asks : goal.returns-in-Err-add-clause-asks
 returns-in-Err-add-clause-asks g c after tells =
@@ -219,18 +245,6 @@ returns-in-Err-add-clause-asks g c after tells =
     let y = c.in-Ok.ensures.asks after tells in
     let z = i.asks y.0 y.1 in
     (z.0, z.1, sends_page c.args.by.token.now c.pages.here c.args.place c.args.by.run _ _ _ i.limit i.base _ _ _ z.2 c.in-Ok.act _ y.2)
-
-pub returns-in-Err-add-clause-tells : goal.returns-in-Err-add-clause-tells
-returns-in-Err-add-clause-tells g c after tells =
-    let y = c.in-Ok.ensures.told after tells in
-    let z = c.pages.invariant.told y.0 y.1 in
-    (z.0, z.1, λ ready may. tt)
-
-pub returns-in-Err-add-clause-cause_told : goal.returns-in-Err-add-clause-cause_told
-returns-in-Err-add-clause-cause_told g c after tells =
-    let y = c.in-Ok.ensures.told after tells in
-    let z = c.pages.invariant.told y.0 y.1 in
-    (z.0, z.1, λ ready may. subst (λ (a : DeltaAnswer). DeltaTold c.args.by.token.now z.0 after a) (sym c.in-Err-add.ensures.wants) tt)
 
 -- ---- all entries came
 
@@ -250,6 +264,12 @@ returns-then-whole-clause-whole g c =
       record { same = i.same pin part.pinned; low = low_version _ c.args.by.run c.next_act.new.count w.0 pin w.1 part.version },
       subst (λ (s : Sofar). AreEntries c.args.place.kind s) (sym c.in-Ok-add.ensures.added) (subst (λ (k : Kind). AreEntries k (with_page sofar page total)) i.kind (entries_whole here sofar w.0 pin page total far part kinds whole)),
     )
+
+pub returns-then-whole-clause-page : goal.returns-then-whole-clause-page
+returns-then-whole-clause-page g c w own =
+    let r = c.in-Ok.ensures.act in
+    let on = part_taken c.pages.here c.pages.sofar r.0 c.in-Take.pin c.in-Take.page c.in-Take.total (sym r.2 ∙ c.in-Take.is) in
+    subst (λ (r : WireReply). IsPageStatus r.status) (one_answer _ r.0 w r.1.text own.text) (inl on.status)
 
 pub returns-then-whole-clause-count : goal.returns-then-whole-clause-count
 returns-then-whole-clause-count g c =
@@ -272,19 +292,6 @@ returns-then-whole-clause-link_leads g c =
 
 pub returns-then-whole-clause-told : goal.returns-then-whole-clause-told
 returns-then-whole-clause-told g c after tells =
-    let y = c.in-Ok.ensures.told after tells in
-    let z = c.pages.invariant.told y.0 y.1 in
-    (z.0, z.1, asks_trans _ _ _ _ _ _ _ _ z.2 y.2)
-
-pub returns-then-whole-clause-asks : goal.returns-then-whole-clause-asks
-returns-then-whole-clause-asks g c after tells =
-    let i = c.pages.invariant in
-    let y = c.in-Ok.ensures.asks after tells in
-    let z = i.asks y.0 y.1 in
-    (z.0, z.1, sends_page c.args.by.token.now c.pages.here c.args.place c.args.by.run _ _ _ i.limit i.base _ _ _ z.2 c.in-Ok.act _ y.2)
-
-pub returns-then-whole-clause-tells : goal.returns-then-whole-clause-tells
-returns-then-whole-clause-tells g c after tells =
     let i = c.pages.invariant in
     let here = c.pages.here in
     let some : 0 < here.limit = omega (arith, i.limit, c.requires.limit.0) in
@@ -292,20 +299,30 @@ returns-then-whole-clause-tells g c after tells =
     let came = open_small c.args.place.kind c.pages.sofar i.entries in
     let joined = c.in-Ok-add.ensures.added in
     let whole = ap is_whole joined ∙ sym c.in-Ok-add.ensures.whole ∙ c.if-whole.true in
+    let w = c.in-Ok.ensures.act in
+    let part = part_taken here c.pages.sofar w.0 c.in-Take.pin c.in-Take.page c.in-Take.total (sym w.2 ∙ c.in-Take.is) in
     let y = c.in-Ok.ensures.told after tells in
-    let z = c.pages.invariant.told y.0 y.1 in (
+    let z = i.told y.0 y.1 in (
       z.0,
       z.1,
+      asks_trans _ _ _ _ _ _ _ _ z.2 y.2,
       λ ready may.
+          let on = z.3 ready may in
           let own = y.3 (z.2.ready ready) in
-          whole_tells z.0.hub y.0 after (g.met.L.Link.is_hub c.pages.link y.0 y.1) (y.2).moved.grew c.args.by.token.now c.args.place here c.pages.sofar (number c.args.by.run c.next_act.new.count) own.0 some few came (z.3 ready may) own.1 i.base i.kind c.in-Take.pin c.in-Take.page c.in-Take.total (sym c.in-Take.is ∙ own.2) c.add.new.sofar joined whole,
+          record {
+            whole = whole_tells z.0.hub y.0 after (g.met.L.Link.is_hub c.pages.link y.0 y.1) (y.2).moved.grew c.args.by.token.now c.args.place here c.pages.sofar (number c.args.by.run c.next_act.new.count) own.0 some few came on.0 own.1 i.base i.kind c.in-Take.pin c.in-Take.page c.in-Take.total (sym c.in-Take.is ∙ own.2) c.add.new.sofar joined whole;
+            cause = tt;
+            gone = tt;
+            bound = paged_to z.0.hub y.0.hub after.hub (y.2).moved.grew c.args.by.token.now c.args.place c.pages.here c.pages.sofar i.base c.requires.limit.0 on.0 c.args.count.now c.pages.count c.next_act.new.count c.args.by.tries i.count c.next_act.ensures.count.0 c.next_act.ensures.count.1 (Ok (delta.Whole c.in-Take.pin c.add.new.sofar)) (λ v e. pin_is here.pin v c.in-Take.pin part.pinned e) on.1;
+          },
     )
 
-pub returns-then-whole-clause-cause_told : goal.returns-then-whole-clause-cause_told
-returns-then-whole-clause-cause_told g c after tells =
-    let y = c.in-Ok.ensures.told after tells in
-    let z = c.pages.invariant.told y.0 y.1 in
-    (z.0, z.1, λ ready may. tt)
+pub returns-then-whole-clause-asks : goal.returns-then-whole-clause-asks
+returns-then-whole-clause-asks g c after tells =
+    let i = c.pages.invariant in
+    let y = c.in-Ok.ensures.asks after tells in
+    let z = i.asks y.0 y.1 in
+    (z.0, z.1, sends_page c.args.by.token.now c.pages.here c.args.place c.args.by.run _ _ _ i.limit i.base _ _ _ z.2 c.in-Ok.act _ y.2)
 
 -- ---- the kind isn't opened
 
@@ -315,6 +332,12 @@ returns-in-Close-clause-whole g c =
     let w = c.in-Ok.ensures.act in
     let closed = closed_taken c.pages.here c.pages.sofar w.0 c.in-Close.pin (sym w.2 ∙ c.in-Close.is) in
     (record { same = i.same c.in-Close.pin closed.pinned; low = low_version _ c.args.by.run c.next_act.new.count w.0 c.in-Close.pin w.1 closed.version }, i.fresh closed.fresh)
+
+pub returns-in-Close-clause-page : goal.returns-in-Close-clause-page
+returns-in-Close-clause-page g c w own =
+    let r = c.in-Ok.ensures.act in
+    let on = closed_taken c.pages.here c.pages.sofar r.0 c.in-Close.pin (sym r.2 ∙ c.in-Close.is) in
+    subst (λ (r : WireReply). IsPageStatus r.status) (one_answer _ r.0 w r.1.text own.text) (inr on.status)
 
 pub returns-in-Close-clause-count : goal.returns-in-Close-clause-count
 returns-in-Close-clause-count g c =
@@ -337,9 +360,28 @@ returns-in-Close-clause-link_leads g c =
 
 pub returns-in-Close-clause-told : goal.returns-in-Close-clause-told
 returns-in-Close-clause-told g c after tells =
+    let i = c.pages.invariant in
+    let here = c.pages.here in
+    let some : 0 < here.limit = omega (arith, i.limit, c.requires.limit.0) in
+    let few : here.limit ≤ 1000 = omega (arith, i.limit, c.requires.limit.1) in
+    let came = open_small c.args.place.kind c.pages.sofar i.entries in
+    let w = c.in-Ok.ensures.act in
+    let closed = closed_taken here c.pages.sofar w.0 c.in-Close.pin (sym w.2 ∙ c.in-Close.is) in
     let y = c.in-Ok.ensures.told after tells in
-    let z = c.pages.invariant.told y.0 y.1 in
-    (z.0, z.1, asks_trans _ _ _ _ _ _ _ _ z.2 y.2)
+    let z = i.told y.0 y.1 in (
+      z.0,
+      z.1,
+      asks_trans _ _ _ _ _ _ _ _ z.2 y.2,
+      λ ready may.
+          let on = z.3 ready may in
+          let own = y.3 (z.2.ready ready) in
+          record {
+            whole = closed_tells z.0.hub y.0 after (g.met.L.Link.is_hub c.pages.link y.0 y.1) (y.2).moved.grew c.args.by.token.now c.args.place here c.pages.sofar (number c.args.by.run c.next_act.new.count) own.0 some few came on.0 own.1 i.kind c.in-Close.pin (sym c.in-Close.is ∙ own.2);
+            cause = tt;
+            gone = tt;
+            bound = paged_to z.0.hub y.0.hub after.hub (y.2).moved.grew c.args.by.token.now c.args.place c.pages.here c.pages.sofar i.base c.requires.limit.0 on.0 c.args.count.now c.pages.count c.next_act.new.count c.args.by.tries i.count c.next_act.ensures.count.0 c.next_act.ensures.count.1 (Ok (delta.Closed c.in-Close.pin)) (λ v e. pin_is here.pin v c.in-Close.pin closed.pinned e) on.1;
+          },
+    )
 
 pub returns-in-Close-clause-asks : goal.returns-in-Close-clause-asks
 returns-in-Close-clause-asks g c after tells =
@@ -347,28 +389,6 @@ returns-in-Close-clause-asks g c after tells =
     let y = c.in-Ok.ensures.asks after tells in
     let z = i.asks y.0 y.1 in
     (z.0, z.1, sends_page c.args.by.token.now c.pages.here c.args.place c.args.by.run _ _ _ i.limit i.base _ _ _ z.2 c.in-Ok.act _ y.2)
-
-pub returns-in-Close-clause-tells : goal.returns-in-Close-clause-tells
-returns-in-Close-clause-tells g c after tells =
-    let i = c.pages.invariant in
-    let here = c.pages.here in
-    let some : 0 < here.limit = omega (arith, i.limit, c.requires.limit.0) in
-    let few : here.limit ≤ 1000 = omega (arith, i.limit, c.requires.limit.1) in
-    let came = open_small c.args.place.kind c.pages.sofar i.entries in
-    let y = c.in-Ok.ensures.told after tells in
-    let z = c.pages.invariant.told y.0 y.1 in (
-      z.0,
-      z.1,
-      λ ready may.
-          let own = y.3 (z.2.ready ready) in
-          closed_tells z.0.hub y.0 after (g.met.L.Link.is_hub c.pages.link y.0 y.1) (y.2).moved.grew c.args.by.token.now c.args.place here c.pages.sofar (number c.args.by.run c.next_act.new.count) own.0 some few came (z.3 ready may) own.1 i.kind c.in-Close.pin (sym c.in-Close.is ∙ own.2),
-    )
-
-pub returns-in-Close-clause-cause_told : goal.returns-in-Close-clause-cause_told
-returns-in-Close-clause-cause_told g c after tells =
-    let y = c.in-Ok.ensures.told after tells in
-    let z = c.pages.invariant.told y.0 y.1 in
-    (z.0, z.1, λ ready may. tt)
 
 -- ---- any other act
 
@@ -384,6 +404,7 @@ returns-in_default-clause-cause g c =
       kind = i.kind;
       base = i.base;
       limit = i.limit;
+      pin = i.asked_for;
       given = c.ending.ensures ∙ (λ k. ending_of (w.2 k) c.pages.here (c.count.ensures.count k));
     })
 
@@ -408,9 +429,31 @@ returns-in_default-clause-link_leads g c =
 
 pub returns-in_default-clause-told : goal.returns-in_default-clause-told
 returns-in_default-clause-told g c after tells =
+    let i = c.pages.invariant in
+    let here = c.pages.here in
+    let some : 0 < here.limit = omega (arith, i.limit, c.requires.limit.0) in
+    let few : here.limit ≤ 1000 = omega (arith, i.limit, c.requires.limit.1) in
+    let came = open_small c.args.place.kind c.pages.sofar i.entries in
+    let w = c.in-Ok.ensures.act in
+    let is = sym c.ending.ensures in
+    let gone : GoneAt here.pin c.in-Ok.act = subst (GoneAt here.pin) (sym w.2) (gone_at here c.pages.sofar w.0) in
     let y = c.in-Ok.ensures.told after tells in
-    let z = c.pages.invariant.told y.0 y.1 in
-    (z.0, z.1, asks_trans _ _ _ _ _ _ _ _ z.2 y.2)
+    let z = i.told y.0 y.1 in (
+      z.0,
+      z.1,
+      asks_trans _ _ _ _ _ _ _ _ z.2 y.2,
+      λ ready may.
+          let on = z.3 ready may in
+          let own = y.3 (z.2.ready ready) in
+          let told = ends_tell z.0.hub y.0 after (g.met.L.Link.is_hub c.pages.link y.0 y.1) (y.2).moved.grew c.args.by.token.now c.args.place here c.pages.sofar (number c.args.by.run c.next_act.new.count) own.0 some few came on.0 own.1 c.in-Ok.act own.2 (ends_not c.in-Ok.act c.in_default.not-Take c.in_default.not-Close) c.count.result c.count.ensures.count in
+          let from : (v : ℕ) → here.pin ≡ Some v → IsPinFrom c.args.place.pin z.0.hub v = λ v e. on.0.pin v (subst (λ o. IsPinFrom o y.0.hub v) (sym e) refl) in
+          record {
+            whole = tt;
+            cause = subst (λ (a : DeltaAnswer). DeltaTold c.args.by.token.now z.0 after a) is (told_back c.args.by.token.now z.0 y.0 after _ (z.2).moved told);
+            gone = subst (λ (a : DeltaAnswer). GonePin c.args.place.pin z.0.hub a) is (ending_gone c.args.place.pin z.0.hub c.in-Ok.act here c.count.result from gone);
+            bound = paged_to z.0.hub y.0.hub after.hub (y.2).moved.grew c.args.by.token.now c.args.place c.pages.here c.pages.sofar i.base c.requires.limit.0 on.0 c.args.count.now c.pages.count c.next_act.new.count c.args.by.tries i.count c.next_act.ensures.count.0 c.next_act.ensures.count.1 (Err c.ending.result) (λ v e. subst (λ (a : DeltaAnswer). NamesPin a v) is (ending_names c.in-Ok.act here c.count.result v e gone)) on.1;
+          },
+    )
 
 pub returns-in_default-clause-asks : goal.returns-in_default-clause-asks
 returns-in_default-clause-asks g c after tells =
@@ -418,26 +461,3 @@ returns-in_default-clause-asks g c after tells =
     let y = c.in-Ok.ensures.asks after tells in
     let z = i.asks y.0 y.1 in
     (z.0, z.1, sends_page c.args.by.token.now c.pages.here c.args.place c.args.by.run _ _ _ i.limit i.base _ _ _ z.2 c.in-Ok.act _ y.2)
-
-pub returns-in_default-clause-tells : goal.returns-in_default-clause-tells
-returns-in_default-clause-tells g c after tells =
-    let y = c.in-Ok.ensures.told after tells in
-    let z = c.pages.invariant.told y.0 y.1 in
-    (z.0, z.1, λ ready may. tt)
-
-pub returns-in_default-clause-cause_told : goal.returns-in_default-clause-cause_told
-returns-in_default-clause-cause_told g c after tells =
-    let i = c.pages.invariant in
-    let here = c.pages.here in
-    let some : 0 < here.limit = omega (arith, i.limit, c.requires.limit.0) in
-    let few : here.limit ≤ 1000 = omega (arith, i.limit, c.requires.limit.1) in
-    let came = open_small c.args.place.kind c.pages.sofar i.entries in
-    let y = c.in-Ok.ensures.told after tells in
-    let z = c.pages.invariant.told y.0 y.1 in (
-      z.0,
-      z.1,
-      λ ready may.
-          let own = y.3 (z.2.ready ready) in
-          let told = ends_tell z.0.hub y.0 after (g.met.L.Link.is_hub c.pages.link y.0 y.1) (y.2).moved.grew c.args.by.token.now c.args.place here c.pages.sofar (number c.args.by.run c.next_act.new.count) own.0 some few came (z.3 ready may) own.1 c.in-Ok.act own.2 (ends_not c.in-Ok.act c.in_default.not-Take c.in_default.not-Close) c.count.result c.count.ensures.count in
-          subst (λ (a : DeltaAnswer). DeltaTold c.args.by.token.now z.0 after a) (sym c.ending.ensures) (told_back c.args.by.token.now z.0 y.0 after _ (z.2).moved told),
-    )

@@ -1,7 +1,8 @@
 use Rattle.std.proofs.Common.{◌≡◌, ◌+◌, ◌-◌, ◌*◌, ◌^◌, ◌<◌, ◌≤◌, ℕ, true}
 use Rattle.std.specs.Prelude.{IfSome}
-use Rattle.consumer_deltas.proofs.DeltaGatherLemmas.{AreOpen, left_of}
+use Rattle.consumer_deltas.proofs.DeltaGatherLemmas.{AreOpen, IsPinOf, left_of}
 use Rattle.consumer_deltas.proofs.DeltaMeantLemmas.{Gathering}
+use Rattle.consumer_deltas.proofs.DeltaPagesLemmas.{Paged}
 use Rattle.consumer_deltas.specs.DeltaJudging.{count_in, entry_limit}
 use Rattle.consumer_deltas.specs.DeltaRequests.{IsDeltaUnder}
 use Rattle.consumer_deltas.specs.DeltaTelling.{MayAsk}
@@ -22,6 +23,7 @@ invariant-pages g l =
       limit : l.here.limit ≡ l.fn.place.limit;
       pin : IfSome l.here.pin (λ n. n < 2 ^ 64);
       same : (pin : ℕ) → agrees l.here.pin pin ≡ true → agrees l.fn.place.pin pin ≡ true;
+      asked_for : IsPinOf l.here.pin l.fn.place.pin;
       fresh : l.here.is_fresh ≡ true → l.fn.place.is_fresh ≡ true;
       entries : AreOpen l.fn.place.kind l.sofar;
       count : l.fn.count ≤ l.count;
@@ -30,7 +32,7 @@ invariant-pages g l =
       later : g.L.Link.fault_count l.fn.link ≤ g.L.Link.fault_count l.link;
       link_leads : g.L.Link.leads l.fn.link l.link;
       told : (after : Told) → T l.link after → (before : Told) × T l.fn.link before × Asks l.by.run l.fn.count l.count IsUnmarked before after
-          × (IsReady l.by.run l.fn.count before.sent → MayAsk before.hub l.by.token.now l.fn.place → Gathering before.hub after.hub l.by.token.now l.fn.place l.here l.sofar);
+          × (IsReady l.by.run l.fn.count before.sent → MayAsk before.hub l.by.token.now l.fn.place → Gathering before.hub after.hub l.by.token.now l.fn.place l.here l.sofar × Paged before.hub after.hub l.by.token.now l.fn.place l.here l.sofar l.by.tries (l.count - l.fn.count));
       asks : (after : Told) → T l.link after → (before : Told) × T l.fn.link before × SendsOn (IsDeltaUnder l.by.token.now l.fn.place.limit l.fn.place.base) l.by.run l.fn.count l.count ⊥ before.sent after.sent;
     }
 

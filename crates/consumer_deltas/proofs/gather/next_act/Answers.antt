@@ -6,6 +6,7 @@ use Rattle.exchange_link.specs.Owning.{IsOwnRead}
 use Rattle.exchange_link.specs.Requests.{number}
 use Rattle.consumer_deltas.proofs.DeltaGatherLemmas.{sends_delta}
 use Rattle.consumer_deltas.specs.DeltaAnswers.{DeltaTold}
+use Rattle.consumer_deltas.specs.DeltaFilling.{IsPinGone}
 use Rattle.consumer_deltas.specs.DeltaGathering.{NoReply, NoneCame}
 use Rattle.consumer_deltas.specs.DeltaRequests.{page_asked}
 use Rattle.consumer_deltas.specs.declared.answer.DeltaAnswer.{DeltaAnswer}
@@ -34,6 +35,9 @@ returns-in-Ok-clause-asks g c after tells =
     let y = c.in-Own.ensures.asks after tells in
     (y.0, y.1, sends_delta c.args.by.token.now c.args.place c.count-offset.result c.args.by.run _ _ _ _ _ _ (λ e. absurd (own_other c.in-Own.reply e)) y.2)
 
+pub returns-in-Own-clause-gone : goal.returns-in-Own-clause-gone
+returns-in-Own-clause-gone g c = subst (λ a. IsPinGone a → ⊥) (sym c.ended.ensures) (λ is. is)
+
 pub returns-in-Own-clause-told : goal.returns-in-Own-clause-told
 returns-in-Own-clause-told g c after tells =
     let y = c.in-Own.ensures.told after tells in
@@ -46,6 +50,9 @@ returns-in-Own-clause-asks g c after tells =
 
 pub returns-in-NoReply-clause-cause : goal.returns-in-NoReply-clause-cause
 returns-in-NoReply-clause-cause g c = NoReply c.count-offset.result (c.in-NoReply.ensures.none refl).1 c.ended-in-NoReply.ensures
+
+pub returns-in-NoReply-clause-gone : goal.returns-in-NoReply-clause-gone
+returns-in-NoReply-clause-gone g c = subst (λ a. IsPinGone a → ⊥) (sym c.ended-in-NoReply.ensures) (λ is. is)
 
 pub returns-in-NoReply-clause-told : goal.returns-in-NoReply-clause-told
 returns-in-NoReply-clause-told g c after tells =
@@ -61,7 +68,10 @@ pub returns-in-Missed-clause-cause : goal.returns-in-Missed-clause-cause
 returns-in-Missed-clause-cause g c =
     let m = c.in-Missed.ensures.missed refl in
     let tried : c.args.by.tries ≤ c.fetch.new.count = omega (arith, m.0) in
-    NoneCame c.count-offset.result (m.1, tried, m.2) c.ended-in-Missed.ensures
+    NoneCame c.count-offset.result (m.1, tried, m.2) (λ w own. m.3 w own.text own.number) c.ended-in-Missed.ensures
+
+pub returns-in-Missed-clause-gone : goal.returns-in-Missed-clause-gone
+returns-in-Missed-clause-gone g c = subst (λ a. IsPinGone a → ⊥) (sym c.ended-in-Missed.ensures) (λ is. is)
 
 pub returns-in-Missed-clause-told : goal.returns-in-Missed-clause-told
 returns-in-Missed-clause-told g c after tells =
@@ -72,6 +82,9 @@ pub returns-in-Missed-clause-asks : goal.returns-in-Missed-clause-asks
 returns-in-Missed-clause-asks g c after tells =
     let y = c.in-Missed.ensures.asks after tells in
     (y.0, y.1, sends_delta c.args.by.token.now c.args.place c.count-offset.result c.args.by.run _ _ _ _ _ _ (λ e. absurd (missed_other e)) y.2)
+
+pub returns-clause-gone : goal.returns-clause-gone
+returns-clause-gone g c = subst (λ a. IsPinGone a → ⊥) (sym c.ended-in-NoMemory.ensures) (λ is. is)
 
 pub returns-clause-asks : goal.returns-clause-asks
 returns-clause-asks g c after tells =

@@ -1,0 +1,181 @@
+-- When an incremental synchronisation has to be complete.
+use Rattle.std.proofs.Common.{◌≡◌, ◌⊎◌, ⊎_elim, inl, inr, ◌<◌, ◌≤◌, ℕ, Bool, true, false, cond, List, [], ◌∷◌, length, Option, Some, None, sym, subst, ap, ◌∙◌, arith, is_some, find, zero, suc, bytes_eq}
+use Rattle.std.specs.List.{AllByRecursion}
+use Rattle.keeper_memory.specs.copy.Copies.{Copy}
+use Rattle.exchange_link.specs.Completeness.{StandsAt, first_pin}
+use Rattle.exchange_link.specs.Exchanges.{Told}
+use Rattle.exchange_link.specs.declared.answer.SyncAnswer.{SyncAnswer}
+use Rattle.exchange_link.specs.declared.answer.SyncAnswer.TheVariants as answer
+use Rattle.hub_spec.proofs.Cutting.{known_at}
+use Rattle.hub_spec.proofs.Versions.{beyond, last_at, number_at, version_is}
+use Rattle.hub_spec.specs.rules.Checks.{version_at}
+use Rattle.hub_spec.specs.rules.Growth.{Grew}
+use Rattle.hub_spec.specs.rules.States.{IsHub}
+use Rattle.hub_spec.specs.rules.Verdicts.{newest_in}
+use Rattle.keeper_memory.specs.declared.copy.state.StageState.{StageState}
+use Rattle.roster_base.specs.Faults.{Rose}
+use Rattle.roster_values.specs.declared.kind.Kind.{Kind}
+use Rattle.version_core.specs.Grants.{grant_of}
+use Rattle.version_core.specs.HubStates.{HubState, newest_number, oldest_number}
+use Rattle.version_core.specs.Version.{empty_version}
+use Rattle.version_core.specs.declared.change.BaseVersion.{BaseVersion}
+use Rattle.version_core.specs.declared.grant_row.GrantRow.{GrantRow}
+use Rattle.consumer_deltas.proofs.DeltaStopLemmas.{halts_end}
+use Rattle.consumer_deltas.specs.DeltaAnswers.{DeltaTold}
+use Rattle.consumer_deltas.specs.DeltaCalls.{IsDeltaDone}
+use Rattle.consumer_deltas.specs.DeltaCauses.{DeltaCause}
+use Rattle.consumer_deltas.specs.DeltaCauses.DeltaCause.{Broke as BrokeBeside, Halted, OutOfRuns, Swapped, Unbased, Wants as WantsAlone}
+use Rattle.consumer_deltas.specs.DeltaFilling.{GoneBehind, Halts}
+use Rattle.consumer_deltas.specs.DeltaFilling.Halts.{Broke, Merging, Stopped, Wants as WantsBeside}
+use Rattle.consumer_deltas.specs.DeltaGathering.{ending_of}
+use Rattle.consumer_deltas.specs.DeltaGathering.Stops.{Given, NoReply, NoneCame, Wants}
+use Rattle.consumer_deltas.specs.DeltaJudging.{Sofar, count_in, delta_judged}
+use Rattle.consumer_deltas.specs.DeltaMerging.{Unmerged}
+use Rattle.consumer_deltas.specs.DeltaMerging.Unmerged.{Broke as Broken, TooMany as OverLimit, Unfit as Misfit, Wants as Wanting}
+use Rattle.consumer_deltas.specs.declared.answer.DeltaAnswer.{DeltaAnswer}
+use Rattle.consumer_deltas.specs.declared.answer.DeltaAnswer.TheVariants.{BaseGone, Ended, NoBase}
+use Rattle.consumer_deltas.specs.declared.judging.DeltaAct.{DeltaAct}
+use Rattle.consumer_deltas.specs.declared.judging.DeltaAct.TheVariants as act
+use Rattle.consumer_deltas.specs.declared.judging.Place.{Place}
+
+-- ---- answers that a reply doesn't give
+
+-- what the cause of an answer gives where no reply gave it: the tries that were missed, or the keeper's fault
+abbrev pub Needs : Type 0 → Type 0 → DeltaAnswer → Type 0
+Needs missed broke (Ended (answer.Interrupted kind offset)) = missed
+Needs missed broke (Ended answer.KeeperFault) = broke
+Needs missed broke a = Unit {0}
+
+given_needs : (missed broke : Type 0) (x : DeltaAct) (here : Place) (n : ℕ) → Needs missed broke (ending_of x here n)
+given_needs missed broke (act.PinGone pin oldest) here n = tt
+given_needs missed broke (act.BaseGone oldest) here n = tt
+given_needs missed broke act.UnknownToken here n = tt
+given_needs missed broke (act.TooLarge total) here n = tt
+given_needs missed broke act.HubFault here n = tt
+given_needs missed broke act.HubNoMemory here n = tt
+given_needs missed broke x here n = tt
+
+unmerged_needs : (missed broke : Type 0) (copies : Copy → Type 0) (kind : Kind) (entries : Sofar) (s : SyncAnswer) → Unmerged broke copies kind entries s → Needs missed broke (Ended s)
+unmerged_needs missed broke copies kind entries s (Broken b e) = subst (λ s. Needs missed broke (Ended s)) (sym e) b
+unmerged_needs missed broke copies kind entries s (Wanting e) = subst (λ s. Needs missed broke (Ended s)) (sym e) tt
+unmerged_needs missed broke copies kind entries s (Misfit unlike e) = subst (λ s. Needs missed broke (Ended s)) (sym e) tt
+unmerged_needs missed broke copies kind entries s (OverLimit n many is e) = subst (λ s. Needs missed broke (Ended s)) (sym e) tt
+
+halts_needs : (kept : List ℕ) (run count : ℕ) (missed broke : Type 0) (copies : Copy → Type 0) (place : Place) (a : DeltaAnswer) → Halts kept run count missed broke copies place a → Needs missed broke a
+halts_needs kept run count missed broke copies place a (Stopped (Given g)) = subst (Needs missed broke) (sym g.given) (given_needs missed broke (delta_judged g.here g.sofar g.reply) g.here (count_in g.sofar))
+halts_needs kept run count missed broke copies place a (Stopped (NoneCame offset m unlike e)) = subst (Needs missed broke) (sym e) m
+halts_needs kept run count missed broke copies place a (Stopped (NoReply offset unlike e)) = subst (Needs missed broke) (sym e) tt
+halts_needs kept run count missed broke copies place a (Stopped (Wants e)) = subst (Needs missed broke) (sym e) tt
+halts_needs kept run count missed broke copies place a (Merging entries are s u e) = subst (Needs missed broke) (sym e) (unmerged_needs missed broke copies place.kind entries s u)
+halts_needs kept run count missed broke copies place a (Broke b e) = subst (Needs missed broke) (sym e) b
+halts_needs kept run count missed broke copies place a (WantsBeside e) = subst (Needs missed broke) (sym e) tt
+
+cause_needs : (kept : List ℕ) (run count : ℕ) (missed broke : Type 0) (copies : Copy → Type 0) (place : Place) (a : DeltaAnswer) → DeltaCause kept run count missed broke copies place a → Needs missed broke a
+cause_needs kept run count missed broke copies place a (Unbased none e) = subst (Needs missed broke) (sym e) tt
+cause_needs kept run count missed broke copies place a (OutOfRuns none e) = subst (Needs missed broke) (sym e) tt
+cause_needs kept run count missed broke copies place a (Swapped version e) = subst (Needs missed broke) (sym e) tt
+cause_needs kept run count missed broke copies place a (BrokeBeside b e) = subst (Needs missed broke) (sym e) b
+cause_needs kept run count missed broke copies place a (WantsAlone e) = subst (Needs missed broke) (sym e) tt
+cause_needs kept run count missed broke copies place a (Halted h) = halts_needs kept run count missed broke copies place a h
+
+-- a keeper's fault comes only where its count rose
+pub cause_fails : (kept : List ℕ) (run count : ℕ) (missed broke : Type 0) (copies : Copy → Type 0) (place : Place) (a : DeltaAnswer) → DeltaCause kept run count missed broke copies place a → a ≡ Ended answer.KeeperFault → broke
+cause_fails kept run count missed broke copies place a cause e = subst (Needs missed broke) e (cause_needs kept run count missed broke copies place a cause)
+
+-- ---- grants
+
+found_has : (P : GrantRow → Type 0) (test : GrantRow → Bool) (rows : List GrantRow) (row : GrantRow) → AllByRecursion P rows → find test rows ≡ Some row → P row
+found_has P test [] row all e = cc
+found_has P test (r ∷ rows) row all e =
+    elim (test r) as (λ b. cond b (Some r) (find test rows) ≡ Some row → P row) [
+      | true ↦ λ is. let same : r ≡ row = cc in subst P same all.0
+      | false ↦ λ later. found_has P test rows row all.1 later
+    ] e
+
+some_by : {a b : GrantRow} → Some a ≡ Some b → a ≡ b
+some_by e = cc
+
+none_by : {a : GrantRow} {K : Type 0} → None ≡ Some a → K
+none_by e = cc
+
+known_not : (o : Option GrantRow) (by : GrantRow) → o ≡ Some by → is_some o ≡ false → ⊥
+known_not None by e f = cc
+known_not (Some x) by e f = cc
+
+below_or_not : (n m : ℕ) → (n < m) ⊎ (m ≤ n)
+below_or_not n zero = inr (omega arith)
+below_or_not zero (suc m) = inl (omega arith)
+below_or_not (suc n) (suc m) = elim (below_or_not n m) as (λ _. (suc n < suc m) ⊎ (suc m ≤ suc n)) [ inl within ↦ inl (omega arith) | inr above ↦ inr (omega arith) ]
+
+-- a state in between, and a later one in which the token's grant isn't younger than a version that was published then
+module _ (mid u : HubState) (hub : IsHub u) (grew : Grew mid u) (token : List ℕ) (base : ℕ) (low : base < length mid.published) (at : StandsAt base token u) where
+  abbrev by : GrantRow
+  by = at.by
+
+  -- in each version from the base on the grant was this one
+  known_in : (v : ℕ) → by.grant.since ≤ v → v < length mid.published → grant_of token (version_at mid v).grants ≡ Some by
+  known_in v since lt = ap (λ (version : BaseVersion). grant_of token version.grants) (sym (grew.same v lt)) ∙ known_at u hub token by at.known v since (omega (arith, lt, grew.longer))
+
+  newest_is : newest_in mid ≡ version_at mid (newest_number mid)
+  newest_is = last_at empty_version mid.published (omega (arith, low))
+
+  pub was_known : grant_of token (newest_in mid).grants ≡ Some by
+  was_known = ap (λ (version : BaseVersion). grant_of token version.grants) newest_is ∙ known_in (newest_number mid) (omega (arith, at.since, low)) (omega (arith, low))
+
+  keeps : oldest_number mid ≤ oldest_number u
+  keeps = omega (arith, grew.keep, grew.longer)
+
+  -- so no version is gone that stands later
+  pub not_gone : (pin : ℕ) (other : GrantRow) → oldest_number u ≤ pin → by.grant.since ≤ pin → grant_of token (newest_in mid).grants ≡ Some other → (pin < oldest_number mid) ⊎ (pin < other.grant.since) → ⊥
+  not_gone pin other oldest since known why =
+      let same : other ≡ by = some_by (sym known ∙ was_known) in
+      ⊎_elim (λ (h : pin < oldest_number mid). omega (arith, h, oldest, keeps))
+      (λ (h : pin < other.grant.since). let h2 : pin < by.grant.since = subst (λ (r : GrantRow). pin < r.grant.since) same h in omega (arith, h2, since)) why
+
+  -- a grant in a version is not younger than the version
+  since_low : (v : ℕ) (other : GrantRow) → v < length mid.published → grant_of token (version_at mid v).grants ≡ Some other → other.grant.since ≤ v
+  since_low v other lt known =
+      let within : v ≤ newest_number u = omega (arith, lt, grew.longer) in
+      let is = version_is u hub.state v within in
+      let found : grant_of token (version_at u v).grants ≡ Some other = ap (λ (version : BaseVersion). grant_of token version.grants) (grew.same v lt) ∙ known in
+      let le = found_has (λ r. r.grant.since ≤ (version_at u v).number) (λ r. bytes_eq r.grant.token token) (version_at u v).grants other is.grants.since found in
+      omega (arith, le, number_at u hub.state v within)
+
+  pub base_kept : (v : ℕ) (other : GrantRow) → grant_of token (version_at mid v).grants ≡ Some other → (base < oldest_number mid) ⊎ (base < other.grant.since) → ⊥
+  base_kept v other known why = ⊎_elim (λ (h : base < oldest_number mid). omega (arith, h, at.oldest, keeps)) young why
+    where
+      published : (v < length mid.published) → base < other.grant.since → ⊥
+      published lt h = ⊎_elim
+          (λ (below : v < by.grant.since). let le = since_low v other lt known in omega (arith, h, le, below, at.since))
+          (λ (since : by.grant.since ≤ v). let same : other ≡ by = some_by (sym known ∙ known_in v since lt) in let h2 : base < by.grant.since = subst (λ (r : GrantRow). base < r.grant.since) same h in omega (arith, h2, at.since))
+          (below_or_not v by.grant.since)
+
+      young : base < other.grant.since → ⊥
+      young h = ⊎_elim (λ (lt : v < length mid.published). published lt h)
+          (λ (above : length mid.published ≤ v). none_by (sym (ap (λ (version : BaseVersion). grant_of token version.grants) (beyond v mid.published above)) ∙ known))
+          (below_or_not v (length mid.published))
+
+-- where nothing fails and both versions stand, the call is complete, or wants memory
+pub done_of : (kept : List ℕ) (run count : ℕ) (missed broke : Type 0) (copies : Copy → Type 0) (place : Place) (a : DeltaAnswer) (token : List ℕ) (first : Option StageState) (t u : Told) → IsHub u.hub
+    → Halts kept run count missed broke copies place a → DeltaTold token t u a → GoneBehind first t.hub a → (missed → ⊥) → (broke → ⊥) → (Rose t.hub_faults u.hub_faults → ⊥)
+    → place.base < length t.hub.published → StandsAt (first_pin first t.hub) token u.hub → StandsAt place.base token u.hub → IsDeltaDone a
+done_of kept run count missed broke copies place (Ended (answer.Complete v)) token first t u hub halts told gone m b quiet low at on = tt
+done_of kept run count missed broke copies place (Ended answer.NoMemory) token first t u hub halts told gone m b quiet low at on = tt
+done_of kept run count missed broke copies place (Ended answer.HubNoMemory) token first t u hub halts told gone m b quiet low at on = tt
+done_of kept run count missed broke copies place (Ended (answer.Interrupted kind offset)) token first t u hub halts told gone m b quiet low at on =
+    m (halts_needs kept run count missed broke copies place (Ended (answer.Interrupted kind offset)) halts)
+done_of kept run count missed broke copies place (Ended answer.KeeperFault) token first t u hub halts told gone m b quiet low at on = b (halts_needs kept run count missed broke copies place (Ended answer.KeeperFault) halts)
+done_of kept run count missed broke copies place (Ended (answer.PinGone pin oldest)) token first t u hub halts told gone m b quiet low at on =
+    let same : at.by ≡ on.by = some_by (sym at.known ∙ on.known) in
+    let since : on.by.grant.since ≤ pin = (let s = subst (λ (r : GrantRow). r.grant.since ≤ first_pin first t.hub) same at.since in omega (arith, s, gone)) in
+    not_gone told.0 u.hub hub told.2 token place.base (omega (arith, low, told.1.longer)) on pin told.3 (omega (arith, at.oldest, gone)) since told.4 told.5
+done_of kept run count missed broke copies place (Ended answer.UnknownToken) token first t u hub halts told gone m b quiet low at on =
+    known_not _ on.by (was_known told.0 u.hub hub told.2 token place.base (omega (arith, low, told.1.longer)) on) told.3
+done_of kept run count missed broke copies place (Ended (answer.TooLarge kind total)) token first t u hub halts told gone m b quiet low at on = told
+done_of kept run count missed broke copies place (Ended (answer.BadReply kind offset)) token first t u hub halts told gone m b quiet low at on = told
+done_of kept run count missed broke copies place (Ended answer.HubFault) token first t u hub halts told gone m b quiet low at on = quiet told
+done_of kept run count missed broke copies place (Ended answer.LastRun) token first t u hub halts told gone m b quiet low at on = halts_end kept run count missed broke copies place (Ended answer.LastRun) halts
+done_of kept run count missed broke copies place NoBase token first t u hub halts told gone m b quiet low at on = halts_end kept run count missed broke copies place NoBase halts
+done_of kept run count missed broke copies place (BaseGone held oldest) token first t u hub halts told gone m b quiet low at on =
+    let same : held ≡ place.base = halts_end kept run count missed broke copies place (BaseGone held oldest) halts in
+    base_kept told.0 u.hub hub told.2 token place.base (omega (arith, low, told.1.longer)) on told.3 told.4 told.5 (subst (λ n. (n < oldest_number told.0) ⊎ (n < told.4.grant.since)) same told.6)

@@ -1,0 +1,332 @@
+-- Why the pages of a kind end.
+use Rattle.std.proofs.Common.{◌≡◌, ◌⊎◌, ⊎_elim, inl, inr, ◌<◌, ◌≤◌, ℕ, Bool, true, false, List, Option, Some, None, refl, sym, subst, ap, ◌∙◌, arith, not, is_some}
+use Rattle.std.specs.Prelude.{◌==◌, IfSome, if◌then◌else◌, min, nat_lt, ◌+◌, ◌-◌, length, ◌&&◌}
+use Rattle.std.proofs.lemmas.Bool.Decides.{nat_tests}
+use Rattle.keeper_memory.specs.copy.Copies.{Copy}
+use Rattle.keeper_memory.specs.copy.Lists.{ascends, last_from}
+use Rattle.consumer_sync.specs.Faulted.{SaysGone}
+use Rattle.consumer_sync.specs.Filling.{IsEnd}
+use Rattle.consumer_sync.specs.Judging.{agrees}
+use Rattle.exchange_link.specs.Asked.{SendsOn}
+use Rattle.exchange_link.specs.Causes.{IsOwnReply, IsPageStatus}
+use Rattle.exchange_link.specs.declared.answer.SyncAnswer.{SyncAnswer}
+use Rattle.exchange_link.specs.declared.answer.SyncAnswer.TheVariants as answer
+use Rattle.http_wire.proofs.AnswerLemmas.{one_answer}
+use Rattle.http_wire.specs.declared.answer.WireReply.{WireReply}
+use Rattle.roster_values.specs.declared.kind.Kind.{Kind}
+use Rattle.status_info.specs.declared.request.Request.{Request}
+use Rattle.version_core.specs.HubStates.{HubState}
+use Rattle.consumer_deltas.specs.DeltaCalls.{IsDeltaAside}
+use Rattle.consumer_deltas.specs.DeltaCauses.{RepliesIf, RepliesOn, RepliesTo}
+use Rattle.consumer_deltas.specs.DeltaFilling.{Halts, IsPinGone}
+use Rattle.consumer_deltas.specs.DeltaFilling.Halts.{Broke, Merging, Stopped, Wants as WantsBeside}
+use Rattle.consumer_deltas.specs.DeltaGathering.{Stops, ending_of}
+use Rattle.consumer_deltas.specs.DeltaGathering.Stops.{Given, NoReply, NoneCame, Wants}
+use Rattle.consumer_deltas.specs.DeltaMerging.{Unmerged}
+use Rattle.consumer_deltas.specs.DeltaMerging.Unmerged.{Broke as Broken, TooMany as OverLimit, Unfit as Misfit, Wants as Wanting}
+use Rattle.consumer_deltas.specs.DeltaJudging.{Sofar, base_act, by_status, closed_act, count_in, delta_judged, differing_act, entries_of, entry_limit, ids_ascend, last_id, lost_act, page_act, part_act, read_act}
+use Rattle.consumer_deltas.specs.DeltaRequests.{IsDeltaUnder}
+use Rattle.consumer_deltas.specs.DeltaTelling.{GonePin, IsPinFrom, NamesPin}
+use Rattle.consumer_deltas.specs.declared.answer.DeltaAnswer.{DeltaAnswer}
+use Rattle.consumer_deltas.specs.declared.answer.DeltaAnswer.TheVariants.{BaseGone, Ended, NoBase}
+use Rattle.consumer_deltas.specs.declared.gathered.Entries.{Entries}
+use Rattle.consumer_deltas.specs.declared.judging.DeltaAct.{DeltaAct}
+use Rattle.consumer_deltas.specs.declared.judging.DeltaAct.TheVariants as act
+use Rattle.consumer_deltas.specs.declared.judging.Place.{Place}
+
+-- the answers with which the kinds may end
+abbrev pub IsDeltaEnd : ℕ → DeltaAnswer → Type 0
+IsDeltaEnd base (Ended a) = IsEnd a
+IsDeltaEnd base NoBase = ⊥
+IsDeltaEnd base (BaseGone held oldest) = held ≡ base
+
+ending_end : (x : DeltaAct) (here : Place) (n : ℕ) → IsDeltaEnd here.base (ending_of x here n)
+ending_end (act.PinGone pin oldest) here n = tt
+ending_end (act.BaseGone oldest) here n = refl
+ending_end act.UnknownToken here n = tt
+ending_end (act.TooLarge total) here n = tt
+ending_end act.HubFault here n = tt
+ending_end act.HubNoMemory here n = tt
+ending_end x here n = tt
+
+pub stops_end : (kept : List ℕ) (run count : ℕ) (missed : Type 0) (place : Place) (a : DeltaAnswer) → Stops kept run count missed place a → IsDeltaEnd place.base a
+stops_end kept run count missed place a (Given g) =
+    let here : Place = g.here in
+    subst (λ b. IsDeltaEnd b a) g.base (subst (λ r. IsDeltaEnd here.base r) (sym g.given) (ending_end (delta_judged here g.sofar g.reply) here (count_in g.sofar)))
+stops_end kept run count missed place a (NoneCame offset m unlike e) = subst (λ r. IsDeltaEnd place.base r) (sym e) tt
+stops_end kept run count missed place a (NoReply offset unlike e) = subst (λ r. IsDeltaEnd place.base r) (sym e) tt
+stops_end kept run count missed place a (Wants e) = subst (λ r. IsDeltaEnd place.base r) (sym e) tt
+
+-- ---- a pin that is gone
+
+abbrev IsGoneAct : DeltaAct → Type 0
+IsGoneAct (act.PinGone pin oldest) = Unit {0}
+IsGoneAct x = ⊥
+
+gone_act : (x : DeltaAct) (here : Place) (n : ℕ) → IsPinGone (ending_of x here n) → IsGoneAct x
+gone_act (act.PinGone pin oldest) here n is = tt
+gone_act (act.BaseGone oldest) here n is = is
+gone_act act.UnknownToken here n is = is
+gone_act (act.TooLarge total) here n is = is
+gone_act act.HubFault here n is = is
+gone_act act.HubNoMemory here n is = is
+gone_act x here n is = is
+
+-- a test, and what follows of both ways
+either : (P : DeltaAct → Type 0) (b : Bool) (x y : DeltaAct) → (b ≡ true → P x) → (b ≡ false → P y) → P (if b then x else y)
+either P true x y f g = f refl
+either P false x y f g = g refl
+
+abbrev IsKept : DeltaAct → Type 0
+IsKept x = IsGoneAct x → ⊥
+
+kept_base : (base oldest : ℕ) → IsKept (base_act base oldest)
+kept_base base oldest = either IsKept (nat_lt base oldest) (act.BaseGone oldest) act.BadReply (λ _ is. is) (λ _ is. is)
+
+kept_part : (sofar : Sofar) (limit v t : ℕ) (page : Entries) → IsKept (part_act sofar limit v t page)
+kept_part sofar limit v t page =
+    either IsKept (not (length page.puts + length page.gone == min limit (t - count_in sofar))) _ _ (λ _ is. is)
+    (λ _. either IsKept (not (ascends (last_from None sofar.puts) page.puts)) _ _ (λ _ is. is) (λ _. either IsKept (not (ids_ascend (last_id None sofar.gone) page.gone)) _ _ (λ _ is. is) (λ _ is. is)))
+
+kept_read : (sofar : Sofar) (limit v t : ℕ) (o : Option Entries) → IsKept (read_act sofar limit v t o)
+kept_read sofar limit v t None = λ is. is
+kept_read sofar limit v t (Some page) = kept_part sofar limit v t page
+
+kept_page : (place : Place) (sofar : Sofar) (v t : ℕ) (body : List ℕ) → IsKept (page_act place.kind sofar place.pin place.limit v t body)
+kept_page place sofar v t body =
+    either IsKept (not (agrees place.pin v)) _ _ (λ _ is. is)
+    (λ _. either IsKept (nat_lt entry_limit t) _ _ (λ _ is. is) (λ _. either IsKept (not (agrees sofar.total t)) _ _ (λ _ is. is) (λ _. kept_read sofar place.limit v t (entries_of place.kind body))))
+
+kept_differing : (place : Place) (sofar : Sofar) (v t : Option ℕ) (body : List ℕ) → IsKept (differing_act place.kind sofar place.pin place.limit v t body)
+kept_differing place sofar (Some v) (Some t) body = kept_page place sofar v t body
+kept_differing place sofar (Some v) None body = λ is. is
+kept_differing place sofar None t body = λ is. is
+
+kept_closed : (pin : Option ℕ) (is_fresh : Bool) (v : Option ℕ) → IsKept (closed_act pin is_fresh v)
+kept_closed pin is_fresh None = λ is. is
+kept_closed pin is_fresh (Some v) = either IsKept (agrees pin v && is_fresh) (act.Close v) act.BadReply (λ _ is. is) (λ _ is. is)
+
+lost_gone : (base : ℕ) (pin oldest : Option ℕ) → IsGoneAct (lost_act base pin oldest) → is_some oldest ≡ true
+lost_gone base pin None is = absurd is
+lost_gone base pin (Some oldest) is = refl
+
+abbrev SaysOldest : WireReply → DeltaAct → Type 0
+SaysOldest w x = IsGoneAct x → (w.status ≡ 404) × (is_some w.oldest ≡ true)
+
+status_is : (a b : ℕ) → (a == b) ≡ true → a ≡ b
+status_is a b e = grind (arith, nat_tests, e)
+
+gone_says : (place : Place) (sofar : Sofar) (w : WireReply) → SaysOldest w (delta_judged place sofar w)
+gone_says place sofar w =
+    either (SaysOldest w) (w.status == 200) _ _ (λ _ is. absurd (kept_differing place sofar w.version w.total w.body is))
+    (λ _. either (SaysOldest w) (w.status == 403) _ _ (λ _ is. absurd (kept_closed place.pin place.is_fresh w.version is))
+    (λ _. either (SaysOldest w) (w.status == 404) _ _ (λ e is. (status_is w.status 404 e, lost_gone place.base place.pin w.oldest is))
+    (λ _. either (SaysOldest w) (w.status == 401) _ _ (λ _ is. absurd is)
+    (λ _. either (SaysOldest w) (w.status == 500) _ _ (λ _ is. absurd is)
+    (λ _. either (SaysOldest w) (w.status == 503) _ _ (λ _ is. absurd is) (λ _ is. absurd is))))))
+
+pub stops_gone : (kept : List ℕ) (run count : ℕ) (missed : Type 0) (place : Place) (a : DeltaAnswer) → Stops kept run count missed place a → IsPinGone a → SaysGone kept
+stops_gone kept run count missed place a (Given g) is =
+    let says = gone_says g.here g.sofar g.reply (gone_act (delta_judged g.here g.sofar g.reply) g.here (count_in g.sofar) (subst IsPinGone g.given is)) in
+    (g.reply, g.own.text, says.0, says.1)
+stops_gone kept run count missed place a (NoneCame offset m unlike e) is = absurd (subst IsPinGone e is)
+stops_gone kept run count missed place a (NoReply offset unlike e) is = absurd (subst IsPinGone e is)
+stops_gone kept run count missed place a (Wants e) is = absurd (subst IsPinGone e is)
+
+-- the pin that is gone is the one that was asked for
+abbrev pub GoneAt : Option ℕ → DeltaAct → Type 0
+GoneAt pin (act.PinGone v oldest) = pin ≡ Some v
+GoneAt pin x = Unit {0}
+
+kept_at : (pin : Option ℕ) (x : DeltaAct) → IsKept x → GoneAt pin x
+kept_at pin (act.PinGone v oldest) kept = absurd (kept tt)
+kept_at pin x kept = tt
+
+lost_at : (base : ℕ) (pin oldest : Option ℕ) → GoneAt pin (lost_act base pin oldest)
+lost_at base pin None = tt
+lost_at base None (Some oldest) = kept_at None (base_act base oldest) (kept_base base oldest)
+lost_at base (Some pin) (Some oldest) =
+    either (GoneAt (Some pin)) (nat_lt pin oldest) (act.PinGone pin oldest) (base_act base oldest) (λ _. refl) (λ _. kept_at (Some pin) (base_act base oldest) (kept_base base oldest))
+
+pub gone_at : (place : Place) (sofar : Sofar) (w : WireReply) → GoneAt place.pin (delta_judged place sofar w)
+gone_at place sofar w =
+    either (GoneAt place.pin) (w.status == 200) _ _ (λ _. kept_at place.pin (differing_act place.kind sofar place.pin place.limit w.version w.total w.body) (kept_differing place sofar w.version w.total w.body))
+    (λ _. either (GoneAt place.pin) (w.status == 403) _ _ (λ _. kept_at place.pin (closed_act place.pin place.is_fresh w.version) (kept_closed place.pin place.is_fresh w.version))
+    (λ _. either (GoneAt place.pin) (w.status == 404) _ _ (λ _. lost_at place.base place.pin w.oldest)
+    (λ _. either (GoneAt place.pin) (w.status == 401) _ _ (λ _. tt)
+    (λ _. either (GoneAt place.pin) (w.status == 500) _ _ (λ _. tt)
+    (λ _. either (GoneAt place.pin) (w.status == 503) _ _ (λ _. tt) (λ _. tt))))))
+
+some_number : {a b : ℕ} → Some a ≡ Some b → a ≡ b
+some_number e = cc
+
+pub ending_gone : (pin : Option ℕ) (h : HubState) (x : DeltaAct) (here : Place) (n : ℕ) → ((v : ℕ) → here.pin ≡ Some v → IsPinFrom pin h v) → GoneAt here.pin x → GonePin pin h (ending_of x here n)
+ending_gone pin h (act.PinGone v oldest) here n from at = from v at
+ending_gone pin h (act.BaseGone oldest) here n from at = tt
+ending_gone pin h act.UnknownToken here n from at = tt
+ending_gone pin h (act.TooLarge total) here n from at = tt
+ending_gone pin h act.HubFault here n from at = tt
+ending_gone pin h act.HubNoMemory here n from at = tt
+ending_gone pin h x here n from at = tt
+
+pub ending_names : (x : DeltaAct) (here : Place) (n v : ℕ) → here.pin ≡ Some v → GoneAt here.pin x → NamesPin (ending_of x here n) v
+ending_names (act.PinGone pin oldest) here n v e at = some_number (sym e ∙ at)
+ending_names (act.BaseGone oldest) here n v e at = tt
+ending_names act.UnknownToken here n v e at = tt
+ending_names (act.TooLarge total) here n v e at = tt
+ending_names act.HubFault here n v e at = tt
+ending_names act.HubNoMemory here n v e at = tt
+ending_names x here n v e at = tt
+
+-- any other answer names none
+other_gone : (pin : Option ℕ) (h : HubState) (a : SyncAnswer) → (IsPinGone (Ended a) → ⊥) → GonePin pin h (Ended a)
+other_gone pin h (answer.PinGone v oldest) none = absurd (none tt)
+other_gone pin h a none = tt
+
+pub none_gone : (pin : Option ℕ) (h : HubState) (a : DeltaAnswer) → (IsPinGone a → ⊥) → GonePin pin h a
+none_gone pin h (Ended a) none = other_gone pin h a none
+none_gone pin h NoBase none = tt
+none_gone pin h (BaseGone held oldest) none = tt
+
+other_named : (a : SyncAnswer) (v : ℕ) → (IsPinGone (Ended a) → ⊥) → NamesPin (Ended a) v
+other_named (answer.PinGone pin oldest) v none = absurd (none tt)
+other_named a v none = tt
+
+pub none_named : (a : DeltaAnswer) (v : ℕ) → (IsPinGone a → ⊥) → NamesPin a v
+none_named (Ended a) v none = other_named a v none
+none_named NoBase v none = tt
+none_named (BaseGone held oldest) v none = tt
+
+-- ---- exactly where
+
+judged_at : (here : Place) (sofar : Sofar) (w : WireReply) (n : ℕ) → w.status ≡ n → delta_judged here sofar w ≡ by_status n here sofar w
+judged_at here sofar w n e = ap (λ n. by_status n here sofar w) e
+
+enter : (b : Bool) (x y : DeltaAct) → b ≡ true → (if b then x else y) ≡ x
+enter true x y e = refl
+enter false x y e = cc
+
+skip : (b : Bool) (x y : DeltaAct) → b ≡ false → (if b then x else y) ≡ y
+skip true x y e = cc
+skip false x y e = refl
+
+less_is : (a b : ℕ) → a < b → nat_lt a b ≡ true
+less_is a b lt = grind (arith, nat_tests, lt)
+
+less_not : (a b : ℕ) → b ≤ a → nat_lt a b ≡ false
+less_not a b le = grind (arith, nat_tests, le)
+
+lost_pin : (base pin oldest : ℕ) → pin < oldest → lost_act base (Some pin) (Some oldest) ≡ act.PinGone pin oldest
+lost_pin base pin oldest lt = enter (nat_lt pin oldest) (act.PinGone pin oldest) (base_act base oldest) (less_is pin oldest lt)
+
+lost_base : (base : ℕ) (pin : Option ℕ) (oldest : ℕ) → base < oldest → IfSome pin (λ pin. oldest ≤ pin) → lost_act base pin (Some oldest) ≡ act.BaseGone oldest
+lost_base base None oldest lt le = enter (nat_lt base oldest) (act.BaseGone oldest) act.BadReply (less_is base oldest lt)
+lost_base base (Some pin) oldest lt le =
+    skip (nat_lt pin oldest) (act.PinGone pin oldest) (base_act base oldest) (less_not pin oldest le) ∙ enter (nat_lt base oldest) (act.BaseGone oldest) act.BadReply (less_is base oldest lt)
+
+gives : (here : Place) (sofar : Sofar) (w : WireReply) (n : ℕ) → RepliesTo here w (ending_of (delta_judged here sofar w) here n)
+gives here sofar w n = record {
+  unknown = λ e. ap (λ x. ending_of x here n) (judged_at here sofar w 401 e);
+  fault = λ e. ap (λ x. ending_of x here n) (judged_at here sofar w 500 e);
+  memory = λ e. ap (λ x. ending_of x here n) (judged_at here sofar w 503 e);
+  pin_gone = λ pin oldest ep es eo lt. ap (λ x. ending_of x here n) (judged_at here sofar w 404 es ∙ ap (λ o. lost_act here.base o w.oldest) ep ∙ ap (lost_act here.base (Some pin)) eo ∙ lost_pin here.base pin oldest lt);
+  base_gone = λ oldest es eo lt le. ap (λ x. ending_of x here n) (judged_at here sofar w 404 es ∙ ap (lost_act here.base here.pin) eo ∙ lost_base here.base here.pin oldest lt le);
+}
+
+pub stops_replies : (kept : List ℕ) (run count : ℕ) (missed : Type 0) (place : Place) (a : DeltaAnswer) → Stops kept run count missed place a → (w : WireReply) → IsOwnReply kept run count w → RepliesIf place w a
+stops_replies kept run count missed place a (Given g) w own =
+    inr (g.here, g.base, g.pin, subst (λ r. RepliesTo g.here r a) (one_answer kept g.reply w g.own.text own.text) (subst (λ r. RepliesTo g.here g.reply r) (sym g.given) (gives g.here g.sofar g.reply (count_in g.sofar))))
+stops_replies kept run count missed place a (NoneCame offset m unlike e) w own = absurd (unlike w own)
+stops_replies kept run count missed place a (NoReply offset unlike e) w own = absurd (unlike w own.text)
+stops_replies kept run count missed place a (Wants e) w own = inl (subst IsDeltaAside (sym e) tt)
+
+not_page : (w : WireReply) (n : ℕ) (K : Type 0) → IsPageStatus w.status → w.status ≡ n → (n ≡ 200 → ⊥) → (n ≡ 403 → ⊥) → K
+not_page w n K page e a b = absurd (⊎_elim (λ (x : w.status ≡ 200). a (sym e ∙ x)) (λ (x : w.status ≡ 403). b (sym e ∙ x)) page)
+
+-- behind a page no such answer is due
+pub page_replies : (place : Place) (w : WireReply) (a : DeltaAnswer) → IsPageStatus w.status → RepliesIf place w a
+page_replies place w a page = inr (
+  place,
+  refl,
+  inl refl,
+  record {
+    unknown = λ e. not_page w 401 _ page e (λ n. omega (arith, n)) (λ n. omega (arith, n));
+    fault = λ e. not_page w 500 _ page e (λ n. omega (arith, n)) (λ n. omega (arith, n));
+    memory = λ e. not_page w 503 _ page e (λ n. omega (arith, n)) (λ n. omega (arith, n));
+    pin_gone = λ pin oldest ep e eo lt. not_page w 404 _ page e (λ n. omega (arith, n)) (λ n. omega (arith, n));
+    base_gone = λ oldest e eo lt le. not_page w 404 _ page e (λ n. omega (arith, n)) (λ n. omega (arith, n));
+  },
+)
+
+pub aside_replies : (place : Place) (w : WireReply) (a : DeltaAnswer) → IsDeltaAside a → RepliesIf place w a
+aside_replies place w a is = inl is
+
+-- ---- with other counts
+
+stops_map : (kept : List ℕ) (run count : ℕ) (missed other : Type 0) (place : Place) (a : DeltaAnswer) → (missed → other) → Stops kept run count missed place a → Stops kept run count other place a
+stops_map kept run count missed other place a f (Given g) = Given g
+stops_map kept run count missed other place a f (NoneCame offset m unlike e) = NoneCame offset (f m) unlike e
+stops_map kept run count missed other place a f (NoReply offset unlike e) = NoReply offset unlike e
+stops_map kept run count missed other place a f (Wants e) = Wants e
+
+unmerged_map : (broke broken : Type 0) (copies : Copy → Type 0) (kind : Kind) (entries : Sofar) (s : SyncAnswer) → (broke → broken) → Unmerged broke copies kind entries s → Unmerged broken copies kind entries s
+unmerged_map broke broken copies kind entries s f (Broken b e) = Broken (f b) e
+unmerged_map broke broken copies kind entries s f (Wanting e) = Wanting e
+unmerged_map broke broken copies kind entries s f (Misfit unlike e) = Misfit unlike e
+unmerged_map broke broken copies kind entries s f (OverLimit n many is e) = OverLimit n many is e
+
+pub halts_map : (kept : List ℕ) (run count : ℕ) (missed other broke broken : Type 0) (copies : Copy → Type 0) (place : Place) (a : DeltaAnswer) → (missed → other) → (broke → broken)
+    → Halts kept run count missed broke copies place a → Halts kept run count other broken copies place a
+halts_map kept run count missed other broke broken copies place a f g (Stopped s) = Stopped (stops_map kept run count missed other place a f s)
+halts_map kept run count missed other broke broken copies place a f g (Merging entries are s u e) = Merging entries are s (unmerged_map broke broken copies place.kind entries s g u) e
+halts_map kept run count missed other broke broken copies place a f g (Broke b e) = Broke (g b) e
+halts_map kept run count missed other broke broken copies place a f g (WantsBeside e) = WantsBeside e
+
+-- ---- what they end with
+
+merged_end : (broke : Type 0) (copies : Copy → Type 0) (kind : Kind) (entries : Sofar) (a : SyncAnswer) → Unmerged broke copies kind entries a → IsEnd a
+merged_end broke copies kind entries a (Broken b e) = subst IsEnd (sym e) tt
+merged_end broke copies kind entries a (Wanting e) = subst IsEnd (sym e) tt
+merged_end broke copies kind entries a (Misfit unlike e) = subst IsEnd (sym e) tt
+merged_end broke copies kind entries a (OverLimit n many is e) = subst IsEnd (sym e) tt
+
+pub halts_end : (kept : List ℕ) (run count : ℕ) (missed broke : Type 0) (copies : Copy → Type 0) (place : Place) (a : DeltaAnswer) → Halts kept run count missed broke copies place a → IsDeltaEnd place.base a
+halts_end kept run count missed broke copies place a (Stopped s) = stops_end kept run count missed place a s
+halts_end kept run count missed broke copies place a (Merging entries are s u e) = subst (λ r. IsDeltaEnd place.base r) (sym e) (merged_end broke copies place.kind entries s u)
+halts_end kept run count missed broke copies place a (Broke b e) = subst (λ r. IsDeltaEnd place.base r) (sym e) tt
+halts_end kept run count missed broke copies place a (WantsBeside e) = subst (λ r. IsDeltaEnd place.base r) (sym e) tt
+
+-- ---- in the loop
+
+pub halts_if : (kept : List ℕ) (run count : ℕ) (missed other broke broken : Type 0) (copies : Copy → Type 0) (place : Place) (r : Option DeltaAnswer) → (missed → other) → (broke → broken)
+    → IfSome r (Halts kept run count missed broke copies place) → IfSome r (Halts kept run count other broken copies place)
+halts_if kept run count missed other broke broken copies place None f g x = tt
+halts_if kept run count missed other broke broken copies place (Some a) f g x = halts_map kept run count missed other broke broken copies place a f g x
+
+pub replies_on : (kept : List ℕ) (run count : ℕ) (place : Place) (r : Option DeltaAnswer) → (r ≡ None → ⊥) → IfSome r (λ a. (w : WireReply) → IsOwnReply kept run count w → RepliesIf place w a)
+    → (w : WireReply) → IsOwnReply kept run count w → RepliesOn place w r
+replies_on kept run count place None not x w own = absurd (not refl)
+replies_on kept run count place (Some a) not x w own = x w own
+
+-- ---- where the stage whose pin is gone was let go
+
+abbrev pub Outcome : DeltaAnswer → DeltaAnswer → Type 0 → Type 0
+Outcome given result broke = (result ≡ given) ⊎ (((result ≡ Ended answer.KeeperFault) × broke) ⊎ (result ≡ Ended answer.NoMemory))
+
+pub stops_halt : (kept : List ℕ) (run count : ℕ) (missed broke : Type 0) (copies : Copy → Type 0) (place : Place) (given result : DeltaAnswer) → Stops kept run count missed place given → Outcome given result broke → Halts kept run count missed broke copies place result
+stops_halt kept run count missed broke copies place given result stops out = ⊎_elim
+    (λ (e : result ≡ given). Stopped (subst (λ a. Stops kept run count missed place a) (sym e) stops))
+    (λ y. ⊎_elim (λ (x : (result ≡ Ended answer.KeeperFault) × broke). Broke x.1 x.0) (λ (e : result ≡ Ended answer.NoMemory). WantsBeside e) y) out
+
+pub halt_replies : (kept : List ℕ) (run count : ℕ) (missed broke : Type 0) (place : Place) (given result : DeltaAnswer) → Stops kept run count missed place given → Outcome given result broke → (w : WireReply) → IsOwnReply kept run count w → RepliesIf place w result
+halt_replies kept run count missed broke place given result stops out w own = ⊎_elim
+    (λ (e : result ≡ given). subst (λ a. RepliesIf place w a) (sym e) (stops_replies kept run count missed place given stops w own))
+    (λ y. inl (⊎_elim (λ (x : (result ≡ Ended answer.KeeperFault) × broke). subst IsDeltaAside (sym x.0) tt) (λ (e : result ≡ Ended answer.NoMemory). subst IsDeltaAside (sym e) tt) y)) out
+
+-- at the same place
+pub stops_at : (kept : List ℕ) (run count : ℕ) (missed : Type 0) (here there : Place) (a : DeltaAnswer) → here ≡ there → Stops kept run count missed here a → Stops kept run count missed there a
+stops_at kept run count missed here there a e x = subst (λ p. Stops kept run count missed p a) e x
+
+pub sends_at : (token : List ℕ) (here there : Place) (run from to : ℕ) (wants : Type 0) (before after : List Request) → here ≡ there → SendsOn (IsDeltaUnder token here.limit here.base) run from to wants before after
+    → SendsOn (IsDeltaUnder token there.limit there.base) run from to wants before after
+sends_at token here there run from to wants before after e x = subst (λ (p : Place). SendsOn (IsDeltaUnder token p.limit p.base) run from to wants before after) e x

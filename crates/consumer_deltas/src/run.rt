@@ -1,0 +1,145 @@
+//! The incremental synchronisation.
+
+ghost use Rattle.std.specs.Prelude.{◌≡◌, ◌≢◌, ◌⊎◌, ℕ, ◌+◌, ◌<◌, ◌≤◌, IfErr, IfOk, IfSome, None, Some};
+ghost use Rattle.consumer_deltas.specs.DeltaAnswers.{BaseLaw, DeltaLeaves, DeltaTold, HasBase, LacksBase};
+ghost use Rattle.consumer_deltas.specs.DeltaCalls.{AnswersPin, AsksDeltas, DeltaBounded, DeltaFaultLaw, DeltaLastLaw, DeltaSynchronised, IsDeltaDone, IsNewPin};
+ghost use Rattle.consumer_deltas.specs.DeltaCauses.{DeltaCaused};
+ghost use Rattle.exchange_link.specs.Agreement.{StageAgrees};
+ghost use Rattle.exchange_link.specs.Causes.{RoseBy};
+ghost use Rattle.exchange_link.specs.Completeness.{StandsAt, first_pin};
+ghost use Rattle.exchange_link.specs.Exchanges.{Told};
+ghost use Rattle.exchange_link.specs.Marks.{MarksTold};
+ghost use Rattle.exchange_link.specs.Synchronised.{own_state};
+ghost use Rattle.keeper_memory.specs.copy.Copies.{Copy};
+ghost use Rattle.keeper_memory.specs.copy.States.{stage_of};
+ghost use Rattle.keeper_memory.specs.declared.copy.state.TheConstants.{LAST};
+ghost use Rattle.roster_base.specs.Faults.{Rose};
+
+use crate::answer::DeltaAnswer;
+use crate::fill::fill;
+use crate::request::Asker;
+use consumer_sync::run::{drop_other, finish, unentered};
+use consumer_sync::staging::broken;
+use exchange_link::{Link, begin_run};
+use keeper_memory::{CopyKeeper, CopyState};
+use roster_base::KeeperError;
+use roster_texts::Token;
+use std::alloc::Global;
+
+// The version that is held, where it is so under this token.
+fn held_under(state: &CopyState, token: &Token) -> Option<u64>
+    ensures some { IfSome result (λ base. (state.now.held_token ≡ Some token.now) × (state.now.held ≡ Some base)) }
+    ensures none { result ≡ None → state.now.held_token ≡ Some token.now → state.now.held ≡ None }
+{
+    match &state.held_token {
+        Some(held) if held.as_str() == token.as_str() => state.held,
+        _ => None,
+    }
+}
+
+// The base of a call under this token.
+fn base_under<C: CopyKeeper>(
+    alloc: Global,
+    copy: &mut C,
+    token: &Token,
+) -> Result<Option<u64>, KeeperError>
+    ensures some { IfOk result (λ o. IfSome o (λ base. (c : Copy) → C.stands_for copy.new c → HasBase base token.now c)) }
+    ensures none { IfOk result (λ o. o ≡ None → (c : Copy) → C.stands_for copy.new c → LacksBase token.now c) }
+    ensures low { IfOk result (λ o. IfSome o (λ base. base ≤ LAST)) }
+    ensures same { (c : Copy) → C.stands_for copy.new c → C.stands_for copy.old c }
+    ensures later { C.fault_count copy.old ≤ C.fault_count copy.new }
+    ensures copy_leads { C.leads copy.old copy.new }
+    ensures cause { IfErr result (λ e. e ≡ KeeperError.Failed → Rose (C.fault_count copy.old) (C.fault_count copy.new)) }
+{
+    let state = copy.state(alloc)?;
+    Ok(held_under(&state, token))
+}
+
+/// Brings what is held to what the token sees of the hub's newest version, or goes on with the stage that stands under the token. It asks
+/// for what differs from the held version alone.
+pub fn delta_sync<C: CopyKeeper, L: Link>(
+    alloc: Global,
+    copy: &mut C,
+    link: &mut L,
+    token: &Token,
+    limit: u32,
+    tries: u32,
+) -> DeltaAnswer
+    requires limit { (0 < limit) × (limit ≤ 1000) }
+    requires tries { (0 < tries) × (tries ≤ 100) }
+    // Over any link.
+    ensures copy { (after : Copy) → C.stands_for copy.new after → (before : Copy) × C.stands_for copy.old before × DeltaLeaves token.now result before after }
+    ensures base { (after : Copy) → C.stands_for copy.new after → (before : Copy) × C.stands_for copy.old before × BaseLaw token.now result before }
+    // Where the keeper failed, a stage under this token ends at the swap alone, or where the hub's reply says that its pin isn't kept.
+    ensures faulted { (after : Copy) → C.stands_for copy.new after → (before : Copy) × C.stands_for copy.old before × DeltaFaultLaw token.now (L.kept link.new) result before after }
+    ensures last_run { (after : Copy) → C.stands_for copy.new after → (before : Copy) × C.stands_for copy.old before × DeltaLastLaw result before after }
+    ensures cause { DeltaCaused token.now limit (C.stands_for copy.old) (C.stands_for copy.new) (L.asked link.old) (L.asked link.new) (L.kept link.new)
+        (λ n. (tries ≤ L.missed link.new) × (tries ≤ n) × RoseBy tries (L.fault_count link.old) (L.fault_count link.new)) (Rose (C.fault_count copy.old) (C.fault_count copy.new)) result }
+    ensures copy_leads { C.leads copy.old copy.new }
+    ensures link_leads { L.leads link.old link.new }
+    // Over one that tells. Each request asks from the held version on.
+    ensures asks { (after : Told) → L.tells link.new after → (before : Told) × L.tells link.old before
+        × AsksDeltas token.now limit tries (C.stands_for copy.old) (C.stands_for copy.new) (L.asked link.old) (L.asked link.new) result before.sent after.sent }
+    // Over one that tells, where copy and link agree.
+    ensures told { ((c : Copy) (t : Told) → C.stands_for copy.old c → L.tells link.old t → StageAgrees c t)
+        → (after : Copy) (tells : Told) → C.stands_for copy.new after → L.tells link.new tells
+        → (before : Copy) × (told : Told) × C.stands_for copy.old before × L.tells link.old told × DeltaSynchronised token.now result before told after tells }
+    ensures bound { ((c : Copy) (t : Told) → C.stands_for copy.old c → L.tells link.old t → StageAgrees c t)
+        → (after : Copy) (tells : Told) → C.stands_for copy.new after → L.tells link.new tells
+        → (before : Copy) × (told : Told) × C.stands_for copy.old before × L.tells link.old told × (n : ℕ) × (L.asked link.new ≤ L.asked link.old + n)
+        × ((n ≡ 0) ⊎ ((base : ℕ) × HasBase base token.now before
+        × DeltaBounded n tries limit token.now base (own_state token.now (stage_of before)) (IsNewPin (AnswersPin result) after told.hub tells.hub) tells.hub)) }
+    ensures cause_told { ((c : Copy) (t : Told) → C.stands_for copy.old c → L.tells link.old t → StageAgrees c t)
+        → (after : Copy) (tells : Told) → C.stands_for copy.new after → L.tells link.new tells
+        → (told : Told) × L.tells link.old told × DeltaTold token.now told tells result }
+    ensures complete { ((c : Copy) (t : Told) → C.stands_for copy.old c → L.tells link.old t → StageAgrees c t)
+        → ¬ Rose (L.fault_count link.old) (L.fault_count link.new) → ¬ Rose (C.fault_count copy.old) (C.fault_count copy.new)
+        → (after : Copy) (tells : Told) → C.stands_for copy.new after → L.tells link.new tells
+        → (before : Copy) × (told : Told) × C.stands_for copy.old before × L.tells link.old told
+        × (before.run ≢ LAST → ¬ Rose told.hub_faults tells.hub_faults → StandsAt (first_pin (own_state token.now (stage_of before)) told.hub) token.now tells.hub
+        → (base : ℕ) → HasBase base token.now before → StandsAt base token.now tells.hub → IsDeltaDone result) }
+    // Where they agree on marks, they go on to.
+    ensures marks { ((c : Copy) (t : Told) → C.stands_for copy.old c → L.tells link.old t → MarksTold c t)
+        → (after : Copy) (tells : Told) → C.stands_for copy.new after → L.tells link.new tells → MarksTold after tells }
+{
+    let base = match base_under(alloc, copy, token) {
+        Ok(Some(base)) => base,
+        Ok(None) => return DeltaAnswer::NoBase,
+        Err(error) => {
+            return DeltaAnswer::Ended {
+                answer: broken(error),
+            };
+        }
+    };
+    match begin_run(alloc, copy) {
+        Err(error) => DeltaAnswer::Ended {
+            answer: unentered(error),
+        },
+        Ok(state) => {
+            // Under which token something is held was looked at before.
+            drop(state.held_token);
+            match drop_other(alloc, copy, state.stage, token) {
+                Err(answer) => DeltaAnswer::Ended { answer },
+                Ok(begun) => {
+                    let mut stage = begun;
+                    let by = Asker {
+                        token,
+                        base,
+                        limit: limit as u64,
+                        run: state.run,
+                        tries: tries as u64,
+                    };
+                    match fill(alloc, copy, link, &mut stage, by) {
+                        Some(answer) => answer,
+                        None => match stage {
+                            None => unreachable!(),
+                            Some(s) => DeltaAnswer::Ended {
+                                answer: finish(alloc, copy, s.pin),
+                            },
+                        },
+                    }
+                }
+            }
+        }
+    }
+}
