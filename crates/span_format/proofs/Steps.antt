@@ -1,6 +1,7 @@
 -- One step more of a loop over rows, names or changes.
-use Rattle.std.proofs.Common.{◌≡◌, ◌+◌, ◌<◌, ℕ, List, [], ◌∷◌, ◌++◌, append-nil, append_assoc, drop, get_or, length, map, sym, ap, take, ◌∙◌}
+use Rattle.std.proofs.Common.{◌≡◌, ◌+◌, ◌<◌, ℕ, List, [], ◌∷◌, ◌++◌, append-nil, append_assoc, arith, drop, get_or, length, map, refl, sym, ap, take, ◌∙◌}
 use Rattle.std.proofs.lemmas.List.{take_more}
+use Rattle.std.specs.List.{AllByRecursion}
 use Rattle.item_maps.specs.Edits.{entry_of}
 use Rattle.item_maps.specs.declared.item.Edit.{Edit}
 use Rattle.item_maps.specs.declared.item.Item.{Item}
@@ -40,7 +41,22 @@ brought-push : (changes : List Change) (change : Change) → brought (changes ++
 brought-push [] change = append-nil (parts_of change)
 brought-push (first ∷ changes) change = ap (λ es. parts_of first ++ es) (brought-push changes change) ∙ sym (append_assoc (parts_of first) (brought changes) (parts_of change))
 
-pub more_brought : (front edits more : List Edit) (changes : List Change) (i : ℕ) (change : Change) → edits ≡ front ++ brought (take i changes) → i < length changes
-    → change ≡ get_or changes i change → more ≡ edits ++ parts_of change → more ≡ front ++ brought (take (i + 1) changes)
-more_brought front edits more changes i change so_far within is here =
-    rw (take_more changes i change within, ← is, brought-push (take i changes) change, here, so_far) (append_assoc front (brought (take i changes)) (parts_of change))
+pub brought-on : (front edits more : List Edit) (changes : List Change) (change : Change) → edits ≡ front ++ brought changes → more ≡ edits ++ parts_of change → more ≡ front ++ brought (changes ++ change ∷ [])
+brought-on front edits more changes change so_far here = rw (brought-push changes change, here, so_far) (append_assoc front (brought changes) (parts_of change))
+
+pub spans-push : (version : ℕ) (front edits : List Edit) (rows : List RowChange) (row : RowChange) (edit : Edit) → edits ≡ front ++ puts 7 (map span_entry (spans_from version rows))
+    → edit ≡ put_at 7 (row_span version row) → edits ++ edit ∷ [] ≡ front ++ puts 7 (map span_entry (spans_from version (rows ++ row ∷ [])))
+spans-push version front edits rows row edit so_far here =
+    let new : map span_entry (spans_from version (rows ++ row ∷ [])) ≡ map span_entry (spans_from version rows) ++ row_span version row ∷ [] =
+    spans_as_rows version (rows ++ row ∷ []) ∙ map_push (row_span version) rows row ∙ ap (λ es. es ++ row_span version row ∷ []) (sym (spans_as_rows version rows)) in
+    rw (so_far, here, new, map_push (put_at 7) (map span_entry (spans_from version rows)) (row_span version row))
+    (append_assoc front (puts 7 (map span_entry (spans_from version rows))) (put_at 7 (row_span version row) ∷ []))
+
+pub all-push : {X : Type 0} (P : X → Type 0) (xs : List X) (x : X) → AllByRecursion P xs → P x → AllByRecursion P (xs ++ x ∷ [])
+all-push P [] x all is = (is, tt)
+all-push P (y ∷ ys) x all is = (all.0, all-push P ys x all.1 is)
+
+-- a list of no length is empty
+pub none_left : {X : Type 0} (xs : List X) → length xs ≡ 0 → xs ≡ []
+none_left [] is = refl
+none_left (x ∷ xs) is = absurd (omega arith)

@@ -8,12 +8,12 @@ ghost use Rattle.hub_format.specs.Format.{FitsChange, format_entry};
 ghost use Rattle.span_format.specs.Edits.{added, brought, turn_edits};
 ghost use Rattle.span_format.specs.Format.{FitSpans, HasPlainIds, own_names, own_spans};
 
-use crate::writing::{put_names, put_spans};
+use crate::writing::{move_spans, put_names, put_spans};
 use hub_format::{HubArea, put_format, put_some_grants, put_version};
 use item_maps::Edit;
-use roster_base::{Bytes, NoMemory};
+use roster_base::{Bytes, Items, NoMemory};
 use std::alloc::Global;
-use version_core::change::Change;
+use version_core::change::{BaseVersion, Change};
 use version_core::hub_tables::HubTables;
 
 /// The edits that store one change more.
@@ -30,20 +30,24 @@ pub(crate) fn added_edits(alloc: Global, change: &Change) -> Result<Vec<Edit>, N
     Ok(edits)
 }
 
-// Adds the edits that store the spans and the names of a change.
-fn bring(alloc: Global, edits: &mut Vec<Edit>, change: &Change) -> Result<(), NoMemory>
-    ensures edits { OnOk result (edits.new.items ≡ edits.old.items ++ (puts 7 (own_spans change.now) ++ puts 8 (own_names change.now))) }
-    ensures plain { OnOk result (HasPlainIds change.now) }
+// Adds the edits that store the spans and the names of a change, whose rows are let go on the way.
+fn bring(alloc: Global, edits: &mut Vec<Edit>, change: Change) -> Result<(), NoMemory>
+    ensures edits { OnOk result (edits.new.items ≡ edits.old.items ++ (puts 7 (own_spans change) ++ puts 8 (own_names change))) }
+    ensures plain { OnOk result (HasPlainIds change) }
 {
-    put_spans(alloc, edits, change.version, change.rows.as_slice())?;
-    put_names(alloc, edits, change.version, change.rows.as_slice())
+    let Change { version, rows, .. } = change;
+    let mut names = Vec::new(alloc);
+    put_names(alloc, &mut names, version, rows.as_slice())?;
+    move_spans(alloc, edits, version, rows)?;
+    edits.append(&mut names)?;
+    Ok(())
 }
 
-fn bring_all(alloc: Global, edits: &mut Vec<Edit>, changes: &[Change]) -> Result<(), NoMemory>
-    ensures edits { OnOk result (edits.new.items ≡ edits.old.items ++ brought changes.now) }
-    ensures plain { OnOk result (AllByRecursion HasPlainIds changes.now) }
+fn bring_all(alloc: Global, edits: &mut Vec<Edit>, changes: Items<Change>) -> Result<(), NoMemory>
+    ensures edits { OnOk result (edits.new.items ≡ edits.old.items ++ brought changes) }
+    ensures plain { OnOk result (AllByRecursion HasPlainIds changes) }
 {
-    for change in changes {
+    for change in changes.into_vec() {
         bring(alloc, edits, change)?;
     }
     Ok(())
@@ -71,18 +75,16 @@ fn format_edits(alloc: Global) -> Result<Vec<Edit>, NoMemory>
     Ok(edits)
 }
 
-/// The edits by which a store of format 1 becomes one of format 2, from its tables.
-pub fn turn_edits(alloc: Global, tables: &HubTables) -> Result<Vec<Edit>, NoMemory>
-    ensures edits { IfOk result (λ edits. edits.items ≡ turn_edits tables.now) }
-    ensures plain { OnOk result (FitSpans tables.now) }
+/// The edits by which a store of format 1 becomes one of format 2, from its tables. Their rows are let go as they are written, so that
+/// tables and edits don't stand in memory side by side.
+pub fn turn_edits(alloc: Global, tables: HubTables) -> Result<Vec<Edit>, NoMemory>
+    ensures edits { IfOk result (λ edits. edits.items ≡ turn_edits tables) }
+    ensures plain { OnOk result (FitSpans tables) }
 {
     let mut edits = format_edits(alloc)?;
-    put_spans(
-        alloc,
-        &mut edits,
-        tables.base.number,
-        tables.base.rows.as_slice(),
-    )?;
-    bring_all(alloc, &mut edits, tables.changes.as_slice())?;
+    let HubTables { base, changes, .. } = tables;
+    let BaseVersion { number, rows, .. } = base;
+    move_spans(alloc, &mut edits, number, rows)?;
+    bring_all(alloc, &mut edits, changes)?;
     Ok(edits)
 }

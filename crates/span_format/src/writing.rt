@@ -13,6 +13,7 @@ use item_maps::Edit;
 use roster_base::{Bytes, NoMemory};
 use std::alloc::Global;
 use version_core::row_change::RowChange;
+use version_core::sorted_rows::SortedRows;
 
 /// The edits of a new store, which keeps version 0 and so many versions beside the newest.
 pub fn first_edits(alloc: Global, keep: u32) -> Result<Vec<Edit>, NoMemory>
@@ -49,6 +50,22 @@ pub(crate) fn put_spans(
 {
     for row in rows {
         edits.push(put_span(alloc, first, row)?)?;
+    }
+    Ok(())
+}
+
+/// The same, where each row is let go as soon as it is written.
+pub(crate) fn move_spans(
+    alloc: Global,
+    edits: &mut Vec<Edit>,
+    first: u64,
+    rows: SortedRows,
+) -> Result<(), NoMemory>
+    ensures edits { OnOk result (edits.new.items ≡ edits.old.items ++ puts 7 (map span_entry (spans_from first rows))) }
+    ensures plain { OnOk result (AllByRecursion HasPlainId rows) }
+{
+    for row in rows.into_vec() {
+        edits.push(put_span(alloc, first, &row)?)?;
     }
     Ok(())
 }

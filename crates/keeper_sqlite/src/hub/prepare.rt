@@ -31,7 +31,7 @@ fn turn<S: StoredItems>(alloc: Global, store: &mut S) -> Result<(), KeeperError>
     ensures live { S.shows store.new Clean → OnOk result (S.is_trusted store.new) }
 {
     let tables = tables_from(alloc, store, StoredRows::Areas)?;
-    let edits = turn_edits(alloc, &tables)?;
+    let edits = turn_edits(alloc, tables)?;
     store.commit(edits.as_slice())
 }
 

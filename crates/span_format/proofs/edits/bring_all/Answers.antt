@@ -1,15 +1,34 @@
-use Rattle.std.proofs.Common.{◌<◌, length, arith}
-use Rattle.hub_format.proofs.Steps.{more_all}
+use Rattle.std.proofs.Common.{◌≡◌, ◌++◌, ◌∷◌, [], length, append_assoc, append-nil, arith, sym, ap, subst, ◌∙◌}
+use Rattle.std.specs.List.{AllByRecursion}
+use Rattle.std.specs.Vec.Iter.{into_iter_items}
+use Rattle.span_format.specs.Edits.{brought}
 use Rattle.span_format.specs.Format.{HasPlainIds}
-use Rattle.span_format.proofs.Steps.{more_brought}
+use Rattle.span_format.proofs.Steps.{all-push, brought-on, none_left}
 use Rattle.span_format.proofs.edits.bring_all.Goals as goal
 
 pub loop-change-preserved : goal.loop-change-preserved
 loop-change-preserved c =
-    let changes = c.args.changes.now in
-    let i = c.loop-change.change-index in
-    let within : i < length changes = omega arith in
+    let at = c.loop-change in
+    let change = c.in-Some.change in
+    let steps : into_iter_items at.change-iterator ≡ change ∷ into_iter_items c.next.new.self = c.in-Some.ensures.steps.0 in
     record {
-      edits = more_brought c.args.edits.now.items c.loop-change.edits.items c.bring.new.edits.items changes i c.change-item.result c.loop-change.invariant.edits within c.change-item.is c.in_ok-bring.ensures.edits;
-      plain = more_all HasPlainIds changes i c.change-item.result c.loop-change.invariant.plain within c.change-item.is c.in_ok-bring.ensures.plain;
+      whole = append_assoc at.yielded (change ∷ []) (into_iter_items c.next.new.self) ∙ rw (← steps) at.invariant.whole;
+      left =
+          let was = at.invariant.left in
+          let gone = c.in-Some.ensures.steps.1 in
+          let short = ap length steps in
+          omega arith;
+      edits = brought-on c.args.edits.now.items at.edits.items c.bring.new.edits.items at.yielded change at.invariant.edits c.in_ok-bring.ensures.edits;
+      plain = all-push HasPlainIds at.yielded change at.invariant.plain c.in_ok-bring.ensures.plain;
+    }
+
+pub returns : goal.returns
+returns c =
+    let at = c.loop-change in
+    let none = c.in-None.ensures.steps in
+    let empty : into_iter_items at.change-iterator ≡ [] = none_left (into_iter_items at.change-iterator) (sym at.invariant.left ∙ none.0) in
+    let whole : at.yielded ≡ c.args.changes = sym (append-nil at.yielded) ∙ rw empty at at.invariant.whole in
+    record {
+      edits = at.invariant.edits ∙ ap (λ changes. c.args.edits.now.items ++ brought changes) whole;
+      plain = subst (AllByRecursion HasPlainIds) whole at.invariant.plain;
     }
