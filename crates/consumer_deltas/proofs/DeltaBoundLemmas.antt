@@ -26,7 +26,7 @@ use Rattle.consumer_sync.specs.Filling.{PinLaw, StageEnds}
 use Rattle.consumer_sync.specs.Judging.{opened, paged}
 use Rattle.consumer_deltas.specs.DeltaAnswers.{DeltaTold, HasBase}
 use Rattle.consumer_deltas.specs.DeltaCalls.{DeltaBounded, IsNewPin, delta_pages, delta_work}
-use Rattle.consumer_deltas.specs.DeltaFilling.{DeltaEnds, FillTold, GoneBehind, KindTold, NamesPinIf}
+use Rattle.consumer_deltas.specs.DeltaFilling.{BasedBehind, DeltaEnds, FillTold, GoneBehind, KindTold, NamesPinIf, StaysBased}
 use Rattle.consumer_deltas.specs.DeltaTelling.{GonePin, IsPinFrom, NamesPin}
 use Rattle.consumer_deltas.specs.declared.answer.DeltaAnswer.{DeltaAnswer}
 use Rattle.consumer_deltas.specs.declared.answer.DeltaAnswer.TheVariants.{BaseGone, Ended, NoBase}
@@ -236,6 +236,10 @@ names_of h a s gone = tt
 names_as : (h : HubState) (a : DeltaAnswer) (old : Option StageState) → GonePin (pin_of old) h a → (s : StageState) → old ≡ Some s → NamesPin a s.pin
 names_as h a old gone s e = names_of h a s (subst (λ o. GonePin (pin_of o) h a) e gone)
 
+based_behind : (first old : Option StageState) (h : HubState) (c : Copy) (a : DeltaAnswer) → PinLaw first h old → StaysBased old c a → BasedBehind first h c a
+based_behind first old h c (BaseGone held oldest) law e = subst (λ s. PinLaw first h s) (sym e) law
+based_behind first old h c a law e = tt
+
 stands_as : (c : Copy) (old : Option StageState) (h : HubState) → stage_of c ≡ old → CopyFits c h → StandsIf old h
 stands_as c old h e fits = subst (λ s. StandsIf s h) e (stands_by c.stage h fits.stage)
 
@@ -251,6 +255,7 @@ module _ (token : List ℕ) (limit tries base n m : ℕ) (first old new : Option
     pin = λ none. some_none none;
     cause = told_more token start told t a moved k.cause;
     gone = gone_behind first old start.hub told.hub a law moved.grew k.gone;
+    stays = based_behind first old start.hub c a law k.stays;
     bound = so_end tries limit token base n m first old (NamesPin a) c start.hub told.hub t.hub so law moved.grew grew low (stands_as before old told.hub e fits) lt (λ s at. (names_as told.hub a old k.gone s at, left s at)) k.bound;
   }
 
@@ -270,6 +275,7 @@ all_told token limit tries base n first last start t c e fits law so = record {
   pin = λ _. law;
   cause = tt;
   gone = tt;
+  stays = tt;
   bound = so_done tries limit token base n first last c start.hub t.hub so law (stands_as c last t.hub e fits) (λ s at. stage_pinned c.stage s (e ∙ at));
 }
 

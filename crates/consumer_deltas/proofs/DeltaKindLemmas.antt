@@ -28,7 +28,7 @@ use Rattle.consumer_sync.specs.Staging.{Adds, IsBroken, Taking, open_copy, taken
 use Rattle.consumer_sync.specs.Staging.Adds.{Opened, Stays as StaysAdded, Takes}
 use Rattle.consumer_deltas.proofs.DeltaAgreeLemmas.{kind_fits}
 use Rattle.consumer_deltas.specs.DeltaAnswers.{DeltaTold, HasBase}
-use Rattle.consumer_deltas.specs.DeltaFilling.{KindTold, LetsGo, StagesKind, first_place, no_page, pin_in}
+use Rattle.consumer_deltas.specs.DeltaFilling.{IsPinGone, KindTold, LetsGo, StagesKind, StaysBased, first_place, no_page, pin_in}
 use Rattle.consumer_deltas.specs.DeltaFilling.LetsGo.{Fails as FailsToGo, Goes, Stays, Wants as WantsToGo}
 use Rattle.consumer_deltas.specs.DeltaJudging.{Sofar}
 use Rattle.consumer_deltas.specs.DeltaMerging.{Merges, StagesList, rest_of}
@@ -38,7 +38,7 @@ use Rattle.consumer_deltas.specs.DeltaStaging.{Stages, part_of}
 use Rattle.consumer_deltas.specs.DeltaStaging.Stages.{Opens, Part, Stays as StaysAll, Whole}
 use Rattle.consumer_deltas.specs.DeltaTelling.{GonePin, IsAtPin, IsPinFrom, NamesPin, PagesTold, Tells}
 use Rattle.consumer_deltas.specs.declared.answer.DeltaAnswer.{DeltaAnswer}
-use Rattle.consumer_deltas.specs.declared.answer.DeltaAnswer.TheVariants.{Ended}
+use Rattle.consumer_deltas.specs.declared.answer.DeltaAnswer.TheVariants.{BaseGone, Ended}
 use Rattle.consumer_deltas.specs.declared.gather.Delta.{Delta}
 use Rattle.consumer_deltas.specs.declared.gather.Delta.TheVariants as delta
 use Rattle.consumer_deltas.specs.declared.judging.Place.{Place}
@@ -128,6 +128,21 @@ goes_with given result before after (Goes gone is e) = inl is
 goes_with given result before after (FailsToGo gone is x) = inr (subst IsBeside (sym is) tt)
 goes_with given result before after (WantsToGo gone is e) = inr (subst IsBeside (sym is) tt)
 
+gone_stays : (stage : Option StageState) (c : Copy) (a : DeltaAnswer) → IsPinGone a → StaysBased stage c a
+gone_stays stage c (Ended (answer.PinGone pin oldest)) gone = tt
+gone_stays stage c a gone = absurd gone
+
+same_stays : (stage : Option StageState) (c : Copy) (a : DeltaAnswer) → stage_of c ≡ stage → StaysBased stage c a
+same_stays stage c (BaseGone held oldest) e = e
+same_stays stage c a e = tt
+
+-- only with its pin does the stage go
+goes_stays : (stage : Option StageState) (given result : DeltaAnswer) (before after : Copy) → stage_of before ≡ stage → LetsGo given result before after → StaysBased stage after result
+goes_stays stage given result before after at (Stays not is e) = same_stays stage after result (ap stage_of e ∙ at)
+goes_stays stage given result before after at (Goes gone is e) = subst (StaysBased stage after) (sym is) (gone_stays stage after given gone)
+goes_stays stage given result before after at (FailsToGo gone is x) = subst (StaysBased stage after) (sym is) tt
+goes_stays stage given result before after at (WantsToGo gone is e) = subst (StaysBased stage after) (sym is) tt
+
 -- the copy is as before, or without its stage
 goes_copy : (given result : DeltaAnswer) (before after : Copy) → LetsGo given result before after → (after ≡ before) ⊎ (after ≡ copy_after Drop before)
 goes_copy given result before after (Stays not is e) = inl e
@@ -150,6 +165,7 @@ module _ (token : List ℕ) (limit tries base n : ℕ) (stage : Option StageStat
             (λ (dropped : after ≡ copy_after Drop before). subst (λ d. CopyFits d t.hub) (sym dropped) (record { stage = tt; held = held_alone before.held before.stage t.hub fits.held })) left;
         cause = ⊎_elim (λ (is : result ≡ given). subst (λ a. DeltaTold token told t a) (sym is) p.cause) (λ is. beside_told token told t result is) answered;
         gone = ⊎_elim (λ (is : result ≡ given). subst (λ a. GonePin (pin_of stage) told.hub a) (sym is) p.gone) (λ is. beside_gone (pin_of stage) told.hub result is) answered;
+        stays = goes_stays stage given result before after e go;
         bound = ⊎_elim (λ (few : n ≤ tries). inl few) (λ b. inr (
           b.0,
           b.1,
@@ -210,6 +226,7 @@ module _ (token : List ℕ) (limit tries base n : ℕ) (stage : Option StageStat
     fits = (staged None s).0;
     cause = tt;
     gone = tt;
+    stays = tt;
     bound = (
       pin_in d,
       ap pin_of is ∙ pin_paged stage told.hub (pin_in d) token from,
@@ -228,6 +245,7 @@ module _ (token : List ℕ) (limit tries base n : ℕ) (stage : Option StageStat
         fits = (staged (Some s) done).0;
         cause = beside_told token told t (Ended s) beside;
         gone = beside_gone (pin_of stage) told.hub (Ended s) beside;
+        stays = tt;
         bound = ⊎_elim (λ (few : n ≤ tries). inl few) (λ b. inr (
           b.0,
           b.1,

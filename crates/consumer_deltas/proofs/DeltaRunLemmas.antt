@@ -9,13 +9,14 @@ use Rattle.keeper_memory.specs.declared.copy.change.CopyChange.TheVariants.{Run,
 use Rattle.keeper_memory.specs.declared.copy.state.CopyState.{CopyState}
 use Rattle.keeper_memory.specs.declared.copy.state.StageState.{StageState}
 use Rattle.keeper_memory.specs.declared.copy.state.TheConstants.{LAST}
+use Rattle.exchange_link.proofs.AskLemmas.{asks_refl}
 use Rattle.exchange_link.specs.Agreement.{CopyFits, HeldFitsIf, StageAgrees}
 use Rattle.exchange_link.specs.Beginning.{Enters}
 use Rattle.exchange_link.specs.Causes.{IsAside, LastLaw}
 use Rattle.exchange_link.specs.Exchanges.{Told}
 use Rattle.exchange_link.specs.Marks.{MarksTold}
-use Rattle.exchange_link.specs.Requests.{Asks}
-use Rattle.exchange_link.specs.Synchronised.{Leaves, StageOn, Synchronised, own_stage}
+use Rattle.exchange_link.specs.Requests.{Asks, Moved}
+use Rattle.exchange_link.specs.Synchronised.{IsPinOf, Leaves, StageOn, Synchronised, own_stage, own_state}
 use Rattle.exchange_link.specs.declared.answer.SyncAnswer.{SyncAnswer}
 use Rattle.exchange_link.specs.declared.answer.SyncAnswer.TheVariants as answer
 use Rattle.exchange_link.specs.declared.begin.NoRun.{NoRun}
@@ -26,9 +27,9 @@ use Rattle.version_core.specs.HubStates.{HubState}
 use Rattle.consumer_sync.proofs.FaultLemmas.{abort_faults, enter_faults, fill_faults}
 use Rattle.consumer_sync.proofs.FillLemmas.{fills_end}
 use Rattle.consumer_sync.proofs.MarkLemmas.{marks_kept}
-use Rattle.consumer_sync.proofs.SyncLemmas.{drop_fails, fill_leaves, fill_sync}
+use Rattle.consumer_sync.proofs.SyncLemmas.{drop_fails, fill_leaves, fill_sync, pin_law}
 use Rattle.consumer_sync.specs.Faulted.{FaultLaw, SaysGone}
-use Rattle.consumer_sync.specs.Filling.{Ends, Fills}
+use Rattle.consumer_sync.specs.Filling.{Ends, Fills, PinLaw}
 use Rattle.consumer_sync.specs.Requests.{IsUnmarked}
 use Rattle.consumer_sync.specs.Staging.{broken_answer}
 use Rattle.consumer_sync.specs.Starting.{Aborts, Drops, StartCause, SwapsIn, unentered, without_other}
@@ -37,7 +38,7 @@ use Rattle.consumer_deltas.specs.DeltaAnswers.{BaseLaw, DeltaLeaves, DeltaTold, 
 use Rattle.consumer_deltas.specs.DeltaCalls.{AnswersPin, DeltaBounded, DeltaFaultLaw, DeltaLastLaw, DeltaSynchronised, IsDeltaDone, IsNewPin}
 use Rattle.consumer_deltas.specs.DeltaCauses.{DeltaCause}
 use Rattle.consumer_deltas.specs.DeltaCauses.DeltaCause.{Broke, OutOfRuns, Wants}
-use Rattle.consumer_deltas.specs.DeltaFilling.{DeltaEnds, NamesPinIf}
+use Rattle.consumer_deltas.specs.DeltaFilling.{BasedBehind, DeltaEnds, NamesPinIf}
 use Rattle.consumer_deltas.specs.DeltaTelling.{NamesPin}
 use Rattle.consumer_deltas.specs.declared.answer.DeltaAnswer.{DeltaAnswer}
 use Rattle.consumer_deltas.specs.declared.answer.DeltaAnswer.TheVariants.{BaseGone, Ended, NoBase}
@@ -110,9 +111,12 @@ pub broken_leaves : (token : List ℕ) (e : KeeperError) (c : Copy) → Leaves t
 broken_leaves token fault.Failed c = record { run = inl refl; entries = refl; last_number = refl; held = inl refl; stage = inr (inr (tt, refl)) }
 broken_leaves token fault.NoMemory c = record { run = inl refl; entries = refl; last_number = refl; held = refl; stage = inr (inr (tt, refl)) }
 
+pub same_moved : (t : Told) → Moved t t
+same_moved t = (asks_refl 0 0 IsUnmarked t).moved
+
 pub broken_sync : (token : List ℕ) (e : KeeperError) (c : Copy) (t : Told) → StageAgrees c t → DeltaSynchronised token (Ended (broken_answer e)) c t c t
-broken_sync token fault.Failed c t agree = record { leaves = broken_leaves token fault.Failed c; agree = agree; held = inl refl }
-broken_sync token fault.NoMemory c t agree = record { leaves = broken_leaves token fault.NoMemory c; agree = agree; held = refl }
+broken_sync token fault.Failed c t agree = record { leaves = broken_leaves token fault.Failed c; agree = agree; held = inl refl; pin = tt; moved = same_moved t }
+broken_sync token fault.NoMemory c t agree = record { leaves = broken_leaves token fault.NoMemory c; agree = agree; held = refl; pin = tt; moved = same_moved t }
 
 broken_fault : (token kept : List ℕ) (e : KeeperError) (c : Copy) → DeltaFaultLaw token kept (Ended (broken_answer e)) c c
 broken_fault token kept fault.Failed c = abort_faults token kept c c (same_aborts token c)
@@ -149,8 +153,8 @@ broken_cause kept run count missed broke copies place e a is f = subst (λ a. De
 
 -- ---- as a synchronisation ends
 
-pub sync_as : (token : List ℕ) (a : SyncAnswer) (b : Copy) (t : Told) (c : Copy) (u : Told) → Synchronised token a b t c u → DeltaSynchronised token (Ended a) b t c u
-sync_as token a b t c u s = record { leaves = s.leaves; agree = s.agree; held = s.held }
+pub sync_as : (token : List ℕ) (a : SyncAnswer) (b : Copy) (t : Told) (c : Copy) (u : Told) → Moved t u → Synchronised token a b t c u → DeltaSynchronised token (Ended a) b t c u
+sync_as token a b t c u moved s = record { leaves = s.leaves; agree = s.agree; held = s.held; pin = tt; moved = moved }
 
 ended_same : {a b : SyncAnswer} → Ended a ≡ Ended b → a ≡ b
 ended_same e = cc
@@ -206,13 +210,18 @@ end_leaves token base NoBase b d c ed end has x = absurd x
 end_leaves token base (BaseGone held oldest) b d c ed end has x =
     (subst (λ n. HasBase n token b) (sym x.0) has, fill_leaves token answer.HubFault b d c ed tt (fills_end token (Some answer.HubFault) d c tt x.1))
 
+-- the stage that is left
+left_pin : (token : List ℕ) (old new : Option Stage) (h : HubState) → PinLaw (own_state token (option_map state_of old)) h (option_map state_of new) → IfSome new (λ s. IsPinOf (own_stage token old) h s.pin)
+left_pin token old None h law = tt
+left_pin token old (Some s) h law = pin_law token old h (state_of s) law
+
 pub end_sync : (token : List ℕ) (base run n : ℕ) (a : DeltaAnswer) (b d c : Copy) (t u : Told) → d ≡ begun token b → IsDeltaEnd base a → HasBase base token b → DeltaEnds token base (Some a) d c → run ≡ b.run + 1 → Asks run 0 n IsUnmarked t u → StageAgrees b t
-    → CopyFits c u.hub → DeltaSynchronised token a b t c u
-end_sync token base run n (Ended e) b d c t u ed end has x er asks agree fits = sync_as token e b t c u (fill_sync token run n e b d c t u ed end x er asks agree fits)
-end_sync token base run n NoBase b d c t u ed end has x er asks agree fits = absurd x
-end_sync token base run n (BaseGone held oldest) b d c t u ed end has x er asks agree fits =
+    → CopyFits c u.hub → BasedBehind (own_state token (stage_of b)) t.hub c a → DeltaSynchronised token a b t c u
+end_sync token base run n (Ended e) b d c t u ed end has x er asks agree fits stays = sync_as token e b t c u asks.moved (fill_sync token run n e b d c t u ed end x er asks agree fits)
+end_sync token base run n NoBase b d c t u ed end has x er asks agree fits stays = absurd x
+end_sync token base run n (BaseGone held oldest) b d c t u ed end has x er asks agree fits stays =
     let s = fill_sync token run n answer.HubFault b d c t u ed tt (fills_end token (Some answer.HubFault) d c tt x.1) er asks agree fits in
-    record { leaves = end_leaves token base (BaseGone held oldest) b d c ed end has x; agree = s.agree; held = s.held }
+    record { leaves = end_leaves token base (BaseGone held oldest) b d c ed end has x; agree = s.agree; held = s.held; pin = left_pin token b.stage c.stage t.hub stays; moved = asks.moved }
 
 pub end_faults : (token kept : List ℕ) (a : DeltaAnswer) (b d c : Copy) → d ≡ begun token b → StageOn token d.stage c.stage ⊎ SaysGone kept → DeltaFaultLaw token kept a b c
 end_faults token kept (Ended answer.KeeperFault) b d c ed x = fill_faults token kept b d c ed x

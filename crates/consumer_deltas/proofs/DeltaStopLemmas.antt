@@ -16,7 +16,7 @@ use Rattle.http_wire.specs.declared.answer.WireReply.{WireReply}
 use Rattle.roster_values.specs.declared.kind.Kind.{Kind}
 use Rattle.status_info.specs.declared.request.Request.{Request}
 use Rattle.version_core.specs.HubStates.{HubState}
-use Rattle.consumer_deltas.specs.DeltaCalls.{IsDeltaAside}
+use Rattle.consumer_deltas.specs.DeltaCalls.{AsksSome, IsDeltaAside}
 use Rattle.consumer_deltas.specs.DeltaCauses.{RepliesIf, RepliesOn, RepliesTo}
 use Rattle.consumer_deltas.specs.DeltaFilling.{Halts, IsPinGone}
 use Rattle.consumer_deltas.specs.DeltaFilling.Halts.{Broke, Merging, Stopped, Wants as WantsBeside}
@@ -330,3 +330,25 @@ stops_at kept run count missed here there a e x = subst (λ p. Stops kept run co
 pub sends_at : (token : List ℕ) (here there : Place) (run from to : ℕ) (wants : Type 0) (before after : List Request) → here ≡ there → SendsOn (IsDeltaUnder token here.limit here.base) run from to wants before after
     → SendsOn (IsDeltaUnder token there.limit there.base) run from to wants before after
 sends_at token here there run from to wants before after e x = subst (λ (p : Place). SendsOn (IsDeltaUnder token p.limit p.base) run from to wants before after) e x
+
+-- ---- the hub was asked, where it says that the base is gone
+
+asks_some : (a : DeltaAnswer) (count : ℕ) → 1 ≤ count → AsksSome a count
+asks_some (BaseGone held oldest) count some = some
+asks_some a count some = tt
+
+stops_some : (kept : List ℕ) (run count : ℕ) (missed : Type 0) (place : Place) (a : DeltaAnswer) → Stops kept run count missed place a → AsksSome a count
+stops_some kept run count missed place a (Given g) = asks_some a count g.own.from
+stops_some kept run count missed place a (NoneCame offset m unlike e) = subst (λ a. AsksSome a count) (sym e) tt
+stops_some kept run count missed place a (NoReply offset unlike e) = subst (λ a. AsksSome a count) (sym e) tt
+stops_some kept run count missed place a (Wants e) = subst (λ a. AsksSome a count) (sym e) tt
+
+halts_some : (kept : List ℕ) (run count : ℕ) (missed broke : Type 0) (copies : Copy → Type 0) (place : Place) (a : DeltaAnswer) → Halts kept run count missed broke copies place a → AsksSome a count
+halts_some kept run count missed broke copies place a (Stopped s) = stops_some kept run count missed place a s
+halts_some kept run count missed broke copies place a (Merging entries are s u e) = subst (λ a. AsksSome a count) (sym e) tt
+halts_some kept run count missed broke copies place a (Broke b e) = subst (λ a. AsksSome a count) (sym e) tt
+halts_some kept run count missed broke copies place a (WantsBeside e) = subst (λ a. AsksSome a count) (sym e) tt
+
+pub some_if : (kept : List ℕ) (run count : ℕ) (missed broke : Type 0) (copies : Copy → Type 0) (place : Place) (r : Option DeltaAnswer) → IfSome r (Halts kept run count missed broke copies place) → IfSome r (λ a. AsksSome a count)
+some_if kept run count missed broke copies place None h = tt
+some_if kept run count missed broke copies place (Some a) h = halts_some kept run count missed broke copies place a h

@@ -4,7 +4,7 @@ use Rattle.consumer_deltas.specs.DeltaAnswers.{DeltaLeaves, HasBase}
 use Rattle.consumer_deltas.specs.DeltaRequests.{IsDeltaUnder}
 use Rattle.consumer_sync.specs.Faulted.{FaultLaw}
 use Rattle.consumer_deltas.specs.declared.answer.DeltaAnswer.{DeltaAnswer}
-use Rattle.consumer_deltas.specs.declared.answer.DeltaAnswer.TheVariants.{Ended, NoBase}
+use Rattle.consumer_deltas.specs.declared.answer.DeltaAnswer.TheVariants.{BaseGone, Ended, NoBase}
 use Rattle.exchange_link.specs.Agreement.{StageAgrees}
 use Rattle.exchange_link.specs.Asked.{SendsOn}
 use Rattle.exchange_link.specs.Bounds.{pages}
@@ -12,7 +12,8 @@ use Rattle.exchange_link.specs.Causes.{IsAside, IsMore}
 use Rattle.exchange_link.specs.Completeness.{IsDone}
 use Rattle.exchange_link.specs.Exchanges.{Told}
 use Rattle.exchange_link.specs.Places.{kinds_of}
-use Rattle.exchange_link.specs.Synchronised.{HeldTold}
+use Rattle.exchange_link.specs.Requests.{Moved}
+use Rattle.exchange_link.specs.Synchronised.{HeldTold, IsPinOf, own_stage}
 use Rattle.exchange_link.specs.declared.answer.SyncAnswer.TheVariants as answer
 use Rattle.hub_spec.specs.rules.Checks.{version_at}
 use Rattle.hub_spec.specs.views.Deltas.{delta}
@@ -25,6 +26,11 @@ use Rattle.status_info.specs.declared.request.Request.{Request}
 use Rattle.version_core.specs.HubStates.{HubState, newest_number}
 use Rattle.version_core.specs.declared.change.BaseVersion.{BaseVersion}
 
+-- a hub that says that the base is gone was asked
+abbrev pub AsksSome : DeltaAnswer → ℕ → Type 0
+AsksSome (BaseGone held oldest) count = 1 ≤ count
+AsksSome a count = ⊤
+
 -- each request of the call is for a page of what differs from the held version on, numbered from 1 on under its run
 pub record AsksDeltas (token : List ℕ) (limit tries : ℕ) (befores copies : Copy → Type 0) (asked_before asked_after : ℕ) (a : DeltaAnswer) (before after : List Request) : Type 0 where
   pub run : ℕ
@@ -33,6 +39,7 @@ pub record AsksDeltas (token : List ℕ) (limit tries : ℕ) (befores copies : C
   pub held : 1 ≤ count → (c : Copy) → copies c → (before : Copy) × befores before × HasBase base token before
   pub runs : 1 ≤ count → (c : Copy) → copies c → c.run ≡ run
   pub counts : IsMore asked_before count asked_after
+  pub some : AsksSome a count
   pub each : SendsOn (IsDeltaUnder token limit base) run 0 count (a ≡ Ended answer.NoMemory) before after
 
 -- ---- how many exchanges
@@ -90,7 +97,14 @@ abbrev pub DeltaHeld : List ℕ → DeltaAnswer → Copy → Told → Copy → T
 DeltaHeld token (Ended a) before told after tells = HeldTold token a before told after tells
 DeltaHeld token a before told after tells = after.held ≡ before.held
 
+-- where the base is gone, a stage that stands has the pin of that which stood, or else one that isn't older than the newest version then
+abbrev pub DeltaPin : List ℕ → DeltaAnswer → Copy → Told → Copy → Type 0
+DeltaPin token (BaseGone held oldest) before told after = IfSome after.stage (λ s. IsPinOf (own_stage token before.stage) told.hub s.pin)
+DeltaPin token a before told after = ⊤
+
 pub record DeltaSynchronised (token : List ℕ) (a : DeltaAnswer) (before : Copy) (told : Told) (after : Copy) (tells : Told) : Type 0 where
   pub leaves : DeltaLeaves token a before after
   pub agree : StageAgrees after tells
   pub held : DeltaHeld token a before told after tells
+  pub pin : DeltaPin token a before told after
+  pub moved : Moved told tells

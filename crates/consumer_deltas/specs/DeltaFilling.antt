@@ -24,6 +24,7 @@ use Rattle.hub_spec.specs.rules.Checks.{version_at}
 use Rattle.hub_spec.specs.views.Deltas.{delta as what_differs}
 use Rattle.keeper_memory.specs.copy.Changes.{copy_after}
 use Rattle.keeper_memory.specs.copy.Copies.{Copy}
+use Rattle.keeper_memory.specs.copy.States.{stage_of}
 use Rattle.keeper_memory.specs.declared.copy.change.CopyChange.TheVariants.{Drop}
 use Rattle.keeper_memory.specs.declared.copy.state.StageState.{StageState}
 use Rattle.keeper_memory.specs.declared.copy.state.TheConstants.{LAST}
@@ -110,17 +111,28 @@ KindBounded n tries limit token base old new (Some a) before after c =
     (n ≤ tries) ⊎ ((v : ℕ) × IsPinFrom (pin_of old) before v × (v < length after.published) × NamesPin a v × IfSome c.stage (λ s. s.pin ≡ v)
     × (n ≤ tries * pages limit (length (what_differs (version_at after base) (version_at after v) token (kind_at (kinds_of old))))))
 
+-- where the base is gone, the stage stands as it was
+abbrev pub StaysBased : Option StageState → Copy → DeltaAnswer → Type 0
+StaysBased old c (BaseGone held oldest) = stage_of c ≡ old
+StaysBased old c a = ⊤
+
 -- what one kind makes of a copy and a hub that agree, by so many exchanges
 pub record KindTold (token : List ℕ) (limit tries base n : ℕ) (old new : Option StageState) (result : Option DeltaAnswer) (before after : Told) (c : Copy) : Type 0 where
   pub fits : CopyFits c after.hub
   pub cause : DeltaToldIf token before after result
   pub gone : IfSome result (GonePin (pin_of old) before.hub)
+  pub stays : IfSome result (StaysBased old c)
   pub bound : KindBounded n tries limit token base old new result before.hub after.hub c
 
 -- a pin that is gone is that of the stage at the beginning, or else not older than the newest version then
 abbrev pub GoneBehind : Option StageState → HubState → DeltaAnswer → Type 0
 GoneBehind first h (Ended (answer.PinGone pin oldest)) = first_pin first h ≤ pin
 GoneBehind first h a = ⊤
+
+-- where the base is gone, a stage that stands has the pin of that at the beginning, or else one not older than the newest version then
+abbrev pub BasedBehind : Option StageState → HubState → Copy → DeltaAnswer → Type 0
+BasedBehind first h c (BaseGone held oldest) = PinLaw first h (stage_of c)
+BasedBehind first h c a = ⊤
 
 abbrev pub NamesPinIf : Option DeltaAnswer → ℕ → Type 0
 NamesPinIf None v = ⊤
@@ -132,4 +144,5 @@ pub record FillTold (token : List ℕ) (limit tries base n : ℕ) (first last : 
   pub pin : result ≡ None → PinLaw first before.hub last
   pub cause : DeltaToldIf token before after result
   pub gone : IfSome result (GoneBehind first before.hub)
+  pub stays : IfSome result (BasedBehind first before.hub c)
   pub bound : DeltaBounded n tries limit token base first (IsNewPin (NamesPinIf result) c before.hub after.hub) after.hub

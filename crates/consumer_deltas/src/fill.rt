@@ -2,6 +2,7 @@
 
 ghost use Rattle.std.specs.Prelude.{◌≡◌, ◌⊎◌, ◌+◌, ◌-◌, ◌*◌, ◌^◌, ◌<◌, ◌≤◌, ℕ, [], true, None, Some, IfSome};
 ghost use Rattle.consumer_deltas.specs.DeltaAnswers.{HasBase};
+ghost use Rattle.consumer_deltas.specs.DeltaCalls.{AsksSome};
 ghost use Rattle.consumer_deltas.specs.DeltaCauses.{RepliesIf, RepliesOn};
 ghost use Rattle.consumer_deltas.specs.DeltaFilling.{CanStage, DeltaEnds, FillTold, Halts, IsPinGone, KindTold, LetsGo, StagesKind, Unstaged, first_place, pin_in};
 ghost use Rattle.consumer_deltas.specs.DeltaGathering.{most_asked};
@@ -178,7 +179,7 @@ pub fn fill<C: CopyKeeper, L: Link>(
         × IfSome result (Halts (L.kept link.new) by.entry.run n ((by.entry.tries ≤ L.missed link.new) × (by.entry.tries ≤ n) × RoseBy by.entry.tries (L.fault_count link.old) (L.fault_count link.new)) (Rose (C.fault_count copy.old) (C.fault_count copy.new)) (C.stands_for copy.new) place)
         × ((w : Reply) → IsOwnReply (L.kept link.new) by.entry.run n w → RepliesOn place w result) }
     ensures link { (after : Told) → L.tells link.new after → (before : Told) × L.tells link.old before × (count : ℕ) × Asks by.entry.run 0 count IsUnmarked before after }
-    ensures asks { (count : ℕ) × IsMore (L.asked link.old) count (L.asked link.new)
+    ensures asks { (count : ℕ) × IsMore (L.asked link.old) count (L.asked link.new) × IfSome result (λ a. AsksSome a count)
         × ((after : Told) → L.tells link.new after → (before : Told) × L.tells link.old before
         × SendsOn (IsDeltaUnder by.entry.token.now by.entry.limit by.entry.base) by.entry.run 0 count (result ≡ Some (DeltaAnswer.Ended SyncAnswer.NoMemory)) before.sent after.sent) }
     ensures later { C.fault_count copy.old ≤ C.fault_count copy.new }

@@ -75,6 +75,8 @@ pub fn delta_sync<C: CopyKeeper, L: Link>(
     ensures last_run { (after : Copy) → C.stands_for copy.new after → (before : Copy) × C.stands_for copy.old before × DeltaLastLaw result before after }
     ensures cause { DeltaCaused token.now limit (C.stands_for copy.old) (C.stands_for copy.new) (L.asked link.old) (L.asked link.new) (L.kept link.new)
         (λ n. (tries ≤ L.missed link.new) × (tries ≤ n) × RoseBy tries (L.fault_count link.old) (L.fault_count link.new)) (Rose (C.fault_count copy.old) (C.fault_count copy.new)) result }
+    ensures later { C.fault_count copy.old ≤ C.fault_count copy.new }
+    ensures link_later { L.fault_count link.old ≤ L.fault_count link.new }
     ensures copy_leads { C.leads copy.old copy.new }
     ensures link_leads { L.leads link.old link.new }
     // Over one that tells. Each request asks from the held version on.

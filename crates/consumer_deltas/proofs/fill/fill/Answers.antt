@@ -9,7 +9,7 @@ use Rattle.consumer_sync.specs.Filling.{HasToken}
 use Rattle.consumer_sync.specs.Requests.{IsUnmarked}
 use Rattle.consumer_deltas.proofs.DeltaBoundLemmas.{SoFar, all_told, count_same, held_on, kind_end_if, kind_on, kinds_paged, none_told, same_pin}
 use Rattle.consumer_deltas.proofs.DeltaFillLemmas.{begins, ends_behind, fills_from, fills_trans, stage_behind}
-use Rattle.consumer_deltas.proofs.DeltaStopLemmas.{halts_if, replies_on}
+use Rattle.consumer_deltas.proofs.DeltaStopLemmas.{halts_if, replies_on, some_if}
 use Rattle.consumer_deltas.specs.DeltaFilling.{KindTold, first_place, no_page}
 use Rattle.consumer_deltas.specs.DeltaRequests.{IsDeltaUnder}
 use Rattle.consumer_deltas.specs.declared.answer.DeltaAnswer.{DeltaAnswer}
@@ -129,6 +129,7 @@ pub returns-in_default-clause-asks : goal.returns-in_default-clause-asks
 returns-in_default-clause-asks g c = (
   c.fill_kind.new.count,
   record { least = omega (arith, c.kinds.invariant.asked.least, c.fill_kind.ensures.asked.least, c.fill_kind.ensures.count.0); most = omega (arith, c.kinds.invariant.asked.most, c.fill_kind.ensures.asked.most, c.fill_kind.ensures.count.0) },
+  some_if _ _ c.fill_kind.new.count _ _ _ _ c.fill_kind.result c.fill_kind.ensures.cause,
   λ after tells.
       let y = c.fill_kind.ensures.asks after tells in
       let z = c.kinds.invariant.sends y.0 y.1 in
@@ -188,6 +189,7 @@ pub returns-clause-asks : goal.returns-clause-asks
 returns-clause-asks g c = (
   c.kinds.count,
   c.kinds.invariant.asked,
+  tt,
   λ after tells.
       let z = c.kinds.invariant.sends after tells in
       (z.0, z.1, sends_weaker _ _ _ _ _ ⊥ _ _ _ (λ n q h. h) (λ no. absurd no) z.2),

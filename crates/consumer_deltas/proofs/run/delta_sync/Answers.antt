@@ -22,13 +22,13 @@ use Rattle.consumer_sync.proofs.SyncLemmas.{begun_is, drop_done, drop_fails, dro
 use Rattle.consumer_sync.specs.Filling.{Ends, HasToken, PinLaw}
 use Rattle.consumer_sync.specs.Starting.{StartCause, unentered}
 use Rattle.consumer_deltas.proofs.DeltaDoneLemmas.{done_of}
-use Rattle.consumer_deltas.proofs.DeltaRunLemmas.{some_held, all_ends, begun, bounded_map, broken_cause, broken_done, broken_faults, broken_last, broken_law, broken_leaves, broken_sync, broken_told, delta_marks, drop_leaves, base_stands, has_token, one_base, end_faults, end_last, end_law, end_leaves, end_pin, end_run, end_sync, ended_law, enter_law, faults_as, last_as, none_last, none_law, start_cause, start_more, swap_pin, sync_as}
+use Rattle.consumer_deltas.proofs.DeltaRunLemmas.{some_held, all_ends, begun, bounded_map, broken_cause, broken_done, broken_faults, broken_last, broken_law, broken_leaves, broken_sync, broken_told, delta_marks, drop_leaves, base_stands, has_token, one_base, end_faults, end_last, end_law, end_leaves, end_pin, end_run, end_sync, ended_law, enter_law, faults_as, last_as, none_last, same_moved, none_law, start_cause, start_more, swap_pin, sync_as}
 use Rattle.consumer_deltas.proofs.DeltaStopLemmas.{IsDeltaEnd, halts_end, halts_map, page_replies}
 use Rattle.consumer_deltas.specs.DeltaAnswers.{BaseLaw, DeltaTold, HasBase}
-use Rattle.consumer_deltas.specs.DeltaCalls.{DeltaLastLaw, DeltaSynchronised, IsDeltaDone, IsNewPin, AnswersPin, DeltaBounded}
+use Rattle.consumer_deltas.specs.DeltaCalls.{AsksSome, DeltaLastLaw, DeltaSynchronised, IsDeltaDone, IsNewPin, AnswersPin, DeltaBounded}
 use Rattle.consumer_deltas.specs.DeltaCauses.{DeltaCause}
 use Rattle.consumer_deltas.specs.DeltaCauses.DeltaCause.{Broke, Halted, Swapped, Unbased, Wants}
-use Rattle.consumer_deltas.specs.DeltaFilling.{DeltaEnds, FillTold, first_place}
+use Rattle.consumer_deltas.specs.DeltaFilling.{BasedBehind, DeltaEnds, FillTold, first_place}
 use Rattle.consumer_deltas.specs.DeltaRequests.{IsDeltaUnder}
 use Rattle.consumer_deltas.specs.declared.answer.DeltaAnswer.{DeltaAnswer}
 use Rattle.consumer_deltas.specs.declared.answer.DeltaAnswer.TheVariants.{Ended}
@@ -331,6 +331,30 @@ returns-in-Some-stage-clause-cause g c =
       exact = λ w own. page_replies cause.0 w _ (cause.6 w own);
     }
 
+pub returns-in-Err-clause-later : goal.returns-in-Err-clause-later
+returns-in-Err-clause-later g c =
+    omega (arith, c.base_under.ensures.later)
+
+pub returns-in-Ok-None-clause-later : goal.returns-in-Ok-None-clause-later
+returns-in-Ok-None-clause-later g c =
+    omega (arith, c.base_under.ensures.later)
+
+pub returns-in-Err-begin_run-clause-later : goal.returns-in-Err-begin_run-clause-later
+returns-in-Err-begin_run-clause-later g c =
+    omega (arith, c.base_under.ensures.later, c.begin_run.ensures.later)
+
+pub returns-in-Err-drop_other-clause-later : goal.returns-in-Err-drop_other-clause-later
+returns-in-Err-drop_other-clause-later g c =
+    omega (arith, c.base_under.ensures.later, c.begin_run.ensures.later, c.drop_other.ensures.later)
+
+pub returns-in-Some-clause-later : goal.returns-in-Some-clause-later
+returns-in-Some-clause-later g c =
+    omega (arith, c.base_under.ensures.later, c.begin_run.ensures.later, c.drop_other.ensures.later, c.fill.ensures.later)
+
+pub returns-in-Some-stage-clause-later : goal.returns-in-Some-stage-clause-later
+returns-in-Some-stage-clause-later g c =
+    omega (arith, c.base_under.ensures.later, c.begin_run.ensures.later, c.drop_other.ensures.later, c.fill.ensures.later, c.finish.ensures.later)
+
 pub returns-in-Err-clause-link_leads : goal.returns-in-Err-clause-link_leads
 returns-in-Err-clause-link_leads g c =
     g.met.L.Link.stays _
@@ -374,6 +398,7 @@ returns-in-Err-clause-asks g c after tells = (
     held = λ some. absurd (omega (arith, some));
     runs = λ some. absurd (omega (arith, some));
     counts = record { least = omega arith; most = omega arith };
+    some = tt;
     each = sends_refl (IsDeltaUnder c.args.token.now c.args.limit 0) 0 0 _ after.sent;
   },
 )
@@ -389,6 +414,7 @@ returns-in-Ok-None-clause-asks g c after tells = (
     held = λ some. absurd (omega (arith, some));
     runs = λ some. absurd (omega (arith, some));
     counts = record { least = omega arith; most = omega arith };
+    some = tt;
     each = sends_refl (IsDeltaUnder c.args.token.now c.args.limit 0) 0 0 _ after.sent;
   },
 )
@@ -404,6 +430,7 @@ returns-in-Err-begin_run-clause-asks g c after tells = (
     held = λ some. absurd (omega (arith, some));
     runs = λ some. absurd (omega (arith, some));
     counts = record { least = omega arith; most = omega arith };
+    some = tt;
     each = sends_refl (IsDeltaUnder c.args.token.now c.args.limit 0) 0 0 _ after.sent;
   },
 )
@@ -419,6 +446,7 @@ returns-in-Err-drop_other-clause-asks g c after tells = (
     held = λ some. absurd (omega (arith, some));
     runs = λ some. absurd (omega (arith, some));
     counts = record { least = omega arith; most = omega arith };
+    some = tt;
     each = sends_refl (IsDeltaUnder c.args.token.now c.args.limit 0) 0 0 _ after.sent;
   },
 )
@@ -432,7 +460,7 @@ none_answer e = cc
 pub returns-in-Some-clause-asks : goal.returns-in-Some-clause-asks
 returns-in-Some-clause-asks g c after tells =
     let f = c.fill.ensures.asks in
-    let v = f.2 after tells in (
+    let v = f.3 after tells in (
       v.0,
       v.1,
       record {
@@ -449,6 +477,7 @@ returns-in-Some-clause-asks g c after tells =
             let y = c.in-Ok-drop_other.ensures.told z.0 z.1 in
             end_run c.args.token.now c.in-Ok-Some.base c.in-Some.answer z.0 d (subst (λ r. DeltaEnds c.args.token.now c.in-Ok-Some.base r z.0 d) c.in-Some.is z.2.0) ∙ ap (λ (e : Copy). e.run) y.2 ∙ (c.in-Ok.ensures.holds y.0 y.1).0;
         counts = f.1;
+        some = subst (λ r. IfSome r (λ a. AsksSome a f.0)) c.in-Some.is f.2;
         each = sends_weaker _ _ c.in-Ok.state.run 0 f.0 _ _ _ _ (λ n q h. h) (λ e. some_answer (sym c.in-Some.is ∙ e)) v.2;
       },
     )
@@ -456,7 +485,7 @@ returns-in-Some-clause-asks g c after tells =
 pub returns-in-Some-stage-clause-asks : goal.returns-in-Some-stage-clause-asks
 returns-in-Some-stage-clause-asks g c after tells =
     let f = c.fill.ensures.asks in
-    let v = f.2 after tells in (
+    let v = f.3 after tells in (
       v.0,
       v.1,
       record {
@@ -475,6 +504,7 @@ returns-in-Some-stage-clause-asks g c after tells =
             let y = c.in-Ok-drop_other.ensures.told z.0 z.1 in
             swap_run c.finish.result _ w.0 d w.2 ∙ (subst (λ r. DeltaEnds c.args.token.now c.in-Ok-Some.base r z.0 w.0) c.in-None.is z.2.0).run ∙ ap (λ (e : Copy). e.run) y.2 ∙ (c.in-Ok.ensures.holds y.0 y.1).0;
         counts = f.1;
+        some = tt;
         each = sends_weaker _ _ c.in-Ok.state.run 0 f.0 _ _ _ _ (λ n q h. h) (λ e. none_answer (sym c.in-None.is ∙ e)) v.2;
       },
     )
@@ -487,14 +517,14 @@ returns-in-Err-clause-told g c agree after tells stands told =
 pub returns-in-Ok-None-clause-told : goal.returns-in-Ok-None-clause-told
 returns-in-Ok-None-clause-told g c agree after tells stands told =
     let old = c.base_under.ensures.same after stands in
-    (after, tells, old, told, record { leaves = refl; agree = agree after tells old told; held = refl })
+    (after, tells, old, told, record { leaves = refl; agree = agree after tells old told; held = refl; pin = tt; moved = same_moved tells })
 
 pub returns-in-Err-begin_run-clause-told : goal.returns-in-Err-begin_run-clause-told
 returns-in-Err-begin_run-clause-told g c agree after tells stands told =
     let x = c.in-Err-begin_run.ensures.told after stands in
     let old = c.base_under.ensures.same x.0 x.1 in
     let has = some_held (g.C.CopyKeeper.stands_for c.base_under.new.copy) c.args.token.now c.in-Ok-Some.field-0 c.in-Ok-Some.base c.in-Ok-Some.ensures.some c.in-Ok-Some.field-0-is x.0 x.1 in
-    (x.0, tells, old, told, subst (λ (a : SyncAnswer). DeltaSynchronised c.args.token.now (Ended a) x.0 tells after tells) (sym c.unentered.ensures) (sync_as c.args.token.now (unentered c.in-Err-begin_run.error) x.0 tells after tells (enter_sync c.args.token.now c.in-Err-begin_run.error x.0 after tells x.2 (agree x.0 tells old told))))
+    (x.0, tells, old, told, subst (λ (a : SyncAnswer). DeltaSynchronised c.args.token.now (Ended a) x.0 tells after tells) (sym c.unentered.ensures) (sync_as c.args.token.now (unentered c.in-Err-begin_run.error) x.0 tells after tells (same_moved tells) (enter_sync c.args.token.now c.in-Err-begin_run.error x.0 after tells x.2 (agree x.0 tells old told))))
 
 pub returns-in-Err-drop_other-clause-told : goal.returns-in-Err-drop_other-clause-told
 returns-in-Err-drop_other-clause-told g c agree after tells stands told =
@@ -502,7 +532,7 @@ returns-in-Err-drop_other-clause-told g c agree after tells stands told =
     let x = c.in-Ok.ensures.told y.0 y.1 in
     let old = c.base_under.ensures.same x.0 x.1 in
     let has = some_held (g.C.CopyKeeper.stands_for c.base_under.new.copy) c.args.token.now c.in-Ok-Some.field-0 c.in-Ok-Some.base c.in-Ok-Some.ensures.some c.in-Ok-Some.field-0-is x.0 x.1 in
-    (x.0, tells, old, told, sync_as c.args.token.now c.in-Err-drop_other.answer x.0 tells after tells (drop_sync c.args.token.now c.in-Ok.state.run c.in-Err-drop_other.answer x.0 y.0 after c.in-Ok.state tells _ c.in-Err-drop_other.ensures.cause x.2 y.2 (agree x.0 tells old told)))
+    (x.0, tells, old, told, sync_as c.args.token.now c.in-Err-drop_other.answer x.0 tells after tells (same_moved tells) (drop_sync c.args.token.now c.in-Ok.state.run c.in-Err-drop_other.answer x.0 y.0 after c.in-Ok.state tells _ c.in-Err-drop_other.ensures.cause x.2 y.2 (agree x.0 tells old told)))
 
 -- the copy with which the kinds begin holds the same
 begun_base : (base : ℕ) (token : List ℕ) (b d : Copy) → d ≡ begun token b → HasBase base token b → HasBase base token d
@@ -527,7 +557,10 @@ returns-in-Some-clause-told g c agree after tells stands told =
     after tells stands told in
     let fin = subst (λ r. FillTold c.args.token.now c.args.limit c.args.tries c.in-Ok-Some.base fill.2 c.in-Ok-drop_other.begun c.fill.new.stage r fill.0 tells after) c.in-Some.is fill.5 in
     let run_is : c.in-Ok.state.run ≡ (x.0).run + 1 = (x.2).0 in
-    (x.0, fill.0, old, fill.1, end_sync c.args.token.now c.in-Ok-Some.base c.in-Ok.state.run fill.2 c.in-Some.answer x.0 z.0 after fill.0 tells (begun_is c.args.token.now x.0 y.0 z.0 c.in-Ok.state c.in-Ok-drop_other.begun x.2 y.2) end has (subst (λ r. DeltaEnds c.args.token.now c.in-Ok-Some.base r z.0 after) c.in-Some.is z.2.0) run_is fill.4 (agree x.0 fill.0 old fill.1) fin.fits)
+    let stage_is : c.in-Ok-drop_other.begun ≡ own_state c.args.token.now (stage_of x.0) =
+    c.in-Ok-drop_other.ensures.ok ∙ ap (own_state c.args.token.now) (sym ((c.in-Ok.ensures.holds y.0 y.1).1) ∙ ap stage_of (x.2).1) in
+    let stays = subst (λ (o : Option StageState). BasedBehind o (fill.0).hub after c.in-Some.answer) stage_is fin.stays in
+    (x.0, fill.0, old, fill.1, end_sync c.args.token.now c.in-Ok-Some.base c.in-Ok.state.run fill.2 c.in-Some.answer x.0 z.0 after fill.0 tells (begun_is c.args.token.now x.0 y.0 z.0 c.in-Ok.state c.in-Ok-drop_other.begun x.2 y.2) end has (subst (λ r. DeltaEnds c.args.token.now c.in-Ok-Some.base r z.0 after) c.in-Some.is z.2.0) run_is fill.4 (agree x.0 fill.0 old fill.1) fin.fits stays)
 
 pub returns-in-Some-stage-clause-told : goal.returns-in-Some-stage-clause-told
 returns-in-Some-stage-clause-told g c agree after tells stands told =
@@ -553,7 +586,7 @@ returns-in-Some-stage-clause-told g c agree after tells stands told =
       fill.0,
       old,
       fill.1,
-      sync_as c.args.token.now c.finish.result x.0 fill.0 after tells (swap_sync c.args.token.now c.in-Ok.state.run fill.2 x.0 w.0 after c.in-Some-stage.s fill.0 tells c.finish.result
+      sync_as c.args.token.now c.finish.result x.0 fill.0 after tells fill.4.moved (swap_sync c.args.token.now c.in-Ok.state.run fill.2 x.0 w.0 after c.in-Some-stage.s fill.0 tells c.finish.result
           (record {
             ends = subst (λ (d : Copy). Ends c.args.token.now None d w.0) (begun_is c.args.token.now x.0 y.0 z.0 c.in-Ok.state c.in-Ok-drop_other.begun x.2 y.2) (all_ends c.args.token.now z.0 w.0 (subst (λ r. DeltaEnds c.args.token.now c.in-Ok-Some.base r z.0 w.0) c.in-None.is z.2.0));
             state = (c.fill.ensures.holds c.in-None.is w.0 w.1 ∙ c.in-Some-stage.is);
