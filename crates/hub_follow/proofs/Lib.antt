@@ -1,0 +1,4 @@
+pub mod Ending
+pub mod Joining
+pub mod Standing
+pub mod Wholes

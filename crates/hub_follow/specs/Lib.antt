@@ -1,0 +1,3 @@
+pub mod Catching
+pub mod Causes
+pub mod Ends
