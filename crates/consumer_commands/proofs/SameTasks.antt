@@ -1,9 +1,11 @@
 -- A task as it was asked for.
 use Rattle.std.proofs.Common.{◌≡◌, ℕ, List, refl, subst}
 use Rattle.consumer_commands.specs.Consumers.{CopyRun, LinkRun}
+use Rattle.consumer_commands.specs.Deltas.{IsDeltaOf}
 use Rattle.consumer_commands.specs.Sends.{IsSendOf}
 use Rattle.consumer_commands.specs.Syncs.{IsSyncOf}
 use Rattle.hub_words.specs.Tasks.{Sending, Task}
+use Rattle.consumer_deltas.specs.declared.answer.DeltaAnswer.{DeltaAnswer}
 use Rattle.exchange_link.specs.declared.answer.SyncAnswer.{SyncAnswer}
 use Rattle.exchange_link.specs.declared.send_answer.SendAnswer.{SendAnswer}
 
@@ -13,6 +15,9 @@ module _ (task : Task) (token : List ℕ) (limit tries : ℕ) (a : token ≡ tas
 
   pub synced_as : (answer : SyncAnswer) (copies : CopyRun) (link : LinkRun) → IsSyncOf (record { token = token; limit = limit; tries = tries }) answer copies link → IsSyncOf task answer copies link
   synced_as answer copies link = subst (λ (t : Task). IsSyncOf t answer copies link) same_task
+
+  pub delta_as : (answer : DeltaAnswer) (copies : CopyRun) (link : LinkRun) → IsDeltaOf (record { token = token; limit = limit; tries = tries }) answer copies link → IsDeltaOf task answer copies link
+  delta_as answer copies link = subst (λ (t : Task). IsDeltaOf t answer copies link) same_task
 
 module _ (task : Sending) (token : List ℕ) (tries : ℕ) (a : token ≡ task.token) (c : tries ≡ task.tries) where
   same_sending : record { token = token; tries = tries } ≡ task

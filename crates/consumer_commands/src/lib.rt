@@ -9,8 +9,8 @@ mod run;
 mod sending;
 
 pub use held::held_text;
-pub use line::{COPY_FAILED, place_line, sync_line, sync_status};
+pub use line::{COPY_FAILED, delta_line, delta_status, place_line, sync_line, sync_status};
 pub use outbox::outbox_text;
 pub use outbox_lines::{enter_line, enter_status, entered_line, send_line, send_status};
-pub use run::synchronise;
+pub use run::{synchronise, synchronise_delta};
 pub use sending::{enter_write, send_writes};

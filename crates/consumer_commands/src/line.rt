@@ -1,9 +1,11 @@
-//! The line and the status of a synchronisation's answer.
+//! The line and the status of a synchronisation's answer, and of an incremental one's.
 
 ghost use Rattle.std.specs.Prelude.{◌≡◌, ◌≢◌, ◌++◌, IfOk, codes, decimal, string_bytes};
 ghost use Rattle.roster_values.specs.Kinds.{plural_of};
+ghost use Rattle.consumer_commands.specs.DeltaLines.{delta_status, delta_text};
 ghost use Rattle.consumer_commands.specs.SyncLines as lines;
 
+use consumer_deltas::DeltaAnswer;
 use exchange_link::SyncAnswer;
 use roster_base::NoMemory;
 use roster_values::Kind;
@@ -79,5 +81,35 @@ pub fn sync_line(alloc: Global, answer: SyncAnswer) -> Result<String, NoMemory>
         SyncAnswer::HubNoMemory => fixed_line(alloc, "hub without memory\n"),
         SyncAnswer::LastRun => fixed_line(alloc, "last number\n"),
         SyncAnswer::NoMemory => fixed_line(alloc, "no memory\n"),
+    }
+}
+
+/// The status of an incremental synchronisation: that of a synchronisation, 19 or 20.
+pub fn delta_status(answer: DeltaAnswer) -> u8
+    ensures value { result ≡ delta_status answer }
+    ensures other { result ≢ 1 }
+{
+    match answer {
+        DeltaAnswer::Ended { answer } => sync_status(answer),
+        DeltaAnswer::NoBase => 19,
+        DeltaAnswer::BaseGone { .. } => 20,
+    }
+}
+
+fn base_line(alloc: Global, held: u64, oldest: u64) -> Result<String, NoMemory>
+    ensures { IfOk result (λ t. string_bytes t ≡ codes "base gone " ++ decimal held ++ codes " " ++ decimal oldest ++ codes "\n") }
+{
+    Ok(format!(in alloc; "base gone {held} {oldest}\n")?)
+}
+
+/// The line of an incremental synchronisation's answer.
+#[tactic(auto, unfolding(crate::specs::DeltaLines::delta_text))]
+pub fn delta_line(alloc: Global, answer: DeltaAnswer) -> Result<String, NoMemory>
+    ensures { IfOk result (λ t. string_bytes t ≡ delta_text answer) }
+{
+    match answer {
+        DeltaAnswer::Ended { answer } => sync_line(alloc, answer),
+        DeltaAnswer::NoBase => fixed_line(alloc, "no base\n"),
+        DeltaAnswer::BaseGone { held, oldest } => base_line(alloc, held, oldest),
     }
 }

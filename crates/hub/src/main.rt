@@ -34,6 +34,11 @@ copies
                         copies what TOKEN sees of the hub at the peer's address, in pages of LIMIT rows,
                         1 to 1000, and tries each request TRIES times, 1 to 100; prints the version of
                         the copy
+  delta TOKEN LIMIT TRIES
+                        the same of a copy that holds a version under TOKEN, and asks for what differs
+                        from that one alone, in pages of LIMIT entries
+  cascade FEED          makes the rows of the copy those of FEED in the hub beside it, and prints
+                        the version that this leads to
   list KIND             prints the rows of KIND that the copy holds, in order of id, as JSON
   export manifest bulk  prints the manifest of a set with a file of each kind, all bulk
   export manifest delta the same, all delta
@@ -82,13 +87,15 @@ status
    7  the peer wasn't reached           16  the last run or entry
    8  the version is kept no longer     17  memory ran out
                                         18  a server can't listen
+                                        19  nothing is held under the token
+                                        20  the held version is kept no longer
                                         21  the copy holds nothing
 ";
 
 const VERSION: &str = "hub 0.1.0, hub.db of format 2, copy.db of format 2\n";
 
 // The words of each command.
-static USAGES: [(&str, &str); 13] = [
+static USAGES: [(&str, &str); 15] = [
     (
         "publish",
         "usage: hub [--store DIR] [--folder DIR] [--keep N] publish FEED=DIR ..\n",
@@ -109,6 +116,14 @@ static USAGES: [(&str, &str); 13] = [
     (
         "sync",
         "usage: hub [--store DIR] [--peer HOST:PORT] sync TOKEN LIMIT TRIES\n",
+    ),
+    (
+        "delta",
+        "usage: hub [--store DIR] [--peer HOST:PORT] delta TOKEN LIMIT TRIES\n",
+    ),
+    (
+        "cascade",
+        "usage: hub [--store DIR] [--keep N] cascade FEED\n",
     ),
     ("list", "usage: hub [--store DIR] list KIND\n"),
     (

@@ -2,7 +2,11 @@
 use Rattle.std.proofs.Common.{◌≡◌, ◌≢◌, ◌⊎◌, ℕ, ℤ, List, [], ◌++◌, Option, Some, None, Result, Ok, Err, IsErr, append-nil, length, refl, sym, ap, subst, ◌∙◌, inl, inr}
 use Rattle.consumer_commands.specs.Consumers.{CopyRun, LinkRun}
 use Rattle.consumer_commands.specs.SyncLines.{sync_status, sync_text}
+use Rattle.consumer_commands.specs.Deltas.{IsDeltaOf}
 use Rattle.consumer_commands.specs.Syncs.{IsSyncOf}
+use Rattle.consumer_deltas.proofs.DeltaDoneLemmas.{cause_fails}
+use Rattle.consumer_deltas.specs.declared.answer.DeltaAnswer.{DeltaAnswer}
+use Rattle.consumer_deltas.specs.declared.answer.DeltaAnswer.TheVariants as delta
 use Rattle.hub_words.specs.Tasks.{Object, Sending, Task}
 use Rattle.consumer_commands.specs.Held.{IsHeldText}
 use Rattle.consumer_commands.specs.Outbox.{IsOutboxText}
@@ -33,7 +37,8 @@ use Rattle.roster_values.specs.declared.kind.Kind.{Kind}
 use Rattle.roster_values.specs.declared.mode.Mode.{Mode}
 use Rattle.roster_values.specs.declared.mode.Mode.TheVariants.{Bulk}
 use Rattle.hub_commands.specs.Answers.{IsPrinted, status_of, text_of}
-use Rattle.hub_commands.specs.ConsumerAnswers.{IsListAnswer, IsSyncAnswer, ReadEnds}
+use Rattle.hub_commands.specs.Cascades.{IsCascadeAnswer}
+use Rattle.hub_commands.specs.ConsumerAnswers.{IsDeltaAnswer, IsListAnswer, IsSyncAnswer, ReadEnds}
 use Rattle.hub_commands.specs.ExportAnswers.{ExportEnds, HasTooMany, IsChangesExport, IsExport, IsExportAnswer, IsManifestAnswer, IsSinceAnswer, RefusesExport, earlier_feed, rows_in}
 use Rattle.hub_commands.specs.OutboxAnswers.{IsEnterAnswer, IsEntered, IsOutboxAnswer, IsSendAnswer, IsWriteOf, ReadsWrite, or_bad_row, put_in}
 use Rattle.hub_commands.specs.Outside.{HaveRisen, HaveStood, NothingFailed, Outside}
@@ -47,11 +52,12 @@ use Rattle.hub_commands.specs.declared.answer.End.{End}
 use Rattle.hub_commands.specs.declared.answer.End.TheVariants as ends
 use Rattle.hub_words.specs.declared.task.Feed.{Feed}
 use Rattle.hub_words.specs.declared.words.Command.{Command}
-use Rattle.hub_words.specs.declared.words.Command.TheVariants.{Ask, Enter, Export, ExportManifest, ExportSince, Grant, ListHeld, Make, Outbox, Publish, Rehearse, Send, Show, Sync}
+use Rattle.hub_words.specs.declared.words.Command.TheVariants.{Ask, Cascade, Enter, Export, ExportManifest, ExportSince, Grant, ListHeld, Make, Outbox, Publish, Rehearse, Send, Show, Sync, SyncDelta}
 use Rattle.hub_words.specs.declared.words.EnterTask.{EnterTask}
 use Rattle.hub_words.specs.declared.words.EnterTask.TheVariants.{Delete, Put}
 use Rattle.hub_words.specs.declared.words.Parsed.{Parsed}
 use Rattle.hub_commands.proofs.Asking.{ask-says, ask-wants}
+use Rattle.hub_commands.proofs.Cascading.{cascade-says, cascade-wants}
 use Rattle.hub_commands.proofs.Granting.{grant-says, grant-wants}
 use Rattle.hub_commands.proofs.Leading.{leads-nowhere, leads-on}
 use Rattle.hub_commands.proofs.Publishing.{Says, run-says, run-wants}
@@ -86,6 +92,9 @@ show-wants kind o a (inr (inr wants)) other = (wants.0, refl)
 module _ (copy : CopyRun) (link : LinkRun) where
   sync-wants : (task : Task) (a : Answer) → IsSyncAnswer task copy link a → IsSyncAnswer task copy link (record a { end = ends.NoMemory })
   sync-wants task a (none, s, is, how) = (none, s, is, inr refl)
+
+  delta-wants : (task : Task) (a : Answer) → IsDeltaAnswer task copy link a → IsDeltaAnswer task copy link (record a { end = ends.NoMemory })
+  delta-wants task a (none, d, is, how) = (none, d, is, inr refl)
 
   read-wants : (is_text : List ℕ → Type 0) (a : Answer) → ReadEnds is_text copy a → a.end ≢ ends.Done → ReadEnds is_text copy (record a { end = ends.NoMemory })
   read-wants is_text a (inl told) other = absurd (other told.0)
@@ -124,6 +133,8 @@ module _ (copy : CopyRun) (link : LinkRun) where
   command-wants (Grant file) o a before after is other = inl (is.0, grant-wants o file a.done a.end before after is.1 other)
   command-wants (Ask file) o a before after is other = inl (is.0, ask-wants o file a.done a.end before after is.1 other)
   command-wants (Sync task) o a before after is other = inl (is.0, is.1, sync-wants task a is.2)
+  command-wants (SyncDelta task) o a before after is other = inl (is.0, is.1, delta-wants task a is.2)
+  command-wants (Cascade feed) o a before after is other = inl (is.0, is.1, cascade-wants feed o.moment o.keeper copy a before after is.2 other)
   command-wants (Enter task) o a before after is other = inl (is.0, is.1, is.2, enter-wants task o a is.3 other)
   command-wants (Send task) o a before after is other = inl (is.0, is.1, send-wants task a is.2)
   command-wants Outbox o a before after is other = inl (is.0, is.1, is.2, (is.3.0, read-wants (IsOutboxText copy.stands) a is.3.1 other))
@@ -242,6 +253,25 @@ module _ (o : Outside) (copy : CopyRun) (link : LinkRun) where
   sync-tells task a (none, s, is, inl same) = subst Tells (sym same) (synced-tells task s is)
   sync-tells task a (none, s, is, inr same) = tells a.end (says_memory o a.end same)
 
+  -- an end with the status of another tells as that does
+  ended-tells : (s : SyncAnswer) → Tells (ends.Synced s) → Tells (ends.DeltaSynced (delta.Ended s))
+  ended-tells s t = record { words = t.words; folder = t.folder; keeper = t.keeper; copy_says = t.copy_says }
+
+  delta_synced-tells : (task : Task) (d : DeltaAnswer) → IsDeltaOf task d copy link → Tells (ends.DeltaSynced d)
+  delta_synced-tells task (delta.Ended sync.KeeperFault) is = record { words = λ e. cc e; folder = λ e. cc e; keeper = λ e. cc e; copy_says = λ e. cause_fails _ _ _ _ _ _ _ _ is.cause.only refl }
+  delta_synced-tells task (delta.Ended s) is = ended-tells s (own-tells s (λ e. cc e))
+  delta_synced-tells task delta.NoBase is = tells_sync _ 19 refl (λ e. cc e) (λ e. cc e) (λ e. cc e) (λ e. cc e)
+  delta_synced-tells task (delta.BaseGone held oldest) is = tells_sync _ 20 refl (λ e. cc e) (λ e. cc e) (λ e. cc e) (λ e. cc e)
+
+  delta-tells : (task : Task) (a : Answer) → IsDeltaAnswer task copy link a → Tells a.end
+  delta-tells task a (none, d, is, inl same) = subst Tells (sym same) (delta_synced-tells task d is)
+  delta-tells task a (none, d, is, inr same) = tells a.end (says_memory o a.end same)
+
+  cascade-tells : (feed : List ℕ) (a : Answer) (before after : KeptState) → IsCascadeAnswer feed o.moment o.keeper copy a before after → Tells a.end
+  cascade-tells feed a before after is =
+      let says = cascade-says feed o.moment o.keeper copy a before after is in
+      record { words = says.words; folder = λ e. absurd (says.folder e); keeper = says.keeper; copy_says = says.copy_says }
+
   read-tells : (is_text : List ℕ → Type 0) (a : Answer) → ReadEnds is_text copy a → Tells a.end
   read-tells is_text a (inl told) = subst Tells (sym told.0) (tells ends.Done (says_done o ends.Done refl))
   read-tells is_text a (inr (inl failed)) = subst Tells (sym failed.0) (record { words = λ e. cc e; folder = λ e. cc e; keeper = λ e. cc e; copy_says = λ e. failed.2 })
@@ -321,6 +351,8 @@ module _ (o : Outside) (copy : CopyRun) (link : LinkRun) where
   command-tells (Grant file) a before after is = tells a.end (grant-says o file a.done a.end before after is.1)
   command-tells (Ask file) a before after is = tells a.end (ask-says o file a.done a.end before after is.1)
   command-tells (Sync task) a before after is = sync-tells task a is.2
+  command-tells (SyncDelta task) a before after is = delta-tells task a is.2
+  command-tells (Cascade feed) a before after is = cascade-tells feed a before after is.2
   command-tells (Enter task) a before after is = enter-tells task a is.3
   command-tells (Send task) a before after is = send-tells task a is.2
   command-tells Outbox a before after is = read-tells (IsOutboxText copy.stands) a is.3.1
@@ -451,6 +483,17 @@ module _ (o : Outside) (copy : CopyRun) (link : LinkRun) where
       → LeadsFrom stands stands (IsAnswer (Ok parsed) o copy link a)
   leads-synchronised stands parsed task same nothing answer is =
       leads-told stands stands parsed (Sync task) same answer (leads-nowhere stands (IsCommandAnswer (Sync task) o copy link answer) (λ kept. (refl, nothing, is)))
+
+  pub leads-delta : (stands : KeptState → Type 0) (parsed : Parsed) (task : Task) → parsed.command ≡ SyncDelta task → NothingFailed o → (answer : Answer) → IsDeltaAnswer task copy link answer → (a : Answer) → IsPrinted answer a
+      → LeadsFrom stands stands (IsAnswer (Ok parsed) o copy link a)
+  leads-delta stands parsed task same nothing answer is =
+      leads-told stands stands parsed (SyncDelta task) same answer (leads-nowhere stands (IsCommandAnswer (SyncDelta task) o copy link answer) (λ kept. (refl, nothing, is)))
+
+  pub leads-cascaded : (old new : KeptState → Type 0) (parsed : Parsed) (feed : List ℕ) → parsed.command ≡ Cascade feed → HaveStood o.folder → link.same → (answer : Answer)
+      → LeadsFrom old new (IsCascadeAnswer feed o.moment o.keeper copy answer) → (a : Answer) → IsPrinted answer a → LeadsFrom old new (IsAnswer (Ok parsed) o copy link a)
+  leads-cascaded old new parsed feed same stood rests answer from =
+      leads-told old new parsed (Cascade feed) same answer
+      (leads-on old old new (IsCascadeAnswer feed o.moment o.keeper copy answer) (IsCommandAnswer (Cascade feed) o copy link answer) (λ kept stands. stands) (λ before after is. (stood, rests, is)) from)
 
   pub leads-entered : (stands : KeptState → Type 0) (parsed : Parsed) (task : EnterTask) → parsed.command ≡ Enter task → HaveStood o.keeper → link.same → (answer : Answer) → IsEnterAnswer task o copy answer → (a : Answer) → IsPrinted answer a
       → LeadsFrom stands stands (IsAnswer (Ok parsed) o copy link a)

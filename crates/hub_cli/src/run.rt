@@ -24,6 +24,8 @@ ghost use Rattle.world_scripts.specs.declared.script.Line.{Line};
 
 use exchange_link::Link;
 use hub_commands::ask::ask;
+use hub_commands::cascade::cascade;
+use hub_commands::delta::delta;
 use hub_commands::enter::enter;
 use hub_commands::export::{export, export_since, manifest};
 use hub_commands::grant::grant;
@@ -79,6 +81,8 @@ fn run_command<F: Folder, H: HubKeeper, C: CopyKeeper, L: Link, K: Clock, O: Sin
         Command::Grant { file } => tell(alloc, grant(alloc, file, folder, keeper, clock), out),
         Command::Ask { file } => ask(alloc, file, folder, keeper, clock, out),
         Command::Sync { task } => tell(alloc, sync(alloc, task, copy, link), out),
+        Command::SyncDelta { task } => tell(alloc, delta(alloc, task, copy, link), out),
+        Command::Cascade { feed } => tell(alloc, cascade(alloc, feed, keeper, copy, clock), out),
         Command::Enter { task } => tell(alloc, enter(alloc, task, folder, copy, clock), out),
         Command::Send { task } => tell(alloc, send(alloc, task, copy, link), out),
         Command::Outbox => tell(alloc, outbox(alloc, copy), out),
@@ -166,7 +170,9 @@ fn run_words<F: Folder, H: HubKeeper, C: CopyKeeper, L: Link, K: Clock, O: Sink>
 ///   the line tells the answer;
 /// - 13: the file of an export would be too large, too; the line tells its kind and size;
 /// - 17: memory ran out, which says nothing of the input;
-/// - 21: the copy that was to be exported holds nothing.
+/// - 19: nothing is held under the token, so nothing can differ from it;
+/// - 20: the hub keeps the held version no longer, or has changed the token's grant since;
+/// - 21: the copy that was to be exported or cascaded holds nothing.
 pub fn run_hub<F: Folder, H: HubKeeper, C: CopyKeeper, L: Link, K: Clock, O: Sink>(
     alloc: Global,
     words: &[String],

@@ -34,7 +34,7 @@ use Rattle.hub_commands.specs.Runs.{LeadsFrom, Writes}
 use Rattle.hub_commands.specs.Steps.{end_of_error}
 use Rattle.hub_commands.specs.declared.answer.Answer.{Answer}
 use Rattle.hub_commands.specs.declared.answer.End.{End}
-use Rattle.hub_commands.specs.declared.answer.End.TheVariants.{BadRow, BadWord, CopyFailed, Done, ExportTooLarge, FileNotUtf8, FileTooLarge, FolderFailed, GrantsRefused, HubFailed, MissingFile, NoMemory, NotEntered, NothingHeld, NotPublished, Refused, RequestRefused, ScriptRefused, Sent, Synced}
+use Rattle.hub_commands.specs.declared.answer.End.TheVariants.{BadRow, BadWord, CopyFailed, DeltaSynced, Done, ExportTooLarge, FileNotUtf8, FileTooLarge, FolderFailed, GrantsRefused, HubFailed, MissingFile, NoMemory, NotEntered, NothingHeld, NotPublished, Refused, RequestRefused, ScriptRefused, Sent, Synced}
 
 some_same : {A : Type 0} {x y : A} → Some x ≡ Some y → x ≡ y
 some_same is = cc is
@@ -58,6 +58,7 @@ ends-wants bytes xs done (FileTooLarge name) is other = absurd is
 ends-wants bytes xs done (GrantsRefused f) is other = absurd is
 ends-wants bytes xs done (NotPublished f) is other = absurd is
 ends-wants bytes xs done (Synced a) is other = absurd is
+ends-wants bytes xs done (DeltaSynced a) is other = absurd is
 ends-wants bytes xs done (NotEntered a) is other = absurd is
 ends-wants bytes xs done (Sent a) is other = absurd is
 ends-wants bytes xs done (FileNotUtf8 a) is other = absurd is
@@ -257,6 +258,7 @@ module _ (o : Outside) (file : List ℕ) where
   stops-says (ScriptRefused n) stops = file-says (ScriptRefused n) stops.0
   stops-says (NotPublished f) stops = file-says (NotPublished f) stops.0
   stops-says (Synced a) stops = file-says (Synced a) stops.0
+  stops-says (DeltaSynced a) stops = file-says (DeltaSynced a) stops.0
   stops-says (NotEntered a) stops = file-says (NotEntered a) stops.0
   stops-says (Sent a) stops = file-says (Sent a) stops.0
   stops-says (FileNotUtf8 a) stops = file-says (FileNotUtf8 a) stops.0
@@ -279,6 +281,7 @@ module _ (o : Outside) (file : List ℕ) where
   ends-says bytes xs done (GrantsRefused f) is = absurd is
   ends-says bytes xs done (NotPublished f) is = absurd is
   ends-says bytes xs done (Synced a) is = absurd is
+  ends-says bytes xs done (DeltaSynced a) is = absurd is
   ends-says bytes xs done (NotEntered a) is = absurd is
   ends-says bytes xs done (Sent a) is = absurd is
   ends-says bytes xs done (FileNotUtf8 a) is = absurd is
@@ -328,6 +331,7 @@ module _ (files : Option (List Stored)) (moment : Option ℤ) (folder : Faults) 
   read_stops keeper (ScriptRefused n) is = (is.0, record { folder = is.1; keeper = refl })
   read_stops keeper (NotPublished f) is = (is.0, record { folder = is.1; keeper = refl })
   read_stops keeper (Synced a) is = (is.0, record { folder = is.1; keeper = refl })
+  read_stops keeper (DeltaSynced a) is = (is.0, record { folder = is.1; keeper = refl })
   read_stops keeper (NotEntered a) is = (is.0, record { folder = is.1; keeper = refl })
   read_stops keeper (Sent a) is = (is.0, record { folder = is.1; keeper = refl })
   read_stops keeper (FileNotUtf8 a) is = (is.0, record { folder = is.1; keeper = refl })

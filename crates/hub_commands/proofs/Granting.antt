@@ -1,5 +1,5 @@
 -- The grants of a file, set in a hub.
-use Rattle.std.proofs.Common.{◌≡◌, ◌≢◌, ◌⊎◌, ℕ, ℤ, List, [], Option, Result, Ok, Err, false, refl, sym, subst, inl, inr}
+use Rattle.std.proofs.Common.{◌≡◌, ◌≢◌, ◌⊎◌, ℕ, ℤ, List, [], Option, Result, Ok, Err, codes, false, refl, sym, subst, inl, inr}
 use Rattle.std.specs.Bool.{⊤}
 use Rattle.csv_sets.specs.Files.{largest}
 use Rattle.version_changes.specs.grants.Granting.{GrantsMake}
@@ -22,9 +22,10 @@ use Rattle.hub_commands.proofs.Publishing.{Says, rose}
 use Rattle.rest_provider.specs.Moments.{IsMomentOf}
 use Rattle.hub_commands.specs.declared.answer.Answer.{Answer}
 use Rattle.hub_commands.specs.declared.answer.End.{End}
-use Rattle.hub_commands.specs.declared.answer.End.TheVariants.{BadRow, BadWord, CopyFailed, Done, ExportTooLarge, FileNotUtf8, FileTooLarge, FolderFailed, GrantsRefused, HubFailed, MissingFile, NoMemory, NotEntered, NothingHeld, NotPublished, Refused, RequestRefused, ScriptRefused, Sent, Synced}
-use Rattle.hub_commands.specs.GrantAnswers.{GivesGrants, GrantsFile, IsGrantAnswer, IsGrantsOf, IsTold, ReadsGrants, SetsGrants, StopsGrant, grants_in, or_refused}
+use Rattle.hub_commands.specs.declared.answer.End.TheVariants.{BadRow, BadWord, CopyFailed, DeltaSynced, Done, ExportTooLarge, FileNotUtf8, FileTooLarge, FolderFailed, GrantsRefused, HubFailed, MissingFile, NoMemory, NotEntered, NothingHeld, NotPublished, Refused, RequestRefused, ScriptRefused, Sent, Synced}
+use Rattle.hub_commands.specs.GrantAnswers.{GivesGrants, GrantsFile, IsGrantAnswer, IsGrantsOf, ReadsGrants, SetsGrants, StopsGrant, grants_in, or_refused}
 use Rattle.hub_commands.specs.Outside.{Faults, HaveStood, Outside, faults_of, outside_of}
+use Rattle.hub_commands.specs.Publishes.{IsTold}
 use Rattle.hub_commands.specs.Runs.{LeadsFrom}
 use Rattle.hub_commands.specs.Steps.{end_of_error}
 
@@ -64,6 +65,7 @@ module _ (files : Option (List Stored)) (before now : ℕ) (name : List ℕ) (re
   reads_grants (Err (NotPublished f)) gives = ((read, told, gives), same)
   reads_grants (Err HubFailed) gives = ((read, told, gives), same)
   reads_grants (Err (Synced a)) gives = ((read, told, gives), same)
+  reads_grants (Err (DeltaSynced a)) gives = ((read, told, gives), same)
   reads_grants (Err (NotEntered a)) gives = ((read, told, gives), same)
   reads_grants (Err (Sent a)) gives = ((read, told, gives), same)
   reads_grants (Err (FileNotUtf8 a)) gives = ((read, told, gives), same)
@@ -92,6 +94,7 @@ module _ (files : Option (List Stored)) (moment : Option ℤ) (folder keeper : F
   end_of_grants (ScriptRefused n) kept is quiet = (is.0, record { folder = is.1; keeper = quiet }, refl)
   end_of_grants (NotPublished f) kept is quiet = absurd (refused_file file is.0.0 (NotPublished f) is.0.2)
   end_of_grants (Synced a) kept is quiet = (is.0, record { folder = is.1; keeper = quiet }, refl)
+  end_of_grants (DeltaSynced a) kept is quiet = (is.0, record { folder = is.1; keeper = quiet }, refl)
   end_of_grants (NotEntered a) kept is quiet = (is.0, record { folder = is.1; keeper = quiet }, refl)
   end_of_grants (Sent a) kept is quiet = (is.0, record { folder = is.1; keeper = quiet }, refl)
   end_of_grants (FileNotUtf8 a) kept is quiet = (is.0, record { folder = is.1; keeper = quiet }, refl)
@@ -131,6 +134,7 @@ module _ (o : Outside) (file : List ℕ) where
   stopped (ScriptRefused n) before after stops = (refl, stops)
   stopped (NotPublished f) before after stops = (refl, stops)
   stopped (Synced a) before after stops = (refl, stops)
+  stopped (DeltaSynced a) before after stops = (refl, stops)
   stopped (NotEntered a) before after stops = (refl, stops)
   stopped (Sent a) before after stops = (refl, stops)
   stopped (FileNotUtf8 a) before after stops = (refl, stops)
@@ -141,14 +145,14 @@ module _ (o : Outside) (file : List ℕ) where
   stopped NoMemory before after stops = (refl, stops)
 
   -- what is told of what the hub made is the answer
-  answered : (result : Result Published End) (answer : Answer) (before after : KeptState) → IsTold result answer → GrantsFile o file result before after → IsGrantAnswer o file answer.done answer.end before after
+  answered : (result : Result Published End) (answer : Answer) (before after : KeptState) → IsTold (codes "grants") result answer → GrantsFile o file result before after → IsGrantAnswer o file answer.done answer.end before after
   answered (Ok published) answer before after (inl is) (sets, nothing) = subst (λ end. IsGrantAnswer o file answer.done end before after) (sym is.1) (published, sets, is.0, nothing)
   answered (Ok published) answer before after (inr is) (sets, nothing) = subst (λ end. IsGrantAnswer o file answer.done end before after) (sym is.1) (is.0, inr (published, sets))
   answered (Err end) answer before after is stops = subst (λ (a : Answer). IsGrantAnswer o file a.done a.end before after) (sym is) (stopped end before after stops)
 
   -- a file set in a hub that was opened
   pub granted : (old new : KeptState → Type 0) (first hub : HeldHub) (result : Result Published End) (answer : Answer) → IsKept first.kept → first.is_open ≡ false → KeeperFits new hub
-      → ((after : KeptState) → IsStanding hub after → (before : KeptState) × IsStanding first before × (new after → old before) × GrantsFile o file result before after) → IsTold result answer
+      → ((after : KeptState) → IsStanding hub after → (before : KeptState) × IsStanding first before × (new after → old before) × GrantsFile o file result before after) → IsTold (codes "grants") result answer
       → LeadsFrom old new (IsGrantAnswer o file answer.done answer.end)
   granted old new first hub result answer is shut fits led told =
       leads-standing old new first hub (IsGrantAnswer o file answer.done answer.end) is shut fits (λ after standing.
@@ -174,6 +178,7 @@ module _ (o : Outside) (file : List ℕ) where
   grant-wants done (ScriptRefused n) before after is other = (is.0, inl is.1.2)
   grant-wants done (NotPublished f) before after is other = (is.0, inl is.1.0.4.1)
   grant-wants done (Synced a) before after is other = (is.0, inl is.1.2)
+  grant-wants done (DeltaSynced a) before after is other = (is.0, inl is.1.2)
   grant-wants done (NotEntered a) before after is other = (is.0, inl is.1.2)
   grant-wants done (Sent a) before after is other = (is.0, inl is.1.2)
   grant-wants done (FileNotUtf8 a) before after is other = (is.0, inl is.1.2)
@@ -197,6 +202,7 @@ module _ (o : Outside) (file : List ℕ) where
   grant-says done (ScriptRefused n) before after is = record { words = λ e. cc e; folder = λ e. cc e; keeper = λ e. cc e; copy = λ e. cc e }
   grant-says done (NotPublished f) before after is = record { words = λ e. cc e; folder = λ e. cc e; keeper = λ e. cc e; copy = λ e. cc e }
   grant-says done (Synced a) before after is = absurd (refused_file file is.1.0.0 (Synced a) is.1.0.2)
+  grant-says done (DeltaSynced a) before after is = absurd (refused_file file is.1.0.0 (DeltaSynced a) is.1.0.2)
   grant-says done (NotEntered a) before after is = absurd (refused_file file is.1.0.0 (NotEntered a) is.1.0.2)
   grant-says done (Sent a) before after is = absurd (refused_file file is.1.0.0 (Sent a) is.1.0.2)
   grant-says done (FileNotUtf8 a) before after is = absurd (refused_file file is.1.0.0 (FileNotUtf8 a) is.1.0.2)

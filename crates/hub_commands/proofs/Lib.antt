@@ -1,4 +1,5 @@
 pub mod Asking
+pub mod Cascading
 mod Entering
 mod Exporting
 pub mod Granting

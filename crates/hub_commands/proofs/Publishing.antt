@@ -25,7 +25,7 @@ use Rattle.hub_commands.specs.Runs.{IsPublishAnswer, LeadsFrom}
 use Rattle.hub_commands.specs.Steps.{PublishesFeed, ReadsSet, end_of, end_of_error}
 use Rattle.hub_commands.specs.declared.answer.Answer.{Answer}
 use Rattle.hub_commands.specs.declared.answer.End.{End}
-use Rattle.hub_commands.specs.declared.answer.End.TheVariants.{BadRow, BadWord, CopyFailed, Done, ExportTooLarge, FileNotUtf8, FileTooLarge, FolderFailed, GrantsRefused, HubFailed, MissingFile, NoMemory, NotEntered, NothingHeld, NotPublished, Refused, RequestRefused, ScriptRefused, Sent, Synced}
+use Rattle.hub_commands.specs.declared.answer.End.TheVariants.{BadRow, BadWord, CopyFailed, DeltaSynced, Done, ExportTooLarge, FileNotUtf8, FileTooLarge, FolderFailed, GrantsRefused, HubFailed, MissingFile, NoMemory, NotEntered, NothingHeld, NotPublished, Refused, RequestRefused, ScriptRefused, Sent, Synced}
 use Rattle.hub_words.specs.declared.task.Feed.{Feed}
 use Rattle.hub_commands.proofs.Leading.{leads-nowhere, leads-on, leads-standing}
 
@@ -55,6 +55,7 @@ module _ (o : Outside) where
   stop-wants feed (RequestRefused n f) before after stops = absurd stops
   stop-wants feed (ScriptRefused n) before after stops = absurd stops
   stop-wants feed (Synced a) before after stops = absurd stops
+  stop-wants feed (DeltaSynced a) before after stops = absurd stops
   stop-wants feed (NotEntered a) before after stops = absurd stops
   stop-wants feed (Sent a) before after stops = absurd stops
   stop-wants feed (FileNotUtf8 a) before after stops = absurd stops
@@ -93,6 +94,7 @@ module _ (o : Outside) where
   stop-says feed (RequestRefused n f) before after stops = absurd stops
   stop-says feed (ScriptRefused n) before after stops = absurd stops
   stop-says feed (Synced a) before after stops = absurd stops
+  stop-says feed (DeltaSynced a) before after stops = absurd stops
   stop-says feed (NotEntered a) before after stops = absurd stops
   stop-says feed (Sent a) before after stops = absurd stops
   stop-says feed (FileNotUtf8 a) before after stops = absurd stops
@@ -279,6 +281,7 @@ module _ (files : Option (List Stored)) (moment : Option ℤ) (folder keeper : F
   end_of_set (RequestRefused n f) kept empty quiet = absurd empty
   end_of_set (ScriptRefused n) kept empty quiet = absurd empty
   end_of_set (Synced a) kept empty quiet = absurd empty
+  end_of_set (DeltaSynced a) kept empty quiet = absurd empty
   end_of_set (NotEntered a) kept empty quiet = absurd empty
   end_of_set (Sent a) kept empty quiet = absurd empty
   end_of_set (FileNotUtf8 a) kept empty quiet = absurd empty

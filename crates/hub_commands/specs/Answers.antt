@@ -1,10 +1,11 @@
 -- What a command answers: its status and its text are functions of the answer alone.
 use Rattle.std.specs.Prelude.{◌≡◌, ◌≢◌, ◌⊎◌, ℕ, ◌++◌, List, [], codes}
+use Rattle.consumer_commands.specs.DeltaLines.{delta_status, delta_text}
 use Rattle.consumer_commands.specs.SendLines.{enter_status, enter_text, send_status, send_text}
 use Rattle.consumer_commands.specs.SyncLines.{place_text, sync_status, sync_text}
 use Rattle.hub_commands.specs.declared.answer.Answer.{Answer}
 use Rattle.hub_commands.specs.declared.answer.End.{End}
-use Rattle.hub_commands.specs.declared.answer.End.TheVariants.{BadRow, BadWord, CopyFailed, Done, ExportTooLarge, FileNotUtf8, FileTooLarge, FolderFailed, GrantsRefused, HubFailed, MissingFile, NoMemory, NotEntered, NothingHeld, NotPublished, Refused, RequestRefused, ScriptRefused, Sent, Synced}
+use Rattle.hub_commands.specs.declared.answer.End.TheVariants.{BadRow, BadWord, CopyFailed, DeltaSynced, Done, ExportTooLarge, FileNotUtf8, FileTooLarge, FolderFailed, GrantsRefused, HubFailed, MissingFile, NoMemory, NotEntered, NothingHeld, NotPublished, Refused, RequestRefused, ScriptRefused, Sent, Synced}
 use Rattle.hub_commands.specs.Lines.{bad_word_text, copy_failed, fault_text, folder_failed, grants_fault_text, hub_failed, named_file_text, no_memory, nothing_held, publish_fault_text, request_text, script_text}
 
 abbrev pub status_of : End → ℕ
@@ -22,6 +23,7 @@ status_of (ScriptRefused line) = 4
 status_of (NotPublished fault) = 4
 status_of HubFailed = 5
 status_of (Synced answer) = sync_status answer
+status_of (DeltaSynced answer) = delta_status answer
 status_of (NotEntered error) = enter_status error
 status_of (Sent answer) = send_status answer
 status_of CopyFailed = 6
@@ -45,6 +47,7 @@ end_text (ScriptRefused line) = script_text line
 end_text (NotPublished fault) = publish_fault_text fault
 end_text HubFailed = hub_failed
 end_text (Synced answer) = sync_text answer
+end_text (DeltaSynced answer) = delta_text answer
 end_text (NotEntered error) = enter_text error
 end_text (Sent answer) = send_text answer
 end_text CopyFailed = copy_failed

@@ -1,20 +1,26 @@
--- What `sync` and `list` answer.
+-- What `sync`, `delta` and `list` answer.
 use Rattle.std.specs.Prelude.{◌≡◌, ◌⊎◌, ℕ, List, []}
 pub use Rattle.consumer_commands.specs.Consumers.{CopyRun, LinkRun, copy_between, copy_run, link_between, link_run}
 use Rattle.consumer_commands.specs.Held.{IsHeldText}
+pub use Rattle.consumer_commands.specs.Deltas.{IsDeltaOf}
 pub use Rattle.consumer_commands.specs.Syncs.{IsSyncOf}
 pub use Rattle.hub_words.specs.Tasks.{Task}
 use Rattle.keeper_memory.specs.copy.Copies.{Copy}
+use Rattle.consumer_deltas.specs.declared.answer.DeltaAnswer.{DeltaAnswer}
 use Rattle.exchange_link.specs.declared.answer.SyncAnswer.{SyncAnswer}
 use Rattle.roster_base.specs.Faults.{Rose}
 use Rattle.roster_values.specs.declared.kind.Kind.{Kind}
 use Rattle.hub_commands.specs.declared.answer.Answer.{Answer}
-use Rattle.hub_commands.specs.declared.answer.End.TheVariants.{CopyFailed, Done, NoMemory, Synced}
+use Rattle.hub_commands.specs.declared.answer.End.TheVariants.{CopyFailed, DeltaSynced, Done, NoMemory, Synced}
 
 -- the answer of `sync`: that of a synchronisation between copy and link, of which all holds that is promised of one; memory may run out
 -- for its line
 abbrev pub IsSyncAnswer : Task → CopyRun → LinkRun → Answer → Type 0
 IsSyncAnswer task copy link answer = (answer.done ≡ []) × (a : SyncAnswer) × IsSyncOf task a copy link × ((answer.end ≡ Synced a) ⊎ (answer.end ≡ NoMemory))
+
+-- the same of `delta`
+abbrev pub IsDeltaAnswer : Task → CopyRun → LinkRun → Answer → Type 0
+IsDeltaAnswer task copy link answer = (answer.done ≡ []) × (a : DeltaAnswer) × IsDeltaOf task a copy link × ((answer.end ≡ DeltaSynced a) ⊎ (answer.end ≡ NoMemory))
 
 -- each copy for which the keeper stands is one for which it stood
 abbrev pub CopyStays : CopyRun → Type 0

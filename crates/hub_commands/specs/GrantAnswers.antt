@@ -15,7 +15,6 @@ use Rattle.outside_ports.specs.declared.folder.FileRead.{FileRead}
 use Rattle.outside_ports.specs.declared.folder.FileRead.TheVariants.{Absent, Bytes, TooLong}
 use Rattle.outside_ports.specs.Files.{ReadsFile, Stored}
 use Rattle.rest_provider.specs.Moments.{IsMomentOf}
-use Rattle.hub_commands.specs.declared.answer.Answer.{Answer}
 use Rattle.hub_commands.specs.declared.answer.End.{End}
 use Rattle.hub_commands.specs.declared.answer.End.TheVariants.{Done, FileTooLarge, FolderFailed, GrantsRefused, HubFailed, MissingFile, NoMemory, NotPublished}
 use Rattle.hub_commands.specs.Outside.{Faults, HaveRisen, HaveStood, NothingFailed, Outside}
@@ -72,9 +71,3 @@ GivesGrants name read grants = grants_in name read ≡ grants
 abbrev pub GrantsFile : Outside → List ℕ → Result Published End → KeptState → KeptState → Type 0
 GrantsFile outside file (Ok answer) before after = SetsGrants outside file (Ok answer) before after × NothingFailed outside
 GrantsFile outside file (Err end) before after = StopsGrant outside file end before after
-
--- what is told of the grants of a file: the line of the version, or how it ended
-abbrev pub IsTold : Result Published End → Answer → Type 0
-IsTold (Ok published) answer =
-    ((answer.done ≡ told_text (codes "grants") published) × (answer.end ≡ Done)) ⊎ ((answer.done ≡ []) × (answer.end ≡ NoMemory))
-IsTold (Err end) answer = answer ≡ record { done = []; end = end }

@@ -13,6 +13,7 @@ use Rattle.outside_ports.specs.Files.{Stored}
 use Rattle.roster_types.specs.Sets.{SetRecord}
 use Rattle.version_changes.specs.sets.Applying.{Applies}
 use Rattle.rest_provider.specs.Moments.{IsMomentOf}
+use Rattle.hub_commands.specs.declared.answer.Answer.{Answer}
 use Rattle.hub_commands.specs.declared.answer.End.{End}
 use Rattle.hub_commands.specs.declared.answer.End.TheVariants.{Done, FolderFailed, HubFailed, NoMemory, NotPublished, Refused}
 use Rattle.hub_words.specs.declared.task.Feed.{Feed}
@@ -42,6 +43,11 @@ StopsAt outside feed _ before after = ⊥
 abbrev pub told_text : List ℕ → Published → List ℕ
 told_text name (New version) = published_text name version
 told_text name (Same version) = unchanged_text name version
+
+-- what is told of what was made under a name: the line of the version, or how it ended
+abbrev pub IsTold : List ℕ → Result Published End → Answer → Type 0
+IsTold name (Ok published) answer = ((answer.done ≡ told_text name published) × (answer.end ≡ Done)) ⊎ ((answer.done ≡ []) × (answer.end ≡ NoMemory))
+IsTold name (Err end) answer = answer ≡ record { done = []; end = end }
 
 -- the sets of feeds are published one after another up to the first that isn't; want of memory may end them anywhere
 abbrev pub IsRunOf : Outside → List Feed → List ℕ → End → KeptState → KeptState → Type 0

@@ -9,9 +9,10 @@ use crate::lines::{
     grants_fault_line, named_file_line, publish_fault_lines, request_line, script_line,
 };
 use consumer_commands::{
-    COPY_FAILED, enter_line, enter_status, place_line, send_line, send_status, sync_line,
-    sync_status,
+    COPY_FAILED, delta_line, delta_status, enter_line, enter_status, place_line, send_line,
+    send_status, sync_line, sync_status,
 };
+use consumer_deltas::DeltaAnswer;
 use csv_sets::SetFault;
 use exchange_link::{EnterError, SendAnswer, SyncAnswer};
 use grant_files::GrantFault;
@@ -51,6 +52,8 @@ pub enum End {
     HubFailed,
     /// A synchronisation ended with this answer.
     Synced(SyncAnswer),
+    /// An incremental synchronisation ended with this answer.
+    DeltaSynced(DeltaAnswer),
     /// A write wasn't entered, for this reason.
     NotEntered(EnterError),
     /// Sending the writes of the outbox ended with this answer.
@@ -96,7 +99,7 @@ impl Answer {
 }
 
 impl End {
-    /// The status of the process: 0, 2 to 17, or 21.
+    /// The status of the process: 0, 2 to 17, or 19 to 21.
     pub fn status(&self) -> u8
         ensures value { result ≡ answers.status_of self.now }
         ensures other { result ≢ 1 }
@@ -111,6 +114,7 @@ impl End {
             End::RequestRefused { .. } | End::ScriptRefused { .. } => 4,
             End::HubFailed => 5,
             End::Synced(answer) => sync_status(*answer),
+            End::DeltaSynced(answer) => delta_status(*answer),
             End::NotEntered(error) => enter_status(*error),
             End::Sent(answer) => send_status(*answer),
             End::CopyFailed => 6,
@@ -140,6 +144,7 @@ impl End {
             End::NotPublished(fault) => publish_fault_lines(alloc, fault),
             End::HubFailed => Ok(String::from_str(alloc, HUB_FAILED)?),
             End::Synced(answer) => sync_line(alloc, *answer),
+            End::DeltaSynced(answer) => delta_line(alloc, *answer),
             End::NotEntered(error) => enter_line(alloc, *error),
             End::Sent(answer) => send_line(alloc, *answer),
             End::CopyFailed => Ok(String::from_str(alloc, COPY_FAILED)?),

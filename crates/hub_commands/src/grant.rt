@@ -1,14 +1,14 @@
 //! The command `grant`.
 
-ghost use Rattle.std.specs.Prelude.{◌≡◌, ℕ, List, Ok, false};
+ghost use Rattle.std.specs.Prelude.{◌≡◌, ℕ, List, false};
 ghost use Rattle.hub_core.specs.Standing.{IsStanding, KeeperFits};
 ghost use Rattle.keeper_memory.specs.Kept.{IsKept, KeptState};
-ghost use Rattle.hub_commands.specs.GrantAnswers.{GivesGrants, GrantsFile, IsGrantAnswer, IsTold, ReadsGrants};
+ghost use Rattle.hub_commands.specs.GrantAnswers.{GivesGrants, GrantsFile, IsGrantAnswer, ReadsGrants};
 ghost use Rattle.hub_commands.specs.Outside.{faults_between, outside_between};
 ghost use Rattle.hub_commands.specs.Runs.{LeadsBetween};
 
 use crate::answer::{Answer, End};
-use crate::publish::{end_of_error, told_line};
+use crate::publish::{end_of_error, told};
 use csv_sets::file::LARGEST;
 use grant_files::read_grants;
 use grant_scopes::GrantList;
@@ -97,29 +97,6 @@ fn set_grants<F: Folder, H: HubKeeper, K: Clock>(
     }
 }
 
-// What is told of the grants of a file.
-fn told(alloc: Global, answer: Result<Published, End>) -> Answer
-    ensures { IsTold answer result }
-{
-    match answer {
-        Ok(published) => told_published(alloc, published),
-        Err(end) => Answer::nothing_done(alloc, end),
-    }
-}
-
-// What is told of grants that are published.
-fn told_published(alloc: Global, published: Published) -> Answer
-    ensures { IsTold (Ok published) result }
-{
-    match told_line(alloc, "grants", published) {
-        Ok(line) => Answer {
-            done: Text::from_string(line),
-            end: End::Done,
-        },
-        Err(NoMemory) => Answer::nothing_done(alloc, End::NoMemory),
-    }
-}
-
 // Sets the grants of a file in a hub that was opened.
 fn grant_into<F: Folder, H: HubKeeper, K: Clock>(
     alloc: Global,
@@ -137,7 +114,7 @@ fn grant_into<F: Folder, H: HubKeeper, K: Clock>(
 {
     let answer = set_grants(alloc, &mut hub, keeper, file, folder, clock);
     drop(hub);
-    told(alloc, answer)
+    told(alloc, "grants", answer)
 }
 
 /// Gives each caller what a file in the root folder asks for, in the hub that a keeper keeps, and takes all other grants away.

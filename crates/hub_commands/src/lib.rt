@@ -3,6 +3,8 @@
 
 pub mod answer;
 pub mod ask;
+pub mod cascade;
+pub mod delta;
 pub mod enter;
 pub mod export;
 pub mod grant;

@@ -1,10 +1,10 @@
 //! The command `publish`.
 
-ghost use Rattle.std.specs.Prelude.{◌≡◌, ◌++◌, ℕ, List, IfOk, OnErr, OnOk, false, string_bytes};
+ghost use Rattle.std.specs.Prelude.{◌≡◌, ◌++◌, ℕ, List, IfOk, Ok, OnErr, OnOk, false, string_bytes};
 ghost use Rattle.hub_core.specs.Standing.{IsStanding, KeeperFits};
 ghost use Rattle.keeper_memory.specs.Kept.{IsKept, KeptState};
 ghost use Rattle.hub_commands.specs.Outside.{faults_between, outside_between};
-ghost use Rattle.hub_commands.specs.Publishes.{IsRunOf, told_text};
+ghost use Rattle.hub_commands.specs.Publishes.{IsRunOf, IsTold, told_text};
 ghost use Rattle.hub_commands.specs.Runs.{IsPublishAnswer, LeadsBetween};
 ghost use Rattle.hub_commands.specs.Steps.{PublishesFeed, ReadsSet, end_of, end_of_error};
 
@@ -61,6 +61,29 @@ pub fn told_line(alloc: Global, name: &str, answer: Published) -> Result<String,
     match answer {
         Published::New { version } => published_line(alloc, name, version),
         Published::Same { version } => unchanged_line(alloc, name, version),
+    }
+}
+
+// What is told of a version that was made under a name.
+fn told_published(alloc: Global, name: &str, published: Published) -> Answer
+    ensures { IsTold name.now (Ok published) result }
+{
+    match told_line(alloc, name, published) {
+        Ok(line) => Answer {
+            done: Text::from_string(line),
+            end: End::Done,
+        },
+        Err(NoMemory) => Answer::nothing_done(alloc, End::NoMemory),
+    }
+}
+
+/// What is told of what was made under a name: the line of the version, or how it ended.
+pub fn told(alloc: Global, name: &str, answer: Result<Published, End>) -> Answer
+    ensures { IsTold name.now answer result }
+{
+    match answer {
+        Ok(published) => told_published(alloc, name, published),
+        Err(end) => Answer::nothing_done(alloc, end),
     }
 }
 

@@ -27,7 +27,7 @@ struct Case {
     ends: &'static [PortEnds],
 }
 
-static CASES: [Case; 10] = [
+static CASES: [Case; 11] = [
     Case {
         before: &[],
         line: "publish sis=lake sis=new",
@@ -289,6 +289,48 @@ static CASES: [Case; 10] = [
                 &[
                     "6 copy store failed\nhub 0, run 1, version 2\n",
                     "0 all\nhub 0, run 1, version 2\n",
+                ],
+            ),
+        ],
+    },
+    Case {
+        before: &["sync tok-e 100 1"],
+        line: "cascade up",
+        reply: "",
+        ends: &[
+            (
+                Port::Sink,
+                &[
+                    "1 a front\nhub 1, run 1, version 2\n",
+                    "0 all\nhub 1, run 1, version 2\n",
+                ],
+            ),
+            (
+                Port::Hub(Calls::Reads),
+                &[
+                    "5 hub store failed\nhub 0, run 1, version 2\n",
+                    "0 all\nhub 1, run 1, version 2\n",
+                ],
+            ),
+            (
+                Port::Hub(Calls::Before),
+                &[
+                    "5 hub store failed\nhub 0, run 1, version 2\n",
+                    "0 all\nhub 1, run 1, version 2\n",
+                ],
+            ),
+            (
+                Port::Hub(Calls::After),
+                &[
+                    "5 hub store failed\nhub 1, run 1, version 2\n",
+                    "0 all\nhub 1, run 1, version 2\n",
+                ],
+            ),
+            (
+                Port::Copy(Calls::Reads),
+                &[
+                    "6 copy store failed\nhub 0, run 1, version 2\n",
+                    "0 all\nhub 1, run 1, version 2\n",
                 ],
             ),
         ],

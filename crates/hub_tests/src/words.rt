@@ -6,7 +6,7 @@ use std::alloc::Global;
 use std::test::Fail;
 
 // Words, and the line that names the first bad one.
-static BAD_WORDS: [(&str, &str); 85] = [
+static BAD_WORDS: [(&str, &str); 92] = [
     ("", "bad word 0\n"),
     ("hide", "bad word 0\n"),
     ("--help", "bad word 0\n"),
@@ -56,6 +56,13 @@ static BAD_WORDS: [(&str, &str); 85] = [
     ("sync tok-e 1 1x", "bad word 3\n"),
     ("sync tok-e 1 01", "bad word 3\n"),
     ("sync tok-e 1 100 1", "bad word 4\n"),
+    ("delta", "bad word 1\n"),
+    ("delta tok-e 1001 1", "bad word 2\n"),
+    ("delta tok-e 1", "bad word 3\n"),
+    ("delta tok-e 1 100 1", "bad word 4\n"),
+    ("cascade", "bad word 1\n"),
+    ("cascade a,b", "bad word 1\n"),
+    ("cascade up up", "bad word 2\n"),
     ("--keep 5 sync tok-e 1001 1", "bad word 4\n"),
     ("enter", "bad word 1\n"),
     ("enter post categories c2 c2.json", "bad word 1\n"),

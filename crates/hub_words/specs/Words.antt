@@ -1,6 +1,7 @@
 -- The command that words spell, or the place of the first word that no command continues.
 use Rattle.std.specs.Prelude.{ℕ, ◌+◌, ◌==◌, ◌&&◌, ◌||◌, Bool, false, not, List, [], ◌∷◌, Option, None, Some, Result, Ok, Err, bytes_eq, codes, if◌then◌else◌, drop, is_none, is_some, length, nat_le, nat_lt, suc, take, true, unwrap_or, zero}
 use Rattle.std.specs.List.{after_first, before_first, list_any, prefix_len}
+use Rattle.hub_words.specs.Tasks.{Task}
 use Rattle.hub_words.specs.declared.task.Feed.{Feed}
 use Rattle.hub_words.specs.declared.task.ServeTask.{ServeTask}
 use Rattle.rest_paths.specs.Routes.{is_gradebook}
@@ -12,7 +13,7 @@ use Rattle.roster_values.specs.Kinds.{kind_of_word}
 use Rattle.roster_values.specs.declared.kind.Kind.{Kind}
 use Rattle.roster_values.specs.declared.mode.Mode.TheVariants.{Bulk, Delta}
 use Rattle.hub_words.specs.declared.words.Command.{Command}
-use Rattle.hub_words.specs.declared.words.Command.TheVariants.{Ask, Enter, Export, ExportManifest, ExportSince, Grant, ListHeld, Make, Outbox, Publish, Rehearse, Send, Show, Sync}
+use Rattle.hub_words.specs.declared.words.Command.TheVariants.{Ask, Cascade, Enter, Export, ExportManifest, ExportSince, Grant, ListHeld, Make, Outbox, Publish, Rehearse, Send, Show, Sync, SyncDelta}
 use Rattle.hub_words.specs.declared.words.EnterTask.TheVariants.{Delete, Put}
 use Rattle.hub_words.specs.declared.words.OptionWord.{OptionWord}
 use Rattle.hub_words.specs.declared.words.OptionWord.TheVariants.{Folder, Keep, Peer, Store}
@@ -99,22 +100,33 @@ largest_limit = 1000
 abbrev pub largest_tries : ℕ
 largest_tries = 100
 
-abbrev pub tries_words : ℕ → List ℕ → ℕ → List (List ℕ) → Result Command ℕ
+-- a token, how many rows a page has at most and how often a request is tried, and the words behind them
+abbrev pub tries_words : ℕ → List ℕ → ℕ → List (List ℕ) → Result (Task × List (List ℕ)) ℕ
 tries_words place token limit [] = Err place
 tries_words place token limit (word ∷ words) = do
   tries ← or_bad place (number_to largest_tries word)
-  ended (place + 1) (Sync (record { token = token; limit = limit; tries = tries })) words
+  Ok (record { token = token; limit = limit; tries = tries }, words)
 
-abbrev pub limit_words : ℕ → List ℕ → List (List ℕ) → Result Command ℕ
+abbrev pub limit_words : ℕ → List ℕ → List (List ℕ) → Result (Task × List (List ℕ)) ℕ
 limit_words place token [] = Err place
 limit_words place token (word ∷ words) = do
   limit ← or_bad place (number_to largest_limit word)
   tries_words (place + 1) token limit words
 
--- a token, how many rows a page has at most, and how often a request is tried, behind `sync`
-abbrev pub sync_words : ℕ → List (List ℕ) → Result Command ℕ
-sync_words place [] = Err place
-sync_words place (word ∷ words) = if is_token word then limit_words (place + 1) word words else Err place
+abbrev pub task_words : ℕ → List (List ℕ) → Result (Task × List (List ℕ)) ℕ
+task_words place [] = Err place
+task_words place (word ∷ words) = if is_token word then limit_words (place + 1) word words else Err place
+
+-- behind `sync` and `delta`
+abbrev pub sync_words : ℕ → (Task → Command) → List (List ℕ) → Result Command ℕ
+sync_words place command words = do
+  (task, rest) ← task_words place words
+  ended (place + 3) (command task) rest
+
+-- a feed's name, behind `cascade`
+abbrev pub name_words : ℕ → (List ℕ → Command) → List (List ℕ) → Result Command ℕ
+name_words place command [] = Err place
+name_words place command (word ∷ words) = if is_name word then ended (place + 1) (command word) words else Err place
 
 -- ---- the outbox
 
@@ -221,7 +233,9 @@ command_words place (word ∷ words) =
     else if bytes_eq word (codes "publish") then publish_words (place + 1) words
     else if bytes_eq word (codes "grant") then file_words (place + 1) Grant words
     else if bytes_eq word (codes "ask") then file_words (place + 1) Ask words
-    else if bytes_eq word (codes "sync") then sync_words (place + 1) words
+    else if bytes_eq word (codes "sync") then sync_words (place + 1) Sync words
+    else if bytes_eq word (codes "delta") then sync_words (place + 1) SyncDelta words
+    else if bytes_eq word (codes "cascade") then name_words (place + 1) Cascade words
     else if bytes_eq word (codes "enter") then enter_words (place + 1) words
     else if bytes_eq word (codes "send") then send_words (place + 1) words
     else if bytes_eq word (codes "outbox") then ended (place + 1) Outbox words

@@ -6,7 +6,7 @@ ghost use Rattle.keeper_memory.specs.copy.Copies.{IsGradebook};
 ghost use Rattle.roster_base.specs.Reading.{Gives};
 ghost use Rattle.hub_words.specs.Words as spec;
 ghost use Rattle.hub_words.specs.declared.words.Command.{Command as CommandValue};
-ghost use Rattle.hub_words.specs.declared.words.Command.TheVariants.{Ask, ExportSince, Grant, ListHeld, Rehearse, Show};
+ghost use Rattle.hub_words.specs.declared.words.Command.TheVariants.{Ask, Cascade, ExportSince, Grant, ListHeld, Rehearse, Show, Sync, SyncDelta};
 
 use crate::task::{Feed, GradebookObject, MakeTask, SendTask, ServeTask, SyncTask, is_gradebook};
 use roster_base::{Items, NoMemory, Refusal, Text};
@@ -37,6 +37,10 @@ pub enum Command {
     Ask { file: Text },
     /// Copies what a token sees of the hub at the address of the words.
     Sync { task: SyncTask },
+    /// Brings that copy to the hub's newest version, by what differs from the held one on.
+    SyncDelta { task: SyncTask },
+    /// Makes the rows of the copy those of a feed of the hub.
+    Cascade { feed: Name },
     /// Puts a write into the outbox of the copy.
     Enter { task: EnterTask },
     /// Sends the writes of the outbox to the hub at the address of the words.
@@ -275,25 +279,34 @@ pub fn number_to(most: u32, word: &str) -> Option<u32>
     }
 }
 
-fn tries_at(place: usize, token: Token, limit: u32, words: &[String]) -> Result<Command, WordError>
-    requires place { place + length words.now < 2 ^ 63 }
+fn tries_at(
+    place: usize,
+    token: Token,
+    limit: u32,
+    words: &[String],
+) -> Result<(SyncTask, &[String]), WordError>
     requires some { 0 < limit }
     requires few { limit ≤ LARGEST_LIMIT }
-    ensures { Gives (λ c. c) result (spec.tries_words place token limit (map string_bytes words.now)) }
+    ensures gives { Gives (λ r. (r.0, map string_bytes r.1.now)) result (spec.tries_words place token limit (map string_bytes words.now)) }
+    ensures shorter { IfOk result (λ r. 1 + length r.1.now ≡ length words.now) }
 {
     let Some((word, words)) = words.split_first() else {
         return Err(Refusal::Fault(place));
     };
-    let Some(tries) = number_to(LARGEST_TRIES, word.as_str()) else {
-        return Err(Refusal::Fault(place));
-    };
-    let task = SyncTask::new(token, limit, tries);
-    end(place + 1, Command::Sync { task }, words)
+    match number_to(LARGEST_TRIES, word.as_str()) {
+        Some(tries) => Ok((SyncTask::new(token, limit, tries), words)),
+        None => Err(Refusal::Fault(place)),
+    }
 }
 
-fn limit_at(place: usize, token: Token, words: &[String]) -> Result<Command, WordError>
+fn limit_at(
+    place: usize,
+    token: Token,
+    words: &[String],
+) -> Result<(SyncTask, &[String]), WordError>
     requires { place + length words.now < 2 ^ 63 }
-    ensures { Gives (λ c. c) result (spec.limit_words place token (map string_bytes words.now)) }
+    ensures gives { Gives (λ r. (r.0, map string_bytes r.1.now)) result (spec.limit_words place token (map string_bytes words.now)) }
+    ensures shorter { IfOk result (λ r. 2 + length r.1.now ≡ length words.now) }
 {
     let Some((word, words)) = words.split_first() else {
         return Err(Refusal::Fault(place));
@@ -304,9 +317,15 @@ fn limit_at(place: usize, token: Token, words: &[String]) -> Result<Command, Wor
     }
 }
 
-fn sync(alloc: Global, place: usize, words: &[String]) -> Result<Command, WordError>
+// What three words ask of a synchronisation, and the words behind them.
+fn task_at(
+    alloc: Global,
+    place: usize,
+    words: &[String],
+) -> Result<(SyncTask, &[String]), WordError>
     requires { place + length words.now < 2 ^ 63 }
-    ensures { Gives (λ c. c) result (spec.sync_words place (map string_bytes words.now)) }
+    ensures gives { Gives (λ r. (r.0, map string_bytes r.1.now)) result (spec.task_words place (map string_bytes words.now)) }
+    ensures shorter { IfOk result (λ r. 3 + length r.1.now ≡ length words.now) }
 {
     let Some((word, words)) = words.split_first() else {
         return Err(Refusal::Fault(place));
@@ -315,6 +334,45 @@ fn sync(alloc: Global, place: usize, words: &[String]) -> Result<Command, WordEr
         Some(token) => limit_at(place + 1, token, words),
         None => Err(Refusal::Fault(place)),
     }
+}
+
+fn sync(alloc: Global, place: usize, words: &[String]) -> Result<Command, WordError>
+    requires { place + length words.now < 2 ^ 63 }
+    ensures { Gives (λ c. c) result (spec.sync_words place Sync (map string_bytes words.now)) }
+{
+    let (task, words) = task_at(alloc, place, words)?;
+    end(place + 3, Command::Sync { task }, words)
+}
+
+fn delta(alloc: Global, place: usize, words: &[String]) -> Result<Command, WordError>
+    requires { place + length words.now < 2 ^ 63 }
+    ensures { Gives (λ c. c) result (spec.sync_words place SyncDelta (map string_bytes words.now)) }
+{
+    let (task, words) = task_at(alloc, place, words)?;
+    end(place + 3, Command::SyncDelta { task }, words)
+}
+
+// The feed that the last word names.
+fn feed_at(alloc: Global, place: usize, words: &[String]) -> Result<Name, WordError>
+    requires { place + length words.now < 2 ^ 63 }
+    ensures { (command : List ℕ → CommandValue) → Gives command result (spec.name_words place command (map string_bytes words.now)) }
+{
+    let Some((word, words)) = words.split_first() else {
+        return Err(Refusal::Fault(place));
+    };
+    match Name::read(alloc, word.as_str())? {
+        Some(_) if !words.is_empty() => Err(Refusal::Fault(place + 1)),
+        Some(feed) => Ok(feed),
+        None => Err(Refusal::Fault(place)),
+    }
+}
+
+fn cascade(alloc: Global, place: usize, words: &[String]) -> Result<Command, WordError>
+    requires { place + length words.now < 2 ^ 63 }
+    ensures { Gives (λ c. c) result (spec.name_words place Cascade (map string_bytes words.now)) }
+{
+    let feed = feed_at(alloc, place, words)?;
+    Ok(Command::Cascade { feed })
 }
 
 // The kind of the gradebook that a word names.
@@ -515,6 +573,8 @@ pub fn command_at(alloc: Global, place: usize, words: &[String]) -> Result<Comma
         Some((word, words)) if word.as_str() == "grant" => grant(alloc, place + 1, words),
         Some((word, words)) if word.as_str() == "ask" => ask(alloc, place + 1, words),
         Some((word, words)) if word.as_str() == "sync" => sync(alloc, place + 1, words),
+        Some((word, words)) if word.as_str() == "delta" => delta(alloc, place + 1, words),
+        Some((word, words)) if word.as_str() == "cascade" => cascade(alloc, place + 1, words),
         Some((word, words)) if word.as_str() == "enter" => enter(alloc, place + 1, words),
         Some((word, words)) if word.as_str() == "send" => send(alloc, place + 1, words),
         Some((word, words)) if word.as_str() == "outbox" => {

@@ -1,8 +1,31 @@
 -- Answers over the real folder and clock, from answers over a keeper.
-use Rattle.std.proofs.Common.{◌≡◌, ◌≢◌, ℕ, List, [], Option, None, Some, Result, Ok, Err, IfNone, IsErr, IsSome, refl, sym, ◌∙◌, ap, subst, inl, inr, arith}
+use Rattle.std.proofs.Common.{◌≡◌, ◌≢◌, ◌⊎◌, ℕ, ℤ, List, [], Option, None, Some, Result, Ok, Err, IfNone, IsErr, IsSome, refl, sym, ◌∙◌, ap, subst, inl, inr, arith}
 use Rattle.std.specs.Io.KnownBytes.{Appends}
 use Rattle.std.specs.Bool.{⊤}
-use Rattle.hub_commands.specs.ConsumerAnswers.{CopyRun, IsSyncOf, LinkRun, Task, copy_run, link_run}
+use Rattle.consumer_deltas.specs.DeltaAnswers.{HasBase}
+use Rattle.consumer_deltas.specs.DeltaCalls.{AsksDeltas}
+use Rattle.consumer_deltas.specs.DeltaCauses.{DeltaCause, DeltaCaused}
+use Rattle.consumer_deltas.specs.DeltaCauses.DeltaCause.{Broke as BrokeBeside, Halted, OutOfRuns, Swapped, Unbased, Wants as WantsAlone}
+use Rattle.consumer_deltas.specs.DeltaFilling.{Halts}
+use Rattle.consumer_deltas.specs.DeltaFilling.Halts.{Broke, Merging, Stopped, Wants as WantsBeside}
+use Rattle.consumer_deltas.specs.DeltaJudging.{Sofar}
+use Rattle.consumer_deltas.specs.DeltaMerging.{Unmerged}
+use Rattle.consumer_deltas.specs.DeltaMerging.Unmerged.{Broke as Broken, TooMany as OverLimit, Unfit as Misfit, Wants as Wanting}
+use Rattle.consumer_deltas.specs.declared.answer.DeltaAnswer.{DeltaAnswer}
+use Rattle.consumer_deltas.specs.declared.judging.Place.{Place}
+use Rattle.hub_cascade.specs.Answers.{MakesCascade}
+use Rattle.hub_cascade.specs.Held.{CascadesHeld, HoldSomething}
+use Rattle.hub_cascade.specs.declared.error.CascadeError.{CascadeError}
+use Rattle.hub_cascade.specs.declared.error.CascadeError.TheVariants as cascade_error
+use Rattle.hub_core.specs.Steps.{MakesNext}
+use Rattle.hub_core.specs.declared.hub_error.HubError.{HubError}
+use Rattle.hub_core.specs.declared.hub_error.HubError.TheVariants as hub_error
+use Rattle.hub_core.specs.declared.published.Published.{Published}
+use Rattle.hub_core.specs.declared.published.Published.TheVariants as published
+use Rattle.hub_commands.specs.Cascades.{CascadesCopy, IsCascadeAnswer, TellsCascade}
+use Rattle.version_changes.specs.sets.Applying.{Outcome}
+use Rattle.version_core.specs.declared.change.BaseVersion.{BaseVersion}
+use Rattle.hub_commands.specs.ConsumerAnswers.{CopyRun, IsDeltaOf, IsSyncOf, LinkRun, Task, copy_run, link_run}
 use Rattle.hub_commands.specs.OutboxAnswers.{IsEnterOf, IsSendOf, Sending}
 use Rattle.keeper_memory.specs.copy.Copies.{Copy, IsCopy}
 use Rattle.keeper_memory.specs.copy.HeldCopy.{HeldCopy, empty_copy}
@@ -18,6 +41,7 @@ use Rattle.keeper_memory.specs.Failures.{FailurePlan, planned}
 use Rattle.keeper_memory.specs.Kept.{IsKept, KeptState}
 use Rattle.version_core.proofs.MarkLemmas.{no_marks}
 use Rattle.outside_ports.specs.Written.{AppendsPart}
+use Rattle.status_info.specs.declared.request.Request.{Request}
 use Rattle.roster_base.specs.Faults.{Rose}
 use Rattle.roster_values.specs.declared.kind.Kind.{Kind}
 use Rattle.hub_commands.proofs.Telling.{told_count, told_done, told_part}
@@ -33,9 +57,28 @@ use Rattle.hub_commands.specs.declared.answer.Answer.{Answer}
 use Rattle.hub_commands.specs.declared.answer.End.{End}
 use Rattle.hub_commands.specs.declared.answer.End.TheVariants as ends
 use Rattle.hub_words.specs.declared.words.Command.{Command}
-use Rattle.hub_words.specs.declared.words.Command.TheVariants.{Ask, Enter, Export, ExportManifest, ExportSince, Grant, ListHeld, Make, Outbox, Publish, Rehearse, Send, Show, Sync}
+use Rattle.hub_words.specs.declared.words.Command.TheVariants.{Ask, Cascade, Enter, Export, ExportManifest, ExportSince, Grant, ListHeld, Make, Outbox, Publish, Rehearse, Send, Show, Sync, SyncDelta}
 use Rattle.hub_words.specs.declared.words.Parsed.{Parsed}
 use Rattle.real_run.specs.RealRuns.{AnswersFrom, AnswersOver, IsRealAnswer, RealCopy, RealLink, Runs, new_copy_run, new_hub, real_copy_run, silent_link_run, stored_copy_run}
+
+-- ---- what a cascade makes, of what is asked more weakly
+
+module _ (asks more : BaseVersion → Outcome → Type 0) (f : (version : BaseVersion) (outcome : Outcome) → asks version outcome → more version outcome) where
+  makes_next-more : (r : Result Published HubError) (from to : KeptState) → MakesNext asks r from to → MakesNext more r from to
+  makes_next-more (Ok (published.New version)) from to (next, adds, is) = (next, record { asked = f _ _ adds.asked; added = adds.added }, is)
+  makes_next-more (Ok (published.Same version)) from to is = (f _ _ is.0, is.1, is.2)
+  makes_next-more (Err (hub_error.Refused fault)) from to is = (f _ _ is.0, is.1)
+  makes_next-more (Err hub_error.Keeper) from to (inl same) = inl same
+  makes_next-more (Err hub_error.Keeper) from to (inr (next, adds)) = inr (next, record { asked = f _ _ adds.asked; added = adds.added })
+  makes_next-more (Err hub_error.NoMemory) from to is = is
+
+  makes_cascade-more : (r : Result Published CascadeError) (from to : KeptState) → MakesCascade asks r from to → MakesCascade more r from to
+  makes_cascade-more (Ok answer) from to is = makes_next-more (Ok answer) from to is
+  makes_cascade-more (Err (cascade_error.Refused fault)) from to is = makes_next-more (Err (hub_error.Refused fault)) from to is
+  makes_cascade-more (Err cascade_error.HubKeeper) from to is = makes_next-more (Err hub_error.Keeper) from to is
+  makes_cascade-more (Err cascade_error.CopyKeeper) from to is = is
+  makes_cascade-more (Err cascade_error.NoMemory) from to is = is
+  makes_cascade-more (Err cascade_error.NothingHeld) from to is = is
 
 -- ---- what is told of copy and link, said more weakly
 
@@ -85,6 +128,68 @@ module _ (stood stands stood_more stands_more : Copy → Type 0) (before now : �
     cause = caused-more task.token task.limit _ _ a is.cause;
     told = λ agreed b t s tell. let (x, y, z, w, v) = is.told (met _ b s agreed) b t (on b s) tell in (x, y, down b s x z, w, v);
     bound = λ agreed b t s tell. let (x, z, n, few, bound) = is.bound (met _ b s agreed) b t (on b s) tell in (x, down b s x z, n, few, bound);
+    cause_told = λ agreed b t s tell. is.cause_told (met _ b s agreed) b t (on b s) tell;
+    complete = λ agreed link copy b t s tell. let (x, y, z, w, v) = is.complete (met _ b s agreed) link copy b t (on b s) tell in (x, y, down b s x z, w, v);
+    marks = λ agreed b t s tell. is.marks (met _ b s agreed) b t (on b s) tell;
+  }
+
+  asks_deltas-more : (token : List ℕ) (limit tries count now : ℕ) (a : DeltaAnswer) (before after : List Request)
+      → AsksDeltas token limit tries stood stands count now a before after → AsksDeltas token limit tries stood_more stands_more count now a before after
+  asks_deltas-more token limit tries count now a before after is = record {
+    run = is.run;
+    count = is.count;
+    base = is.base;
+    held = λ some b s. stood-before (HasBase is.base token) b s (is.held some b (on b s));
+    runs = λ some b s. is.runs some b (on b s);
+    counts = is.counts;
+    some = is.some;
+    each = is.each;
+  }
+
+  unmerged-more : (broke : Type 0) (kind : Kind) (entries : Sofar) (a : SyncAnswer) → Unmerged broke stands kind entries a → Unmerged broke stands_more kind entries a
+  unmerged-more broke kind entries a (Broken failed is) = Broken failed is
+  unmerged-more broke kind entries a (Wanting is) = Wanting is
+  unmerged-more broke kind entries a (Misfit unfit is) = Misfit (λ b s. unfit b (on b s)) is
+  unmerged-more broke kind entries a (OverLimit n large all is) = OverLimit n large (λ b s. all b (on b s)) is
+
+  halts-more : (run count : ℕ) (how broke : Type 0) (place : Place) (a : DeltaAnswer) → Halts kept run count how broke stands place a → Halts kept run count how broke stands_more place a
+  halts-more run count how broke place a (Stopped stops) = Stopped stops
+  halts-more run count how broke place a (Merging entries are s why is) = Merging entries are s (unmerged-more broke place.kind entries s why) is
+  halts-more run count how broke place a (Broke failed is) = Broke failed is
+  halts-more run count how broke place a (WantsBeside is) = WantsBeside is
+
+  delta_cause-more : (run count : ℕ) (how broke : Type 0) (place : Place) (a : DeltaAnswer) → DeltaCause kept run count how broke stands place a → DeltaCause kept run count how broke stands_more place a
+  delta_cause-more run count how broke place a (Unbased none is) = Unbased none is
+  delta_cause-more run count how broke place a (OutOfRuns none is) = OutOfRuns none is
+  delta_cause-more run count how broke place a (Swapped version is) = Swapped version is
+  delta_cause-more run count how broke place a (BrokeBeside failed is) = BrokeBeside failed is
+  delta_cause-more run count how broke place a (WantsAlone is) = WantsAlone is
+  delta_cause-more run count how broke place a (Halted halts) = Halted (halts-more run count how broke place a halts)
+
+  delta_caused-more : (token : List ℕ) (limit : ℕ) (how : ℕ → Type 0) (broke : Type 0) (a : DeltaAnswer)
+      → DeltaCaused token limit stood stands asked asked_now kept how broke a → DeltaCaused token limit stood_more stands_more asked asked_now kept how broke a
+  delta_caused-more token limit how broke a is = record {
+    run = is.run;
+    count = is.count;
+    place = is.place;
+    held = λ some b s. stood-before (HasBase is.place.base token) b s (is.held some b (on b s));
+    few = is.few;
+    counts = is.counts;
+    runs = λ some b s. is.runs some b (on b s);
+    only = delta_cause-more is.run is.count (how is.count) broke is.place a is.only;
+    exact = is.exact;
+  }
+
+  delta-more : (task : Task) (a : DeltaAnswer) → IsDeltaOf task a copy_old link_old → IsDeltaOf task a copy_new link_new
+  delta-more task a is = record {
+    copy = λ b s. stood-before _ b s (is.copy b (on b s));
+    base = λ b s. stood-before _ b s (is.base b (on b s));
+    faulted = λ b s. stood-before _ b s (is.faulted b (on b s));
+    last_run = λ b s. stood-before _ b s (is.last_run b (on b s));
+    cause = delta_caused-more task.token task.limit _ _ a is.cause;
+    asks = λ t tell. let (x, told, asks) = is.asks t tell in (x, told, asks_deltas-more task.token task.limit task.tries _ _ a x.sent t.sent asks);
+    told = λ agreed b t s tell. let (x, y, z, w, v) = is.told (met _ b s agreed) b t (on b s) tell in (x, y, down b s x z, w, v);
+    bound = λ agreed b t s tell. let (x, y, z, w, n, few, bound) = is.bound (met _ b s agreed) b t (on b s) tell in (x, y, down b s x z, w, n, few, bound);
     cause_told = λ agreed b t s tell. is.cause_told (met _ b s agreed) b t (on b s) tell;
     complete = λ agreed link copy b t s tell. let (x, y, z, w, v) = is.complete (met _ b s agreed) link copy b t (on b s) tell in (x, y, down b s x z, w, v);
     marks = λ agreed b t s tell. is.marks (met _ b s agreed) b t (on b s) tell;
@@ -151,12 +256,42 @@ module _ (stood stands stood_more stands_more : Copy → Type 0) (before now : �
       = λ text t. record { held = t.held; are = record { list = t.are.list; held = λ b s. t.are.held b (on b s) }; rows = t.rows; changes = t.changes; file = t.file } in
       inr (set, at, reads, moment, export-more IsText (HasTooMany at (rows_in kind set.parts) kind) more kind a ends_so)
 
+  something-more : HoldSomething stands → HoldSomething stands_more
+  something-more is b s none = is b (on b s) none
+
+  cascades-more : (feed : List ℕ) (moment : Option ℤ) (r : Result Published CascadeError) (from to : KeptState) → CascadesCopy feed moment copy_old r from to → CascadesCopy feed moment copy_new r from to
+  cascades-more feed moment r from to (at, is, makes) = (
+    at,
+    is,
+    makes_cascade-more (CascadesHeld stands feed at) (CascadesHeld stands_more feed at)
+        (λ version outcome c. (c.0, record { order = c.1.order; held = λ b s. c.1.held b (on b s) }, c.2)) r from to makes,
+  )
+
+  tells_cascade-more : (feed : List ℕ) (moment : Option ℤ) (keeper : Faults) (done : List ℕ) (end : End) (from to : KeptState)
+      → TellsCascade feed moment keeper copy_old done end from to → TellsCascade feed moment keeper copy_new done end from to
+  tells_cascade-more feed moment keeper done ends.Done from to (some, quiet, answer, is, line) = (something-more some, quiet, answer, cascades-more feed moment (Ok answer) from to is, line)
+  tells_cascade-more feed moment keeper done ends.HubFailed from to (none, (risen, inl same)) = (none, (risen, inl same))
+  tells_cascade-more feed moment keeper done ends.HubFailed from to (none, (risen, inr is)) = (none, (risen, inr (cascades-more feed moment (Err cascade_error.HubKeeper) from to is)))
+  tells_cascade-more feed moment keeper done ends.CopyFailed from to is = is
+  tells_cascade-more feed moment keeper done (ends.NotPublished fault) from to (none, (some, quiet, is)) =
+      (none, (something-more some, quiet, cascades-more feed moment (Err (cascade_error.Refused fault)) from to is))
+  tells_cascade-more feed moment keeper done ends.NothingHeld from to (none, (nothing, quiet, same)) = (none, ((λ b s. nothing b (on b s)), quiet, same))
+  tells_cascade-more feed moment keeper done ends.NoMemory from to (none, inl same) = (none, inl same)
+  tells_cascade-more feed moment keeper done ends.NoMemory from to (none, inr (answer, is)) = (none, inr (answer, cascades-more feed moment (Ok answer) from to is))
+  tells_cascade-more feed moment keeper done end from to is = absurd is.1
+
+  cascade-more : (feed : List ℕ) (moment : Option ℤ) (keeper : Faults) (a : Answer) (from to : KeptState)
+      → IsCascadeAnswer feed moment keeper copy_old a from to → IsCascadeAnswer feed moment keeper copy_new a from to
+  cascade-more feed moment keeper a from to (stays, is) = (stays-more stays, tells_cascade-more feed moment keeper a.done a.end from to is)
+
   command-more : (command : Command) (o : Outside) (a : Answer) (from to : KeptState) → IsCommandAnswer command o copy_old link_old a from to → IsCommandAnswer command o copy_new link_new a from to
   command-more (Show kind) o a from to is = (rests-more is.0, is.1, is.2)
   command-more (Publish feeds) o a from to is = (rests-more is.0, is.1)
   command-more (Grant file) o a from to is = (rests-more is.0, is.1)
   command-more (Ask file) o a from to is = (rests-more is.0, is.1)
   command-more (Sync task) o a from to (same, nothing, (none, s, is, how)) = (same, nothing, (none, s, sync-more task s is, how))
+  command-more (SyncDelta task) o a from to (same, nothing, (none, d, is, how)) = (same, nothing, (none, d, delta-more task d is, how))
+  command-more (Cascade feed) o a from to is = (is.0, l is.1, cascade-more feed o.moment o.keeper a from to is.2)
   command-more (Enter task) o a from to (same, stood, rests, inl (end, kept_same, reads, is)) = (same, stood, l rests, inl (end, c kept_same, reads, is))
   command-more (Enter task) o a from to (same, stood, rests, inr (write, r, reads, is, entered)) = (same, stood, l rests, inr (write, r, reads, enter-more write r is, entered))
   command-more (Send task) o a from to (same, nothing, (none, s, is, how)) = (same, nothing, (none, s, send-more task s is, how))

@@ -19,7 +19,7 @@ use outside_ports::{DirFolder, Sink, SystemClock};
 use roster_base::NoMemory;
 use std::alloc::Global;
 use std::mem::forget;
-use store_files::{COPY_FILE, HUB_FILE, OpenStore, open_store};
+use store_files::{COPY_FILE, FileItems, HUB_FILE, OpenStore, open_store};
 
 // The system that a run works with, the folder of its files, and the address of the hub that it copies.
 #[derive(Drop)]
@@ -113,6 +113,20 @@ fn run_in_memory<O: Sink>(system: System, spelled: &Spelled, out: &mut O) -> u8
     status
 }
 
+// Runs words that name a store over keepers of its files, or over one such and one in memory that the command doesn't use.
+fn run_with<H: HubKeeper, C: CopyKeeper, O: Sink>(
+    system: System,
+    spelled: &Spelled,
+    keeper: &mut H,
+    copy: &mut C,
+    out: &mut O,
+) -> u8
+    requires { IsSome (store_in spelled.now) }
+    ensures { RunsBetween O.written O.faults out.old out.new result spelled.now (IsRealAnswer spelled.now) }
+{
+    run_over(system, spelled, keeper, copy, out)
+}
+
 // Runs a command of the hub over its keeper. It needs no copy.
 fn run_with_hub<H: HubKeeper, O: Sink>(
     system: System,
@@ -124,103 +138,171 @@ fn run_with_hub<H: HubKeeper, O: Sink>(
     ensures { RunsBetween O.written O.faults out.old out.new result spelled.now (IsRealAnswer spelled.now) }
 {
     let mut copy = MemCopy::new(system.alloc);
-    let status = run_over(system, spelled, keeper, &mut copy, out);
+    let status = run_with(system, spelled, keeper, &mut copy, out);
     drop(copy);
     status
 }
 
-// Runs a command of the consumer over the keeper of its copy. It needs no hub of its own.
-fn run_with_copy<C: CopyKeeper, O: Sink>(
+// Runs words over a hub's keeper and the store of a copy, which is closed then; each call of one that couldn't be opened fails.
+fn run_with_copy<H: HubKeeper, S: OpenStore, O: Sink>(
     system: System,
     spelled: &Spelled,
-    copy: &mut C,
+    keeper: &mut H,
+    copy: Option<S>,
+    out: &mut O,
+) -> u8
+    requires { IsSome (store_in spelled.now) }
+    ensures { RunsBetween O.written O.faults out.old out.new result spelled.now (IsRealAnswer spelled.now) }
+{
+    match copy {
+        Some(items) => {
+            let mut copy = ItemCopy::adopt(items);
+            let status = run_with(system, spelled, keeper, &mut copy, out);
+            copy.release().close();
+            status
+        }
+        None => {
+            let mut closed = ClosedStore::new();
+            run_with(system, spelled, keeper, &mut closed, out)
+        }
+    }
+}
+
+// Runs a command of the hub over its store.
+fn run_of_hub<S: OpenStore, O: Sink>(
+    system: System,
+    spelled: &Spelled,
+    hub: Option<S>,
+    out: &mut O,
+) -> u8
+    requires { IsSome (store_in spelled.now) }
+    ensures { RunsBetween O.written O.faults out.old out.new result spelled.now (IsRealAnswer spelled.now) }
+{
+    match hub {
+        Some(items) => {
+            let mut keeper = ItemHub::adopt(items, keep_of(spelled));
+            let status = run_with_hub(system, spelled, &mut keeper, out);
+            keeper.release().close();
+            status
+        }
+        None => {
+            let mut closed = ClosedStore::new();
+            run_with_hub(system, spelled, &mut closed, out)
+        }
+    }
+}
+
+// Runs a command of the consumer over the store of its copy. It needs no hub of its own.
+fn run_of_copy<S: OpenStore, O: Sink>(
+    system: System,
+    spelled: &Spelled,
+    copy: Option<S>,
     out: &mut O,
 ) -> u8
     requires { IsSome (store_in spelled.now) }
     ensures { RunsBetween O.written O.faults out.old out.new result spelled.now (IsRealAnswer spelled.now) }
 {
     let mut keeper = MemHub::new(system.alloc, 0);
-    let status = run_over(system, spelled, &mut keeper, copy, out);
+    let status = run_with_copy(system, spelled, &mut keeper, copy, out);
     drop(keeper);
     status
 }
 
-// Runs words over what an open store keeps, and closes the store.
-fn run_over_items<S: OpenStore, O: Sink>(
+// Runs a command that looks at both over their stores.
+fn run_of_both<S: OpenStore, O: Sink>(
     system: System,
     spelled: &Spelled,
-    items: S,
+    hub: Option<S>,
+    copy: Option<S>,
     out: &mut O,
 ) -> u8
     requires { IsSome (store_in spelled.now) }
     ensures { RunsBetween O.written O.faults out.old out.new result spelled.now (IsRealAnswer spelled.now) }
 {
-    if is_of_consumer(spelled) {
-        let mut copy = ItemCopy::adopt(items);
-        let status = run_with_copy(system, spelled, &mut copy, out);
-        copy.release().close();
-        status
-    } else {
-        let mut keeper = ItemHub::adopt(items, keep_of(spelled));
-        let status = run_with_hub(system, spelled, &mut keeper, out);
-        keeper.release().close();
-        status
-    }
-}
-
-// Runs words over a store that couldn't be opened.
-fn run_closed<O: Sink>(system: System, spelled: &Spelled, out: &mut O) -> u8
-    requires { IsSome (store_in spelled.now) }
-    ensures { RunsBetween O.written O.faults out.old out.new result spelled.now (IsRealAnswer spelled.now) }
-{
-    let mut closed = ClosedStore::new();
-    if is_of_consumer(spelled) {
-        run_with_copy(system, spelled, &mut closed, out)
-    } else {
-        run_with_hub(system, spelled, &mut closed, out)
-    }
-}
-
-// Runs words over what a store keeps in a folder.
-fn run_stored<O: Sink>(system: System, spelled: &Spelled, folder: &str, out: &mut O) -> u8
-    requires { IsSome (store_in spelled.now) }
-    ensures { RunsBetween O.written O.faults out.old out.new result spelled.now (IsRealAnswer spelled.now) }
-{
-    let file = if is_of_consumer(spelled) {
-        COPY_FILE
-    } else {
-        HUB_FILE
-    };
-    match open_store(system.rt, system.alloc, folder, file) {
-        Ok(Some(items)) => run_over_items(system, spelled, items, out),
-        Ok(None) => run_closed(system, spelled, out),
-        Err(NoMemory) => {
-            drop(system);
-            print(out, 17, NO_MEMORY)
+    match hub {
+        Some(items) => {
+            let mut keeper = ItemHub::adopt(items, keep_of(spelled));
+            let status = run_with_copy(system, spelled, &mut keeper, copy, out);
+            keeper.release().close();
+            status
+        }
+        None => {
+            let mut closed = ClosedStore::new();
+            run_with_copy(system, spelled, &mut closed, copy, out)
         }
     }
 }
 
-// Whether words spell a command of the consumer.
-fn is_of_consumer(spelled: &Spelled) -> bool {
-    match spelled {
-        Ok(parsed) => match &parsed.command {
-            Command::Sync { .. }
-            | Command::Enter { .. }
-            | Command::Send { .. }
-            | Command::Outbox
-            | Command::ListHeld { .. }
-            | Command::ExportManifest { .. }
-            | Command::Export { .. }
-            | Command::ExportSince { .. } => true,
-            Command::Show { .. }
-            | Command::Publish { .. }
-            | Command::Grant { .. }
-            | Command::Ask { .. }
-            | Command::Rehearse { .. }
-            | Command::Make { .. } => false,
-        },
-        Err(_) => false,
+// The stores that a command works with.
+#[derive(Clone, Copy)]
+enum Stores {
+    Hub,
+    Copy,
+    Both,
+}
+
+// Those of the command that words spell. Bad words name no folder, so none is opened for them.
+fn stores_of(spelled: &Spelled) -> Stores {
+    let Ok(parsed) = spelled else {
+        return Stores::Hub;
+    };
+    match &parsed.command {
+        Command::Sync { .. }
+        | Command::SyncDelta { .. }
+        | Command::Enter { .. }
+        | Command::Send { .. }
+        | Command::Outbox
+        | Command::ListHeld { .. }
+        | Command::ExportManifest { .. }
+        | Command::Export { .. }
+        | Command::ExportSince { .. } => Stores::Copy,
+        Command::Cascade { .. } => Stores::Both,
+        Command::Show { .. }
+        | Command::Publish { .. }
+        | Command::Grant { .. }
+        | Command::Ask { .. }
+        | Command::Rehearse { .. }
+        | Command::Make { .. } => Stores::Hub,
+    }
+}
+
+// The stores that a command works with, each as it was opened: `None` is one that couldn't be.
+enum Opened {
+    Hub(Option<FileItems>),
+    Copy(Option<FileItems>),
+    Both {
+        hub: Option<FileItems>,
+        copy: Option<FileItems>,
+    },
+}
+
+// Opens the stores of a command in a folder.
+fn open_stores(system: &System, folder: &str, stores: Stores) -> Result<Opened, NoMemory> {
+    let (rt, alloc) = (system.rt, system.alloc);
+    match stores {
+        Stores::Hub => Ok(Opened::Hub(open_store(rt, alloc, folder, HUB_FILE)?)),
+        Stores::Copy => Ok(Opened::Copy(open_store(rt, alloc, folder, COPY_FILE)?)),
+        Stores::Both => {
+            let hub = open_store(rt, alloc, folder, HUB_FILE)?;
+            let copy = open_store(rt, alloc, folder, COPY_FILE)?;
+            Ok(Opened::Both { hub, copy })
+        }
+    }
+}
+
+// Runs words over what the stores in a folder keep.
+fn run_stored<O: Sink>(system: System, spelled: &Spelled, folder: &str, out: &mut O) -> u8
+    requires { IsSome (store_in spelled.now) }
+    ensures { RunsBetween O.written O.faults out.old out.new result spelled.now (IsRealAnswer spelled.now) }
+{
+    match open_stores(&system, folder, stores_of(spelled)) {
+        Ok(Opened::Hub(hub)) => run_of_hub(system, spelled, hub, out),
+        Ok(Opened::Copy(copy)) => run_of_copy(system, spelled, copy, out),
+        Ok(Opened::Both { hub, copy }) => run_of_both(system, spelled, hub, copy, out),
+        Err(NoMemory) => {
+            drop(system);
+            print(out, 17, NO_MEMORY)
+        }
     }
 }
 
@@ -254,9 +336,9 @@ fn run_words<O: Sink>(rt: HostRuntime, alloc: Global, words: &[String], out: &mu
 
 /// Runs the words over the folder, the clock, the store and the sockets of the system, as `run_hub` does, and gives the status of the process.
 ///
-/// Where the words name a store's folder, a command of the hub finds it in the file `hub.db` there, and one of the consumer its copy in
-/// `copy.db`. Folder and file are made where they aren't there, and one that can't be opened fails. Else hub and copy are new ones in
-/// memory, and nothing of them outlasts the run.
+/// Where the words name a store's folder, a command of the hub finds it in the file `hub.db` there, one of the consumer its copy in
+/// `copy.db`, and `cascade` both. Folder and files are made where they aren't there, and one that can't be opened fails. Else hub and copy
+/// are new ones in memory, and nothing of them outlasts the run.
 ///
 /// The consumer's hub is the one at the address that the words name; where they name none, each exchange fails.
 pub fn run_real<O: Sink>(rt: HostRuntime, alloc: Global, words: &[String], out: &mut O) -> u8

@@ -1,6 +1,6 @@
 use Rattle.std.proofs.Common.{refl}
 use Rattle.consumer_commands.specs.Consumers.{copy_between, link_between}
-use Rattle.hub_cli.proofs.Ending.{leads-command, leads-entered, leads-exported, leads-exported-since, leads-listed, leads-made-answer, leads-manifest, leads-outbox, leads-rehearsed-answer, leads-resting, leads-sent, leads-shown, leads-synchronised, leads-told}
+use Rattle.hub_cli.proofs.Ending.{leads-cascaded, leads-command, leads-delta, leads-entered, leads-exported, leads-exported-since, leads-listed, leads-made-answer, leads-manifest, leads-outbox, leads-rehearsed-answer, leads-resting, leads-sent, leads-shown, leads-synchronised, leads-told}
 use Rattle.hub_commands.proofs.Telling.{writes_as}
 use Rattle.hub_commands.specs.ExportAnswers.{file_answer}
 use Rattle.hub_commands.specs.Outside.{faults_between, outside_between}
@@ -71,6 +71,26 @@ returns-in-Sync g c =
     (link_between g.L.Link.tells g.L.Link.asked g.L.Link.missed g.L.Link.kept g.L.Link.fault_count c.args.link.now c.sync.new.link)
     (g.H.HubKeeper.stands_for c.args.keeper.now) c.args.parsed.now c.in-Sync.task c.in-Sync.is (record { folder = refl; keeper = refl }) c.sync.result c.sync.ensures)
     c.tell-in-Sync.ensures
+
+pub returns-in-SyncDelta : goal.returns-in-SyncDelta
+returns-in-SyncDelta g c =
+    writes_as _ _ _ _ _ _ _
+    (leads-delta
+    (outside_between g.F.Folder.files g.F.Folder.faults c.args.folder.now c.args.folder.now (g.K.Clock.moment c.args.clock.now) (faults_between g.H.HubKeeper.fault_count c.args.keeper.now c.args.keeper.now))
+    (copy_between g.C.CopyKeeper.stands_for g.C.CopyKeeper.fault_count c.args.copy.now c.delta.new.copy)
+    (link_between g.L.Link.tells g.L.Link.asked g.L.Link.missed g.L.Link.kept g.L.Link.fault_count c.args.link.now c.delta.new.link)
+    (g.H.HubKeeper.stands_for c.args.keeper.now) c.args.parsed.now c.in-SyncDelta.task c.in-SyncDelta.is (record { folder = refl; keeper = refl }) c.delta.result c.delta.ensures)
+    c.tell-in-SyncDelta.ensures
+
+pub returns-in-Cascade : goal.returns-in-Cascade
+returns-in-Cascade g c =
+    writes_as _ _ _ _ _ _ _
+    (leads-cascaded
+    (outside_between g.F.Folder.files g.F.Folder.faults c.args.folder.now c.args.folder.now (g.K.Clock.moment c.args.clock.now) (faults_between g.H.HubKeeper.fault_count c.args.keeper.now c.cascade.new.keeper))
+    (copy_between g.C.CopyKeeper.stands_for g.C.CopyKeeper.fault_count c.args.copy.now c.cascade.new.copy)
+    (link_between g.L.Link.tells g.L.Link.asked g.L.Link.missed g.L.Link.kept g.L.Link.fault_count c.args.link.now c.args.link.now)
+    (g.H.HubKeeper.stands_for c.args.keeper.now) (g.H.HubKeeper.stands_for c.cascade.new.keeper) c.args.parsed.now c.in-Cascade.feed c.in-Cascade.is refl refl c.cascade.result c.cascade.ensures)
+    c.tell-in-Cascade.ensures
 
 pub returns-in-Enter : goal.returns-in-Enter
 returns-in-Enter g c =

@@ -1,0 +1,15 @@
+-- The line and the status of an incremental synchronisation's answer.
+use Rattle.std.specs.Prelude.{ℕ, ◌++◌, List, codes, decimal}
+use Rattle.consumer_commands.specs.SyncLines.{sync_status, sync_text}
+use Rattle.consumer_deltas.specs.declared.answer.DeltaAnswer.{DeltaAnswer}
+use Rattle.consumer_deltas.specs.declared.answer.DeltaAnswer.TheVariants.{BaseGone, Ended, NoBase}
+
+abbrev pub delta_status : DeltaAnswer → ℕ
+delta_status (Ended answer) = sync_status answer
+delta_status NoBase = 19
+delta_status (BaseGone held oldest) = 20
+
+unfoldable pub delta_text : DeltaAnswer → List ℕ
+delta_text (Ended answer) = sync_text answer
+delta_text NoBase = codes "no base\n"
+delta_text (BaseGone held oldest) = codes "base gone " ++ decimal held ++ codes " " ++ decimal oldest ++ codes "\n"
