@@ -483,6 +483,18 @@ returns-in-Some-stage-clause-asks g c after tells =
       },
     )
 
+pub returns-in-Err-clause-later : goal.returns-in-Err-clause-later
+returns-in-Err-clause-later g c = omega (arith, c.begin_run.ensures.later)
+
+pub returns-in-Err-drop_other-clause-later : goal.returns-in-Err-drop_other-clause-later
+returns-in-Err-drop_other-clause-later g c = omega (arith, c.begin_run.ensures.later, c.drop_other.ensures.later)
+
+pub returns-in-Some-clause-later : goal.returns-in-Some-clause-later
+returns-in-Some-clause-later g c = omega (arith, c.begin_run.ensures.later, c.drop_other.ensures.later, c.fill.ensures.later)
+
+pub returns-in-Some-stage-clause-later : goal.returns-in-Some-stage-clause-later
+returns-in-Some-stage-clause-later g c = omega (arith, c.begin_run.ensures.later, c.drop_other.ensures.later, c.fill.ensures.later, c.finish.ensures.later)
+
 pub returns-in-Err-clause-link_leads : goal.returns-in-Err-clause-link_leads
 returns-in-Err-clause-link_leads g c = g.met.L.Link.stays _
 
