@@ -54,6 +54,8 @@ module _ {K N : Type 0} (copies : KeeperView K) (links : LinkView N) (token : Li
     pub lacks : lacks_base a ≡ true
     pub base : (c : Copy) → copies.stands between c → (first : Copy) × copies.stands old first × BaseLaw token a first
     pub cause : DeltaAnswers old between before mid a
+    pub later : copies.faults old ≤ copies.faults between
+    pub link_later : links.faults before ≤ links.faults mid
     pub copy_leads : copies.leads old between
     pub link_leads : links.leads before mid
 

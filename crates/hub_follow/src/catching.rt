@@ -37,6 +37,7 @@ pub fn catch_up<C: CopyKeeper, L: Link>(
     ensures shape { IfErr result IsMiss }
     ensures copy { (after : Copy) → C.stands_for copy.new after → (before : Copy) × C.stands_for copy.old before × CatchesUp (sync_of result) before after }
     ensures cause { MissedBy (keeper_view C.stands_for C.fault_count C.leads) (link_view L.tells L.asked L.missed L.kept L.fault_count L.leads) token.now limit tries copy.old copy.new link.old link.new result }
+    ensures later { C.fault_count copy.old ≤ C.fault_count copy.new }
     ensures copy_leads { C.leads copy.old copy.new }
     ensures link_leads { L.leads link.old link.new }
     // Over one that tells. Where something is held under the token, the first request asks for what differs from it.

@@ -3,6 +3,7 @@
 ghost use Rattle.std.specs.Prelude.{◌≡◌, ◌+◌, ◌<◌, ◌≤◌, IfErr, ⊤};
 ghost use Rattle.consumer_deltas.specs.DeltaAnswers.{LacksBase};
 ghost use Rattle.exchange_link.specs.Agreement.{StageAgrees};
+ghost use Rattle.exchange_link.specs.Completeness.{IsDone};
 ghost use Rattle.exchange_link.specs.Exchanges.{Told};
 ghost use Rattle.exchange_link.specs.Marks.{MarksTold};
 ghost use Rattle.hub_cascade.specs.Answers.{CountsCopy, CountsHub, LeavesOpen, MakesCascade, TellsHeld};
@@ -54,7 +55,8 @@ pub fn follow<H: HubKeeper, C: CopyKeeper, L: Link>(
     ensures shape { IfErr (synced result) IsMiss }
     ensures copy { (after : Copy) → C.stands_for copy.new after → (before : Copy) × C.stands_for copy.old before × CatchesUp (sync_of (synced result)) before after }
     ensures cause { MissedBy (keeper_view C.stands_for C.fault_count C.leads) (link_view L.tells L.asked L.missed L.kept L.fault_count L.leads) task.entry.token.now task.entry.limit task.entry.tries copy.old copy.new link.old link.new (synced result) }
-    ensures copy_cause { IfCascaded result (λ made. (held : C) × C.leads copy.old held × C.leads held copy.new × CountsCopy (C.fault_count held) (C.fault_count copy.new) made) ⊤ }
+    ensures copy_cause { IfCascaded result (λ made. (held : C) × C.leads copy.old held × C.leads held copy.new × (C.fault_count copy.old ≤ C.fault_count held) × CountsCopy (C.fault_count held) (C.fault_count copy.new) made) ⊤ }
+    ensures later { C.fault_count copy.old ≤ C.fault_count copy.new }
     ensures copy_leads { C.leads copy.old copy.new }
     ensures link_leads { L.leads link.old link.new }
     // Over one that tells. Where something is held under the token, the first request asks for what differs from it.
@@ -68,9 +70,15 @@ pub fn follow<H: HubKeeper, C: CopyKeeper, L: Link>(
     ensures cause_told { ((c : Copy) (t : Told) → C.stands_for copy.old c → L.tells link.old t → StageAgrees c t)
         → (after : Copy) (tells : Told) → C.stands_for copy.new after → L.tells link.new tells
         → MissedTold (link_view L.tells L.asked L.missed L.kept L.fault_count L.leads) task.entry.token.now link.old tells (synced result) }
-    // And where no call of the link and of either keeper failed, and the cascade refuses nothing.
+    // And where no call of the link and of the copy's keeper failed.
+    ensures caught { ((c : Copy) (t : Told) → C.stands_for copy.old c → L.tells link.old t → StageAgrees c t)
+        → ¬ Rose (L.fault_count link.old) (L.fault_count link.new) → ¬ Rose (C.fault_count copy.old) (C.fault_count copy.new)
+        → (after : Copy) (tells : Told) → C.stands_for copy.new after → L.tells link.new tells
+        → (before : Copy) × (told : Told) × C.stands_for copy.old before × L.tells link.old told
+        × (before.run + 1 < LAST → ¬ Rose told.hub_faults tells.hub_faults → MayCatchUp task.entry.token.now (C.stands_for copy.old) before told tells → IsDone (sync_of (synced result))) }
+    // Nor of the hub's, and the cascade refuses nothing.
     ensures complete { ((c : Copy) (t : Told) → C.stands_for copy.old c → L.tells link.old t → StageAgrees c t)
-        → ¬ Rose (L.fault_count link.old) (L.fault_count link.new) → ((held : C) → C.leads copy.old held → C.leads held copy.new → ¬ Rose (C.fault_count held) (C.fault_count copy.new))
+        → ¬ Rose (L.fault_count link.old) (L.fault_count link.new) → ¬ Rose (C.fault_count copy.old) (C.fault_count copy.new)
         → ¬ Rose (H.fault_count keeper.old) (H.fault_count keeper.new)
         → (after : Copy) (tells : Told) → C.stands_for copy.new after → L.tells link.new tells
         → (before : Copy) × (told : Told) × C.stands_for copy.old before × L.tells link.old told

@@ -39,9 +39,14 @@ returns-then-lacks_base-clause-cause g c =
       lacks = sym c.lacks_base.ensures ∙ c.if-lacks_base.true;
       base = first.ensures.base;
       cause = first.ensures.cause;
+      later = first.ensures.later;
+      link_later = first.ensures.link_later;
       copy_leads = first.ensures.copy_leads;
       link_leads = first.ensures.link_leads;
     }) c.sync-whole.ensures.cause)
+
+pub returns-then-lacks_base-clause-later : goal.returns-then-lacks_base-clause-later
+returns-then-lacks_base-clause-later g c = omega (arith, c.delta_sync-answer.ensures.later, c.sync-whole.ensures.later)
 
 pub returns-then-lacks_base-clause-copy_leads : goal.returns-then-lacks_base-clause-copy_leads
 returns-then-lacks_base-clause-copy_leads g c = g.met.C.CopyKeeper.leads_on _ _ _ c.delta_sync-answer.ensures.copy_leads c.sync-whole.ensures.copy_leads

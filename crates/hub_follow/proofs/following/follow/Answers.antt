@@ -1,5 +1,5 @@
 use Rattle.std.proofs.Common.{◌≡◌, ℕ, Result, Ok, refl, sym, subst, ◌∙◌, arith, inl}
-use Rattle.std.specs.Prelude.{IfErr, ⊤}
+use Rattle.std.specs.Prelude.{IfErr, ⊤, ◌≤◌}
 use Rattle.exchange_link.specs.Completeness.{IsDone}
 use Rattle.hub_cascade.specs.Answers.{CountsCopy, CountsHub, LeavesOpen, MakesCascade, TellsHeld}
 use Rattle.hub_cascade.specs.Cascading.{active_rows, current_rows}
@@ -61,8 +61,11 @@ returns-in-Ok-clause-copy_cause g c =
     let leads = g.C.CopyKeeper.leads in
     let count = g.C.CopyKeeper.fault_count in
     if_cascaded c.after_cascade.result c.in-Ok.version c.cascade-made.result
-    (λ made. (held : g.row.C.Denot) × leads c.args.copy.now held × leads held c.cascade-made.new.copy × CountsCopy (count held) (count c.cascade-made.new.copy) made) ⊤ c.after_cascade.ensures
-    (c.catch_up.new.copy, c.catch_up.ensures.copy_leads, c.cascade-made.ensures.copy_leads, c.cascade-made.ensures.copy_cause)
+    (λ made. (held : g.row.C.Denot) × leads c.args.copy.now held × leads held c.cascade-made.new.copy × (count c.args.copy.now ≤ count held) × CountsCopy (count held) (count c.cascade-made.new.copy) made) ⊤ c.after_cascade.ensures
+    (c.catch_up.new.copy, c.catch_up.ensures.copy_leads, c.cascade-made.ensures.copy_leads, c.catch_up.ensures.later, c.cascade-made.ensures.copy_cause)
+
+pub returns-in-Ok-clause-later : goal.returns-in-Ok-clause-later
+returns-in-Ok-clause-later g c = omega (arith, c.catch_up.ensures.later, c.cascade-made.ensures.later)
 
 pub returns-in-Ok-clause-copy_leads : goal.returns-in-Ok-clause-copy_leads
 returns-in-Ok-clause-copy_leads g c = g.met.C.CopyKeeper.leads_on _ _ _ c.catch_up.ensures.copy_leads c.cascade-made.ensures.copy_leads
@@ -82,13 +85,20 @@ returns-in-Ok-clause-cause_told g c agree after tells stands told =
     subst (λ (r : Result ℕ Missed). MissedTold links c.args.task.token.now c.args.link.now tells r)
     (ok_synced c.after_cascade.result c.in-Ok.version c.cascade-made.result c.after_cascade.ensures) tt
 
+pub returns-in-Ok-clause-caught : goal.returns-in-Ok-clause-caught
+returns-in-Ok-clause-caught g c agree link quiet after tells stands told =
+    let made = c.cascade-made in
+    let y = c.catch_up.ensures.complete agree link (λ rose. quiet (let later = made.ensures.later in omega (arith, rose, later))) after tells (made.ensures.same after stands) told in
+    let is = c.in-Ok.is ∙ ok_synced c.after_cascade.result c.in-Ok.version made.result c.after_cascade.ensures in
+    (y.0, y.1, y.2, y.3, λ low hub may. subst (λ (r : Result ℕ Missed). IsDone (sync_of r)) is (y.4 low hub may))
+
 pub returns-in-Ok-clause-complete : goal.returns-in-Ok-clause-complete
 returns-in-Ok-clause-complete g c agree link quiet hub after tells stands told =
     let token = c.args.task.token.now in
     let made = c.cascade-made in
     let count = g.C.CopyKeeper.fault_count in
     let held = made.ensures.same after stands in
-    let y = c.catch_up.ensures.complete agree link (λ rose. quiet c.args.copy.now (g.met.C.CopyKeeper.stays _) (g.met.C.CopyKeeper.leads_on _ _ _ c.catch_up.ensures.copy_leads made.ensures.copy_leads) (let later = made.ensures.later in omega (arith, rose, later))) after tells held told in
+    let y = c.catch_up.ensures.complete agree link (λ rose. quiet (let later = made.ensures.later in omega (arith, rose, later))) after tells held told in
     let x = c.catch_up.ensures.told agree after tells held told in
     let z = subst (λ (r : Result ℕ Missed). CatchesUpTold token (sync_of r) x.0 x.1 after tells) c.in-Ok.is x.4 in
     let cascade = made.ensures.told made.new.hub.kept (inl refl) in (
@@ -99,7 +109,7 @@ returns-in-Ok-clause-complete g c agree link quiet hub after tells stands told =
       λ low hub_quiet may passes. is_followed c.after_cascade.result c.in-Ok.version made.result c.after_cascade.ensures
           (followed_cascade c.in-Ok.version made.result (g.H.HubKeeper.fault_count c.args.keeper.now) (g.H.HubKeeper.fault_count made.new.keeper) (count c.catch_up.new.copy) (count made.new.copy) (g.C.CopyKeeper.stands_for made.new.copy) after
           (CascadesHeld (g.C.CopyKeeper.stands_for made.new.copy) c.args.task.feed.now c.args.task.at) cascade.0 made.new.hub.kept made.ensures.hub_cause hub made.ensures.copy_cause
-          (quiet c.catch_up.new.copy c.catch_up.ensures.copy_leads made.ensures.copy_leads) made.ensures.held stands (held_some c.in-Ok.version token x.0 x.1 after tells z.held) cascade.3 (λ fault. passes cascade.0 fault cascade.1)),
+          (λ rose. quiet (let later = c.catch_up.ensures.later in omega (arith, rose, later))) made.ensures.held stands (held_some c.in-Ok.version token x.0 x.1 after tells z.held) cascade.3 (λ fault. passes cascade.0 fault cascade.1)),
     )
 
 pub returns-in-Ok-clause-marks : goal.returns-in-Ok-clause-marks
@@ -169,7 +179,7 @@ pub returns-in-Err-clause-copy_cause : goal.returns-in-Err-clause-copy_cause
 returns-in-Err-clause-copy_cause g c =
     let leads = g.C.CopyKeeper.leads in
     let count = g.C.CopyKeeper.fault_count in
-    if_missed c.answer_of_miss.result c.in-Err.missed (λ made. (held : g.row.C.Denot) × leads c.args.copy.now held × leads held c.catch_up.new.copy × CountsCopy (count held) (count c.catch_up.new.copy) made) ⊤ c.answer_of_miss.ensures tt
+    if_missed c.answer_of_miss.result c.in-Err.missed (λ made. (held : g.row.C.Denot) × leads c.args.copy.now held × leads held c.catch_up.new.copy × (count c.args.copy.now ≤ count held) × CountsCopy (count held) (count c.catch_up.new.copy) made) ⊤ c.answer_of_miss.ensures tt
 
 pub returns-in-Err-clause-synchronised : goal.returns-in-Err-clause-synchronised
 returns-in-Err-clause-synchronised g c agree after tells stands told =
@@ -183,9 +193,15 @@ returns-in-Err-clause-cause_told g c agree after tells stands told =
     subst (λ (r : Result ℕ Missed). MissedTold links c.args.task.token.now c.args.link.now tells r)
     (c.in-Err.is ∙ err_synced c.answer_of_miss.result c.in-Err.missed c.answer_of_miss.ensures) (c.catch_up.ensures.cause_told agree after tells stands told)
 
+pub returns-in-Err-clause-caught : goal.returns-in-Err-clause-caught
+returns-in-Err-clause-caught g c agree link quiet after tells stands told =
+    let y = c.catch_up.ensures.complete agree link quiet after tells stands told in
+    let is = c.in-Err.is ∙ err_synced c.answer_of_miss.result c.in-Err.missed c.answer_of_miss.ensures in
+    (y.0, y.1, y.2, y.3, λ low hub may. subst (λ (r : Result ℕ Missed). IsDone (sync_of r)) is (y.4 low hub may))
+
 pub returns-in-Err-clause-complete : goal.returns-in-Err-clause-complete
 returns-in-Err-clause-complete g c agree link quiet hub after tells stands told =
-    let y = c.catch_up.ensures.complete agree link (quiet c.args.copy.now (g.met.C.CopyKeeper.stays _) c.catch_up.ensures.copy_leads) after tells stands told in (
+    let y = c.catch_up.ensures.complete agree link quiet after tells stands told in (
       y.0,
       y.1,
       y.2,
