@@ -39,6 +39,10 @@ copies
                         from that one alone, in pages of LIMIT entries
   cascade FEED          makes the rows of the copy those of FEED in the hub beside it, and prints
                         the version that this leads to
+  follow TOKEN LIMIT TRIES FEED
+                        brings the copy to the newest version of the hub at the peer's address, as delta
+                        does, or as sync where it holds none under TOKEN that this hub still keeps, and
+                        makes its rows those of FEED, as cascade does; prints both versions
   list KIND             prints the rows of KIND that the copy holds, in order of id, as JSON
   export manifest bulk  prints the manifest of a set with a file of each kind, all bulk
   export manifest delta the same, all delta
@@ -95,7 +99,7 @@ status
 const VERSION: &str = "hub 0.1.0, hub.db of format 2, copy.db of format 2\n";
 
 // The words of each command.
-static USAGES: [(&str, &str); 15] = [
+static USAGES: [(&str, &str); 16] = [
     (
         "publish",
         "usage: hub [--store DIR] [--folder DIR] [--keep N] publish FEED=DIR ..\n",
@@ -124,6 +128,10 @@ static USAGES: [(&str, &str); 15] = [
     (
         "cascade",
         "usage: hub [--store DIR] [--keep N] cascade FEED\n",
+    ),
+    (
+        "follow",
+        "usage: hub [--store DIR] [--peer HOST:PORT] [--keep N] follow TOKEN LIMIT TRIES FEED\n",
     ),
     ("list", "usage: hub [--store DIR] list KIND\n"),
     (

@@ -39,6 +39,7 @@ use Rattle.roster_values.specs.declared.mode.Mode.TheVariants.{Bulk}
 use Rattle.hub_commands.specs.Answers.{IsPrinted, status_of, text_of}
 use Rattle.hub_commands.specs.Cascades.{IsCascadeAnswer}
 use Rattle.hub_commands.specs.ConsumerAnswers.{IsDeltaAnswer, IsListAnswer, IsSyncAnswer, ReadEnds}
+use Rattle.hub_commands.specs.Follows.{IsFollowAnswer}
 use Rattle.hub_commands.specs.ExportAnswers.{ExportEnds, HasTooMany, IsChangesExport, IsExport, IsExportAnswer, IsManifestAnswer, IsSinceAnswer, RefusesExport, earlier_feed, rows_in}
 use Rattle.hub_commands.specs.OutboxAnswers.{IsEnterAnswer, IsEntered, IsOutboxAnswer, IsSendAnswer, IsWriteOf, ReadsWrite, or_bad_row, put_in}
 use Rattle.hub_commands.specs.Outside.{HaveRisen, HaveStood, NothingFailed, Outside}
@@ -52,12 +53,13 @@ use Rattle.hub_commands.specs.declared.answer.End.{End}
 use Rattle.hub_commands.specs.declared.answer.End.TheVariants as ends
 use Rattle.hub_words.specs.declared.task.Feed.{Feed}
 use Rattle.hub_words.specs.declared.words.Command.{Command}
-use Rattle.hub_words.specs.declared.words.Command.TheVariants.{Ask, Cascade, Enter, Export, ExportManifest, ExportSince, Grant, ListHeld, Make, Outbox, Publish, Rehearse, Send, Show, Sync, SyncDelta}
+use Rattle.hub_words.specs.declared.words.Command.TheVariants.{Ask, Cascade, Enter, Export, ExportManifest, ExportSince, Follow, Grant, ListHeld, Make, Outbox, Publish, Rehearse, Send, Show, Sync, SyncDelta}
 use Rattle.hub_words.specs.declared.words.EnterTask.{EnterTask}
 use Rattle.hub_words.specs.declared.words.EnterTask.TheVariants.{Delete, Put}
 use Rattle.hub_words.specs.declared.words.Parsed.{Parsed}
 use Rattle.hub_commands.proofs.Asking.{ask-says, ask-wants}
-use Rattle.hub_commands.proofs.Cascading.{cascade-says, cascade-wants}
+use Rattle.hub_commands.proofs.Cascading.{CascadeSays, cascade-says, cascade-wants}
+use Rattle.hub_commands.proofs.Following.{follow-says, follow-wants}
 use Rattle.hub_commands.proofs.Granting.{grant-says, grant-wants}
 use Rattle.hub_commands.proofs.Leading.{leads-nowhere, leads-on}
 use Rattle.hub_commands.proofs.Publishing.{Says, run-says, run-wants}
@@ -135,6 +137,7 @@ module _ (copy : CopyRun) (link : LinkRun) where
   command-wants (Sync task) o a before after is other = inl (is.0, is.1, sync-wants task a is.2)
   command-wants (SyncDelta task) o a before after is other = inl (is.0, is.1, delta-wants task a is.2)
   command-wants (Cascade feed) o a before after is other = inl (is.0, is.1, cascade-wants feed o.moment o.keeper copy a before after is.2 other)
+  command-wants (Follow task feed) o a before after is other = inl (is.0, follow-wants task feed o.moment o.keeper copy link a before after is.1 other)
   command-wants (Enter task) o a before after is other = inl (is.0, is.1, is.2, enter-wants task o a is.3 other)
   command-wants (Send task) o a before after is other = inl (is.0, is.1, send-wants task a is.2)
   command-wants Outbox o a before after is other = inl (is.0, is.1, is.2, (is.3.0, read-wants (IsOutboxText copy.stands) a is.3.1 other))
@@ -267,10 +270,15 @@ module _ (o : Outside) (copy : CopyRun) (link : LinkRun) where
   delta-tells task a (none, d, is, inl same) = subst Tells (sym same) (delta_synced-tells task d is)
   delta-tells task a (none, d, is, inr same) = tells a.end (says_memory o a.end same)
 
+  -- what is said of a cascade is told of it
+  told-says : (end : End) → CascadeSays o.keeper copy end → Tells end
+  told-says end says = record { words = says.words; folder = λ e. absurd (says.folder e); keeper = says.keeper; copy_says = says.copy_says }
+
   cascade-tells : (feed : List ℕ) (a : Answer) (before after : KeptState) → IsCascadeAnswer feed o.moment o.keeper copy a before after → Tells a.end
-  cascade-tells feed a before after is =
-      let says = cascade-says feed o.moment o.keeper copy a before after is in
-      record { words = says.words; folder = λ e. absurd (says.folder e); keeper = says.keeper; copy_says = says.copy_says }
+  cascade-tells feed a before after is = told-says a.end (cascade-says feed o.moment o.keeper copy a before after is)
+
+  follow-tells : (task : Task) (feed : List ℕ) (a : Answer) (before after : KeptState) → IsFollowAnswer task feed o.moment o.keeper copy link a before after → Tells a.end
+  follow-tells task feed a before after is = told-says a.end (follow-says task feed o.moment o.keeper copy link a before after is)
 
   read-tells : (is_text : List ℕ → Type 0) (a : Answer) → ReadEnds is_text copy a → Tells a.end
   read-tells is_text a (inl told) = subst Tells (sym told.0) (tells ends.Done (says_done o ends.Done refl))
@@ -353,6 +361,7 @@ module _ (o : Outside) (copy : CopyRun) (link : LinkRun) where
   command-tells (Sync task) a before after is = sync-tells task a is.2
   command-tells (SyncDelta task) a before after is = delta-tells task a is.2
   command-tells (Cascade feed) a before after is = cascade-tells feed a before after is.2
+  command-tells (Follow task feed) a before after is = follow-tells task feed a before after is.1
   command-tells (Enter task) a before after is = enter-tells task a is.3
   command-tells (Send task) a before after is = send-tells task a is.2
   command-tells Outbox a before after is = read-tells (IsOutboxText copy.stands) a is.3.1
@@ -494,6 +503,12 @@ module _ (o : Outside) (copy : CopyRun) (link : LinkRun) where
   leads-cascaded old new parsed feed same stood rests answer from =
       leads-told old new parsed (Cascade feed) same answer
       (leads-on old old new (IsCascadeAnswer feed o.moment o.keeper copy answer) (IsCommandAnswer (Cascade feed) o copy link answer) (λ kept stands. stands) (λ before after is. (stood, rests, is)) from)
+
+  pub leads-followed : (old new : KeptState → Type 0) (parsed : Parsed) (task : Task) (feed : List ℕ) → parsed.command ≡ Follow task feed → HaveStood o.folder → (answer : Answer)
+      → LeadsFrom old new (IsFollowAnswer task feed o.moment o.keeper copy link answer) → (a : Answer) → IsPrinted answer a → LeadsFrom old new (IsAnswer (Ok parsed) o copy link a)
+  leads-followed old new parsed task feed same stood answer from =
+      leads-told old new parsed (Follow task feed) same answer
+      (leads-on old old new (IsFollowAnswer task feed o.moment o.keeper copy link answer) (IsCommandAnswer (Follow task feed) o copy link answer) (λ kept stands. stands) (λ before after is. (stood, is)) from)
 
   pub leads-entered : (stands : KeptState → Type 0) (parsed : Parsed) (task : EnterTask) → parsed.command ≡ Enter task → HaveStood o.keeper → link.same → (answer : Answer) → IsEnterAnswer task o copy answer → (a : Answer) → IsPrinted answer a
       → LeadsFrom stands stands (IsAnswer (Ok parsed) o copy link a)

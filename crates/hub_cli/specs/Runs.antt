@@ -5,6 +5,7 @@ use Rattle.hub_commands.specs.AskAnswers.{IsAskAnswer}
 use Rattle.hub_commands.specs.Cascades.{IsCascadeAnswer}
 use Rattle.hub_commands.specs.ConsumerAnswers.{IsDeltaAnswer, IsListAnswer, IsSyncAnswer}
 use Rattle.hub_commands.specs.ExportAnswers.{IsExportAnswer, IsManifestAnswer, IsSinceAnswer}
+use Rattle.hub_commands.specs.Follows.{IsFollowAnswer}
 use Rattle.hub_commands.specs.GrantAnswers.{IsGrantAnswer}
 use Rattle.hub_commands.specs.OutboxAnswers.{IsEnterAnswer, IsOutboxAnswer, IsSendAnswer}
 use Rattle.hub_commands.specs.Outside.{HaveStood, NothingFailed, Outside}
@@ -12,7 +13,7 @@ use Rattle.hub_commands.specs.Runs.{IsPublishAnswer, IsShowAnswer, WantsMemory}
 use Rattle.hub_commands.specs.declared.answer.Answer.{Answer}
 use Rattle.hub_commands.specs.declared.answer.End.TheVariants.{BadWord}
 use Rattle.hub_words.specs.declared.words.Command.{Command}
-use Rattle.hub_words.specs.declared.words.Command.TheVariants.{Ask, Cascade, Enter, Export, ExportManifest, ExportSince, Grant, ListHeld, Make, Outbox, Publish, Rehearse, Send, Show, Sync, SyncDelta}
+use Rattle.hub_words.specs.declared.words.Command.TheVariants.{Ask, Cascade, Enter, Export, ExportManifest, ExportSince, Follow, Grant, ListHeld, Make, Outbox, Publish, Rehearse, Send, Show, Sync, SyncDelta}
 use Rattle.hub_words.specs.declared.words.Parsed.{Parsed}
 use Rattle.keeper_memory.specs.Kept.{KeptState}
 use Rattle.script_runs.specs.Makings.{IsMakeAnswer}
@@ -31,6 +32,7 @@ IsCommandAnswer (Ask file) outside copy link answer before after = ConsumerRests
 IsCommandAnswer (Sync task) outside copy link answer before after = (after ≡ before) × NothingFailed outside × IsSyncAnswer task copy link answer
 IsCommandAnswer (SyncDelta task) outside copy link answer before after = (after ≡ before) × NothingFailed outside × IsDeltaAnswer task copy link answer
 IsCommandAnswer (Cascade feed) outside copy link answer before after = HaveStood outside.folder × link.same × IsCascadeAnswer feed outside.moment outside.keeper copy answer before after
+IsCommandAnswer (Follow task feed) outside copy link answer before after = HaveStood outside.folder × IsFollowAnswer task feed outside.moment outside.keeper copy link answer before after
 IsCommandAnswer (Enter task) outside copy link answer before after = (after ≡ before) × HaveStood outside.keeper × link.same × IsEnterAnswer task outside copy answer
 IsCommandAnswer (Send task) outside copy link answer before after = (after ≡ before) × NothingFailed outside × IsSendAnswer task copy link answer
 IsCommandAnswer Outbox outside copy link answer before after = (after ≡ before) × NothingFailed outside × link.same × IsOutboxAnswer copy answer

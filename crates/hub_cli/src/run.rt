@@ -28,6 +28,7 @@ use hub_commands::cascade::cascade;
 use hub_commands::delta::delta;
 use hub_commands::enter::enter;
 use hub_commands::export::{export, export_since, manifest};
+use hub_commands::follow::follow;
 use hub_commands::grant::grant;
 use hub_commands::list::list;
 use hub_commands::outbox::outbox;
@@ -83,6 +84,11 @@ fn run_command<F: Folder, H: HubKeeper, C: CopyKeeper, L: Link, K: Clock, O: Sin
         Command::Sync { task } => tell(alloc, sync(alloc, task, copy, link), out),
         Command::SyncDelta { task } => tell(alloc, delta(alloc, task, copy, link), out),
         Command::Cascade { feed } => tell(alloc, cascade(alloc, feed, keeper, copy, clock), out),
+        Command::Follow { task, feed } => tell(
+            alloc,
+            follow(alloc, task, feed, keeper, copy, link, clock),
+            out,
+        ),
         Command::Enter { task } => tell(alloc, enter(alloc, task, folder, copy, clock), out),
         Command::Send { task } => tell(alloc, send(alloc, task, copy, link), out),
         Command::Outbox => tell(alloc, outbox(alloc, copy), out),

@@ -36,43 +36,49 @@ pub record CascadeSays (faults : Faults) (copies : CopyRun) (end : End) : Type 0
   pub copy_says : status_of end ≡ 6 → Rose copies.faults_before copies.faults_now
 
 module _ (feed : List ℕ) (moment : Option ℤ) (faults : Faults) (copies : CopyRun) where
-  abbrev Tells : List ℕ → End → KeptState → KeptState → Type 0
+  abbrev pub Tells : List ℕ → End → KeptState → KeptState → Type 0
   Tells = TellsCascade feed moment faults copies
 
   -- ---- what the hub makes of it
 
-  module _ (at : ℤ) (m : IsMomentOf moment at) (stays : CopyStays copies) where
-    abbrev Makes : Result Published CascadeError → KeptState → KeptState → Type 0
+  -- a failure of the copy's keeper made its count rise
+  abbrev pub RisesBroken : Result Published CascadeError → Type 0
+  RisesBroken made = made ≡ Err error.CopyKeeper → Rose copies.faults_before copies.faults_now
+
+  module _ (at : ℤ) (m : IsMomentOf moment at) where
+    abbrev pub Makes : Result Published CascadeError → KeptState → KeptState → Type 0
     Makes = MakesCascade (CascadesHeld copies.stands feed at)
 
     -- an error ends the command
-    stopped : (e : CascadeError) (before after : KeptState) → Makes (Err e) before after → TellsHeld copies.stands (Err e) → CountsHub faults.before faults.now (Err e) → CountsCopy copies.faults_before copies.faults_now (Err e)
-        → Tells [] (end_of_cascade e) before after
-    stopped error.HubKeeper before after makes held hub_counts copy_counts = (refl, (rose faults.before faults.now hub_counts, inr (at, m, makes)))
-    stopped error.CopyKeeper before after makes held hub_counts copy_counts = (refl, (rose copies.faults_before copies.faults_now copy_counts, makes))
-    stopped error.NoMemory before after makes held hub_counts copy_counts = (refl, inl makes)
-    stopped error.NothingHeld before after makes held hub_counts copy_counts = (refl, (held, hub_counts, makes))
-    stopped (error.Refused fault) before after makes held hub_counts copy_counts = (refl, (held, hub_counts, (at, m, makes)))
+    stopped : (e : CascadeError) (before after : KeptState) → Makes (Err e) before after → TellsHeld copies.stands (Err e) → CountsHub faults.before faults.now (Err e) → RisesBroken (Err e) → Tells [] (end_of_cascade e) before after
+    stopped error.HubKeeper before after makes held hub_counts broke = (refl, (rose faults.before faults.now hub_counts, inr (at, m, makes)))
+    stopped error.CopyKeeper before after makes held hub_counts broke = (refl, (broke refl, makes))
+    stopped error.NoMemory before after makes held hub_counts broke = (refl, inl makes)
+    stopped error.NothingHeld before after makes held hub_counts broke = (refl, (held, hub_counts, makes))
+    stopped (error.Refused fault) before after makes held hub_counts broke = (refl, (held, hub_counts, (at, m, makes)))
 
-    -- what is told of what the hub made is the answer
-    answered : (made : Result Published CascadeError) (answer : Answer) (before after : KeptState) → IsTold feed (or_ended made) answer → Makes made before after
-        → TellsHeld copies.stands made → CountsHub faults.before faults.now made → CountsCopy copies.faults_before copies.faults_now made → IsCascadeAnswer feed moment faults copies answer before after
-    answered (Ok published) answer before after (inl is) makes held hub_counts copy_counts =
-        (stays, subst (λ end. Tells answer.done end before after) (sym is.1) (held, hub_counts, published, (at, m, makes), is.0))
-    answered (Ok published) answer before after (inr is) makes held hub_counts copy_counts =
-        (stays, subst (λ end. Tells answer.done end before after) (sym is.1) (is.0, inr (published, (at, m, makes))))
-    answered (Err e) answer before after is makes held hub_counts copy_counts =
-        (stays, subst (λ (a : Answer). Tells a.done a.end before after) (sym is) (stopped e before after makes held hub_counts copy_counts))
+    -- what is told of what the hub made
+    pub tells_made : (made : Result Published CascadeError) (answer : Answer) (before after : KeptState) → IsTold feed (or_ended made) answer → Makes made before after
+        → TellsHeld copies.stands made → CountsHub faults.before faults.now made → RisesBroken made → Tells answer.done answer.end before after
+    tells_made (Ok published) answer before after (inl is) makes held hub_counts broke =
+        subst (λ end. Tells answer.done end before after) (sym is.1) (held, hub_counts, published, (at, m, makes), is.0)
+    tells_made (Ok published) answer before after (inr is) makes held hub_counts broke =
+        subst (λ end. Tells answer.done end before after) (sym is.1) (is.0, inr (published, (at, m, makes)))
+    tells_made (Err e) answer before after is makes held hub_counts broke =
+        subst (λ (a : Answer). Tells a.done a.end before after) (sym is) (stopped e before after makes held hub_counts broke)
+
+    rises : (made : Result Published CascadeError) → CountsCopy copies.faults_before copies.faults_now made → RisesBroken made
+    rises made counts e = rose copies.faults_before copies.faults_now (subst (CountsCopy copies.faults_before copies.faults_now) e counts)
 
     -- a copy cascaded into a hub that was opened
-    pub cascaded : (old new : KeptState → Type 0) (first hub : HeldHub) (made : Result Published CascadeError) (answer : Answer) → IsKept first.kept → first.is_open ≡ false → KeeperFits new hub
+    pub cascaded : CopyStays copies → (old new : KeptState → Type 0) (first hub : HeldHub) (made : Result Published CascadeError) (answer : Answer) → IsKept first.kept → first.is_open ≡ false → KeeperFits new hub
         → ((after : KeptState) → IsStanding hub after → (before : KeptState) × IsStanding first before × (new after → old before) × Makes made before after)
         → TellsHeld copies.stands made → CountsHub faults.before faults.now made → CountsCopy copies.faults_before copies.faults_now made → IsTold feed (or_ended made) answer
         → LeadsFrom old new (IsCascadeAnswer feed moment faults copies answer)
-    cascaded old new first hub made answer is shut fits led held hub_counts copy_counts told =
+    cascaded stays old new first hub made answer is shut fits led held hub_counts copy_counts told =
         leads-standing old new first hub (IsCascadeAnswer feed moment faults copies answer) is shut fits (λ after standing.
         let l = led after standing in
-        (l.0, l.1, l.2, answered made answer l.0 after told l.3 held hub_counts copy_counts))
+        (l.0, l.1, l.2, (stays, tells_made made answer l.0 after told l.3 held hub_counts (rises made copy_counts))))
 
   -- ---- want of memory for the line of an end
 
@@ -85,7 +91,7 @@ module _ (feed : List ℕ) (moment : Option ℤ) (faults : Faults) (copies : Cop
   refused-stays : (fault : PublishFault) (before after : KeptState) → CascadesCopy feed moment copies (Err (error.Refused fault)) before after → after ≡ before
   refused-stays fault before after (at, m, (asked, same)) = same
 
-  tells-wants : (done : List ℕ) (end : End) (before after : KeptState) → Tells done end before after → end ≢ Done → Tells done NoMemory before after
+  pub tells-wants : (done : List ℕ) (end : End) (before after : KeptState) → Tells done end before after → end ≢ Done → Tells done NoMemory before after
   tells-wants done Done before after is other = absurd (other refl)
   tells-wants done HubFailed before after (none, (risen, made)) other = (none, made_or_not before after made)
   tells-wants done CopyFailed before after (none, (risen, same)) other = (none, inl same)
@@ -115,7 +121,7 @@ module _ (feed : List ℕ) (moment : Option ℤ) (faults : Faults) (copies : Cop
 
   -- ---- what a status says
 
-  tells-says : (done : List ℕ) (end : End) (before after : KeptState) → Tells done end before after → CascadeSays faults copies end
+  pub tells-says : (done : List ℕ) (end : End) (before after : KeptState) → Tells done end before after → CascadeSays faults copies end
   tells-says done Done before after is = record { words = λ e. cc e; folder = λ e. cc e; keeper = λ e. cc e; copy_says = λ e. cc e }
   tells-says done HubFailed before after (none, (risen, made)) = record { words = λ e. cc e; folder = λ e. cc e; keeper = λ e. risen; copy_says = λ e. cc e }
   tells-says done CopyFailed before after (none, (risen, same)) = record { words = λ e. cc e; folder = λ e. cc e; keeper = λ e. cc e; copy_says = λ e. risen }

@@ -31,8 +31,8 @@ fn end_of_cascade(error: CascadeError) -> End
     }
 }
 
-// What was made, or the end that an error brings.
-fn or_ended(made: Result<Published, CascadeError>) -> Result<Published, End>
+/// What was made, or the end that an error brings.
+pub fn or_ended(made: Result<Published, CascadeError>) -> Result<Published, End>
     ensures { result ≡ or_ended made }
 {
     match made {

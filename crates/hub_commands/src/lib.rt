@@ -7,6 +7,7 @@ pub mod cascade;
 pub mod delta;
 pub mod enter;
 pub mod export;
+pub mod follow;
 pub mod grant;
 pub mod lines;
 pub mod list;

@@ -6,7 +6,7 @@ use std::alloc::Global;
 use std::test::Fail;
 
 // Words, and the line that names the first bad one.
-static BAD_WORDS: [(&str, &str); 92] = [
+static BAD_WORDS: [(&str, &str); 95] = [
     ("", "bad word 0\n"),
     ("hide", "bad word 0\n"),
     ("--help", "bad word 0\n"),
@@ -63,6 +63,9 @@ static BAD_WORDS: [(&str, &str); 92] = [
     ("cascade", "bad word 1\n"),
     ("cascade a,b", "bad word 1\n"),
     ("cascade up up", "bad word 2\n"),
+    ("follow tok-e 1 1", "bad word 4\n"),
+    ("follow tok-e 1 101 up", "bad word 3\n"),
+    ("follow tok-e 1 1 up up", "bad word 5\n"),
     ("--keep 5 sync tok-e 1001 1", "bad word 4\n"),
     ("enter", "bad word 1\n"),
     ("enter post categories c2 c2.json", "bad word 1\n"),

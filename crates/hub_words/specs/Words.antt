@@ -13,7 +13,7 @@ use Rattle.roster_values.specs.Kinds.{kind_of_word}
 use Rattle.roster_values.specs.declared.kind.Kind.{Kind}
 use Rattle.roster_values.specs.declared.mode.Mode.TheVariants.{Bulk, Delta}
 use Rattle.hub_words.specs.declared.words.Command.{Command}
-use Rattle.hub_words.specs.declared.words.Command.TheVariants.{Ask, Cascade, Enter, Export, ExportManifest, ExportSince, Grant, ListHeld, Make, Outbox, Publish, Rehearse, Send, Show, Sync, SyncDelta}
+use Rattle.hub_words.specs.declared.words.Command.TheVariants.{Ask, Cascade, Enter, Export, ExportManifest, ExportSince, Follow, Grant, ListHeld, Make, Outbox, Publish, Rehearse, Send, Show, Sync, SyncDelta}
 use Rattle.hub_words.specs.declared.words.EnterTask.TheVariants.{Delete, Put}
 use Rattle.hub_words.specs.declared.words.OptionWord.{OptionWord}
 use Rattle.hub_words.specs.declared.words.OptionWord.TheVariants.{Folder, Keep, Peer, Store}
@@ -123,10 +123,16 @@ sync_words place command words = do
   (task, rest) ← task_words place words
   ended (place + 3) (command task) rest
 
--- a feed's name, behind `cascade`
+-- a feed's name, behind `cascade`, and behind what a synchronisation is asked to do
 abbrev pub name_words : ℕ → (List ℕ → Command) → List (List ℕ) → Result Command ℕ
 name_words place command [] = Err place
 name_words place command (word ∷ words) = if is_name word then ended (place + 1) (command word) words else Err place
+
+-- behind `follow`
+abbrev pub follow_words : ℕ → List (List ℕ) → Result Command ℕ
+follow_words place words = do
+  (task, rest) ← task_words place words
+  name_words (place + 3) (Follow task) rest
 
 -- ---- the outbox
 
@@ -236,6 +242,7 @@ command_words place (word ∷ words) =
     else if bytes_eq word (codes "sync") then sync_words (place + 1) Sync words
     else if bytes_eq word (codes "delta") then sync_words (place + 1) SyncDelta words
     else if bytes_eq word (codes "cascade") then name_words (place + 1) Cascade words
+    else if bytes_eq word (codes "follow") then follow_words (place + 1) words
     else if bytes_eq word (codes "enter") then enter_words (place + 1) words
     else if bytes_eq word (codes "send") then send_words (place + 1) words
     else if bytes_eq word (codes "outbox") then ended (place + 1) Outbox words

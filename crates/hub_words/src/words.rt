@@ -41,6 +41,8 @@ pub enum Command {
     SyncDelta { task: SyncTask },
     /// Makes the rows of the copy those of a feed of the hub.
     Cascade { feed: Name },
+    /// Brings the copy to the newest version of the hub at the address of the words, and makes its rows those of a feed of this hub.
+    Follow { task: SyncTask, feed: Name },
     /// Puts a write into the outbox of the copy.
     Enter { task: EnterTask },
     /// Sends the writes of the outbox to the hub at the address of the words.
@@ -375,6 +377,15 @@ fn cascade(alloc: Global, place: usize, words: &[String]) -> Result<Command, Wor
     Ok(Command::Cascade { feed })
 }
 
+fn follow(alloc: Global, place: usize, words: &[String]) -> Result<Command, WordError>
+    requires { place + length words.now < 2 ^ 63 }
+    ensures { Gives (λ c. c) result (spec.follow_words place (map string_bytes words.now)) }
+{
+    let (task, words) = task_at(alloc, place, words)?;
+    let feed = feed_at(alloc, place + 3, words)?;
+    Ok(Command::Follow { task, feed })
+}
+
 // The kind of the gradebook that a word names.
 fn gradebook_kind(word: &str) -> Option<Kind>
     ensures value { result ≡ spec.gradebook_kind word.now }
@@ -575,6 +586,7 @@ pub fn command_at(alloc: Global, place: usize, words: &[String]) -> Result<Comma
         Some((word, words)) if word.as_str() == "sync" => sync(alloc, place + 1, words),
         Some((word, words)) if word.as_str() == "delta" => delta(alloc, place + 1, words),
         Some((word, words)) if word.as_str() == "cascade" => cascade(alloc, place + 1, words),
+        Some((word, words)) if word.as_str() == "follow" => follow(alloc, place + 1, words),
         Some((word, words)) if word.as_str() == "enter" => enter(alloc, place + 1, words),
         Some((word, words)) if word.as_str() == "send" => send(alloc, place + 1, words),
         Some((word, words)) if word.as_str() == "outbox" => {

@@ -1,5 +1,5 @@
 -- Answers over the real folder and clock, from answers over a keeper.
-use Rattle.std.proofs.Common.{◌≡◌, ◌≢◌, ◌⊎◌, ℕ, ℤ, List, [], Option, None, Some, Result, Ok, Err, IfNone, IsErr, IsSome, refl, sym, ◌∙◌, ap, subst, inl, inr, arith}
+use Rattle.std.proofs.Common.{◌≡◌, ◌≢◌, ◌⊎◌, ℕ, ℤ, List, [], ◌∷◌, Option, None, Some, Result, Ok, Err, IfNone, IsErr, IsSome, refl, sym, ◌∙◌, ap, subst, inl, inr, arith}
 use Rattle.std.specs.Io.KnownBytes.{Appends}
 use Rattle.std.specs.Bool.{⊤}
 use Rattle.consumer_deltas.specs.DeltaAnswers.{HasBase}
@@ -17,6 +17,9 @@ use Rattle.hub_cascade.specs.Answers.{MakesCascade}
 use Rattle.hub_cascade.specs.Held.{CascadesHeld, HoldSomething}
 use Rattle.hub_cascade.specs.declared.error.CascadeError.{CascadeError}
 use Rattle.hub_cascade.specs.declared.error.CascadeError.TheVariants as cascade_error
+use Rattle.hub_follow.specs.Catching.{AsksFromHeld, FirstIs, MayCatchUp}
+use Rattle.hub_follow.specs.declared.answer.Missed.{Missed}
+use Rattle.hub_follow.specs.declared.answer.Missed.TheVariants as miss
 use Rattle.hub_core.specs.Steps.{MakesNext}
 use Rattle.hub_core.specs.declared.hub_error.HubError.{HubError}
 use Rattle.hub_core.specs.declared.hub_error.HubError.TheVariants as hub_error
@@ -48,6 +51,7 @@ use Rattle.hub_commands.proofs.Telling.{told_count, told_done, told_part}
 use Rattle.hub_commands.specs.Answers.{status_of, text_of}
 use Rattle.hub_commands.specs.ConsumerAnswers.{CopyStays, IsListAnswer}
 use Rattle.hub_commands.specs.ExportAnswers.{ExportEnds, HasTooMany, IsChangesExport, IsExport, IsSinceAnswer, RefusesExport, rows_in}
+use Rattle.hub_commands.specs.Follows.{IsCaughtUp, IsFollowAnswer, MissCause, MissTold, TellsFollow}
 use Rattle.hub_commands.specs.OutboxAnswers.{IsOutboxAnswer}
 use Rattle.hub_commands.specs.Outside.{Faults, Outside, faults_of, outside_of}
 use Rattle.hub_commands.specs.Runs.{LeadsFrom, Writes}
@@ -57,7 +61,7 @@ use Rattle.hub_commands.specs.declared.answer.Answer.{Answer}
 use Rattle.hub_commands.specs.declared.answer.End.{End}
 use Rattle.hub_commands.specs.declared.answer.End.TheVariants as ends
 use Rattle.hub_words.specs.declared.words.Command.{Command}
-use Rattle.hub_words.specs.declared.words.Command.TheVariants.{Ask, Cascade, Enter, Export, ExportManifest, ExportSince, Grant, ListHeld, Make, Outbox, Publish, Rehearse, Send, Show, Sync, SyncDelta}
+use Rattle.hub_words.specs.declared.words.Command.TheVariants.{Ask, Cascade, Enter, Export, ExportManifest, ExportSince, Follow, Grant, ListHeld, Make, Outbox, Publish, Rehearse, Send, Show, Sync, SyncDelta}
 use Rattle.hub_words.specs.declared.words.Parsed.{Parsed}
 use Rattle.real_run.specs.RealRuns.{AnswersFrom, AnswersOver, IsRealAnswer, RealCopy, RealLink, Runs, new_copy_run, new_hub, real_copy_run, silent_link_run, stored_copy_run}
 
@@ -108,8 +112,8 @@ module _ (stood stands stood_more stands_more : Copy → Type 0) (before now : �
   stood-before : (leaves : Copy → Type 0) (a : Copy) → stands_more a → ((b : Copy) × stood b × leaves b) → (b : Copy) × stood_more b × leaves b
   stood-before leaves a s (b, is, left) = (b, down a s b is, left)
 
-  caused-more : (token : List ℕ) (limit : ℕ) (how : ℕ → Type 0) (broke : Type 0) (a : SyncAnswer) → Caused token limit stands tells asked asked_now kept how broke a → Caused token limit stands_more tells asked asked_now kept how broke a
-  caused-more token limit how broke a is = record {
+  caused-more : (token : List ℕ) (limit from : ℕ) (how : ℕ → Type 0) (broke : Type 0) (a : SyncAnswer) → Caused token limit stands tells from asked_now kept how broke a → Caused token limit stands_more tells from asked_now kept how broke a
+  caused-more token limit from how broke a is = record {
     run = is.run;
     count = is.count;
     asked = is.asked;
@@ -125,7 +129,7 @@ module _ (stood stands stood_more stands_more : Copy → Type 0) (before now : �
   sync-more task a is = record {
     copy = λ b s. stood-before _ b s (is.copy b (on b s));
     last_run = λ b s. stood-before _ b s (is.last_run b (on b s));
-    cause = caused-more task.token task.limit _ _ a is.cause;
+    cause = caused-more task.token task.limit asked _ _ a is.cause;
     told = λ agreed b t s tell. let (x, y, z, w, v) = is.told (met _ b s agreed) b t (on b s) tell in (x, y, down b s x z, w, v);
     bound = λ agreed b t s tell. let (x, z, n, few, bound) = is.bound (met _ b s agreed) b t (on b s) tell in (x, down b s x z, n, few, bound);
     cause_told = λ agreed b t s tell. is.cause_told (met _ b s agreed) b t (on b s) tell;
@@ -284,6 +288,71 @@ module _ (stood stands stood_more stands_more : Copy → Type 0) (before now : �
       → IsCascadeAnswer feed moment keeper copy_old a from to → IsCascadeAnswer feed moment keeper copy_new a from to
   cascade-more feed moment keeper a from to (stays, is) = (stays-more stays, tells_cascade-more feed moment keeper a.done a.end from to is)
 
+  -- ---- what is told of a copy that was brought up to date, and cascaded
+
+  miss_cause-more : (task : Task) (s : Result ℕ Missed) → MissCause task copy_old link_old s → MissCause task copy_new link_new s
+  miss_cause-more task (Ok version) is = tt
+  miss_cause-more task (Err (miss.Delta a)) is = delta_caused-more task.token task.limit _ _ a is
+  miss_cause-more task (Err (miss.Sync a)) (mid, is) = (
+    record {
+      run = mid.run;
+      count = mid.count;
+      kept = mid.kept;
+      first = mid.first;
+      unbased = mid.unbased;
+      asked = mid.asked;
+      faults = mid.faults;
+      link_faults = mid.link_faults;
+      counts = mid.counts;
+      later = mid.later;
+      link_later = mid.link_later;
+    },
+    caused-more task.token task.limit mid.asked _ _ a is,
+  )
+
+  miss_told-more : (task : Task) (s : Result ℕ Missed) (t : Told) → MissTold task link_old t s → MissTold task link_new t s
+  miss_told-more task (Ok version) t is = tt
+  miss_told-more task (Err (miss.Delta a)) t is = is
+  miss_told-more task (Err (miss.Sync a)) t is = is
+
+  first-more : (token : List ℕ) (limit : ℕ) (a : Copy) → stands_more a → (sent : List Request) → FirstIs (AsksFromHeld token limit stood) sent → FirstIs (AsksFromHeld token limit stood_more) sent
+  first-more token limit a s [] is = tt
+  first-more token limit a s (q ∷ []) (base, (b, was, has), asks) = (base, (b, down a s b was, has), asks)
+  first-more token limit a s (q ∷ earlier ∷ others) is = first-more token limit a s (earlier ∷ others) is
+
+  may-less : (token : List ℕ) (a : Copy) → stands_more a → (b : Copy) (t now : Told) → MayCatchUp token stood_more b t now → MayCatchUp token stood b t now
+  may-less token a s b t now may = record { pin = may.pin; base = elim may.base [ inl none ↦ inl (λ x was. none x (down a s x was)) | inr held ↦ inr held ] }
+
+  caught-more : (task : Task) (r : Result ℕ Missed) → IsCaughtUp task r copy_old link_old → IsCaughtUp task r copy_new link_new
+  caught-more task r is = record {
+    shape = is.shape;
+    copy = λ b s. stood-before _ b s (is.copy b (on b s));
+    cause = miss_cause-more task r is.cause;
+    first = λ some b t s tell.
+        let (x, told, begins) = is.first (λ a was. some a (down b s a was)) b t (on b s) tell in
+        (x, told, record { more = begins.more; sent = begins.sent; first = first-more task.token task.limit b s begins.more begins.first });
+    told = λ agreed b t s tell. let (x, y, z, w, v) = is.told (met _ b s agreed) b t (on b s) tell in (x, y, down b s x z, w, v);
+    cause_told = λ agreed b t s tell. miss_told-more task r t (is.cause_told (met _ b s agreed) b t (on b s) tell);
+    complete = λ agreed link copy b t s tell.
+        let (x, y, z, w, v) = is.complete (met _ b s agreed) link copy b t (on b s) tell in
+        (x, y, down b s x z, w, λ low quiet may. v low quiet (may-less task.token b s x y t may));
+    marks = λ agreed b t s tell. is.marks (met _ b s agreed) b t (on b s) tell;
+  }
+
+  tells_follow-more : (feed : List ℕ) (moment : Option ℤ) (keeper : Faults) (r : Result ℕ Missed) (a : Answer) (from to : KeptState)
+      → TellsFollow feed moment keeper copy_old r a from to → TellsFollow feed moment keeper copy_new r a from to
+  tells_follow-more feed moment keeper (Ok version) a from to (inl (more, line, told)) = inl (more, line, tells_cascade-more feed moment keeper more a.end from to told)
+  tells_follow-more feed moment keeper (Ok version) a from to (inr (none, wants, more, end, told)) = inr (none, wants, more, end, tells_cascade-more feed moment keeper more end from to told)
+  tells_follow-more feed moment keeper (Err (miss.Sync x)) a from to is = is
+  tells_follow-more feed moment keeper (Err (miss.Delta x)) a from to is = is
+
+  follow-more : (task : Task) (feed : List ℕ) (moment : Option ℤ) (keeper : Faults) (a : Answer) (from to : KeptState)
+      → IsFollowAnswer task feed moment keeper copy_old link_old a from to → IsFollowAnswer task feed moment keeper copy_new link_new a from to
+  follow-more task feed moment keeper a from to (inl (r, caught, told)) = inl (r, caught-more task r caught, tells_follow-more feed moment keeper r a from to told)
+  follow-more task feed moment keeper a from to (inr shut) = inr (record { done = shut.done; end = shut.end; same = (c shut.same.0, l shut.same.1, shut.same.2) })
+
+  -- ---- every command
+
   command-more : (command : Command) (o : Outside) (a : Answer) (from to : KeptState) → IsCommandAnswer command o copy_old link_old a from to → IsCommandAnswer command o copy_new link_new a from to
   command-more (Show kind) o a from to is = (rests-more is.0, is.1, is.2)
   command-more (Publish feeds) o a from to is = (rests-more is.0, is.1)
@@ -292,6 +361,7 @@ module _ (stood stands stood_more stands_more : Copy → Type 0) (before now : �
   command-more (Sync task) o a from to (same, nothing, (none, s, is, how)) = (same, nothing, (none, s, sync-more task s is, how))
   command-more (SyncDelta task) o a from to (same, nothing, (none, d, is, how)) = (same, nothing, (none, d, delta-more task d is, how))
   command-more (Cascade feed) o a from to is = (is.0, l is.1, cascade-more feed o.moment o.keeper a from to is.2)
+  command-more (Follow task feed) o a from to is = (is.0, follow-more task feed o.moment o.keeper a from to is.1)
   command-more (Enter task) o a from to (same, stood, rests, inl (end, kept_same, reads, is)) = (same, stood, l rests, inl (end, c kept_same, reads, is))
   command-more (Enter task) o a from to (same, stood, rests, inr (write, r, reads, is, entered)) = (same, stood, l rests, inr (write, r, reads, enter-more write r is, entered))
   command-more (Send task) o a from to (same, nothing, (none, s, is, how)) = (same, nothing, (none, s, send-more task s is, how))

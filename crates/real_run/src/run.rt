@@ -256,7 +256,7 @@ fn stores_of(spelled: &Spelled) -> Stores {
         | Command::ExportManifest { .. }
         | Command::Export { .. }
         | Command::ExportSince { .. } => Stores::Copy,
-        Command::Cascade { .. } => Stores::Both,
+        Command::Cascade { .. } | Command::Follow { .. } => Stores::Both,
         Command::Show { .. }
         | Command::Publish { .. }
         | Command::Grant { .. }
@@ -337,7 +337,7 @@ fn run_words<O: Sink>(rt: HostRuntime, alloc: Global, words: &[String], out: &mu
 /// Runs the words over the folder, the clock, the store and the sockets of the system, as `run_hub` does, and gives the status of the process.
 ///
 /// Where the words name a store's folder, a command of the hub finds it in the file `hub.db` there, one of the consumer its copy in
-/// `copy.db`, and `cascade` both. Folder and files are made where they aren't there, and one that can't be opened fails. Else hub and copy
+/// `copy.db`, and `cascade` and `follow` both. Folder and files are made where they aren't there, and one that can't be opened fails. Else hub and copy
 /// are new ones in memory, and nothing of them outlasts the run.
 ///
 /// The consumer's hub is the one at the address that the words name; where they name none, each exchange fails.

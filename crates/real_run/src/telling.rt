@@ -49,7 +49,10 @@ pub(crate) fn tell_before(rt: HostRuntime, alloc: Global, spelled: &Spelled) {
         Command::ExportSince { dir, .. } => {
             let _ = tell_folder(rt, alloc, root_of(spelled), "since", dir.as_str());
         }
-        Command::Sync { .. } | Command::SyncDelta { .. } | Command::Send { .. }
+        Command::Sync { .. }
+        | Command::SyncDelta { .. }
+        | Command::Follow { .. }
+        | Command::Send { .. }
             if peer_of(spelled).is_none() => {
             let _ = eprintln!(rt; "no --peer HOST:PORT is named, so each try fails");
         }

@@ -1,4 +1,4 @@
-//! A copy cascaded into a hub of its own, by what the program prints.
+//! A copy cascaded into a hub of its own, and a hub that follows another one, by what the program prints.
 
 use crate::lake::folder;
 use crate::runs::run_between;
@@ -33,6 +33,24 @@ static STEPS: [Step; 8] = [
 
 const SEEN: &str =
     "HTTP/1.1 200 OK\r\nContent-Type: application/json\r\nX-Total-Count: 3\r\nLink: </ims/oneroster/v1p1/users?fields=sourcedId&limit=100&offset=0&hubVersion=2>; rel=\"first\", </ims/oneroster/v1p1/users?fields=sourcedId&limit=100&offset=0&hubVersion=2>; rel=\"last\"\r\nX-Hub-Version: 2\r\nContent-Length: 68\r\n\r\n{\"users\":[{\"sourcedId\":\"u1\"},{\"sourcedId\":\"u2\"},{\"sourcedId\":\"u4\"}]}";
+
+static FOLLOWED: [Step; 7] = [
+    ("follow tok-x 100 1 up", 9, "unknown token\n"),
+    ("follow tok-e 100 1 up", 0, "complete 2\nup version 1\n"),
+    ("grant gd.csv", 0, "grants version 2\n"),
+    ("ask users.http", 0, SEEN),
+    ("follow tok-e 100 1 up", 0, "complete 2\nup unchanged 2\n"),
+    (
+        "publish other=extra",
+        4,
+        "refused: users u2 orgs s2: missing\n",
+    ),
+    (
+        "follow tok-e 100 1 other",
+        4,
+        "complete 2\nrefused: orgs d1 is owned by feed up\n",
+    ),
+];
 
 fn assert_step(
     rt: &impl Abort,
@@ -77,4 +95,9 @@ fn assert_scene(rt: &impl Abort, alloc: Global, steps: &[Step]) -> Result<(), Fa
 #[test]
 fn a_copy_is_served_onward(rt: HostRuntime) -> Result<(), Fail> {
     assert_scene(&rt, rt.alloc(), &STEPS)
+}
+
+#[test]
+fn another_hub_is_followed(rt: HostRuntime) -> Result<(), Fail> {
+    assert_scene(&rt, rt.alloc(), &FOLLOWED)
 }

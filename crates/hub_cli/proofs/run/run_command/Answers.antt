@@ -1,6 +1,6 @@
 use Rattle.std.proofs.Common.{refl}
 use Rattle.consumer_commands.specs.Consumers.{copy_between, link_between}
-use Rattle.hub_cli.proofs.Ending.{leads-cascaded, leads-command, leads-delta, leads-entered, leads-exported, leads-exported-since, leads-listed, leads-made-answer, leads-manifest, leads-outbox, leads-rehearsed-answer, leads-resting, leads-sent, leads-shown, leads-synchronised, leads-told}
+use Rattle.hub_cli.proofs.Ending.{leads-cascaded, leads-command, leads-delta, leads-entered, leads-exported, leads-exported-since, leads-followed, leads-listed, leads-made-answer, leads-manifest, leads-outbox, leads-rehearsed-answer, leads-resting, leads-sent, leads-shown, leads-synchronised, leads-told}
 use Rattle.hub_commands.proofs.Telling.{writes_as}
 use Rattle.hub_commands.specs.ExportAnswers.{file_answer}
 use Rattle.hub_commands.specs.Outside.{faults_between, outside_between}
@@ -91,6 +91,16 @@ returns-in-Cascade g c =
     (link_between g.L.Link.tells g.L.Link.asked g.L.Link.missed g.L.Link.kept g.L.Link.fault_count c.args.link.now c.args.link.now)
     (g.H.HubKeeper.stands_for c.args.keeper.now) (g.H.HubKeeper.stands_for c.cascade.new.keeper) c.args.parsed.now c.in-Cascade.feed c.in-Cascade.is refl refl c.cascade.result c.cascade.ensures)
     c.tell-in-Cascade.ensures
+
+pub returns-in-Follow : goal.returns-in-Follow
+returns-in-Follow g c =
+    writes_as _ _ _ _ _ _ _
+    (leads-followed
+    (outside_between g.F.Folder.files g.F.Folder.faults c.args.folder.now c.args.folder.now (g.K.Clock.moment c.args.clock.now) (faults_between g.H.HubKeeper.fault_count c.args.keeper.now c.follow.new.keeper))
+    (copy_between g.C.CopyKeeper.stands_for g.C.CopyKeeper.fault_count c.args.copy.now c.follow.new.copy)
+    (link_between g.L.Link.tells g.L.Link.asked g.L.Link.missed g.L.Link.kept g.L.Link.fault_count c.args.link.now c.follow.new.link)
+    (g.H.HubKeeper.stands_for c.args.keeper.now) (g.H.HubKeeper.stands_for c.follow.new.keeper) c.args.parsed.now c.in-Follow.task c.in-Follow.feed c.in-Follow.is refl c.follow.result c.follow.ensures)
+    c.tell-in-Follow.ensures
 
 pub returns-in-Enter : goal.returns-in-Enter
 returns-in-Enter g c =

@@ -1,0 +1,95 @@
+//! The command `follow`.
+
+ghost use Rattle.std.specs.Prelude.{◌≡◌, ◌++◌, IfOk};
+ghost use Rattle.consumer_commands.specs.Consumers.{copy_between, link_between};
+ghost use Rattle.hub_commands.specs.Follows.{IsFollowAnswer, TellsEnd, TellsVersion, completed};
+ghost use Rattle.hub_commands.specs.Outside.{faults_between};
+ghost use Rattle.hub_commands.specs.Runs.{LeadsBetween};
+
+use crate::answer::{Answer, End};
+use crate::cascade::or_ended;
+use crate::publish::{end_of_error, told};
+use consumer_commands::sync_line;
+use exchange_link::{Link, SyncAnswer};
+use hub_cascade::CascadeError;
+use hub_core::{Hub, Published};
+use hub_follow::{FollowAnswer, FollowTask, follow as follow_hub};
+use hub_words::SyncTask;
+use keeper_memory::{CopyKeeper, HubKeeper};
+use outside_ports::Clock;
+use rest_provider::moment_of;
+use roster_base::{NoMemory, Text};
+use roster_texts::Name;
+use std::alloc::Global;
+
+// The line of a complete synchronisation, and behind it what its cascade tells.
+fn completed(alloc: Global, version: u64, cascaded: &Text) -> Result<Text, NoMemory>
+    ensures { IfOk result (λ t. t ≡ completed version ++ cascaded.now) }
+{
+    let mut line = sync_line(alloc, SyncAnswer::Complete { version })?;
+    line.push_str(cascaded.as_str())?;
+    Ok(Text::from_string(line))
+}
+
+// What is told of a version that the copy holds, and of what was made of it.
+fn told_version(
+    alloc: Global,
+    version: u64,
+    feed: &Name,
+    made: Result<Published, CascadeError>,
+) -> Answer
+    ensures { TellsVersion feed.now version made result }
+{
+    let Answer {
+        done: cascaded,
+        end,
+    } = told(alloc, feed.as_str(), or_ended(made));
+    match completed(alloc, version, &cascaded) {
+        Ok(done) => Answer { done, end },
+        Err(NoMemory) => Answer::nothing_done(alloc, End::NoMemory),
+    }
+}
+
+// What is told of how following ended.
+fn told_end(alloc: Global, feed: &Name, end: FollowAnswer) -> Answer
+    ensures { TellsEnd feed.now end result }
+{
+    match end {
+        FollowAnswer::Done { version, published } => {
+            told_version(alloc, version, feed, Ok(published))
+        }
+        FollowAnswer::Sync(answer) => Answer::nothing_done(alloc, End::Synced(answer)),
+        FollowAnswer::Delta(answer) => Answer::nothing_done(alloc, End::DeltaSynced(answer)),
+        FollowAnswer::Cascade { version, error } => told_version(alloc, version, feed, Err(error)),
+    }
+}
+
+/// Brings a copy up to date with the hub behind a link, and makes its rows those of a feed, in the hub that a keeper keeps.
+pub fn follow<H: HubKeeper, C: CopyKeeper, L: Link, K: Clock>(
+    alloc: Global,
+    task: &SyncTask,
+    feed: &Name,
+    keeper: &mut H,
+    copy: &mut C,
+    link: &mut L,
+    clock: &K,
+) -> Answer
+    ensures { LeadsBetween H.stands_for keeper.old keeper.new (IsFollowAnswer task.now feed.now (K.moment clock.now) (faults_between H.fault_count keeper.old keeper.new)
+        (copy_between C.stands_for C.fault_count copy.old copy.new) (link_between L.tells L.asked L.missed L.kept L.fault_count link.old link.new) result) }
+{
+    match Hub::open(alloc, keeper) {
+        Ok(mut hub) => {
+            let task = FollowTask {
+                token: task.token(),
+                limit: task.limit(),
+                tries: task.tries(),
+                feed,
+                at: moment_of(clock),
+            };
+            let followed = follow_hub(alloc, &mut hub, keeper, copy, link, task);
+            drop(hub);
+            told_end(alloc, feed, followed)
+        }
+        Err(error) => Answer::nothing_done(alloc, end_of_error(error)),
+    }
+}
