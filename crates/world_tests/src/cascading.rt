@@ -32,7 +32,7 @@ static STEPS: [Step; 8] = [
 ];
 
 const SEEN: &str =
-    "HTTP/1.1 200 OK\r\nContent-Type: application/json\r\nX-Total-Count: 3\r\nLink: </ims/oneroster/v1p1/users?fields=sourcedId&limit=100&offset=0&hubVersion=2>; rel=\"first\", </ims/oneroster/v1p1/users?fields=sourcedId&limit=100&offset=0&hubVersion=2>; rel=\"last\"\r\nX-Hub-Version: 2\r\nContent-Length: 68\r\n\r\n{\"users\":[{\"sourcedId\":\"u1\"},{\"sourcedId\":\"u2\"},{\"sourcedId\":\"u4\"}]}";
+    "HTTP/1.1 200 OK\r\nContent-Type: application/json\r\nX-Total-Count: 3\r\nLink: </ims/oneroster/v1p1/users?limit=100&offset=0&fields=sourcedId&hubVersion=2>; rel=\"first\", </ims/oneroster/v1p1/users?limit=100&offset=0&fields=sourcedId&hubVersion=2>; rel=\"last\"\r\nX-Hub-Version: 2\r\nContent-Length: 68\r\n\r\n{\"users\":[{\"sourcedId\":\"u1\"},{\"sourcedId\":\"u2\"},{\"sourcedId\":\"u4\"}]}";
 
 static FOLLOWED: [Step; 7] = [
     ("follow tok-x 100 1 up", 9, "unknown token\n"),
