@@ -1,4 +1,4 @@
-use Rattle.std.proofs.Common.{◌≡◌, ℕ, Result, Ok, refl, sym, subst, ◌∙◌, arith, inl}
+use Rattle.std.proofs.Common.{◌≡◌, ℕ, Result, refl, sym, subst, ◌∙◌, arith, inl}
 use Rattle.std.specs.Prelude.{IfErr, ⊤, ◌≤◌}
 use Rattle.exchange_link.specs.Completeness.{IsDone}
 use Rattle.hub_cascade.specs.Answers.{CountsCopy, CountsHub, LeavesOpen, MakesCascade, TellsHeld}
