@@ -1,7 +1,6 @@
 -- What was written is found again.
-use Rattle.std.proofs.Common.{◌≡◌, ℕ, List, [], ◌∷◌, ◌++◌, Bool, true, false, map, drop, Ok, Option, None, Some, Result, refl, sym, ap, ◌∙◌, append_assoc, arith}
+use Rattle.std.proofs.Common.{◌≡◌, ℕ, List, [], ◌∷◌, ◌++◌, Bool, true, false, drop, Ok, Option, None, Some, Result, refl, sym, ap, ◌∙◌, append_assoc, arith}
 use Rattle.std.specs.Prelude.{IfSome, slice_index_or}
-use Rattle.std.specs.List.{AllByRecursion}
 use Rattle.roster_values.proofs.KindLaws.{kind_from_place}
 use Rattle.keeper_memory.specs.copy.Copies.{IsOutWrite}
 use Rattle.keeper_memory.specs.declared.copy.entry.OutEntry.{OutEntry}
@@ -99,15 +98,3 @@ row_back kind a b is_a is_b same =
     let texts = sized_back (single_text None a) (single_text None b) [] [] is_a.fits.text is_b.fits.text (ap (λ xs. xs ++ []) bodies) in
     let rows : ◌≡◌ {A = Result Record JsonFault} (Ok a) (Ok b) = sym is_a.fits.back ∙ ap (row_of a.kind) texts.0 ∙ ap (λ k. row_of k (single_text None b)) (is_a.same ∙ sym is_b.same) ∙ is_b.fits.back in
     cc
-
--- lists whose entries are equal are equal, where each is
-pub same_list : {X : Type 0} (entry : X → Entry) (P : X → Type 0) → ((x y : X) → P x → P y → entry x ≡ entry y → x ≡ y)
-    → (xs ys : List X) → AllByRecursion P xs → AllByRecursion P ys → map entry xs ≡ map entry ys → xs ≡ ys
-same_list entry P one [] [] fits_x fits_y same = refl
-same_list entry P one [] (y ∷ ys) fits_x fits_y same = absurd cc
-same_list entry P one (x ∷ xs) [] fits_x fits_y same = absurd cc
-same_list entry P one (x ∷ xs) (y ∷ ys) fits_x fits_y same =
-    let head : entry x ≡ entry y = cc in
-    let tail : map entry xs ≡ map entry ys = cc in
-    let first = one x y fits_x.0 fits_y.0 head in
-    λ i. first i ∷ same_list entry P one xs ys fits_x.1 fits_y.1 tail i

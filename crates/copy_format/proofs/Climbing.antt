@@ -17,6 +17,7 @@ use Rattle.hub_format.specs.Pieces.{number}
 use Rattle.item_maps.proofs.ItemLemmas.{tied_same}
 use Rattle.item_maps.specs.Items.{bytes_cmp}
 use Rattle.roster_types.specs.Keys.{is_after}
+use Rattle.roster_base.proofs.Rising.{is_less}
 use Rattle.roster_types.specs.Records.{Record}
 use Rattle.copy_format.specs.Format.{out_entry, rows_under}
 
@@ -24,11 +25,6 @@ use Rattle.copy_format.specs.Format.{out_entry, rows_under}
 abbrev pub climbs : Option (List ℕ) → List Entry → Bool
 climbs last [] = true
 climbs last (e ∷ es) = is_after last e.0 && climbs (Some e.0) es
-
-is_less : (o : Ordering) → is_lt o ≡ true → o ≡ Less
-is_less Less is = refl
-is_less Equal is = absurd cc
-is_less Greater is = absurd cc
 
 further : (x y : List ℕ) (es : List Entry) → bytes_cmp x y ≡ Less → below_all bytes_cmp y es ≡ true → below_all bytes_cmp x es ≡ true
 further x y [] less all = refl

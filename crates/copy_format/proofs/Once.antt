@@ -18,7 +18,8 @@ use Rattle.roster_values.proofs.KindLaws.{kind_there}
 use Rattle.roster_values.specs.Kinds.{all_kinds, place_of_kind}
 use Rattle.roster_values.specs.declared.kind.Kind.{Kind}
 use Rattle.copy_format.specs.Format.{AreItemsOf, Fit, FitRows, FitsStage, IsOut, IsRowOf, IsSmall, Keep, other_side, out_entry, row_area, row_entry, rows_under, stage_entries, staged_list, token_entries}
-use Rattle.copy_format.proofs.Back.{out_back, row_back, same_list, stage_back, state_back}
+use Rattle.hub_format.proofs.Unique.{same_list}
+use Rattle.copy_format.proofs.Back.{out_back, row_back, stage_back, state_back}
 use Rattle.copy_format.proofs.Changing.{held_fit, small_numbers, staged_fit}
 use Rattle.copy_format.proofs.Climbing.{outs_sorted, rows_sorted}
 use Rattle.copy_format.proofs.Lists.{at_last, at_other, before_last, by_place, empty_last, same_lists}

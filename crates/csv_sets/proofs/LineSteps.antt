@@ -3,7 +3,7 @@ use Rattle.std.proofs.Common.{◌≡◌, ◌≤◌, ◌<◌, ◌+◌, ℕ, List,
 use Rattle.std.proofs.lemmas.List.{append-nil, drop_all, map_push, take_more}
 use Rattle.std.proofs.lemmas.List.Elements.{All-nil, All-push}
 use Rattle.std.proofs.lemmas.Str.{IsUtf8-string_bytes}
-use Rattle.std.specs.List.{All, join_by, join_with_byte}
+use Rattle.std.specs.List.{All}
 use Rattle.csv.specs.Records.{AllText}
 use Rattle.csv.specs.Writing.{default_writer, row_text}
 use Rattle.csv.specs.declared.writer.Writer.{Writer}
@@ -55,12 +55,6 @@ pub lines_end : {keys : List MetadataKey} {rows : List Record} {first now : Writ
     → text_in now ≡ text_in first ++ lines_text (map (written_cells keys) rows)
 unfolding lines_text
 lines_end {now = now} l past = sym (append-nil (text_in now)) ∙ rw (drop_all _ _ past) at l.same
-
--- pieces joined by commas
-pub joined_text : {X : Type 0} (f : X → List ℕ) (xs : List X) → join_by f (44 ∷ []) xs ≡ join_with_byte 44 (map f xs)
-joined_text f [] = refl
-joined_text f (x ∷ []) = append-nil (f x)
-joined_text f (x ∷ y ∷ xs) = ap (λ t. f x ++ 44 ∷ t) (joined_text f (y ∷ xs))
 
 pub columns-of : (infos : List FieldInfo) → map (λ i. i.column.now) infos ≡ map (λ i. i.column) (map info_of infos)
 columns-of [] = refl

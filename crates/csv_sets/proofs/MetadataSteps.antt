@@ -3,9 +3,9 @@ use Rattle.std.proofs.Common.{◌≡◌, ◌≤◌, ◌+◌, ◌==◌, ℕ, List
 use Rattle.std.proofs.lemmas.Bool.{and_from}
 use Rattle.std.proofs.lemmas.List.{append-nil, drop_all, map-append}
 use Rattle.std.specs.Cmp.Lexicographic.{slice_cmp}
-use Rattle.std.specs.List.{AllByRecursion}
 use Rattle.std.specs.List.Sorted.{IsStrictlySortedBy}
 use Rattle.std.specs.Ordering.{nat_cmp}
+use Rattle.roster_base.proofs.Rising.{rise_front, rise_without}
 use Rattle.roster_base.specs.Order.{RiseBy}
 use Rattle.roster_texts.specs.Trim.{trimmed}
 use Rattle.roster_types.specs.declared.metadata.Entry.{Entry}
@@ -20,25 +20,6 @@ use Rattle.csv_sets.specs.Rows.{metadata_at}
 
 abbrev Rise : List (List ℕ) → Type 0
 Rise keys = IsStrictlySortedBy (slice_cmp nat_cmp) keys
-
-all_front : (P : List ℕ → Type 0) (xs ys : List (List ℕ)) → AllByRecursion P (xs ++ ys) → AllByRecursion P xs
-all_front P [] ys h = tt
-all_front P (x ∷ xs) ys h = (h.0, all_front P xs ys h.1)
-
-all_without : (P : List ℕ → Type 0) (xs ys : List (List ℕ)) (k : List ℕ) → AllByRecursion P (xs ++ k ∷ ys) → AllByRecursion P (xs ++ ys)
-all_without P [] ys k h = h.1
-all_without P (x ∷ xs) ys k h = (h.0, all_without P xs ys k h.1)
-
--- what rises still does when its end, or one key, is left out
-rise_front : (xs ys : List (List ℕ)) → Rise (xs ++ ys) → Rise xs
-unfolding IsStrictlySortedBy
-rise_front [] ys h = tt
-rise_front (x ∷ xs) ys h = (all_front _ xs ys h.0, rise_front xs ys h.1)
-
-rise_without : (xs ys : List (List ℕ)) (k : List ℕ) → Rise (xs ++ k ∷ ys) → Rise (xs ++ ys)
-unfolding IsStrictlySortedBy
-rise_without [] ys k h = h.1
-rise_without (x ∷ xs) ys k h = (all_without _ xs ys k h.0, rise_without xs ys k h.1)
 
 -- how far the metadata of a record is read
 pub record Gathers (columns : List MetadataColumn) (cells : List (List ℕ)) (entries : List Entry) (index : ℕ) : Type 0 where

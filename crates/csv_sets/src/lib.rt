@@ -2,7 +2,6 @@
 //! together under their manifest, or the first fault; and the text of a file that is written.
 #![tactic(auto)]
 
-mod cell_text;
 pub mod cells;
 pub mod fault;
 pub mod file;

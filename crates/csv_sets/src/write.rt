@@ -15,10 +15,10 @@ ghost use Rattle.csv_sets.specs.Left.{AllRowsText};
 ghost use Rattle.csv_sets.specs.Lines.{IsFresh, text_in};
 ghost use Rattle.csv_sets.specs.Written.{dated, field_cell, key_in, keys_of, lines_text, metadata_cell, written_cells, written_header, written_text};
 
-use crate::cell_text::cell_text;
 use crate::keys::{MetadataKey, keys_of};
 use csv::{Writer, WriterBuilder};
 use roster_base::NoMemory;
+use roster_types::cell_text::cell_text;
 use roster_types::metadata::Entry;
 use roster_types::row::Row;
 use roster_values::fields::fields;
@@ -79,7 +79,7 @@ fn field_cell(alloc: Global, row: &Row, place: usize, info: &FieldInfo) -> Resul
 {
     let _ = row.kind();
     match row.value(place) {
-        Some(value) => cell_text(alloc, info.form, value),
+        Some(value) => cell_text(alloc, value),
         None => Ok(String::new(alloc)),
     }
 }

@@ -1,10 +1,9 @@
 -- What every list of a cut meets: it has no more rows than a kind may have, and they ascend by their ids.
-use Rattle.std.proofs.Common.{◌≡◌, ℕ, zero, suc, ◌<◌, ◌≤◌, Bool, true, false, ◌&&◌, cond, List, [], ◌∷◌, filter, get_or, length, map, Option, None, Some, refl, ap, ◌∙◌, arith}
-use Rattle.std.proofs.lemmas.Bool.Decides.{nat_tests}
+use Rattle.std.proofs.Common.{◌≡◌, ℕ, zero, suc, ◌<◌, ◌≤◌, Bool, true, false, cond, List, [], ◌∷◌, filter, get_or, length, map, Option, None, Some, refl, ap, ◌∙◌, arith}
+use Rattle.std.proofs.lemmas.Bool.{and_from}
 use Rattle.std.proofs.lemmas.List.{length-map}
 use Rattle.std.proofs.lemmas.List.Sums.{length-filter}
 use Rattle.std.specs.FinMap.Entries as entries
-use Rattle.std.specs.List.{AllByRecursion}
 use Rattle.std.specs.Option.{option_map_or}
 use Rattle.std.specs.Ordering.{is_lt}
 use Rattle.keeper_memory.specs.copy.Lists.{ascends, kind_count}
@@ -15,12 +14,13 @@ use Rattle.hub_spec.proofs.Versions.{some_version, version_is}
 use Rattle.hub_spec.specs.rules.Checks.{version_at}
 use Rattle.hub_spec.specs.rules.States.{IsHub}
 use Rattle.hub_spec.proofs.Below.{and_first, and_second, ids_less, less_from_is_lt}
-use Rattle.hub_spec.proofs.ListLemmas.{ascends_kept}
+use Rattle.hub_spec.proofs.ListLemmas.{are_of_kept, ascends_kept, same_place}
 use Rattle.hub_spec.specs.views.Cuts.{cut, cut_of, kind_cut, no_rows}
 use Rattle.hub_spec.specs.views.Seen.{sees_row}
+use Rattle.row_deltas.specs.Deltas.{AreOf}
 use Rattle.roster_types.specs.Keys.{Ascends, count_of, is_after, is_of_kind, key_cmp, keyed, row_key}
 use Rattle.roster_types.specs.Records.{Record}
-use Rattle.roster_values.specs.Kinds.{all_kinds, place_of_kind}
+use Rattle.roster_values.specs.Kinds.{all_kinds}
 use Rattle.roster_values.specs.declared.kind.Kind.{Kind}
 use Rattle.version_core.proofs.RowsOf.{is_sorted-rows_of}
 use Rattle.version_core.specs.Changes.{AreChanges, rows_of}
@@ -32,28 +32,10 @@ use Rattle.version_core.specs.declared.grant_row.GrantRow.{GrantRow}
 use Rattle.version_core.specs.declared.row_change.RowChange.{RowChange}
 use Rattle.exchange_link.specs.Sayings.{list_of}
 
-abbrev pub AreOf : Kind → List Record → Type 0
-AreOf kind rows = AllByRecursion (λ row. is_of_kind kind row ≡ true) rows
-
-are_of_kept : (kind : Kind) (rows : List Record) → AreOf kind (filter (is_of_kind kind) rows)
-are_of_kept kind [] = tt
-are_of_kept kind (row ∷ rows) =
-    elim (is_of_kind kind row) as (λ b. is_of_kind kind row ≡ b → AreOf kind (cond b (row ∷ filter (is_of_kind kind) rows) (filter (is_of_kind kind) rows))) [
-      | true ↦ λ is. (is, are_of_kept kind rows)
-      | false ↦ λ _. are_of_kept kind rows
-    ] refl
-
-same_place : (kind : Kind) (row other : Record) → is_of_kind kind row ≡ true → is_of_kind kind other ≡ true → place_of_kind row.kind ≡ place_of_kind other.kind
-same_place kind row other e f = grind (arith, nat_tests)
-
 -- the first of some rows, where there is one, is above an id
 abbrev pub First : Option (List ℕ) → List Record → Type 0
 First last [] = Unit {0}
 First last (row ∷ rows) = is_after last row.id ≡ true
-
-both_true : (a b : Bool) → a ≡ true → b ≡ true → (a && b) ≡ true
-both_true true b e f = f
-both_true false b e f = e
 
 next_first : (kind : Kind) (row : Record) (rows : List Record) → is_of_kind kind row ≡ true → AreOf kind rows → entries.below_all key_cmp (row_key row) (keyed row_key rows) ≡ true → First (Some row.id) rows
 next_first kind row [] is are below = tt
@@ -63,7 +45,7 @@ next_first kind row (other ∷ rows) is are below = ap is_lt (ids_less _ _ row.i
 pub rows_ascend : (kind : Kind) (last : Option (List ℕ)) (rows : List Record) → AreOf kind rows → Ascends row_key rows → First last rows → ascends last rows ≡ true
 rows_ascend kind last [] are up first = refl
 rows_ascend kind last (row ∷ rows) are up first =
-    both_true _ _ first (rows_ascend kind (Some row.id) rows are.1 (and_second _ _ up) (next_first kind row rows are.0 are.1 (and_first _ _ up)))
+    and_from _ _ first (rows_ascend kind (Some row.id) rows are.1 (and_second _ _ up) (next_first kind row rows are.0 are.1 (and_first _ _ up)))
 
 pub any_first : (rows : List Record) → First None rows
 any_first [] = tt

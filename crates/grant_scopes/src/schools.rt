@@ -1,6 +1,8 @@
 //! The schools of a grant.
 
-ghost use Rattle.std.specs.Prelude.{◌≡◌, ℕ, List};
+ghost use Rattle.std.specs.Prelude.{◌≡◌, ℕ, List, IfSome, None, false, true};
+ghost use Rattle.std.specs.Cmp.Lexicographic.{slice_cmp};
+ghost use Rattle.std.specs.Ordering.{is_lt, nat_cmp};
 ghost use Rattle.grant_scopes.specs.Schools.{AreSchools};
 
 use roster_base::{Items, NoMemory, Same, TryCopy};
@@ -22,7 +24,38 @@ impl Model for SchoolList {
     ghost invariant = { λ s. AreSchools s.ids };
 }
 
+fn is_below(low: &Id, high: &Id) -> bool
+    ensures { result ≡ is_lt (slice_cmp nat_cmp low.now high.now) }
+{
+    low.as_str().cmp(high.as_str()).is_lt()
+}
+
+// Whether each id is below the next.
+fn rise(ids: &[Id]) -> bool
+    ensures yes { result ≡ true → AreSchools ids.now }
+    ensures no { result ≡ false → AreSchools ids.now → ⊥ }
+{
+    for place in 1..ids.len() {
+        if !is_below(&ids[place - 1], &ids[place]) {
+            return false;
+        }
+    }
+    true
+}
+
 impl SchoolList {
+    /// The ids as a list, if they stand in order, each once; no memory is taken.
+    pub fn of_rising(ids: Items<Id>) -> Option<SchoolList>
+        ensures some { IfSome result (λ list. list ≡ ids) }
+        ensures none { result ≡ None → AreSchools ids → ⊥ }
+    {
+        if rise(ids.as_slice()) {
+            Some(SchoolList { ids })
+        } else {
+            None
+        }
+    }
+
     /// The ids, which stand in order, each once; no memory is taken.
     pub fn new(ids: Items<Id>) -> SchoolList
         requires { AreSchools ids }

@@ -1,5 +1,6 @@
 -- A number that is written is read again.
 use Rattle.std.proofs.Common.{◌≡◌, ◌<◌, ◌≤◌, ℕ, ◌+◌, ◌-◌, ◌*◌, ◌^◌, Bool, true, false, List, [], ◌∷◌, length, Some, if◌then◌else◌, ◌==◌, nat_le, nat_lt, refl, sym, ap, ◌∙◌, subst, arith, get_or, take, drop, zero, suc}
+use Rattle.std.proofs.lemmas.Bool.{and_parts}
 use Rattle.std.specs.Prelude.{codes, decimal, ◌&&◌, ◌++◌}
 use Rattle.std.specs.List.{after_first, before_first, position_or_len, prefix_len}
 use Rattle.std.proofs.Math.Seq.{drop-append-add, take-append_seam}
@@ -9,7 +10,6 @@ use Rattle.std.proofs.lemmas.Fmt.{decimal_is_IsNumeral, first_decimal, length-de
 use Rattle.std.proofs.lemmas.Str.{digit_value_digit}
 use Rattle.std.proofs.lemmas.Str.Parse.{digit_from_value}
 use Rattle.std.proofs.lemmas.Bool.Decides.{nat_tests}
-use Rattle.http_wire.proofs.TokenLemmas.{both}
 use Rattle.roster_texts.specs.Texts.{is_padding, is_token, is_token_byte, token_body}
 use Rattle.http_wire.specs.Texts.{count_of, digits_after, digits_of, has_leading_zero, echo_of, is_dot, number_of, last_number, skip_spaces, token_of}
 
@@ -109,7 +109,7 @@ no_spaces : (t : List ℕ) → is_token t ≡ true → skip_spaces t ≡ t
 no_spaces [] h = refl
 no_spaces (b ∷ bytes) h =
     let t = b ∷ bytes in
-    let (some, rest) = both (nat_lt 0 (length (token_body t))) (nat_le (length t) 256 && is_padding (drop (length (token_body t)) t)) h in
+    let (some, rest) = and_parts (nat_lt 0 (length (token_body t))) (nat_le (length t) 256 && is_padding (drop (length (token_body t)) t)) h in
     no_space (b == 32) b bytes refl (has_first (is_token_byte b) b bytes (prefix_len is_token_byte bytes) some)
 
 pub token_again : (t : List ℕ) → is_token t ≡ true → token_of (codes "Bearer " ++ t) ≡ Some t

@@ -1,5 +1,6 @@
 -- What is sent is read as the same request.
 use Rattle.std.proofs.Common.{◌≡◌, ◌<◌, ◌≤◌, ℕ, ◌+◌, ◌^◌, List, [], ◌∷◌, ◌++◌, length, Bool, true, false, Option, Some, None, refl, sym, ap, ◌∙◌, subst, arith, append_assoc, length-append, codes, reverse, take, drop, map, if◌then◌else◌, ◌==◌, Ok}
+use Rattle.std.proofs.lemmas.Bool.{and_parts}
 use Rattle.std.specs.Prelude.{All, IsTrue, decimal, option_map}
 use Rattle.std.specs.List.{flat_map, list_all, position_or_len}
 use Rattle.std.proofs.Math.Seq.{drop-append-add, take-append_seam}
@@ -12,7 +13,7 @@ use Rattle.std.proofs.lemmas.Bool.Decides.{nat_tests}
 use Rattle.std.proofs.lemmas.Str.Parse.{digit_from_value}
 use Rattle.std.proofs.lemmas.Fmt.{decimal_is_IsNumeral, length-decimal-le}
 use Rattle.httparse.proofs.TrimLemmas.{trim_ows_space}
-use Rattle.http_wire.proofs.TokenLemmas.{AllPlain, IsPlain, both, plain_is_text, token_plain}
+use Rattle.http_wire.proofs.TokenLemmas.{AllPlain, IsPlain, plain_is_text, token_plain}
 use Rattle.http_wire.proofs.NumberLemmas.{digits_of_decimal, echo_again, not_more, not_zero, number_again, token_again}
 use Rattle.httparse.specs.Spans.{name_and_value}
 use Rattle.http_wire.specs.Heads.{asked, body_length, is_close, is_number, length_of, lengths_are, max_body, max_fields, max_head, said_by, value_of}
@@ -300,17 +301,17 @@ no_mark b h = grind (arith, nat_tests)
 sent_split : (a b : List ℕ) → list_all is_sent_byte (a ++ b) ≡ true → (list_all is_sent_byte a ≡ true) × (list_all is_sent_byte b ≡ true)
 sent_split [] b h = (refl, h)
 sent_split (c ∷ a) b h =
-    let (first, rest) = both (is_sent_byte c) (list_all is_sent_byte (a ++ b)) h in
+    let (first, rest) = and_parts (is_sent_byte c) (list_all is_sent_byte (a ++ b)) h in
     let (left, right) = sent_split a b rest in (rw (first, left) refl, right)
 
 sent_plain : (v : List ℕ) → list_all is_sent_byte v ≡ true → AllPlain v
 sent_plain [] h = tt
-sent_plain (b ∷ v) h = let (first, rest) = both (is_sent_byte b) (list_all is_sent_byte v) h in (sent_byte b first, sent_plain v rest)
+sent_plain (b ∷ v) h = let (first, rest) = and_parts (is_sent_byte b) (list_all is_sent_byte v) h in (sent_byte b first, sent_plain v rest)
 
 place : (path rest : List ℕ) → list_all is_sent_byte path ≡ true → position_or_len is_question_mark (path ++ rest) ≡ length path + position_or_len is_question_mark rest
 place [] rest h = omega arith
 place (b ∷ path) rest h =
-    let (first, others) = both (is_sent_byte b) (list_all is_sent_byte path) h in rw (no_mark b first) (omega (arith, place path rest others))
+    let (first, others) = and_parts (is_sent_byte b) (list_all is_sent_byte path) h in rw (no_mark b first) (omega (arith, place path rest others))
 
 mark_some : (q : ℕ) (query : List ℕ) → query_mark (q ∷ query) ≡ 63 ∷ []
 mark_some q query = rw (not_zero (length (q ∷ query)) (omega arith)) refl

@@ -1,5 +1,6 @@
 -- A token is a text.
 use Rattle.std.proofs.Common.{◌≡◌, ℕ, ◌<◌, ◌≤◌, ◌==◌, Bool, true, false, ◌&&◌, List, [], ◌∷◌, arith, refl, length, drop, one-add, take, Some, None, ◌+◌, nat_le, nat_lt, slice_index, if◌then◌else◌, zero, suc}
+use Rattle.std.proofs.lemmas.Bool.{and_parts}
 use Rattle.std.specs.Prelude.{IsUtf8}
 use Rattle.std.specs.List.{prefix_len}
 use Rattle.std.proofs.lemmas.Str.{IsUtf8-from_ascii}
@@ -18,16 +19,12 @@ abbrev pub AllPlain : List ℕ → Type 0
 AllPlain [] = Unit {0}
 AllPlain (b ∷ bytes) = IsPlain b × AllPlain bytes
 
-pub both : (a b : Bool) → (a && b) ≡ true → (a ≡ true) × (b ≡ true)
-both true b h = (refl, h)
-both false b h = cc
-
 equals_is : (b : ℕ) → (b == 61) ≡ true → IsPlain b
 equals_is b h = (grind (arith, nat_tests), grind (arith, nat_tests))
 
 padding_small : (bytes : List ℕ) → is_padding bytes ≡ true → AllPlain bytes
 padding_small [] h = tt
-padding_small (b ∷ bytes) h = let (first, rest) = both (b == 61) (is_padding bytes) h in (equals_is b first, padding_small bytes rest)
+padding_small (b ∷ bytes) h = let (first, rest) = and_parts (b == 61) (is_padding bytes) h in (equals_is b first, padding_small bytes rest)
 
 -- by whether the first byte is one of a token
 choose : (t : Bool) (b : ℕ) (bytes : List ℕ) → is_token_byte b ≡ t
@@ -51,8 +48,8 @@ plain_is_text bytes plain = IsUtf8-from_ascii bytes (λ i. small_at bytes i plai
 
 pub token_plain : (bytes : List ℕ) → is_token bytes ≡ true → (0 < length bytes) × (length bytes ≤ 256) × AllPlain bytes
 token_plain bytes h =
-    let (some, rest) = both (nat_lt 0 (length (token_body bytes))) (nat_le (length bytes) 256 && is_padding (drop (length (token_body bytes)) bytes)) h in
-    let (short, padded) = both (nat_le (length bytes) 256) (is_padding (drop (length (token_body bytes)) bytes)) rest in
+    let (some, rest) = and_parts (nat_lt 0 (length (token_body bytes))) (nat_le (length bytes) 256 && is_padding (drop (length (token_body bytes)) bytes)) h in
+    let (short, padded) = and_parts (nat_le (length bytes) 256) (is_padding (drop (length (token_body bytes)) bytes)) rest in
     (grind (arith, nat_tests, common_steps), grind (arith, nat_tests), small bytes padded)
 
 pub token_is_text : (bytes : List ℕ) → is_token bytes ≡ true → IsUtf8 bytes

@@ -1,5 +1,6 @@
 -- What is written of a reply is read as the same reply.
 use Rattle.std.proofs.Common.{◌≡◌, inl, inr, Err, Result, ◌<◌, ◌≤◌, ℕ, ◌+◌, ◌^◌, List, [], ◌∷◌, ◌++◌, length, Bool, true, false, Option, Some, None, refl, sym, ap, ◌∙◌, arith, append_assoc, length-append, codes, map, if◌then◌else◌, ◌==◌, Ok}
+use Rattle.std.proofs.lemmas.Bool.{and_parts}
 use Rattle.std.specs.Prelude.{◌⊎◌, All, IfSome, IsTrue, decimal, nat_lt, option_map}
 use Rattle.std.specs.List.{flat_map, list_all}
 use Rattle.std.specs.Str.{str_eq_ignore_ascii_case}
@@ -32,7 +33,6 @@ use Rattle.http_wire.specs.Seen.{CanRead, IsVisible, IsVisibleLink, seen_of}
 use Rattle.http_wire.specs.Sending.{IsSentEcho}
 use Rattle.http_wire.specs.Texts.{count_of, digits_of, echo_at, last_number, number_of}
 use Rattle.http_wire.proofs.AnswerLemmas.{one_answer}
-use Rattle.http_wire.proofs.TokenLemmas.{both}
 use Rattle.http_wire.proofs.NumberLemmas.{count_again, digits_of_decimal, not_more, number_again}
 use Rattle.http_wire.proofs.SendLemmas.{and_dot, decimal_plain, decimal_trim, echo_is, echo_told, is_field, line, name_is, plain_value, same_number, value_byte}
 
@@ -66,7 +66,7 @@ fields_text (p ∷ parts) (t ∷ texts) x =
 part_ok : (name : List ℕ) (value : Option (List ℕ)) → is_token name ≡ true → IfSome value (AllPass is_value_byte) → All IsField (lines name value)
 part_ok name None token passes = All-nil IsField
 part_ok name (Some v) token passes =
-    let (some, each) = both (nat_lt 0 (length name)) (list_all is_token_byte name) token in
+    let (some, each) = and_parts (nat_lt 0 (length name)) (list_all is_token_byte name) token in
     let long : 0 < length name = grind (arith, nat_tests) in
     All-cons IsField (line name v) [] (is_field name v (name_is name long each) passes) (All-nil IsField)
 
@@ -74,7 +74,7 @@ fields_ok : (parts : List (List ℕ × Option (List ℕ))) (texts : List (List �
 fields_ok [] texts tokens x = All-nil IsField
 fields_ok (p ∷ parts) [] tokens x = absurd x
 fields_ok (p ∷ parts) (t ∷ texts) tokens x =
-    let (first, rest) = both (is_token p.0) (list_all (λ p. is_token p.0) parts) tokens in
+    let (first, rest) = and_parts (is_token p.0) (list_all (λ p. is_token p.0) parts) tokens in
     All-append IsField (lines p.0 p.1) (fields_of parts) (part_ok p.0 p.1 first x.0.1) (fields_ok parts texts rest x.1)
 
 one_line : (name : List ℕ) (value : Option (List ℕ)) → length (lines name value) ≤ 1

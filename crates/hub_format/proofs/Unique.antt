@@ -33,7 +33,7 @@ use Rattle.hub_format.proofs.Orders.{same_number}
 use Rattle.hub_format.proofs.Told.{IsToldBy, base_grants_told, changes_told, listed_of, newest_from, none_told}
 
 -- lists whose entries are equal are equal, where each is
-same_list : {X : Type 0} (entry : X → Entry) (P : X → Type 0) → ((x y : X) → P x → P y → entry x ≡ entry y → x ≡ y)
+pub same_list : {X : Type 0} (entry : X → Entry) (P : X → Type 0) → ((x y : X) → P x → P y → entry x ≡ entry y → x ≡ y)
     → (xs ys : List X) → AllByRecursion P xs → AllByRecursion P ys → map entry xs ≡ map entry ys → xs ≡ ys
 same_list entry P one [] [] fits_x fits_y same = refl
 same_list entry P one [] (y ∷ ys) fits_x fits_y same = absurd cc

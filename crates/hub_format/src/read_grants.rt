@@ -1,10 +1,7 @@
 //! Grants, read back from their items.
 
-ghost use Rattle.std.specs.Prelude.{◌≡◌, ◌∷◌, ◌++◌, ◌<◌, ◌^◌, ℕ, List, IfOk, IfSome, drop, length, map, true};
-ghost use Rattle.std.specs.Cmp.Lexicographic.{slice_cmp};
+ghost use Rattle.std.specs.Prelude.{◌≡◌, ◌∷◌, ◌++◌, ◌<◌, ◌^◌, ℕ, List, IfOk, IfSome, drop, length, map};
 ghost use Rattle.std.specs.List.{AllByRecursion};
-ghost use Rattle.std.specs.Ordering.{is_lt, nat_cmp};
-ghost use Rattle.grant_scopes.specs.Schools.{AreSchools};
 ghost use Rattle.item_maps.specs.Edits.{entry_of};
 ghost use Rattle.version_core.specs.declared.grant_row.GrantRow.{GrantRow as GrantValue};
 ghost use Rattle.hub_format.specs.Format.{FitsGrant, grant_entry, grants_under};
@@ -64,35 +61,6 @@ fn ids_at(alloc: Global, count: u64, bytes: &[u8]) -> Result<Option<(Vec<Id>, &[
     Ok(Some((ids, rest)))
 }
 
-fn is_below(low: &Id, high: &Id) -> bool
-    ensures { result ≡ is_lt (slice_cmp nat_cmp low.now high.now) }
-{
-    low.as_str().cmp(high.as_str()).is_lt()
-}
-
-// Whether each id is below the next.
-fn rise(ids: &[Id]) -> bool
-    ensures { result ≡ true → AreSchools ids.now }
-{
-    for place in 1..ids.len() {
-        if !is_below(&ids[place - 1], &ids[place]) {
-            return false;
-        }
-    }
-    true
-}
-
-// The ids as a list of schools, if they stand in order.
-fn school_list(ids: Vec<Id>) -> Option<SchoolList>
-    ensures { IfSome result (λ list. list ≡ ids.items) }
-{
-    if rise(ids.as_slice()) {
-        Some(SchoolList::new(Items::from_vec(ids)))
-    } else {
-        None
-    }
-}
-
 // Schools that are listed, behind the byte that says so, and what stands behind them.
 fn listed_at(alloc: Global, bytes: &[u8]) -> Result<Option<(Schools, &[u8])>, NoMemory>
     ensures schools { IfOk result (λ o. IfSome o (λ p. 1 ∷ bytes.now ≡ schools_bytes p.0 ++ p.1.now)) }
@@ -106,7 +74,7 @@ fn listed_at(alloc: Global, bytes: &[u8]) -> Result<Option<(Schools, &[u8])>, No
         Some(parts) => parts,
         None => return Ok(None),
     };
-    match school_list(ids) {
+    match SchoolList::of_rising(Items::from_vec(ids)) {
         Some(list) => Ok(Some((Schools::Listed(list), rest))),
         None => Ok(None),
     }

@@ -43,6 +43,7 @@ impl<N: Naming> Slot<N> {
     pub fn new(publisher: Publisher<N>) -> Slot<N>
         ensures { result ≡ Some publisher }
     {
+        // SAFETY: a publisher that is never dropped is lost and does no harm; `into_inner` gives this one back.
         Slot {
             kept: Some(unsafe { ManuallyDrop::new_unchecked(publisher) }),
         }
@@ -65,6 +66,7 @@ impl<N: Naming> Slot<N> {
         requires { self.old ≡ None }
         ensures { self.new ≡ Some publisher }
     {
+        // SAFETY: as in `new`.
         let kept = unsafe { ManuallyDrop::new_unchecked(publisher) };
         match self.kept.replace(kept) {
             None => (),

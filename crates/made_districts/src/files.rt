@@ -1,6 +1,6 @@
 //! The files of a district of so many schools.
 
-ghost use Rattle.std.specs.Prelude.{◌≡◌, ◌++◌, ◌≤◌, map, string_bytes, IfOk, OnOk};
+ghost use Rattle.std.specs.Prelude.{◌≡◌, ◌++◌, ◌≤◌, map, IfOk, OnOk};
 ghost use Rattle.made_districts.specs.Districts as districts;
 ghost use Rattle.outside_ports.specs.Files.{stored_of};
 

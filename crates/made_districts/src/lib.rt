@@ -1,4 +1,4 @@
-//! Districts that are made from a number: the texts of their files, and what comes of copying one.
+//! Districts that are made from a number: the texts of their files.
 #![tactic(auto)]
 
 pub mod files;

@@ -17,7 +17,7 @@ pub enum Part {
     Enrollments,
 }
 
-/// How many students a school has.
+// How many students a school has.
 const STUDENTS: u16 = 100;
 
 // The id of a school: `s` and its number in four digits.

@@ -8,6 +8,7 @@ use Rattle.std.specs.declared.cmp.Ordering.TheVariants.{Equal, Greater, Less}
 use Rattle.std.proofs.lemmas.Cmp.{nat_cmp_total, nat_list_cmp_total, on_total, then_total, ranked, tied_itself}
 use Rattle.std.proofs.lemmas.Map.Lookups.{exact_pairs, exact_unsigned, exact_bytes}
 use Rattle.std.proofs.Common.{◌≤◌, arith}
+pub use Rattle.roster_base.proofs.Rising.{is_less as less_from_is_lt}
 use Rattle.roster_types.specs.Keys.{Key, key_cmp, look_up}
 
 pub key_total : IsTotalOrder key_cmp
@@ -17,11 +18,6 @@ key_total = then_total (on_total (λ (k : Key). k.0) nat_cmp_total) (on_total (�
 pub key_exact : (a b : Key) → key_cmp a b ≡ Equal → a ≡ b
 unfolding key_cmp
 key_exact = exact_pairs nat_cmp (slice_cmp nat_cmp) exact_unsigned exact_bytes
-
-pub less_from_is_lt : (o : Ordering) → is_lt o ≡ true → o ≡ Less
-less_from_is_lt Less e = refl
-less_from_is_lt Equal e = cc
-less_from_is_lt Greater e = cc
 
 pub equal_from_is_eq : (o : Ordering) → is_eq o ≡ true → o ≡ Equal
 equal_from_is_eq Less e = cc

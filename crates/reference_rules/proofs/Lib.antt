@@ -1,6 +1,6 @@
 pub mod CycleLemmas
 mod FieldSteps
-mod ListSteps
+pub mod ListSteps
 pub mod KeyOrder
 pub mod ParentChains
 mod PassedLemmas

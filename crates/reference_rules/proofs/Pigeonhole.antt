@@ -1,4 +1,4 @@
--- A chain of parents that comes back does so within as many turns as there are rows, since its ids are those of rows.
+-- A chain of parents passes no more ids than there are rows, until it comes to one for the second time; so one that comes back does so within as many turns.
 use Rattle.std.proofs.Common.{◌≡◌, ℕ, zero, suc, ◌+◌, ◌-◌, ◌<◌, ◌≤◌, Bool, true, false, cond, List, [], ◌∷◌, length, Option, Some, None, bytes_eq, option_and_then, refl, sym, ap, ◌∙◌, arith}
 use Rattle.std.specs.Ordering.{is_eq}
 use Rattle.std.proofs.lemmas.Bool.Decides.{nat_tests}
@@ -113,13 +113,20 @@ module _ (rows : List Record) (kind : Kind) (id : List ℕ) where
         | Some row ↦ λ found _. has-ids kind (at i) rows row found
       ] refl parent
 
+  -- so many ids, no two alike, are those of as many rows
+  pub few_apart : (n : ℕ) (y : List ℕ) → nth_parent rows kind id n ≡ Some y → ((i j : ℕ) (x : List ℕ) → i < j → j < n → nth_parent rows kind id i ≡ Some x → nth_parent rows kind id j ≡ Some x → ⊥) → n ≤ count_of kind rows
+  few_apart n y there apart =
+      let alike : (i j : ℕ) → i < j → j < n → at i ≡ at j → ⊥ = λ i j lt lt' same.
+      apart i j (at i) lt lt' (before n i y (omega (arith, lt, lt')) there) (before n j y (omega (arith, lt')) there ∙ ap (λ z. Some z) (sym same)) in
+      let few : n ≤ length (ids kind rows) = pigeon n at (ids kind rows) (λ i lt. of_row n i y lt there) alike in
+      let count = length-ids kind rows in
+      omega (arith, few, count)
+
   -- where two ids on the way are alike, the chain comes back sooner
-  sooner : (n i j : ℕ) → i < j → j < n → nth_parent rows kind id n ≡ Some id → at i ≡ at j → nth_parent rows kind id ((n - j) + i) ≡ Some id
-  sooner n i j lt lt' back same =
-      let first = before n i id (omega (arith, lt, lt')) back ∙ ap (λ y. Some y) same in
-      let second = before n j id (omega (arith, lt')) back in
-      let sum : (n - j) + j ≡ n = omega (arith, lt') in
-      nth_from rows kind id (at j) i (n - j) first ∙ sym (nth_from rows kind id (at j) j (n - j) second) ∙ ap (nth_parent rows kind id) sum ∙ back
+  sooner : (n i j : ℕ) (x : List ℕ) → j < n → nth_parent rows kind id n ≡ Some id → nth_parent rows kind id i ≡ Some x → nth_parent rows kind id j ≡ Some x → nth_parent rows kind id ((n - j) + i) ≡ Some id
+  sooner n i j x lt back first second =
+      let sum : (n - j) + j ≡ n = omega (arith, lt) in
+      nth_from rows kind id x i (n - j) first ∙ sym (nth_from rows kind id x j (n - j) second) ∙ ap (nth_parent rows kind id) sum ∙ back
 
   -- what comes back is in a cycle, however many turns it takes
   returns : (bound n : ℕ) → n ≤ bound → 0 < n → nth_parent rows kind id n ≡ Some id → is_in_cycle rows kind id ≡ true
@@ -130,12 +137,10 @@ module _ (rows : List Record) (kind : Kind) (id : List ℕ) where
             let less = in_cycle_from_test rows kind id (n - 1) earlier in
             returns bound less.0 (let l = less.2 in omega (arith, l, le, some)) less.1 less.3
         | false ↦ λ not_yet.
-            let apart : (i j : ℕ) → i < j → j < n → at i ≡ at j → ⊥ = λ i j lt lt' same.
-            let soon = test_from_in_cycle rows kind id (n - 1) ((n - j) + i) (omega (arith, lt, lt')) (omega (arith, lt, lt')) (sooner n i j lt lt' back same) in
+            let apart : (i j : ℕ) (x : List ℕ) → i < j → j < n → nth_parent rows kind id i ≡ Some x → nth_parent rows kind id j ≡ Some x → ⊥ = λ i j x lt lt' first second.
+            let soon = test_from_in_cycle rows kind id (n - 1) ((n - j) + i) (omega (arith, lt, lt')) (omega (arith, lt, lt')) (sooner n i j x lt' back first second) in
             cc in
-            let few : n ≤ length (ids kind rows) = pigeon n at (ids kind rows) (λ i lt. of_row n i id lt back) apart in
-            let count = length-ids kind rows in
-            test_from_in_cycle rows kind id (count_of kind rows) n some (omega (arith, few, count)) back
+            test_from_in_cycle rows kind id (count_of kind rows) n some (few_apart n id back apart) back
       ] refl
 
   pub in_cycle_from_turns : (n : ℕ) → 0 < n → nth_parent rows kind id n ≡ Some id → is_in_cycle rows kind id ≡ true

@@ -22,7 +22,7 @@ next_digit n k b small h =
     let most : b ≤ 57 = grind (arith, nat_tests) in
     rw add-one (rw (pow-suc 10 k) (omega arith))
 
-digits_bound : (t : List ℕ) (n k : ℕ) → n < 10 ^ k → list_all is_digit t ≡ true → fold (λ m b. m * 10 + (b - 48)) n t < 10 ^ (k + length t)
+pub digits_bound : (t : List ℕ) (n k : ℕ) → n < 10 ^ k → list_all is_digit t ≡ true → fold (λ m b. m * 10 + (b - 48)) n t < 10 ^ (k + length t)
 digits_bound [] n k small h = rw add-zero small
 digits_bound (b ∷ t) n k small h =
     let rest : fold (λ m c. m * 10 + (c - 48)) (n * 10 + (b - 48)) t < 10 ^ (k + 1 + length t) =

@@ -2,6 +2,7 @@ pub mod BoundLaws
 pub mod Dates
 pub mod Fitting
 pub mod HrefLaws
+pub mod Joins
 pub mod MetadataLaws
 pub mod Places
 pub mod SameRows

@@ -1,6 +1,6 @@
 //! The texts of values and references, as cells and JSON strings have them.
 
-ghost use Rattle.std.specs.Prelude.{◌≡◌, ◌≤◌, IfOk, string_bytes};
+ghost use Rattle.std.specs.Prelude.{◌≡◌, ◌≤◌, ◌++◌, IfOk, OnOk, string_bytes};
 ghost use Rattle.std.specs.Fmt.{signed_decimal};
 ghost use Rattle.roster_texts.specs.Digits.{four};
 ghost use Rattle.roster_types.specs.Hrefs as hrefs;
@@ -22,15 +22,23 @@ pub const ESCAPED_IN_HREF: AsciiSet = ascii_set!(
         .remove(b'~')
 );
 
-/// The path of a row: where the hub of the standard's REST binding gives it.
-#[tactic(auto, unfolding(crate::specs::Hrefs::href))]
+/// Adds the path of a row: where the hub of the standard's REST binding gives it.
+pub fn push_href(text: &mut String, kind: Kind, id: &Id) -> Result<(), NoMemory>
+    ensures { OnOk result (string_bytes text.new ≡ string_bytes text.old ++ hrefs.href kind id.now) }
+{
+    text.push_str("/ims/oneroster/v1p1/")?;
+    text.push_str(kind.plural())?;
+    text.push('/')?;
+    utf8_percent_encode(id.as_str(), ESCAPED_IN_HREF).append_to(text)?;
+    Ok(())
+}
+
+/// The path of a row.
 pub fn href(alloc: Global, kind: Kind, id: &Id) -> Result<String, NoMemory>
     ensures { IfOk result (λ s. string_bytes s ≡ hrefs.href kind id.now) }
 {
-    let mut path = String::from_str(alloc, "/ims/oneroster/v1p1/")?;
-    path.push_str(kind.plural())?;
-    path.push('/')?;
-    utf8_percent_encode(id.as_str(), ESCAPED_IN_HREF).append_to(&mut path)?;
+    let mut path = String::new(alloc);
+    push_href(&mut path, kind, id)?;
     Ok(path)
 }
 

@@ -5,6 +5,7 @@
 pub mod academic_sessions;
 pub mod bounds;
 pub mod categories;
+pub mod cell_text;
 pub mod cells;
 pub mod class_resources;
 pub mod classes;

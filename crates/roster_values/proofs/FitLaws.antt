@@ -1,6 +1,6 @@
 -- What a text reads as fits its field.
-use Rattle.std.proofs.Common.{◌≡◌, ℕ, ◌&&◌, cond, not, List, [], ◌∷◌, length, Bool, true, false, Option, Some, None, Result, Ok, Err, IfOk, IfSome, refl, nat_lt, bytes_eq, nat_eq}
-use Rattle.std.proofs.lemmas.Bool.{and_from}
+use Rattle.std.proofs.Common.{◌≡◌, ℕ, ◌&&◌, cond, not, List, [], ◌∷◌, length, Bool, true, false, Option, Some, None, Result, Ok, Err, IfOk, IfSome, refl, nat_le, nat_lt, bytes_eq, nat_eq}
+use Rattle.std.proofs.lemmas.Bool.{and_from, and_parts}
 use Rattle.std.specs.List.{list_all, list_any, position_or_len, before_first, after_first}
 use Rattle.roster_texts.specs.declared.fault.ValueFault.{ValueFault}
 use Rattle.roster_texts.specs.declared.fault.ValueFault.TheVariants as fault
@@ -8,10 +8,12 @@ use Rattle.roster_values.specs.declared.value.Value.{Value}
 use Rattle.roster_values.specs.declared.value.Value.TheVariants as value
 use Rattle.roster_base.specs.Reading.{◌>>=◌}
 use Rattle.roster_texts.specs.Results.{found_or}
-use Rattle.roster_values.specs.Fit.{fits, fits_form, fits_parts, has_items, is_item, is_plain_text, is_user_id_of}
+use Rattle.roster_values.specs.CellText.{has_short_year}
+use Rattle.roster_values.specs.Fit.{fits, fits_form, fits_parts, has_items, is_good, is_item, is_plain_text, is_user_id_of}
 use Rattle.roster_values.specs.Lists.{id_of, ids_of, is_colon, is_filled, items_of, read_all, user_id_in, user_id_of, user_ids_of}
 use Rattle.roster_texts.specs.Moments.{is_moment, moment_of, written_day_of}
 use Rattle.roster_texts.specs.Numbers.{flag_of, number_of, year_of}
+use Rattle.roster_values.specs.Shape.{has_shape, shape_of}
 use Rattle.roster_values.specs.Table.{Form, Info, TextForm, IdForm, DayForm, MomentForm, NumberForm, YearForm, FlagForm, WordForm, TextsForm, UserIdsForm, RefForm, RefsForm}
 use Rattle.roster_texts.specs.Texts.{has_plain_ends, is_id}
 use Rattle.roster_values.proofs.ItemLaws.{items_good}
@@ -122,3 +124,12 @@ value_cases form required t false e = form_fits form required (trimmed t) (and_f
 pub value_fits : (info : Info) (t : List ℕ) → IfOk (value_of info t) (λ o. fits info o ≡ true)
 unfolding value_of
 value_fits info t = value_cases info.form info.required t (nat_eq (length (trimmed t)) 0) refl
+
+year_fits : (form : Form) (y : ℕ) → has_shape (shape_of form) (value.Year y) ≡ true → is_good form (value.Year y) ≡ true → nat_le y 9999 ≡ true
+year_fits YearForm y shape good = good
+year_fits _ y shape good = cc
+
+-- a value that fits a field is no long year
+pub short_year : (form : Form) (v : Value) → fits_form form v ≡ true → has_short_year v ≡ true
+short_year form (value.Year y) fits = let parts = and_parts (has_shape (shape_of form) (value.Year y)) (is_good form (value.Year y)) fits in year_fits form y parts.0 parts.1
+short_year form _ fits = refl

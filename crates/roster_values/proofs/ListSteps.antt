@@ -18,11 +18,11 @@ no_comma_step b t true e h below = absurd (omega arith)
 no_comma_step b t false e h below = rw (e, below (omega arith)) refl
 
 -- a text without a comma is one part
-no_comma : (t : List ℕ) → position_or_len is_comma t ≡ length t → slice_split is_comma t ≡ t ∷ []
+pub no_comma : (t : List ℕ) → position_or_len is_comma t ≡ length t → slice_split is_comma t ≡ t ∷ []
 no_comma [] h = refl
 no_comma (b ∷ t) h = no_comma_step b t (is_comma b) refl (h ∙ omega arith) (no_comma t)
 
-filter_first : (t : List ℕ) (ts : List (List ℕ)) (r : Bool) → cond r (t ∷ filter is_filled ts) (filter is_filled ts) ≡ cond r (t ∷ []) [] ++ filter is_filled ts
+pub filter_first : (t : List ℕ) (ts : List (List ℕ)) (r : Bool) → cond r (t ∷ filter is_filled ts) (filter is_filled ts) ≡ cond r (t ∷ []) [] ++ filter is_filled ts
 filter_first t ts true = refl
 filter_first t ts false = refl
 

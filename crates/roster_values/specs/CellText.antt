@@ -1,5 +1,5 @@
 -- The text of a cell that holds a value.
-use Rattle.std.specs.Prelude.{codes, ℕ, ◌++◌, ◌∷◌, [], Bool, true, false, List, map}
+use Rattle.std.specs.Prelude.{codes, ℕ, ◌++◌, ◌∷◌, [], Bool, true, false, List, map, nat_le}
 use Rattle.std.specs.Fmt.{signed_decimal}
 use Rattle.std.specs.List.{join_with_byte}
 use Rattle.roster_values.specs.declared.value.Value.{Value}
@@ -33,3 +33,8 @@ cell_text (Texts ts) = join_with_byte comma ts
 cell_text (UserIds us) = join_with_byte comma (map user_id_text us)
 cell_text (Ref t) = t
 cell_text (Refs ts) = join_with_byte comma ts
+
+-- a year of four digits, where it is one
+abbrev pub has_short_year : Value → Bool
+has_short_year (Year y) = nat_le y 9999
+has_short_year _ = true

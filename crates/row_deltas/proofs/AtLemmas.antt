@@ -1,5 +1,6 @@
 -- What differs, by ids among which are those of all rows that differ.
 use Rattle.std.proofs.Common.{◌≡◌, ℕ, List, [], ◌∷◌, ◌++◌, true, false, cond, Option, None, Some, refl, sym, ap, subst, ◌∙◌}
+use Rattle.std.proofs.lemmas.Bool.{and_from}
 use Rattle.std.specs.Prelude.{option_and_then}
 use Rattle.std.specs.FinMap.Entries as entries
 use Rattle.std.specs.Option.{option_to_list}
@@ -10,7 +11,7 @@ use Rattle.roster_types.specs.Records.{Record}
 use Rattle.roster_values.specs.Kinds.{place_of_kind}
 use Rattle.roster_values.specs.declared.kind.Kind.{Kind}
 use Rattle.row_deltas.proofs.DeltaLemmas.{Ascends-delta, difference_same, look_up-delta}
-use Rattle.version_core.proofs.LookUps.{both_true, none_above}
+use Rattle.version_core.proofs.LookUps.{none_above}
 use Rattle.version_core.proofs.OrderLemmas.{same_from_look_up}
 use Rattle.row_deltas.specs.Deltas.{AreOf, Cover, delta_of, difference, entries_at, entry_key, id_key}
 use Rattle.row_deltas.specs.Sameness.{same_row}
@@ -45,7 +46,7 @@ module _ (kind : Kind) (old new : List Record) where
   below_at k (id ∷ ids) below =
       elim (at id) as (λ o. at id ≡ o → entries.below_all key_cmp k (keyed (entry_key kind) (option_to_list o ++ entries_at kind old new ids)) ≡ true) [
         | None ↦ λ _. below_at k ids (and_second _ _ below)
-        | Some e ↦ λ is. both_true _ _ (ap (λ q. is_lt (key_cmp k q)) (entry_keyed id e is) ∙ and_first _ _ below) (below_at k ids (and_second _ _ below))
+        | Some e ↦ λ is. and_from _ _ (ap (λ q. is_lt (key_cmp k q)) (entry_keyed id e is) ∙ and_first _ _ below) (below_at k ids (and_second _ _ below))
       ] refl
 
   Ascends-at : (ids : List (List ℕ)) → Ascends (id_key kind) ids → Ascends (entry_key kind) (entries_at kind old new ids)
@@ -54,7 +55,7 @@ module _ (kind : Kind) (old new : List Record) where
       let above : entries.below_all key_cmp (id_key kind id) (keyed (id_key kind) ids) ≡ true = and_first _ _ up in
       elim (at id) as (λ o. at id ≡ o → Ascends (entry_key kind) (option_to_list o ++ entries_at kind old new ids)) [
         | None ↦ λ _. Ascends-at ids (and_second _ _ up)
-        | Some e ↦ λ is. both_true _ _
+        | Some e ↦ λ is. and_from _ _
             (subst (λ q. entries.below_all key_cmp q (keyed (entry_key kind) (entries_at kind old new ids)) ≡ true) (sym (entry_keyed id e is)) (below_at (id_key kind id) ids above))
             (Ascends-at ids (and_second _ _ up))
       ] refl

@@ -1,5 +1,6 @@
 -- Rows that are put and ids that are gone, merged with the rows before.
-use Rattle.std.proofs.Common.{◌≡◌, ℕ, List, [], ◌∷◌, ◌++◌, bytes_eq, filter, Bool, true, false, ◌&&◌, ◌||◌, not, cond, Option, Some, None, refl, sym, ap, subst, ◌∙◌}
+use Rattle.std.proofs.Common.{◌≡◌, ℕ, List, [], ◌∷◌, ◌++◌, bytes_eq, filter, Bool, true, false, ◌||◌, not, cond, Option, Some, None, refl, sym, ap, subst, ◌∙◌}
+use Rattle.std.proofs.lemmas.Bool.{and_from}
 use Rattle.std.specs.Prelude.{option_and_then}
 use Rattle.std.specs.FinMap.Entries as entries
 use Rattle.std.specs.List.{list_any}
@@ -28,10 +29,6 @@ ids_gone-append [] other = refl
 ids_gone-append (Put row ∷ one) other = ids_gone-append one other
 ids_gone-append (Gone id ∷ one) other = ap (λ ids. id ∷ ids) (ids_gone-append one other)
 
-both_true : (a b : Bool) → a ≡ true → b ≡ true → (a && b) ≡ true
-both_true true b e f = f
-both_true false b e f = e
-
 abbrev pub put_of : Option DeltaEntry → Option Record
 put_of None = None
 put_of (Some (Put row)) = Some row
@@ -45,7 +42,7 @@ is_gone (Some (Gone id)) = true
 module _ (kind : Kind) where
   rows_put_above : (k : Key) (es : List DeltaEntry) → entries.below_all key_cmp k (keyed (entry_key kind) es) ≡ true → entries.below_all key_cmp k (keyed row_key (rows_put es)) ≡ true
   rows_put_above k [] above = refl
-  rows_put_above k (Put row ∷ es) above = both_true _ _ (and_first _ _ above) (rows_put_above k es (and_second _ _ above))
+  rows_put_above k (Put row ∷ es) above = and_from _ _ (and_first _ _ above) (rows_put_above k es (and_second _ _ above))
   rows_put_above k (Gone id ∷ es) above = rows_put_above k es (and_second _ _ above)
 
   pub look_up-rows_put : (k : Key) (es : List DeltaEntry) → Ascends (entry_key kind) es → look_up row_key k (rows_put es) ≡ put_of (look_up (entry_key kind) k es)

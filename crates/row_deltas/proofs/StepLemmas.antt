@@ -1,5 +1,6 @@
 -- What a delta is of lists by their first rows.
 use Rattle.std.proofs.Common.{◌≡◌, List, [], ◌∷◌, filter, map, Bool, true, false, not, cond, Some, None, refl, sym, ap, subst, ◌∙◌}
+use Rattle.std.proofs.lemmas.Bool.{and_from}
 use Rattle.std.specs.FinMap.Entries as entries
 use Rattle.std.specs.Ordering.{is_eq, is_lt}
 use Rattle.std.specs.declared.cmp.Ordering.TheVariants.{Equal, Greater, Less}
@@ -8,7 +9,7 @@ use Rattle.roster_types.specs.Keys.{Ascends, Key, key_cmp, keyed, look_up, row_k
 use Rattle.roster_types.specs.Records.{Record}
 use Rattle.roster_values.specs.declared.kind.Kind.{Kind}
 use Rattle.row_deltas.proofs.DeltaLemmas.{Ascends-delta, gone_keys, kept_of, key_of, look_up-delta, put_keys}
-use Rattle.version_core.proofs.LookUps.{below_kept, both_true, none_above, same_below}
+use Rattle.version_core.proofs.LookUps.{below_kept, none_above, same_below}
 use Rattle.row_deltas.specs.Deltas.{AreOf, delta_of, difference, entry_key, gone_entry, is_lacking, stands_in}
 use Rattle.row_deltas.specs.Sameness.{same_row}
 use Rattle.row_deltas.specs.declared.entry.DeltaEntry.TheVariants.{Put, Gone}
@@ -17,12 +18,12 @@ use Rattle.version_core.specs.Order.{by_order, overlaid, put}
 
 module _ {X : Type 0} (key : X → Key) (k : Key) where
   below_put : (x : X) (xs : List X) → is_lt (key_cmp k (key x)) ≡ true → entries.below_all key_cmp k (keyed key xs) ≡ true → entries.below_all key_cmp k (keyed key (put key x xs)) ≡ true
-  below_put x [] less above = both_true _ _ less above
+  below_put x [] less above = and_from _ _ less above
   below_put x (y ∷ ys) less above =
       elim (key_cmp (key x) (key y)) as (λ o. entries.below_all key_cmp k (keyed key (by_order o (x ∷ y ∷ ys) (x ∷ ys) (y ∷ put key x ys))) ≡ true) [
-        | Less ↦ both_true _ _ less above
-        | Equal ↦ both_true _ _ less (and_second _ _ above)
-        | Greater ↦ both_true _ _ (and_first _ _ above) (below_put x ys less (and_second _ _ above))
+        | Less ↦ and_from _ _ less above
+        | Equal ↦ and_from _ _ less (and_second _ _ above)
+        | Greater ↦ and_from _ _ (and_first _ _ above) (below_put x ys less (and_second _ _ above))
       ]
 
   below_overlaid : (base changes : List X) → entries.below_all key_cmp k (keyed key base) ≡ true → entries.below_all key_cmp k (keyed key changes) ≡ true → entries.below_all key_cmp k (keyed key (overlaid key base changes)) ≡ true
@@ -58,7 +59,7 @@ module _ (kind : Kind) where
         let above : entries.below_all key_cmp (row_key o) (keyed (entry_key kind) (delta_of kind olds new)) ≡ true = below-delta (row_key o) olds new are_old.1 (and_first _ _ up) below in
         same_from_look_up (entry_key kind) (delta_of kind (o ∷ olds) new) (Gone o.id ∷ delta_of kind olds new)
         (Ascends-delta kind (o ∷ olds) new are_old are_new up up')
-        (both_true _ _ (subst (λ q. entries.below_all key_cmp q (keyed (entry_key kind) (delta_of kind olds new)) ≡ true) (sym (key_of kind o are_old.0)) above) (Ascends-delta kind olds new are_old.1 are_new (and_second _ _ up) up'))
+        (and_from _ _ (subst (λ q. entries.below_all key_cmp q (keyed (entry_key kind) (delta_of kind olds new)) ≡ true) (sym (key_of kind o are_old.0)) above) (Ascends-delta kind olds new are_old.1 are_new (and_second _ _ up) up'))
         gone_found
 
   module _ (n : Record) (old news : List Record) (are_old : AreOf kind old) (are_new : AreOf kind (n ∷ news)) (up : Ascends row_key old) (up' : Ascends row_key (n ∷ news)) (below : entries.below_all key_cmp (row_key n) (keyed row_key old) ≡ true) where
@@ -78,7 +79,7 @@ module _ (kind : Kind) where
     delta-put =
         same_from_look_up (entry_key kind) (delta_of kind old (n ∷ news)) (Put n ∷ delta_of kind old news)
         (Ascends-delta kind old (n ∷ news) are_old are_new up up')
-        (both_true _ _ (below-delta (row_key n) old news are_old below (and_first _ _ up')) (Ascends-delta kind old news are_old are_new.1 up (and_second _ _ up')))
+        (and_from _ _ (below-delta (row_key n) old news are_old below (and_first _ _ up')) (Ascends-delta kind old news are_old are_new.1 up (and_second _ _ up')))
         put_found
 
   module _ (o n : Record) (olds news : List Record) (are_old : AreOf kind (o ∷ olds)) (are_new : AreOf kind (n ∷ news)) (up : Ascends row_key (o ∷ olds)) (up' : Ascends row_key (n ∷ news)) (same : row_key o ≡ row_key n) where
@@ -119,7 +120,7 @@ module _ (kind : Kind) where
               ] refl
               ∙ sym (rest_found k))
           | false ↦ λ e. same_from_look_up (entry_key kind) (delta_of kind (o ∷ olds) (n ∷ news)) (Put n ∷ delta_of kind olds news) rise
-              (both_true _ _ (below-delta (row_key n) olds news are_old.1 (subst (λ q. entries.below_all key_cmp q (keyed row_key olds) ≡ true) same (and_first _ _ up)) (and_first _ _ up')) rest_rise) (λ k.
+              (and_from _ _ (below-delta (row_key n) olds news are_old.1 (subst (λ q. entries.below_all key_cmp q (keyed row_key olds) ≡ true) same (and_first _ _ up)) (and_first _ _ up')) rest_rise) (λ k.
               both_found k
               ∙ ap (λ b. cond (is_eq (key_cmp k (row_key n))) (cond b None (Some (Put n))) (difference (look_up row_key k olds) (look_up row_key k news))) e
               ∙ ap (λ d. cond (is_eq (key_cmp k (row_key n))) (Some (Put n)) d) (sym (rest_found k)))

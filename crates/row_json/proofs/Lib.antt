@@ -2,7 +2,6 @@ pub mod CellBack
 pub mod Collecting
 pub mod DeltaBack
 pub mod DeltaTexts
-pub mod EntriesRise
 pub mod FieldSteps
 pub mod Guesses
 pub mod ItemSteps

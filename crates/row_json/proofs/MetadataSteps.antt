@@ -11,6 +11,7 @@ use Rattle.std.specs.String.{string_cmp}
 use Rattle.serde_json.specs.Find.{as_str}
 use Rattle.serde_json.specs.View.{members_view, view}
 use Rattle.serde_json.proofs.Views.{Entry as Member}
+use Rattle.roster_base.proofs.Rising.{rise_front, rise_without}
 use Rattle.roster_base.specs.Order.{RiseBy}
 use Rattle.roster_base.specs.Reading.{Fails, ◌>>=◌}
 use Rattle.roster_base.specs.declared.refusal.Refusal.{Refusal}
@@ -42,25 +43,6 @@ pub names_rise : (ms : List Member) → IsStrictlySortedBy string_cmp (keys_of m
 unfolding IsStrictlySortedBy
 names_rise [] h = tt
 names_rise (m ∷ ms) h = (all_names (string_bytes m.0) m.0 ms refl h.0, names_rise ms h.1)
-
-all_front : (P : List ℕ → Type 0) (xs ys : List (List ℕ)) → AllByRecursion P (xs ++ ys) → AllByRecursion P xs
-all_front P [] ys h = tt
-all_front P (x ∷ xs) ys h = (h.0, all_front P xs ys h.1)
-
-all_without : (P : List ℕ → Type 0) (xs ys : List (List ℕ)) (k : List ℕ) → AllByRecursion P (xs ++ k ∷ ys) → AllByRecursion P (xs ++ ys)
-all_without P [] ys k h = h.1
-all_without P (x ∷ xs) ys k h = (h.0, all_without P xs ys k h.1)
-
--- what rises still does when its end, or one key, is left out
-rise_front : (xs ys : List (List ℕ)) → Rise (xs ++ ys) → Rise xs
-unfolding IsStrictlySortedBy
-rise_front [] ys h = tt
-rise_front (x ∷ xs) ys h = (all_front _ xs ys h.0, rise_front xs ys h.1)
-
-rise_without : (xs ys : List (List ℕ)) (k : List ℕ) → Rise (xs ++ k ∷ ys) → Rise (xs ++ ys)
-unfolding IsStrictlySortedBy
-rise_without [] ys k h = h.1
-rise_without (x ∷ xs) ys k h = (all_without _ xs ys k h.0, rise_without xs ys k h.1)
 
 -- how far the metadata is read
 pub record Gathers (whole : Result (List Entry) ValueFault) (entries : List Entry) (left : List Member) : Type 0 where

@@ -1,6 +1,6 @@
 //! The JSON values of a row's values, written as tokens.
 
-ghost use Rattle.std.specs.Prelude.{◌≡◌, ◌≤◌, ◌∷◌, ◌++◌, [], flat_map, map, true, OnOk, string_bytes};
+ghost use Rattle.std.specs.Prelude.{◌≡◌, ◌≤◌, ◌∷◌, ◌++◌, [], flat_map, map, true, OnOk};
 ghost use Rattle.json.specs.Token.{key, string};
 ghost use Rattle.serde_json.specs.Data as json;
 ghost use Rattle.serde_json.specs.Find.{of_integer};
@@ -8,7 +8,6 @@ ghost use Rattle.serde_json.specs.View.{items_of};
 ghost use Rattle.roster_texts.specs.Days.{day_text};
 ghost use Rattle.roster_texts.specs.Digits.{four};
 ghost use Rattle.roster_texts.specs.Moments.{moment_text};
-ghost use Rattle.roster_types.specs.Hrefs as hrefs;
 ghost use Rattle.roster_values.specs.Fit.{fits_form};
 ghost use Rattle.roster_values.specs.Table.{form_of};
 ghost use Rattle.roster_values.specs.Value.{shown};
@@ -16,11 +15,10 @@ ghost use Rattle.row_json.specs.Json.{reference_data, user_id_data, value_data};
 ghost use Rattle.row_json.specs.Tokens.{data_tokens};
 
 use json::Writer;
-use percent_encoding::utf8_percent_encode;
 use roster_base::{NoMemory, Text};
 use roster_texts::digits::push_four;
 use roster_texts::{Day, Id, Moment};
-use roster_types::cells::{ESCAPED_IN_HREF, flag_text};
+use roster_types::cells::{flag_text, push_href};
 use roster_values::{FieldForm, Kind, UserId, ValueRef};
 
 /// A member with a text.
@@ -33,18 +31,6 @@ pub fn write_member(out: &mut Writer, name: &str, text: &str) -> Result<(), NoMe
     Ok(())
 }
 
-// The path of a row, in place of what the buffer holds.
-fn put_href(path: &mut String, kind: Kind, id: &Id) -> Result<(), NoMemory>
-    ensures { OnOk result (string_bytes path.new ≡ hrefs.href kind id.now) }
-{
-    path.clear();
-    path.push_str("/ims/oneroster/v1p1/")?;
-    path.push_str(kind.plural())?;
-    path.push('/')?;
-    utf8_percent_encode(id.as_str(), ESCAPED_IN_HREF).append_to(path)?;
-    Ok(())
-}
-
 fn write_reference(
     out: &mut Writer,
     buffer: &mut String,
@@ -54,7 +40,8 @@ fn write_reference(
     ensures before { OnOk result (out.new.before ≡ out.old.before) }
     ensures tokens { OnOk result (out.new.tokens ≡ out.old.tokens ++ data_tokens (reference_data kind id.now)) }
 {
-    put_href(buffer, kind, id)?;
+    buffer.clear();
+    push_href(buffer, kind, id)?;
     out.begin_object()?;
     write_member(out, "href", buffer.as_str())?;
     write_member(out, "sourcedId", id.as_str())?;

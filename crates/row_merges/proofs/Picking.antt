@@ -1,12 +1,13 @@
 -- A merge, pick by pick.
 use Rattle.std.proofs.Common.{◌≡◌, ℕ, ◌+◌, ◌<◌, ◌≤◌, List, [], ◌∷◌, ◌++◌, Bool, true, false, not, cond, drop, filter, length, slice_get, None, Some, refl, sym, ap, subst, ◌∙◌, arith}
+use Rattle.std.proofs.lemmas.Bool.{and_from}
 use Rattle.std.specs.FinMap.Entries as entries
 use Rattle.std.specs.Ordering.{is_lt, ordering_reverse}
 use Rattle.std.specs.declared.cmp.Ordering.TheVariants.{Equal, Greater, Less}
 use Rattle.reference_rules.proofs.KeyOrder.{and_first, and_second, key_exact, key_total, less_from_is_lt}
 use Rattle.roster_types.specs.Keys.{Ascends, Key, key_cmp, keyed, row_key}
 use Rattle.roster_types.specs.Records.{Record}
-use Rattle.version_core.proofs.LookUps.{below_kept, both_true}
+use Rattle.version_core.proofs.LookUps.{below_kept}
 use Rattle.row_deltas.specs.Deltas.{merged}
 use Rattle.version_core.specs.Order.{by_order, overlaid, put}
 use Rattle.row_merges.specs.Picks.{Pick, is_gone, kept_of, passed, pick_of, pick_of_both}
@@ -14,7 +15,7 @@ use Rattle.row_merges.specs.Picks.{Pick, is_gone, kept_of, passed, pick_of, pick
 below_further : (a b : Key) (rows : List Record) → key_cmp a b ≡ Less → entries.below_all key_cmp b (keyed row_key rows) ≡ true → entries.below_all key_cmp a (keyed row_key rows) ≡ true
 below_further a b [] less above = refl
 below_further a b (row ∷ rows) less above =
-    both_true _ _ (ap is_lt (key_total.trans a b (row_key row) less (less_from_is_lt _ (and_first _ _ above)))) (below_further a b rows less (and_second _ _ above))
+    and_from _ _ (ap is_lt (key_total.trans a b (row_key row) less (less_from_is_lt _ (and_first _ _ above)))) (below_further a b rows less (and_second _ _ above))
 
 reversed : (a b : Key) → key_cmp a b ≡ Greater → key_cmp b a ≡ Less
 reversed a b greater = key_total.antisymm b a ∙ ap ordering_reverse greater
@@ -24,12 +25,12 @@ turned a b less = key_total.antisymm b a ∙ ap ordering_reverse less
 
 -- (as in row_deltas' StepLemmas)
 below_put : (k : Key) (x : Record) (xs : List Record) → is_lt (key_cmp k (row_key x)) ≡ true → entries.below_all key_cmp k (keyed row_key xs) ≡ true → entries.below_all key_cmp k (keyed row_key (put row_key x xs)) ≡ true
-below_put k x [] less above = both_true _ _ less above
+below_put k x [] less above = and_from _ _ less above
 below_put k x (y ∷ ys) less above =
     elim (key_cmp (row_key x) (row_key y)) as (λ o. entries.below_all key_cmp k (keyed row_key (by_order o (x ∷ y ∷ ys) (x ∷ ys) (y ∷ put row_key x ys))) ≡ true) [
-      | Less ↦ both_true _ _ less above
-      | Equal ↦ both_true _ _ less (and_second _ _ above)
-      | Greater ↦ both_true _ _ (and_first _ _ above) (below_put k x ys less (and_second _ _ above))
+      | Less ↦ and_from _ _ less above
+      | Equal ↦ and_from _ _ less (and_second _ _ above)
+      | Greater ↦ and_from _ _ (and_first _ _ above) (below_put k x ys less (and_second _ _ above))
     ]
 
 below_overlaid : (k : Key) (base changes : List Record) → entries.below_all key_cmp k (keyed row_key base) ≡ true → entries.below_all key_cmp k (keyed row_key changes) ≡ true → entries.below_all key_cmp k (keyed row_key (overlaid row_key base changes)) ≡ true
@@ -93,13 +94,13 @@ module _ (gone : List (List ℕ)) where
       (record { row = h; is_held = true; in_held = true; in_puts = false })
       (record { row = p; is_held = false; in_held = true; in_puts = true })
       (record { row = p; is_held = false; in_held = false; in_puts = true }))) [
-        | Less ↦ λ less. front h held (p ∷ puts) (both_true _ _ (ap is_lt less) (below_further (row_key h) (row_key p) puts less (and_first _ _ up')))
+        | Less ↦ λ less. front h held (p ∷ puts) (and_from _ _ (ap is_lt less) (below_further (row_key h) (row_key p) puts less (and_first _ _ up')))
         | Equal ↦ λ same.
             let equal : key_cmp (row_key p) (row_key h) ≡ Equal = key_total.antisymm (row_key p) (row_key h) ∙ ap ordering_reverse same in
             put_over h p held puts (key_exact (row_key h) (row_key p) same) (and_first _ _ up) (and_first _ _ up') equal
         | Greater ↦ λ greater.
             let less = reversed (row_key h) (row_key p) greater in
-            put_front p (h ∷ held) puts (both_true _ _ (ap is_lt less) (below_further (row_key p) (row_key h) held less (and_first _ _ up))) (and_first _ _ up')
+            put_front p (h ∷ held) puts (and_from _ _ (ap is_lt less) (below_further (row_key p) (row_key h) held less (and_first _ _ up))) (and_first _ _ up')
       ] refl
 
   pub pick_steps : (held puts : List Record) (pick : Pick) → Ascends row_key held → Ascends row_key puts → pick_of (slice_get held 0) (slice_get puts 0) ≡ Some pick → Steps held puts pick

@@ -165,7 +165,7 @@ changes_below (change ∷ changes) =
 back : (m : Map) → from_entries (entries m) ≡ m
 back m = same_map nat_list_cmp_total same_bytes _ _ (λ q. get-from_entries nat_list_cmp_total (entries m) q ∙ sym (get-entries m q))
 
-passed : (p : List ℕ → Bool) (m : Map) → where_label p (entries m) ≡ entries (retain_keys m p)
+pub passed : (p : List ℕ → Bool) (m : Map) → where_label p (entries m) ≡ entries (retain_keys m p)
 passed p m =
     sym (listed_where p (entries m) (where_label p (entries m)) refl (holds (is_sorted bytes_cmp (where_label p (entries m))) (is_sorted-where_key bytes_cmp p (entries m) (entries_sorted m))))
     ∙ ap (λ n. entries (retain_keys n p)) (back m)

@@ -1,5 +1,5 @@
 use Rattle.std.specs.Prelude.{option_to_list}
-use Rattle.bulk_export.proofs.ListSteps.{Collects}
+use Rattle.reference_rules.proofs.ListSteps.{Collects}
 use Rattle.bulk_export.specs.Steps.{gone_row, lying}
 use Rattle.bulk_export.proofs.changes.add_gone_rows.Given as goal
 

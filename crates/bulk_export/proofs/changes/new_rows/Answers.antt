@@ -1,6 +1,6 @@
 use Rattle.std.proofs.Common.{◌<◌, [], length, arith}
 use Rattle.std.specs.Prelude.{option_to_list}
-use Rattle.bulk_export.proofs.ListSteps.{collects_end, collects_on}
+use Rattle.reference_rules.proofs.ListSteps.{collects_end, collects_on}
 use Rattle.bulk_export.specs.Steps.{new_row}
 use Rattle.bulk_export.proofs.changes.new_rows.Goals as goal
 

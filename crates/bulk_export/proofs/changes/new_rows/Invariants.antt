@@ -1,5 +1,5 @@
 use Rattle.std.specs.Prelude.{[], option_to_list}
-use Rattle.bulk_export.proofs.ListSteps.{Collects}
+use Rattle.reference_rules.proofs.ListSteps.{Collects}
 use Rattle.bulk_export.specs.Steps.{new_row}
 use Rattle.bulk_export.proofs.changes.new_rows.Given as goal
 

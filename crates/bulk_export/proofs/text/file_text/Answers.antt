@@ -1,5 +1,5 @@
 use Rattle.std.proofs.Common.{None}
-use Rattle.bulk_export.proofs.Differing.{distinct_ids}
+use Rattle.keeper_memory.proofs.DistinctIds.{distinct_ids}
 use Rattle.bulk_export.proofs.text.file_text.Goals as goal
 
 pub write_file-requires-clause-differ : goal.write_file-requires-clause-differ

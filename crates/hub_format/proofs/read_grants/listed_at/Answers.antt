@@ -1,17 +1,17 @@
-use Rattle.std.proofs.Common.{rules, ◌<◌, ◌^◌, sym, subst}
+use Rattle.std.proofs.Common.{rules, ◌<◌, ◌^◌, ◌∙◌, sym, subst}
 use Rattle.grant_scopes.specs.declared.schools.Schools.TheVariants as schools
 use Rattle.hub_format.specs.Pieces.{AreSized}
 use Rattle.hub_format.proofs.GrantReading.{listed_parts}
 use Rattle.hub_format.proofs.read_grants.listed_at.Goals as goal
 
-pub returns-in-Some-school_list-clause-schools : goal.returns-in-Some-school_list-clause-schools
-returns-in-Some-school_list-clause-schools c =
+pub returns-in-Some-of_rising-clause-schools : goal.returns-in-Some-of_rising-clause-schools
+returns-in-Some-of_rising-clause-schools c =
     let ids = c.in-Some-2.parts.0.items in
-    listed_parts c.args.bytes.now c.in-Some.parts.1.now c.in-Some-2.parts.1.now c.in-Some.parts.0 ids c.in-Some-school_list.list c.in-Some.ensures (rw c.in-Some-2.is at c.in_ok-parts.ensures.ids)
-    (rw c.in-Some-2.is at c.in_ok-parts.ensures.count) c.in-Some-school_list.ensures
+    listed_parts c.args.bytes.now c.in-Some.parts.1.now c.in-Some-2.parts.1.now c.in-Some.parts.0 ids c.in-Some-of_rising.list c.in-Some.ensures (rw c.in-Some-2.is at c.in_ok-parts.ensures.ids)
+    (rw c.in-Some-2.is at c.in_ok-parts.ensures.count) (c.in-Some-of_rising.ensures.some ∙ c.from_vec.ensures)
 
-pub returns-in-Some-school_list-clause-small : goal.returns-in-Some-school_list-clause-small
-returns-in-Some-school_list-clause-small c =
+pub returns-in-Some-of_rising-clause-small : goal.returns-in-Some-of_rising-clause-small
+returns-in-Some-of_rising-clause-small c =
     let count : c.in-Some.parts.0 < 2 ^ 64 = search rules in
     let long = rw c.in-Some-2.is at c.in_ok-parts.ensures.count in
-    subst (λ ids. AreSized (schools.Listed ids)) (sym c.in-Some-school_list.ensures) (subst (λ n. n < 2 ^ 64) (sym long) count, rw c.in-Some-2.is at c.in_ok-parts.ensures.small)
+    subst (λ ids. AreSized (schools.Listed ids)) (sym (c.in-Some-of_rising.ensures.some ∙ c.from_vec.ensures)) (subst (λ n. n < 2 ^ 64) (sym long) count, rw c.in-Some-2.is at c.in_ok-parts.ensures.small)

@@ -1,23 +1,20 @@
-//! The texts of cells.
+//! The text of a value, as a cell has it.
 
 ghost use Rattle.std.specs.Prelude.{◌≡◌, IfOk, map, string_bytes, true};
 ghost use Rattle.std.specs.List.{join_with_byte};
 ghost use Rattle.roster_texts.specs.Signs.{comma};
-ghost use Rattle.roster_values.specs.CellText.{cell_text, user_id_text};
-ghost use Rattle.roster_values.specs.Fit.{fits_form};
-ghost use Rattle.roster_values.specs.Table.{form_of};
+ghost use Rattle.roster_values.specs.CellText.{cell_text, has_short_year, user_id_text};
 ghost use Rattle.roster_values.specs.Value.{shown};
 
+use crate::cells::{flag_text, number_text, year_text};
 use roster_base::{NoMemory, Text};
 use roster_texts::Id;
-use roster_types::cells::{flag_text, number_text, year_text};
 use roster_values::ValueRef;
-use roster_values::fields::FieldForm;
 use roster_values::user_id::UserId;
 use std::alloc::Global;
 
-// A user id as `{type:identifier}`.
-fn user_id_text(alloc: Global, id: &UserId) -> Result<String, NoMemory>
+/// A user id as `{type:identifier}`.
+pub fn user_id_text(alloc: Global, id: &UserId) -> Result<String, NoMemory>
     ensures { IfOk result (λ s. string_bytes s ≡ user_id_text id.now) }
 {
     let mut text = String::from_str(alloc, "{")?;
@@ -71,10 +68,10 @@ fn joined_user_ids(alloc: Global, ids: &[UserId]) -> Result<String, NoMemory>
     Ok(texts.as_slice().join(alloc, ",")?)
 }
 
-/// The text of a cell that holds a value of a field's form: lists with commas between their items.
+/// The text of a cell that holds a value: lists with commas between their items.
 #[tactic(auto, unfolding(roster_values::specs::CellText::cell_text))]
-pub fn cell_text(alloc: Global, form: FieldForm, value: ValueRef<'_>) -> Result<String, NoMemory>
-    requires { fits_form (form_of form) (shown value) ≡ true }
+pub fn cell_text(alloc: Global, value: ValueRef<'_>) -> Result<String, NoMemory>
+    requires { has_short_year (shown value) ≡ true }
     ensures { IfOk result (λ s. string_bytes s ≡ cell_text (shown value.entry)) }
 {
     match value {

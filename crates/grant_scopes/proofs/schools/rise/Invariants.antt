@@ -2,7 +2,7 @@ use Rattle.std.proofs.Common.{◌≡◌, ◌+◌, ◌<◌, ℕ, List, get_or}
 use Rattle.std.specs.Cmp.Lexicographic.{slice_cmp}
 use Rattle.std.specs.Ordering.{nat_cmp}
 use Rattle.std.specs.declared.cmp.Ordering.TheVariants.{Less}
-use Rattle.hub_format.proofs.read_grants.rise.Given as goal
+use Rattle.grant_scopes.proofs.schools.rise.Given as goal
 
 -- each id so far is below the next
 abbrev pub invariant-loop-place : goal.invariant-loop-place
