@@ -1,5 +1,4 @@
 mod Answering
-mod Differing
 mod Leading
 mod Listing
 mod Ordering

@@ -6,9 +6,9 @@ use Rattle.std.specs.List.{All, AllByRecursion, IsDistinct, flat_map, list_any}
 use Rattle.std.specs.List.Sorted.{IsStrictlySortedBy}
 use Rattle.std.specs.Ordering.{nat_cmp}
 use Rattle.std.specs.declared.cmp.Ordering.TheVariants.{Less}
-use Rattle.hub_cascade.proofs.Differing.{distinct_ids}
 use Rattle.hub_cascade.proofs.Ordering.{IsAbove, each_append, list_above, list_first}
 use Rattle.hub_cascade.specs.Steps.{AreHeldParts, IsHeldPart, ListsHeld, dated, held_part, part_of}
+use Rattle.keeper_memory.proofs.DistinctIds.{distinct_ids}
 use Rattle.keeper_memory.specs.copy.Copies.{Copy, held_list}
 use Rattle.keeper_memory.specs.copy.Lists.{IsList}
 use Rattle.roster_types.specs.Keys.{Ascends, row_key}

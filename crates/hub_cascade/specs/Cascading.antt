@@ -1,14 +1,13 @@
 -- What becomes of a version where the rows that a copy holds are made those of a feed.
-use Rattle.std.specs.Prelude.{◌≡◌, ℕ, ℤ, ◌+◌, ◌<◌, ◌&&◌, ◌⊎◌, option_map, filter, if◌then◌else◌, Bool, List, [], ◌∷◌, Option, Some, None}
+use Rattle.std.specs.Prelude.{◌≡◌, ℕ, ℤ, ◌&&◌, option_map, filter, if◌then◌else◌, Bool, List, [], ◌∷◌, Option, Some, None}
 use Rattle.std.specs.Option.{option_or}
 use Rattle.roster_types.specs.Keys.{Key, look_up, row_key}
 use Rattle.roster_types.specs.Records.{Record}
 use Rattle.roster_values.specs.Kinds.{all_kinds}
 use Rattle.version_changes.specs.declared.sets.publish_fault.PublishFault.{PublishFault}
-use Rattle.version_changes.specs.declared.sets.publish_fault.PublishFault.TheVariants.{LastVersion, OwnedByOther}
-use Rattle.version_changes.specs.sets.Applying.{Leads, Outcome, Refuses, Unchanged, is_active, is_own, marked, owned_by, too_many}
+use Rattle.version_changes.specs.declared.sets.publish_fault.PublishFault.TheVariants.{OwnedByOther}
+use Rattle.version_changes.specs.sets.Applying.{Makes, Outcome, is_active, is_own, marked, owned_by, too_many}
 use Rattle.version_core.specs.Changes.{AreChanges, change_key, rows_of}
-use Rattle.version_core.specs.Version.{last_version}
 use Rattle.version_core.specs.declared.change.BaseVersion.{BaseVersion}
 use Rattle.version_core.specs.declared.row_change.RowChange.{RowChange}
 
@@ -44,22 +43,9 @@ owned_by_other feed rows (held ∷ later) = option_or (fault_of_owner feed held 
 abbrev pub refusal_of : List ℕ → List Record → List RowChange → List RowChange → Option PublishFault
 refusal_of feed held rows new = option_or (owned_by_other feed rows held) (too_many (rows_of new) all_kinds)
 
--- the rows change, which asks for a version more
-pub record IsDue (version : BaseVersion) (feed : List ℕ) (held : List Record) (new : List RowChange) : Type 0 where
-  pub passes : refusal_of feed held version.rows new ≡ None
-  pub differ : version.rows ≡ new → ⊥
-
--- what held rows make of a version, where the rows that they lead to are these
-abbrev pub Makes : BaseVersion → List ℕ → List Record → ℤ → List RowChange → Outcome → Type 0
-Makes version feed held at new (Refuses fault) =
-    (refusal_of feed held version.rows new ≡ Some fault) ⊎ (IsDue version feed held new × (version.number ≡ last_version) × (fault ≡ LastVersion))
-Makes version feed held at new Unchanged = (refusal_of feed held version.rows new ≡ None) × (version.rows ≡ new)
-Makes version feed held at new (Leads next) =
-    IsDue version feed held new × (version.number < last_version) × (next ≡ record version { number = version.number + 1; moment = at; rows = new })
-
 -- cascading held rows into a version, as those of a feed, at a moment
 abbrev pub Cascades : BaseVersion → List ℕ → List Record → ℤ → Outcome → Type 0
-Cascades version feed held at outcome = (new : List RowChange) × AreCascaded feed at held version.rows new × Makes version feed held at new outcome
+Cascades version feed held at outcome = (new : List RowChange) × AreCascaded feed at held version.rows new × Makes version at (refusal_of feed held version.rows new) new outcome
 
 -- ---- what is served onward
 

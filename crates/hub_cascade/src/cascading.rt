@@ -1,15 +1,12 @@
 //! A copy cascaded into a hub.
 
-ghost use Rattle.std.specs.Prelude.{◌≡◌, ◌≤◌, Err, IfOk, Ok, Some, false, true};
-ghost use Rattle.std.specs.Option.{ForSome};
+ghost use Rattle.std.specs.Prelude.{◌≡◌, ◌≤◌, IfOk};
 ghost use Rattle.hub_cascade.specs.Answers.{CountsCopy, CountsHub, LeavesOpen, MakesCascade, TellsHeld, answer_of};
 ghost use Rattle.hub_cascade.specs.Cascading.{active_rows, current_rows};
 ghost use Rattle.hub_cascade.specs.Held.{CascadesHeld, held_rows};
 ghost use Rattle.hub_cascade.specs.Steps.{MakesListed};
-ghost use Rattle.hub_core.specs.Made.{Adopts};
 ghost use Rattle.hub_core.specs.Standing.{IsStanding, KeeperFits};
 ghost use Rattle.hub_core.specs.Steps.{CountsFault, LeavesOpen as LeavesHubOpen};
-ghost use Rattle.keeper_memory.specs.Commits.{CanLead};
 ghost use Rattle.keeper_memory.specs.Kept.{KeptState, newest_kept};
 ghost use Rattle.keeper_memory.specs.copy.Copies.{Copy};
 
@@ -17,68 +14,10 @@ use crate::change::held_change;
 use crate::error::CascadeError;
 use crate::held::held_set;
 use hub_core::{Hub, HubError, Published};
-use keeper_memory::{CopyKeeper, HubCommit, HubKeeper};
-use roster_base::Refusal;
+use keeper_memory::{CopyKeeper, HubKeeper};
 use roster_texts::{Moment, Name};
 use roster_types::set::RosterSet;
 use std::alloc::Global;
-use version_changes::PublishFault;
-use version_core::change::Change;
-
-// Adds the version that a change leads to.
-fn add_version<H: HubKeeper>(
-    alloc: Global,
-    hub: &mut Hub,
-    keeper: &mut H,
-    change: Change,
-) -> Result<Published, HubError>
-    requires fits { KeeperFits (H.stands_for keeper.old) hub.old }
-    requires settled { hub.old.is_open ≡ false }
-    requires can { CanLead hub.old.kept.versions change }
-    ensures fits { KeeperFits (H.stands_for keeper.new) hub.new }
-    ensures told { (after : KeptState) → IsStanding hub.new after → (H.stands_for keeper.new after → H.stands_for keeper.old hub.old.kept) × Adopts (Ok (Some change)) result hub.old.kept after }
-    ensures keeps { hub.new.keeps ≡ hub.old.keeps }
-    ensures settled { LeavesHubOpen result hub.new.is_open }
-    ensures cause { CountsFault (H.fault_count keeper.old) (H.fault_count keeper.new) result }
-    ensures leads { H.leads keeper.old keeper.new }
-{
-    let version = change.version;
-    let commit = HubCommit {
-        change: Some(change),
-        mark: None,
-    };
-    match hub.install(alloc, keeper, commit) {
-        Ok(()) => Ok(Published::New { version }),
-        Err(error) => Err(error),
-    }
-}
-
-// Makes what is due, where anything is.
-fn adopt<H: HubKeeper>(
-    alloc: Global,
-    hub: &mut Hub,
-    keeper: &mut H,
-    due: Result<Option<Change>, Refusal<PublishFault>>,
-) -> Result<Published, HubError>
-    requires fits { KeeperFits (H.stands_for keeper.old) hub.old }
-    requires settled { hub.old.is_open ≡ false }
-    requires can { IfOk due (λ change. ForSome change (CanLead hub.old.kept.versions)) }
-    ensures fits { KeeperFits (H.stands_for keeper.new) hub.new }
-    ensures told { (after : KeptState) → IsStanding hub.new after → (H.stands_for keeper.new after → H.stands_for keeper.old hub.old.kept) × Adopts due result hub.old.kept after }
-    ensures keeps { hub.new.keeps ≡ hub.old.keeps }
-    ensures settled { LeavesHubOpen result hub.new.is_open }
-    ensures cause { CountsFault (H.fault_count keeper.old) (H.fault_count keeper.new) result }
-    ensures leads { H.leads keeper.old keeper.new }
-{
-    match due {
-        Ok(Some(change)) => add_version(alloc, hub, keeper, change),
-        Ok(None) => Ok(Published::Same {
-            version: hub.table().newest(),
-        }),
-        Err(Refusal::Fault(fault)) => Err(HubError::Refused(fault)),
-        Err(Refusal::NoMemory) => Err(HubError::NoMemory),
-    }
-}
 
 // Makes the rows that a set lists those of its feed, where it lists all that a copy holds.
 fn publish_held<H: HubKeeper>(
@@ -99,7 +38,7 @@ fn publish_held<H: HubKeeper>(
     match hub.ready(alloc, keeper) {
         Ok(()) => {
             let due = held_change(alloc, hub.table(), set, at);
-            adopt(alloc, hub, keeper, due)
+            hub.adopt(alloc, keeper, due)
         }
         Err(error) => {
             drop(set);

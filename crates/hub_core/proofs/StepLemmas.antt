@@ -11,7 +11,7 @@ use Rattle.version_changes.specs.grants.Granting.{GrantsMake}
 use Rattle.version_changes.specs.grants.Next.{IsNext}
 use Rattle.grant_scopes.specs.declared.entry.GrantEntry.{GrantEntry}
 use Rattle.version_core.specs.Grants.{HasGrant}
-use Rattle.version_core.specs.Version.{IsVersion, after, empty_version, last_or}
+use Rattle.version_core.specs.Version.{IsVersion, after, empty_version}
 use Rattle.version_core.specs.declared.change.BaseVersion.{BaseVersion}
 use Rattle.version_core.specs.declared.change.Change.{Change}
 use Rattle.version_core.specs.declared.grant_row.GrantRow.{GrantRow}
@@ -19,8 +19,8 @@ use Rattle.roster_base.specs.declared.refusal.Refusal.{Refusal}
 use Rattle.roster_base.specs.declared.refusal.Refusal.TheVariants as refusal
 use Rattle.version_changes.specs.sets.Applying.{Answers, Applies, LeadsOn, Leads, Outcome}
 use Rattle.version_changes.specs.declared.sets.publish_fault.PublishFault.{PublishFault}
-use Rattle.version_core.proofs.TableLemmas.{last_number}
-use Rattle.keeper_memory.proofs.KeptLemmas.{newest_after, versions_are}
+use Rattle.version_core.proofs.TableLemmas.{last_meets, last_number, versions_are}
+use Rattle.keeper_memory.proofs.KeptLemmas.{newest_after}
 use Rattle.keeper_memory.specs.Commits.{CanCommit, CanFollow, CanLead}
 use Rattle.keeper_memory.specs.Kept.{AreHubVersions, IsKept, KeptState, newest_kept, oldest_kept}
 use Rattle.keeper_memory.specs.declared.hub_commit.HubCommit.{HubCommit}
@@ -44,15 +44,10 @@ adopts_error change error.Keeper before after made = made
 adopts_error change error.NoMemory before after made = made
 adopts_error change (error.Refused fault) before after made = made
 
--- what each version of a list meets its last meets
-pub last_meets : (P : BaseVersion → Type 0) (d version : BaseVersion) (versions : List BaseVersion) → AllByRecursion P (version ∷ versions) → P (last_or d (version ∷ versions))
-last_meets P d version [] all = all.0
-last_meets P d version (other ∷ versions) all = last_meets P version other versions all.1
-
 -- the newest of a hub's versions is one
 pub newest_is : (keep : ℕ) (versions : List BaseVersion) → AreHubVersions keep versions → IsVersion (newest_kept versions)
 newest_is keep [] kept = absurd (let some = kept.kept.some in omega arith)
-newest_is keep (version ∷ versions) kept = last_meets IsVersion empty_version version versions (versions_are version.number (version ∷ versions) kept.kept.run)
+newest_is keep (version ∷ versions) kept = last_meets IsVersion version versions (versions_are version.number (version ∷ versions) kept.kept.run)
 
 -- a version whose grants are new with it, or were there already, may follow
 pub may_follow : (keep : ℕ) (versions : List BaseVersion) → AreHubVersions keep versions → (next : BaseVersion) → IsNext (newest_kept versions) next → CanFollow versions next

@@ -265,8 +265,8 @@ impl Hub {
         }
     }
 
-    // Makes what is due, where anything is.
-    fn adopt<H: HubKeeper>(
+    /// Makes what is due, where anything is: the next version, where a change is.
+    pub fn adopt<H: HubKeeper>(
         &mut self,
         alloc: Global,
         keeper: &mut H,

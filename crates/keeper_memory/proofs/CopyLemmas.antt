@@ -1,6 +1,7 @@
 -- A change that may be made leads from a copy to a copy.
 use Rattle.std.proofs.Common.{◌≡◌, ◌+◌, ◌<◌, ◌≤◌, ℕ, zero, suc, Bool, true, false, List, [], ◌∷◌, ◌++◌, length, get_or, Option, Some, None, refl, sym, ◌∙◌, ap, subst, arith}
-use Rattle.std.specs.Prelude.{slice_get, nat_lt, Result, Ok, Err, OnOk, OnErr, ◌&&◌, IfSome, find, is_none, is_some, if◌then◌else◌, option_map, MatchOption, ⊤}
+use Rattle.std.proofs.lemmas.Bool.{and_from, and_parts}
+use Rattle.std.specs.Prelude.{slice_get, nat_lt, Result, Ok, Err, OnOk, OnErr, IfSome, find, is_none, is_some, if◌then◌else◌, option_map, MatchOption, ⊤}
 use Rattle.std.specs.List.{All}
 use Rattle.std.specs.Option.{option_map_or}
 use Rattle.std.proofs.lemmas.Bool.Decides.{nat_tests}
@@ -25,17 +26,9 @@ use Rattle.version_core.specs.declared.mark.Write.{Write}
 
 -- ---- lists
 
-and_true : (a b : Bool) → a ≡ true → b ≡ true → (a && b) ≡ true
-and_true true b e f = f
-and_true false b e f = cc
-
-and_both : (a b : Bool) → (a && b) ≡ true → (a ≡ true) × (b ≡ true)
-and_both true b e = (refl, e)
-and_both false b e = cc
-
 ascends-append : (d : Option (List ℕ)) (xs ys : List Record) → ascends d xs ≡ true → ascends (last_from d xs) ys ≡ true → ascends d (xs ++ ys) ≡ true
 ascends-append d [] ys e f = f
-ascends-append d (x ∷ xs) ys e f = let b = and_both (is_after d x.id) (ascends (Some x.id) xs) e in and_true _ _ b.0 (ascends-append (Some x.id) xs ys b.1 f)
+ascends-append d (x ∷ xs) ys e f = let b = and_parts (is_after d x.id) (ascends (Some x.id) xs) e in and_from _ _ b.0 (ascends-append (Some x.id) xs ys b.1 f)
 
 list_more : (kind : Kind) (xs ys : List Record) → IsList kind xs → All (λ row. row.kind ≡ kind) ys → ascends (last_from None xs) ys ≡ true → IsList kind (xs ++ ys)
 list_more kind xs ys x all up = record { kinds = All-append (λ row. row.kind ≡ kind) xs ys x.kinds all; ascend = ascends-append None xs ys x.ascend up }

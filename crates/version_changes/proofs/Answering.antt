@@ -1,26 +1,19 @@
 -- What a set makes of a version, by what is found of it.
-use Rattle.std.proofs.Common.{◌≡◌, ℕ, ℤ, ◌+◌, List, [], Option, Some, None, inl, inr, refl, sym, ap, ◌∙◌, arith}
+use Rattle.std.proofs.Common.{◌≡◌, ℕ, ℤ, ◌+◌, List, [], Option, Some, None, inl, refl, ap, ◌∙◌}
 use Rattle.std.specs.Option.{option_or}
 use Rattle.reference_rules.specs.Faults.{faults_of}
-use Rattle.roster_types.specs.Keys.{Key, look_up}
 use Rattle.roster_types.specs.Sets.{SetRecord}
 use Rattle.roster_values.specs.Kinds.{all_kinds}
-use Rattle.version_changes.proofs.Outcomes.{are_new, differ, few}
-use Rattle.version_changes.specs.sets.Applying.{Applies, IsDue, Leads, LeadsOn, Refuses, Unchanged, owned_by_other, refusal_of, rows_in, set_key, too_many, unsound}
-use Rattle.version_changes.specs.sets.Steps.{ChangesAt}
+use Rattle.version_changes.proofs.Outcomes.{ChangesOf, are_new, makes_next, makes_no_more, makes_nothing, makes_on}
+use Rattle.version_changes.specs.sets.Applying.{Applies, Leads, LeadsOn, Refuses, Unchanged, owned_by_other, refusal_of, rows_in, too_many, unsound}
 use Rattle.version_changes.specs.declared.sets.publish_fault.PublishFault.{PublishFault}
 use Rattle.version_changes.specs.declared.sets.publish_fault.PublishFault.TheVariants.{LastVersion}
-use Rattle.version_core.proofs.GrantLemmas.{AreGrants-later}
-use Rattle.version_core.proofs.OrderLemmas.{Ascends-overlaid}
 use Rattle.version_core.specs.Changes.{AreChanges, change_key, rows_of}
 use Rattle.version_core.specs.Order.{overlaid}
 use Rattle.version_core.specs.Version.{IsVersion, after, last_version}
 use Rattle.version_core.specs.declared.change.BaseVersion.{BaseVersion}
 use Rattle.version_core.specs.declared.change.Change.{Change}
 use Rattle.version_core.specs.declared.row_change.RowChange.{RowChange}
-
-abbrev pub ChangesOf : SetRecord → ℤ → List RowChange → List RowChange → Type 0
-ChangesOf set at rows changes = (k : Key) → ChangesAt set at (look_up set_key k (rows_in set)) (look_up change_key k rows) (look_up change_key k changes)
 
 first_none : (o p : Option PublishFault) → option_or o p ≡ None → o ≡ None
 first_none None p e = refl
@@ -48,31 +41,18 @@ module _ (set : SetRecord) (at : ℤ) (version : BaseVersion) (is : IsVersion ve
       passes = ap (λ o. option_or o of_rows) own ∙ good
 
       pub unchanged : changes ≡ [] → Applies version set at Unchanged
-      unchanged none = (new, are_new set at version.rows changes is.rows each, (passes, ap (overlaid change_key version.rows) (sym none)))
+      unchanged none = (new, are_new set at version.rows changes is.rows each, makes_nothing set at version is changes each (refusal_of set version.rows new) passes none)
 
       module _ (some : changes ≡ [] → ⊥) where
-        due : IsDue version set new
-        due = record { passes = passes; differ = differ set at version.rows changes each some }
-
         pub refused_at_last : version.number ≡ last_version → Applies version set at (Refuses LastVersion)
-        refused_at_last last = (new, are_new set at version.rows changes is.rows each, inr (due, last, refl))
+        refused_at_last last = (new, are_new set at version.rows changes is.rows each, makes_no_more set at version is changes each (refusal_of set version.rows new) passes some last)
 
         module _ (more : version.number ≡ last_version → ⊥) (n : ℕ) (next : n ≡ version.number + 1) where
           abbrev change : Change
           change = record { version = n; moment = at; rows = changes; grants = None }
 
           pub leads : Applies version set at (Leads (after version change))
-          leads =
-              (new, are_new set at version.rows changes is.rows each, (due, (let le = is.number in omega arith), λ i. record version { number = next i; moment = at; rows = new }))
+          leads = (new, are_new set at version.rows changes is.rows each, makes_next set at version is changes each (refusal_of set version.rows new) passes some more n next)
 
           pub leads_on : AreChanges changes → LeadsOn version change
-          leads_on up = record {
-            next = next;
-            version = record {
-              number = (let le = is.number in omega arith);
-              rows = Ascends-overlaid change_key version.rows changes is.rows;
-              grants = AreGrants-later version.number n version.grants (omega (arith, next)) is.grants;
-              few = few (rows_of new) (first_none (too_many (rows_of new) all_kinds) (unsound (faults_of (rows_of new))) good);
-            };
-            changes = up;
-          }
+          leads_on up = makes_on set at version is changes each (first_none (too_many (rows_of new) all_kinds) (unsound (faults_of (rows_of new))) good) more n next up

@@ -6,7 +6,6 @@ mod IndexLemmas
 mod ListedLemmas
 mod LookUps
 mod MarkLemmas
-mod Outcomes
 mod RefusalLemmas
 mod SoundLemmas
 pub mod Deciding
@@ -20,6 +19,7 @@ pub mod ChangeLemmas
 pub mod SoundCounts
 pub mod GrantLemmas
 pub mod KeepingLemmas
+pub mod Outcomes
 pub mod SoundMarks
 pub mod OrderLemmas
 pub mod VersionLemmas

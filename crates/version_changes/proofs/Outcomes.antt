@@ -1,5 +1,5 @@
 -- What becomes of each row, what a set makes of a version, and that both are one thing.
-use Rattle.std.proofs.Common.{◌≡◌, ℕ, ℤ, ◌≤◌, List, [], ◌∷◌, inl, inr, Bool, true, false, cond, Option, Some, None, refl, sym, ap, subst, ◌∙◌, arith}
+use Rattle.std.proofs.Common.{◌≡◌, ℕ, ℤ, ◌+◌, ◌≤◌, List, [], ◌∷◌, inl, inr, Bool, true, false, cond, Option, Some, None, refl, sym, ap, subst, ◌∙◌, arith}
 use Rattle.std.specs.Prelude.{nat_lt}
 use Rattle.std.specs.List.{AllByRecursion}
 use Rattle.std.specs.Option.{option_and_then, option_or}
@@ -14,17 +14,22 @@ use Rattle.roster_types.specs.declared.status.Status.TheVariants.{ToBeDeleted}
 use Rattle.roster_values.proofs.KindLaws.{each_kind}
 use Rattle.roster_values.specs.Kinds.{all_kinds}
 use Rattle.roster_values.specs.declared.kind.Kind.{Kind}
-use Rattle.version_changes.specs.sets.Applying.{AreNewRows, Applies, Becomes, Leads, Listed, Makes, Outcome, Refuses, Unchanged, Undated, dated, is_active, is_left_out, is_own, is_whole, marked, owned_by, refusal_of, rows_in, set_key, too_many}
+use Rattle.version_changes.specs.sets.Applying.{AreNewRows, Applies, Becomes, IsDue, Leads, LeadsOn, Listed, Makes, Outcome, Refuses, Unchanged, Undated, dated, is_active, is_left_out, is_own, is_whole, marked, owned_by, refusal_of, rows_in, set_key, too_many}
 use Rattle.version_changes.specs.sets.Steps.{ChangesAt, Leaves, ListedChangeAt, mark_of, stored_as}
 use Rattle.version_changes.specs.declared.sets.publish_fault.PublishFault.{PublishFault}
-use Rattle.version_changes.specs.declared.sets.publish_fault.PublishFault.TheVariants.{TooManyRows}
+use Rattle.version_changes.specs.declared.sets.publish_fault.PublishFault.TheVariants.{LastVersion, TooManyRows}
 use Rattle.std.proofs.lemmas.Cmp.{tied_itself}
+use Rattle.version_core.proofs.GrantLemmas.{AreGrants-later}
 use Rattle.version_core.proofs.OrderLemmas.{Ascends-overlaid, look_up-overlaid, same_from_look_up}
-use Rattle.version_core.specs.Changes.{AreChanges, change_key}
+use Rattle.version_core.specs.Changes.{AreChanges, change_key, rows_of}
 use Rattle.version_core.specs.Order.{overlaid}
-use Rattle.version_core.specs.Version.{row_limit}
+use Rattle.version_core.specs.Version.{IsVersion, after, last_version, row_limit}
 use Rattle.version_core.specs.declared.change.BaseVersion.{BaseVersion}
 use Rattle.version_core.specs.declared.row_change.RowChange.{RowChange}
+
+-- what a set changes of rows
+abbrev pub ChangesOf : SetRecord → ℤ → List RowChange → List RowChange → Type 0
+ChangesOf set at rows changes = (k : Key) → ChangesAt set at (look_up set_key k (rows_in set)) (look_up change_key k rows) (look_up change_key k changes)
 
 -- a listed row that leaves what stands
 left_as_listed : (feed : List ℕ) (at : ℤ) (b : Bool) (row : Record) (stored : RowChange) → Leaves feed b row stored → Listed feed at b row (Some stored) stored
@@ -42,6 +47,29 @@ new_as_listed feed at false row stored new differs is = (inr (differs, is), λ s
 first_as_listed : (feed : List ℕ) (at : ℤ) (b : Bool) (row : Record) (new : RowChange) → new ≡ owned_by feed (cond b row (dated at row)) → Listed feed at b row None new
 first_as_listed feed at true row new is = is
 first_as_listed feed at false row new is = is
+
+module _ (at : ℤ) (version : BaseVersion) (refusal : Option PublishFault) (new : List RowChange) where
+  refused : (fault : PublishFault) → refusal ≡ None → refusal ≡ Some fault → ⊥
+  refused fault none some = cc
+
+  -- what is made of a version is one thing
+  pub one_made : (one other : Outcome) → Makes version at refusal new one → Makes version at refusal new other → one ≡ other
+  one_made (Refuses f) (Refuses g) (inl is) (inl is') = let same : f ≡ g = cc in ap Refuses same
+  one_made (Refuses f) (Refuses g) (inl is) (inr is') = absurd (refused f is'.0.passes is)
+  one_made (Refuses f) (Refuses g) (inr is) (inl is') = absurd (refused g is.0.passes is')
+  one_made (Refuses f) (Refuses g) (inr is) (inr is') = ap Refuses (is.2 ∙ sym is'.2)
+  one_made (Refuses f) Unchanged (inl is) is' = absurd (refused f is'.0 is)
+  one_made (Refuses f) Unchanged (inr is) is' = absurd (is.0.differ is'.1)
+  one_made (Refuses f) (Leads next) (inl is) is' = absurd (refused f is'.0.passes is)
+  one_made (Refuses f) (Leads next) (inr is) is' = let e = is.1 in let lt = is'.1 in absurd (omega arith)
+  one_made Unchanged (Refuses f) is (inl is') = absurd (refused f is.0 is')
+  one_made Unchanged (Refuses f) is (inr is') = absurd (is'.0.differ is.1)
+  one_made Unchanged Unchanged is is' = refl
+  one_made Unchanged (Leads next) is is' = absurd (is'.0.differ is.1)
+  one_made (Leads next) (Refuses f) is (inl is') = absurd (refused f is.0.passes is')
+  one_made (Leads next) (Refuses f) is (inr is') = let e = is'.1 in let lt = is.1 in absurd (omega arith)
+  one_made (Leads next) Unchanged is is' = absurd (is.0.differ is'.1)
+  one_made (Leads next) (Leads other) is is' = ap Leads (is.2 ∙ sym is'.2)
 
 module _ (set : SetRecord) (at : ℤ) where
   active_differs : (stored : RowChange) → is_left_out set stored ≡ true → stored ≡ marked at stored → ⊥
@@ -72,7 +100,7 @@ module _ (set : SetRecord) (at : ℤ) where
   becomes_step listed stored None is = is
   becomes_step listed stored (Some change) is = is.0
 
-  module _ (rows changes : List RowChange) (up : AreChanges rows) (each : (k : Key) → ChangesAt set at (look_up set_key k (rows_in set)) (look_up change_key k rows) (look_up change_key k changes)) where
+  module _ (rows changes : List RowChange) (up : AreChanges rows) (each : ChangesOf set at rows changes) where
     pub are_new : AreNewRows set at rows (overlaid change_key rows changes)
     are_new = record {
       order = Ascends-overlaid change_key rows changes up;
@@ -83,7 +111,7 @@ module _ (set : SetRecord) (at : ℤ) where
   differs_step listed stored change is = is.1
 
   -- rows that change differ
-  pub differ : (rows changes : List RowChange) → ((k : Key) → ChangesAt set at (look_up set_key k (rows_in set)) (look_up change_key k rows) (look_up change_key k changes)) → (changes ≡ [] → ⊥) → rows ≡ overlaid change_key rows changes → ⊥
+  pub differ : (rows changes : List RowChange) → ChangesOf set at rows changes → (changes ≡ [] → ⊥) → rows ≡ overlaid change_key rows changes → ⊥
   differ rows [] each some same = some refl
   differ rows (change ∷ changes) each some same =
       let k = change_key change in
@@ -113,32 +141,10 @@ module _ (set : SetRecord) (at : ℤ) where
   one_rows rows new other are are' =
       same_from_look_up change_key new other are.order are'.order (λ k. one_becomes (look_up set_key k (rows_in set)) (look_up change_key k rows) (look_up change_key k new) (look_up change_key k other) (are.entries k) (are'.entries k))
 
-  module _ (version : BaseVersion) (new : List RowChange) where
-    refused : (fault : PublishFault) → refusal_of set version.rows new ≡ None → refusal_of set version.rows new ≡ Some fault → ⊥
-    refused fault none some = cc
-
-    one_made : (one other : Outcome) → Makes version set at new one → Makes version set at new other → one ≡ other
-    one_made (Refuses f) (Refuses g) (inl is) (inl is') = let same : f ≡ g = cc in ap Refuses same
-    one_made (Refuses f) (Refuses g) (inl is) (inr is') = absurd (refused f is'.0.passes is)
-    one_made (Refuses f) (Refuses g) (inr is) (inl is') = absurd (refused g is.0.passes is')
-    one_made (Refuses f) (Refuses g) (inr is) (inr is') = ap Refuses (is.2 ∙ sym is'.2)
-    one_made (Refuses f) Unchanged (inl is) is' = absurd (refused f is'.0 is)
-    one_made (Refuses f) Unchanged (inr is) is' = absurd (is.0.differ is'.1)
-    one_made (Refuses f) (Leads next) (inl is) is' = absurd (refused f is'.0.passes is)
-    one_made (Refuses f) (Leads next) (inr is) is' = let e = is.1 in let lt = is'.1 in absurd (omega arith)
-    one_made Unchanged (Refuses f) is (inl is') = absurd (refused f is.0 is')
-    one_made Unchanged (Refuses f) is (inr is') = absurd (is'.0.differ is.1)
-    one_made Unchanged Unchanged is is' = refl
-    one_made Unchanged (Leads next) is is' = absurd (is'.0.differ is.1)
-    one_made (Leads next) (Refuses f) is (inl is') = absurd (refused f is.0.passes is')
-    one_made (Leads next) (Refuses f) is (inr is') = let e = is'.1 in let lt = is.1 in absurd (omega arith)
-    one_made (Leads next) Unchanged is is' = absurd (is.0.differ is'.1)
-    one_made (Leads next) (Leads other) is is' = ap Leads (is.2 ∙ sym is'.2)
-
   pub one_outcome : (version : BaseVersion) (one other : Outcome) → Applies version set at one → Applies version set at other → one ≡ other
   one_outcome version one other is is' =
       let same : is.0 ≡ is'.0 = one_rows version.rows is.0 is'.0 is.1 is'.1 in
-      one_made version is'.0 one other (subst (λ new. Makes version set at new one) same is.2) is'.2
+      one_made at version (refusal_of set version.rows is'.0) is'.0 one other (subst (λ new. Makes version at (refusal_of set version.rows new) new one) same is.2) is'.2
 
 -- no kind has too many rows where none is told
 few_among : (rows : List Record) (kinds : List Kind) → too_many rows kinds ≡ None → AllByRecursion (λ kind. count_of kind rows ≤ row_limit) kinds
@@ -151,3 +157,35 @@ few_among rows (kind ∷ kinds) none =
 
 pub few : (rows : List Record) → too_many rows all_kinds ≡ None → (kind : Kind) → count_of kind rows ≤ row_limit
 few rows none kind = each_kind (λ kind. count_of kind rows ≤ row_limit) (few_among rows all_kinds none) kind
+
+-- ---- what is made of a version, where a set changes these rows
+
+module _ (set : SetRecord) (at : ℤ) (version : BaseVersion) (is : IsVersion version) (changes : List RowChange) (each : ChangesOf set at version.rows changes) where
+  abbrev new : List RowChange
+  new = overlaid change_key version.rows changes
+
+  module _ (refusal : Option PublishFault) (passes : refusal ≡ None) where
+    pub makes_nothing : changes ≡ [] → Makes version at refusal new Unchanged
+    makes_nothing none = (passes, ap (overlaid change_key version.rows) (sym none))
+
+    module _ (some : changes ≡ [] → ⊥) where
+      due : IsDue version refusal new
+      due = record { passes = passes; differ = differ set at version.rows changes each some }
+
+      pub makes_no_more : version.number ≡ last_version → Makes version at refusal new (Refuses LastVersion)
+      makes_no_more last = inr (due, last, refl)
+
+      pub makes_next : (version.number ≡ last_version → ⊥) → (n : ℕ) → n ≡ version.number + 1 → Makes version at refusal new (Leads (after version (record { version = n; moment = at; rows = changes; grants = None })))
+      makes_next more n next = (due, (let le = is.number in omega arith), λ i. record version { number = next i; moment = at; rows = new })
+
+  pub makes_on : too_many (rows_of new) all_kinds ≡ None → (version.number ≡ last_version → ⊥) → (n : ℕ) → n ≡ version.number + 1 → AreChanges changes → LeadsOn version (record { version = n; moment = at; rows = changes; grants = None })
+  makes_on none more n next up = record {
+    next = next;
+    version = record {
+      number = (let le = is.number in omega arith);
+      rows = Ascends-overlaid change_key version.rows changes is.rows;
+      grants = AreGrants-later version.number n version.grants (omega (arith, next)) is.grants;
+      few = few (rows_of new) none;
+    };
+    changes = up;
+  }

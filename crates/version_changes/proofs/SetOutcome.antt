@@ -118,14 +118,14 @@ module _ (set : SetRecord) (at : ℤ) (rows : List RowChange) (up : AreChanges r
 
 -- ---- and what it makes
 
-makes : (version : BaseVersion) (set : SetRecord) (at : ℤ) (new : List RowChange) → version.number ≤ last_version → (o : Option PublishFault) → refusal_of set version.rows new ≡ o → (outcome : Outcome) × Makes version set at new outcome
+makes : (version : BaseVersion) (set : SetRecord) (at : ℤ) (new : List RowChange) → version.number ≤ last_version → (o : Option PublishFault) → refusal_of set version.rows new ≡ o → (outcome : Outcome) × Makes version at (refusal_of set version.rows new) new outcome
 makes version set at new le (Some fault) e = (Refuses fault, inl e)
 makes version set at new le None e =
-    elim (deciding_all version.rows new) as (λ _. (outcome : Outcome) × Makes version set at new outcome) [
+    elim (deciding_all version.rows new) as (λ _. (outcome : Outcome) × Makes version at (refusal_of set version.rows new) new outcome) [
       | inl same ↦ (Unchanged, (e, same))
       | inr other ↦
-          let due : IsDue version set new = record { passes = e; differ = other } in
-          elim (cases_lt version.number last_version) as (λ _. (outcome : Outcome) × Makes version set at new outcome) [
+          let due : IsDue version (refusal_of set version.rows new) new = record { passes = e; differ = other } in
+          elim (cases_lt version.number last_version) as (λ _. (outcome : Outcome) × Makes version at (refusal_of set version.rows new) new outcome) [
             | inl lt ↦ (Leads (record version { number = version.number + 1; moment = at; rows = new }), (due, lt, refl))
             | inr ge ↦ (Refuses LastVersion, inr (due, omega (arith, le, ge), refl))
           ]

@@ -1,5 +1,6 @@
 pub mod AddLemmas
 pub mod CallerLemmas
+pub mod Filled
 pub mod GrantLemmas
 pub mod HistoryLemmas
 pub mod HistoryNext

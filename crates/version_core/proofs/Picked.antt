@@ -1,9 +1,35 @@
 -- The rows of a kind that pass a test, one after another.
-use Rattle.std.proofs.Common.{◌≡◌, ℕ, zero, suc, ◌≤◌, List, [], ◌∷◌, filter, find, length, Bool, true, false, cond, Option, Some, None, refl, sym, ap, subst, ◌∙◌, arith}
+use Rattle.std.proofs.Common.{◌≡◌, ℕ, zero, suc, ◌≤◌, List, [], ◌∷◌, filter, find, length, Bool, true, false, ◌&&◌, cond, Option, Some, None, refl, sym, ap, subst, ◌∙◌, arith}
 use Rattle.reference_rules.proofs.Rest.{rest_at, rest_none, rest_of}
 use Rattle.roster_types.specs.Keys.{Ascends, next_of, row_key}
 use Rattle.roster_types.specs.Records.{Record}
 use Rattle.roster_values.specs.declared.kind.Kind.{Kind}
+
+-- a test of two: the first that passes, and all that do, are found among those that pass one of them
+pub find_both : (p q r : Record → Bool) → ((row : Record) → r row ≡ (q row && p row)) → (rows : List Record) → find r rows ≡ find p (filter q rows)
+find_both p q r both [] = refl
+find_both p q r both (x ∷ rows) =
+    ap (λ b. cond b (Some x) (find r rows)) (both x)
+    ∙ elim (q x) as (λ b. cond (b && p x) (Some x) (find r rows) ≡ find p (cond b (x ∷ filter q rows) (filter q rows))) [
+      | true ↦ ap (cond (p x) (Some x)) (find_both p q r both rows)
+      | false ↦ find_both p q r both rows
+    ]
+
+pub filter_both : (p q r : Record → Bool) → ((row : Record) → r row ≡ (q row && p row)) → (rows : List Record) → filter r rows ≡ filter p (filter q rows)
+filter_both p q r both [] = refl
+filter_both p q r both (x ∷ rows) =
+    ap (λ b. cond b (x ∷ filter r rows) (filter r rows)) (both x)
+    ∙ elim (q x) as (λ b. cond (b && p x) (x ∷ filter r rows) (filter r rows) ≡ filter p (cond b (x ∷ filter q rows) (filter q rows))) [
+      | true ↦ ap (λ ys. cond (p x) (x ∷ ys) ys) (filter_both p q r both rows)
+      | false ↦ filter_both p q r both rows
+    ]
+
+pub turned : (a b c : Bool) → ((a && b) && c) ≡ ((a && c) && b)
+turned true true true = refl
+turned true true false = refl
+turned true false true = refl
+turned true false false = refl
+turned false b c = refl
 
 -- where none is found none passes
 pub picked_none : (p : Record → Bool) (rows : List Record) → find p rows ≡ None → filter p rows ≡ []

@@ -6,33 +6,7 @@ use Rattle.roster_types.specs.Keys.{Ascends, is_after, is_of_kind, row_key}
 use Rattle.roster_types.specs.Records.{Record}
 use Rattle.roster_values.specs.declared.kind.Kind.{Kind}
 use Rattle.version_core.specs.References.{names, next_referring, refers}
-use Rattle.version_core.proofs.Picked.{picked_at, picked_none}
-
--- the first that passes one test among those that pass another
-find_both : (p q r : Record → Bool) → ((row : Record) → r row ≡ (q row && p row)) → (rows : List Record) → find r rows ≡ find p (filter q rows)
-find_both p q r both [] = refl
-find_both p q r both (x ∷ rows) =
-    ap (λ b. cond b (Some x) (find r rows)) (both x)
-    ∙ elim (q x) as (λ b. cond (b && p x) (Some x) (find r rows) ≡ find p (cond b (x ∷ filter q rows) (filter q rows))) [
-      | true ↦ ap (cond (p x) (Some x)) (find_both p q r both rows)
-      | false ↦ find_both p q r both rows
-    ]
-
-filter_both : (p q r : Record → Bool) → ((row : Record) → r row ≡ (q row && p row)) → (rows : List Record) → filter r rows ≡ filter p (filter q rows)
-filter_both p q r both [] = refl
-filter_both p q r both (x ∷ rows) =
-    ap (λ b. cond b (x ∷ filter r rows) (filter r rows)) (both x)
-    ∙ elim (q x) as (λ b. cond (b && p x) (x ∷ filter r rows) (filter r rows) ≡ filter p (cond b (x ∷ filter q rows) (filter q rows))) [
-      | true ↦ ap (λ ys. cond (p x) (x ∷ ys) ys) (filter_both p q r both rows)
-      | false ↦ filter_both p q r both rows
-    ]
-
-turned : (a b c : Bool) → ((a && b) && c) ≡ ((a && c) && b)
-turned true true true = refl
-turned true true false = refl
-turned true false true = refl
-turned true false false = refl
-turned false b c = refl
+use Rattle.version_core.proofs.Picked.{filter_both, find_both, picked_at, picked_none, turned}
 
 module _ (kind : Kind) (field id : List ℕ) where
   -- the rows of the kind above an id whose field names another

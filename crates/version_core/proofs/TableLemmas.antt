@@ -8,6 +8,16 @@ use Rattle.version_core.specs.Table.{AreKept, LeadOn}
 use Rattle.version_core.specs.Version.{IsVersion, Versions, after, empty_version, first_or, last_or, versions_from, with_version}
 use Rattle.version_core.proofs.VersionLemmas.{length-versions_from, newest_number, oldest-versions_from}
 
+-- each version of a run is one
+pub versions_are : (n : ℕ) (versions : List BaseVersion) → AreVersionsFrom n versions → AllByRecursion IsVersion versions
+versions_are n [] run = tt
+versions_are n (version ∷ versions) run = (run.1, versions_are (n + 1) versions run.2)
+
+-- what each of a list meets its last meets
+pub last_meets : (P : BaseVersion → Type 0) (first : BaseVersion) (rest : List BaseVersion) → AllByRecursion P (first ∷ rest) → P (last_or first rest)
+last_meets P first [] all = all.0
+last_meets P first (next ∷ rest) all = last_meets P next rest all.1
+
 pub first_number : (d : BaseVersion) (n : ℕ) (versions : List BaseVersion) → AreVersionsFrom n versions → 1 ≤ length versions → (first_or d versions).number ≡ n
 first_number d n [] run some = absurd (omega arith)
 first_number d n (v ∷ versions) run some = run.0

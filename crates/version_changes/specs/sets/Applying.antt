@@ -122,22 +122,22 @@ pub data Outcome : Type 0 where
   Unchanged : Outcome
   Leads : BaseVersion → Outcome
 
--- the rows change, which asks for a version more
-pub record IsDue (version : BaseVersion) (set : SetRecord) (new : List RowChange) : Type 0 where
-  pub passes : refusal_of set version.rows new ≡ None
+-- the rows change, and nothing refuses them, which asks for a version more
+pub record IsDue (version : BaseVersion) (refusal : Option PublishFault) (new : List RowChange) : Type 0 where
+  pub passes : refusal ≡ None
   pub differ : version.rows ≡ new → ⊥
 
--- what a set makes of a version, where the rows that it leads to are these
-abbrev pub Makes : BaseVersion → SetRecord → ℤ → List RowChange → Outcome → Type 0
-Makes version set at new (Refuses fault) =
-    (refusal_of set version.rows new ≡ Some fault) ⊎ (IsDue version set new × (version.number ≡ last_version) × (fault ≡ LastVersion))
-Makes version set at new Unchanged = (refusal_of set version.rows new ≡ None) × (version.rows ≡ new)
-Makes version set at new (Leads next) =
-    IsDue version set new × (version.number < last_version) × (next ≡ record version { number = version.number + 1; moment = at; rows = new })
+-- what is made of a version whose rows are to become these at a moment, where this is their first refusal
+abbrev pub Makes : BaseVersion → ℤ → Option PublishFault → List RowChange → Outcome → Type 0
+Makes version at refusal new (Refuses fault) =
+    (refusal ≡ Some fault) ⊎ (IsDue version refusal new × (version.number ≡ last_version) × (fault ≡ LastVersion))
+Makes version at refusal new Unchanged = (refusal ≡ None) × (version.rows ≡ new)
+Makes version at refusal new (Leads next) =
+    IsDue version refusal new × (version.number < last_version) × (next ≡ record version { number = version.number + 1; moment = at; rows = new })
 
 -- applying a set to a version
 abbrev pub Applies : BaseVersion → SetRecord → ℤ → Outcome → Type 0
-Applies version set at outcome = (new : List RowChange) × AreNewRows set at version.rows new × Makes version set at new outcome
+Applies version set at outcome = (new : List RowChange) × AreNewRows set at version.rows new × Makes version at (refusal_of set version.rows new) new outcome
 
 -- a call answers with what the set makes, memory aside
 abbrev pub Answers : BaseVersion → SetRecord → ℤ → Result (Option Change) (Refusal PublishFault) → Type 0

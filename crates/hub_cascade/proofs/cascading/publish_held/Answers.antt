@@ -1,10 +1,10 @@
-use Rattle.std.proofs.Common.{ap, inl, refl, subst}
+use Rattle.std.proofs.Common.{◌∙◌, ap, inl, refl, subst}
 use Rattle.std.specs.Option.{ForSome}
 use Rattle.std.specs.Prelude.{IfOk}
 use Rattle.hub_cascade.proofs.Leading.{can_lead, ready_error}
 use Rattle.hub_cascade.specs.Cascading.{Cascades}
 use Rattle.hub_cascade.specs.Steps.{LeadsWith}
-use Rattle.hub_core.proofs.StepLemmas.{publishes}
+use Rattle.hub_core.proofs.StepLemmas.{publishes, works_keeps}
 use Rattle.version_changes.specs.grants.Asked.{AnswersBy}
 use Rattle.version_core.specs.Version.{empty_version, last_or}
 use Rattle.hub_cascade.proofs.cascading.publish_held.Goals as goal
@@ -29,6 +29,9 @@ returns-in-Ok-clause-told g c = λ after standing.
           let answers = subst (λ v. AnswersBy (Cascades v feed held at) v due) (ap (last_or empty_version) c.table.ensures.versions) (c.held_change-due.ensures.change feed held lists) in
           publishes (λ version. Cascades version feed held at) between after due c.adopt.result answers adopted.1),
     )
+
+pub returns-in-Ok-clause-keeps : goal.returns-in-Ok-clause-keeps
+returns-in-Ok-clause-keeps g c = works_keeps c.adopt.result c.ready.new.self c.adopt.new.self c.adopt.ensures.works ∙ c.in-Ok.ensures.keeps
 
 pub returns-in-Ok-clause-leads : goal.returns-in-Ok-clause-leads
 returns-in-Ok-clause-leads g c = g.met.H.HubKeeper.leads_on _ _ _ c.ready.ensures.leads c.adopt.ensures.leads
