@@ -54,7 +54,7 @@ module _ {X : Type 0} (p : X → Bool) where
   find_other [] (suc i) x fails = ap (λ b. cond b (Some x) None) fails
   find_other (y ∷ ys) (suc i) x fails = ap (cond (p y) (Some y)) (find_other ys i x fails)
 
-  find_it : (xs : List X) (i : ℕ) (x : X) → p x ≡ true → find p xs ≡ None → find p (insert xs i x) ≡ Some x
+  pub find_it : (xs : List X) (i : ℕ) (x : X) → p x ≡ true → find p xs ≡ None → find p (insert xs i x) ≡ Some x
   find_it xs zero x is none = ap (λ b. cond b (Some x) (find p xs)) is
   find_it [] (suc i) x is none = ap (λ b. cond b (Some x) None) is
   find_it (y ∷ ys) (suc i) x is none =

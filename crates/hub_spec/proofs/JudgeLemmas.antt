@@ -1,12 +1,14 @@
 -- The verdict on a write that no mark tells of is kept under its mark.
-use Rattle.std.proofs.Common.{◌≡◌, ℕ, zero, suc, ℤ, ◌+◌, ◌≤◌, inl, inr, Bool, true, false, ◌&&◌, ◌==◌, not, cond, find, List, [], ◌∷◌, Option, None, Some, Result, Ok, Err, bytes_eq, refl, sym, ap, subst, arith}
+use Rattle.std.proofs.Common.{◌≡◌, ℕ, ℤ, ◌+◌, ◌≤◌, inl, inr, Bool, true, false, ◌&&◌, ◌==◌, not, cond, List, [], ◌∷◌, Option, None, Some, Result, Ok, Err, bytes_eq, refl, sym, subst, arith}
+use Rattle.std.proofs.lemmas.Bool.{and_from}
 use Rattle.std.proofs.lemmas.Bool.Decides.{nat_tests}
 use Rattle.std.proofs.lemmas.Slice.Eq.{bytes_eq-Decides}
-use Rattle.std.specs.List.{insert, prefix_len}
+use Rattle.std.specs.List.{prefix_len}
 use Rattle.roster_values.proofs.KindLaws.{kind_from_place}
 use Rattle.reference_rules.proofs.KeyOrder.{and_first, and_second}
 use Rattle.version_changes.proofs.Finding.{same_text}
 use Rattle.version_changes.specs.sets.Applying.{is_active, marked}
+use Rattle.hub_spec.proofs.Growing.{find_it}
 use Rattle.hub_spec.specs.views.Seen.{sees}
 use Rattle.hub_spec.specs.rules.Marked.{same_flag, same_write}
 use Rattle.hub_spec.specs.rules.Refusals.{delete_refusal, first_of, has_grading_period, is_of_other, is_one_too_many, is_within, put_refusal, refused_if, stored_at}
@@ -28,20 +30,6 @@ use Rattle.version_core.specs.declared.row_change.RowChange.{RowChange}
 
 -- ---- what is kept is found
 
-module _ {X : Type 0} (p : X → Bool) where
-  find_it : (xs : List X) (i : ℕ) (x : X) → p x ≡ true → find p xs ≡ None → find p (insert xs i x) ≡ Some x
-  find_it xs zero x is none = ap (λ b. cond b (Some x) (find p xs)) is
-  find_it [] (suc i) x is none = ap (λ b. cond b (Some x) None) is
-  find_it (y ∷ ys) (suc i) x is none =
-      elim (p y) as (λ b. cond b (Some y) (find p ys) ≡ None → cond b (Some y) (find p (insert ys i x)) ≡ Some x) [
-        | true ↦ λ e. cc
-        | false ↦ λ e. find_it ys i x is e
-      ] none
-
-both : (a b : Bool) → a ≡ true → b ≡ true → (a && b) ≡ true
-both true b e f = f
-both false b e f = cc
-
 pub bytes_same : (xs : List ℕ) → bytes_eq xs xs ≡ true
 bytes_same xs = (bytes_eq-Decides xs xs).1 refl
 
@@ -49,7 +37,7 @@ nat_same : (n : ℕ) → (n == n) ≡ true
 nat_same n = grind (arith, nat_tests)
 
 pub mark_found : (mark : MarkRow) (marks : List MarkRow) → mark_at (mark_key mark) marks ≡ None → mark_at (mark_key mark) (with_mark mark marks) ≡ Some mark
-mark_found mark marks none = find_it (λ m. same_mark (mark_key mark) (mark_key m)) marks (prefix_len (is_below mark) marks) mark (both _ _ (bytes_same mark.caller) (nat_same mark.number)) none
+mark_found mark marks none = find_it (λ m. same_mark (mark_key mark) (mark_key m)) marks (prefix_len (is_below mark) marks) mark (and_from _ _ (bytes_same mark.caller) (nat_same mark.number)) none
 
 -- ---- when two writes are one
 
@@ -68,7 +56,7 @@ write_same write =
     let flag = same_flag write.delete write.delete in
     let kind = place_of_kind write.kind == place_of_kind write.kind in
     let id = bytes_eq write.id write.id in
-    both (flag && kind && id) (bytes_eq write.body write.body) (both (flag && kind) id (both flag kind (flag_same write.delete) (nat_same (place_of_kind write.kind))) (bytes_same write.id)) (bytes_same write.body)
+    and_from (flag && kind && id) (bytes_eq write.body write.body) (and_from (flag && kind) id (and_from flag kind (flag_same write.delete) (nat_same (place_of_kind write.kind))) (bytes_same write.id)) (bytes_same write.body)
 
 pub write_is : (one other : Write) → same_write one other ≡ true → one ≡ other
 write_is one other e =

@@ -1,5 +1,6 @@
 -- What is kept of a verdict may be held, so each step leads from a state that a hub can have to another.
-use Rattle.std.proofs.Common.{◌≡◌, ℕ, ℤ, ◌+◌, ◌-◌, ◌≤◌, inl, inr, Bool, true, false, ◌&&◌, ◌||◌, ◌==◌, not, cond, List, [], ◌∷◌, ◌++◌, length, length-append, Option, None, Some, Result, Ok, Err, nat_le, refl, sym, ap, subst, ◌∙◌, arith}
+use Rattle.std.proofs.Common.{◌≡◌, ℕ, ℤ, ◌+◌, ◌-◌, ◌≤◌, inl, inr, Bool, true, false, ◌&&◌, ◌==◌, not, cond, List, [], ◌∷◌, ◌++◌, length, length-append, Option, None, Some, Result, Ok, Err, nat_le, refl, sym, ap, subst, ◌∙◌, arith}
+use Rattle.std.proofs.lemmas.Bool.{and_from, or_right}
 use Rattle.std.proofs.lemmas.Bool.Decides.{nat_tests}
 use Rattle.std.specs.List.{AllByRecursion}
 use Rattle.std.specs.Option.{ForSome}
@@ -117,15 +118,7 @@ refusal_kept : (delete : Bool) (n : ℕ) → InRange n → is_outcome delete n �
 refusal_kept delete n in_range =
     let low : nat_le 2 n ≡ true = let a = in_range.0 in grind (arith, nat_tests) in
     let high : nat_le n 8 ≡ true = let b = in_range.1 in grind (arith, nat_tests) in
-    or_right (n == cond delete 9 0) (nat_le 2 n && nat_le n 8) (both_true _ _ low high)
-  where
-    or_right : (a b : Bool) → b ≡ true → (a || b) ≡ true
-    or_right true b e = refl
-    or_right false b e = e
-
-    both_true : (a b : Bool) → a ≡ true → b ≡ true → (a && b) ≡ true
-    both_true true b e f = f
-    both_true false b e f = e
+    or_right (n == cond delete 9 0) (nat_le 2 n && nat_le n 8) (and_from _ _ low high)
 
 done_kept : (write : Write) → is_outcome write.delete (done_of write) ≡ true
 done_kept write = elim write.delete as (λ b. is_outcome b (cond b 9 0) ≡ true) [ true ↦ refl | false ↦ refl ]

@@ -1,3 +1,4 @@
+pub mod AskedQueries
 pub mod Below
 pub mod ArrangedLemmas
 pub mod ListLemmas

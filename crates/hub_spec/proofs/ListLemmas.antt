@@ -1,8 +1,8 @@
 -- The list of a collection without a filter and an order: the rows as they stand.
 use Rattle.std.proofs.Common.{◌≡◌, List, [], ◌∷◌, Bool, true, false, ◌&&◌, cond, filter, None, Some, unwrap_or, refl, ap, ◌∙◌, arith}
+use Rattle.std.proofs.lemmas.Bool.{and_from}
 use Rattle.std.proofs.lemmas.Bool.Decides.{nat_tests}
 use Rattle.std.specs.FinMap.Entries as entries
-use Rattle.std.specs.List.{AllByRecursion}
 use Rattle.hub_spec.specs.views.Lists.{belongs, is_listed, list_of}
 use Rattle.filter_grammar.specs.rows.Orders.{arranged, by_id, by_name, put_in}
 use Rattle.hub_spec.specs.views.Pages.{IsPlain, whole}
@@ -10,20 +10,17 @@ use Rattle.hub_spec.specs.views.Rules.{rule_of}
 use Rattle.filter_grammar.specs.declared.query.Order.TheVariants.{Asc}
 use Rattle.filter_grammar.specs.declared.query.Query.{Query}
 use Rattle.reference_rules.proofs.KeyOrder.{and_first, and_second, ids_less, less_from_is_lt, not_back}
+use Rattle.row_deltas.specs.Deltas.{AreOf}
 use Rattle.roster_types.specs.Keys.{Ascends, Key, is_of_kind, key_cmp, keyed, row_key}
 use Rattle.roster_types.specs.Records.{Record}
 use Rattle.roster_values.specs.declared.kind.Kind.{Kind}
 use Rattle.roster_values.specs.Kinds.{place_of_kind}
 
-both_true : (a b : Bool) → a ≡ true → b ≡ true → (a && b) ≡ true
-both_true true b e f = f
-both_true false b e f = e
-
 below_kept : (k : Key) (p : Record → Bool) (rows : List Record) → entries.below_all key_cmp k (keyed row_key rows) ≡ true → entries.below_all key_cmp k (keyed row_key (filter p rows)) ≡ true
 below_kept k p [] e = e
 below_kept k p (row ∷ rows) e =
     elim (p row) as (λ b. entries.below_all key_cmp k (keyed row_key (cond b (row ∷ filter p rows) (filter p rows))) ≡ true) [
-      | true ↦ both_true _ _ (and_first _ _ e) (below_kept k p rows (and_second _ _ e))
+      | true ↦ and_from _ _ (and_first _ _ e) (below_kept k p rows (and_second _ _ e))
       | false ↦ below_kept k p rows (and_second _ _ e)
     ]
 
@@ -32,12 +29,9 @@ pub ascends_kept : (p : Record → Bool) (rows : List Record) → Ascends row_ke
 ascends_kept p [] up = up
 ascends_kept p (row ∷ rows) up =
     elim (p row) as (λ b. Ascends row_key (cond b (row ∷ filter p rows) (filter p rows))) [
-      | true ↦ both_true _ _ (below_kept (row_key row) p rows (and_first _ _ up)) (ascends_kept p rows (and_second _ _ up))
+      | true ↦ and_from _ _ (below_kept (row_key row) p rows (and_first _ _ up)) (ascends_kept p rows (and_second _ _ up))
       | false ↦ ascends_kept p rows (and_second _ _ up)
     ]
-
-abbrev AreOf : Kind → List Record → Type 0
-AreOf kind rows = AllByRecursion (λ row. is_of_kind kind row ≡ true) rows
 
 pub are_of_kept : (kind : Kind) (rows : List Record) → AreOf kind (filter (is_of_kind kind) rows)
 are_of_kept kind [] = tt
@@ -47,7 +41,7 @@ are_of_kept kind (row ∷ rows) =
       | false ↦ λ _. are_of_kept kind rows
     ] refl
 
-same_place : (kind : Kind) (row other : Record) → is_of_kind kind row ≡ true → is_of_kind kind other ≡ true → place_of_kind row.kind ≡ place_of_kind other.kind
+pub same_place : (kind : Kind) (row other : Record) → is_of_kind kind row ≡ true → is_of_kind kind other ≡ true → place_of_kind row.kind ≡ place_of_kind other.kind
 same_place kind row other e f = grind (arith, nat_tests)
 
 in_front : (kind : Kind) (row : Record) (rows : List Record) → is_of_kind kind row ≡ true → AreOf kind rows → entries.below_all key_cmp (row_key row) (keyed row_key rows) ≡ true → put_in (by_id Asc) row rows ≡ row ∷ rows

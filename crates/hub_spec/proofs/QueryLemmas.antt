@@ -1,5 +1,5 @@
--- What the query of a consumer's request for a page asks for.
-use Rattle.std.proofs.Common.{◌≡◌, ◌≢◌, ℕ, ◌<◌, ◌^◌, ◌==◌, List, [], ◌∷◌, ◌++◌, Bool, true, false, ◌&&◌, not, Some, length, length-append, refl, sym, ap, subst, ◌∙◌, arith, nat_lt, nat_le}
+-- What the path and the query of a consumer's request for a page ask for.
+use Rattle.std.proofs.Common.{◌≡◌, ◌≢◌, ℕ, ◌<◌, ◌^◌, ◌==◌, List, [], ◌∷◌, ◌++◌, Bool, true, false, ◌&&◌, not, Option, Some, codes, length, length-append, refl, sym, ap, subst, ◌∙◌, arith, nat_lt, nat_le}
 use Rattle.std.proofs.lemmas.Bool.{and_parts}
 use Rattle.std.proofs.lemmas.Bool.Decides.{nat_tests}
 use Rattle.std.proofs.lemmas.Fmt.{decimal_nonempty, digits_decimal, digits_value-decimal, length-decimal-le}
@@ -13,8 +13,15 @@ use Rattle.filter_grammar.specs.Escapes.{has_whole_escapes, is_form_text}
 use Rattle.filter_grammar.specs.Counts.{count_of}
 use Rattle.form_urlencoded.proofs.FormLemmas.{decode_plain, raw_pairs-nil, raw_pairs_first, split_once_after_at, split_once_after_none, split_once_before_at, split_once_before_none}
 use Rattle.form_urlencoded.specs.Form as form
+use Rattle.hub_spec.specs.views.Pages.{whole}
+use Rattle.rest_paths.proofs.FoundLemmas.{collection_found}
+use Rattle.rest_paths.specs.Paths.{PathParts, ids_at, path_of}
+use Rattle.rest_paths.specs.Segments.{places_of}
+use Rattle.rest_paths.specs.declared.route.Route.{Route}
 use Rattle.roster_texts.proofs.NumberTexts.{own}
-use Rattle.roster_texts.specs.Digits.{is_digit}
+use Rattle.roster_texts.specs.Digits.{is_digit, ◌>>=◌}
+use Rattle.roster_values.specs.Kinds.{plural_of}
+use Rattle.roster_values.specs.declared.kind.Kind.{Kind}
 
 -- a byte of ASCII that stands for itself and separates nothing
 abbrev pub is_safe : ℕ → Bool
@@ -115,3 +122,12 @@ module _ (n : ℕ) (small : n < 10 ^ 18) where
       let some : nat_le 1 (length (decimal n)) ≡ true = let a = decimal_nonempty n bound in grind (arith, nat_tests) in
       let few : nat_le (length (decimal n)) 18 ≡ true = let a = length-decimal-le 18 n (omega arith) small bound in grind (arith, nat_tests) in
       rw (some, few, digits, digits_value-decimal own n bound) refl
+
+-- the path of a whole collection
+pub path_of-whole : (kind : Kind) → path_of (codes "/ims/oneroster/v1p1/" ++ plural_of kind) ≡ Some (whole kind)
+unfolding path_of ids_at
+path_of-whole kind =
+    ap (λ (r : Option Route). r >>= λ route. ids_at (places_of route) (codes "/ims/oneroster/v1p1/" ++ plural_of kind) >>= λ ids. Some (made route ids)) (collection_found kind)
+  where
+    made : Route → List (List ℕ) → PathParts
+    made route ids = record { route = route; ids = ids }
