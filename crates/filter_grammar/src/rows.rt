@@ -1,6 +1,5 @@
 //! Rows as queries look at them: whether a filter lets one through, and what it is sorted by.
 
-pub mod cell_text;
 pub mod filtering;
 mod sets;
 pub mod sort_key;

@@ -1,4 +1,4 @@
-//! Pages of small rosters, joined, beside a slow plain program.
+//! Pages of small rosters beside a slow plain program.
 
 use crate::district::put_line;
 use crate::pages::{VERSION, path_of, push_ids, query_of};
@@ -81,22 +81,27 @@ fn put(list: &mut Vec<Person>, person: &Person, column: usize, descends: bool) -
     Ok(list.insert(place, *person)?)
 }
 
-// The ids of the list, by the plain program.
-fn plain_line(
+// The list, by the plain program.
+fn plain_list(
     alloc: Global,
     roster: &[Person],
     word: &str,
     column: usize,
     descends: bool,
-) -> Result<String, Fail> {
+) -> Result<Vec<Person>, Fail> {
     let mut list = Vec::new(alloc);
     for person in roster {
         if word.is_empty() || person.3 == word || person.2 == word {
             put(&mut list, person, column, descends)?;
         }
     }
+    Ok(list)
+}
+
+// The ids of a list from an offset on, at most a limit of them.
+fn plain_line(alloc: Global, list: &[Person], offset: usize, limit: usize) -> Result<String, Fail> {
     let mut line = String::new(alloc);
-    for person in &list {
+    for person in list.iter().skip(offset).take(limit) {
         line.push(' ')?;
         line.push_str(person.0)?;
     }
@@ -164,6 +169,43 @@ fn joined_line<R: Refs>(
     Ok(line)
 }
 
+// Offsets and limits of pages: within a list, across its end and behind it.
+static PAGES: [(usize, usize); 14] = [
+    (0, 1),
+    (1, 1),
+    (2, 1),
+    (5, 1),
+    (6, 1),
+    (0, 2),
+    (1, 2),
+    (3, 2),
+    (0, 3),
+    (2, 3),
+    (4, 3),
+    (0, 6),
+    (1, 1000),
+    (999_999_999_999_999_999, 3),
+];
+
+// Each of the pages, beside the plain program's.
+fn compare_pages<R: Refs>(
+    rt: &impl Abort,
+    alloc: Global,
+    rows: &R,
+    path: &Path,
+    text: &str,
+    list: &[Person],
+) -> Result<(), Fail> {
+    for (offset, limit) in &PAGES {
+        let query = format!(in alloc; "limit={limit}&offset={offset}&{text}")?;
+        let mut line = String::new(alloc);
+        push_page(rt, alloc, &mut line, rows, path, query.as_str())?;
+        let plain = plain_line(alloc, list, *offset, *limit)?;
+        assert_eq!(rt; line.as_str(), plain.as_str(), "{text} {offset} {limit}");
+    }
+    Ok(())
+}
+
 // The pages of the rows of one roster, for every query.
 fn compare_over<R: Refs>(
     rt: &impl Abort,
@@ -173,9 +215,11 @@ fn compare_over<R: Refs>(
     roster: &[Person],
 ) -> Result<(), Fail> {
     for (text, word, column, descends) in &QUERIES {
+        let list = plain_list(alloc, roster, word, *column, *descends)?;
         let joined = joined_line(rt, alloc, rows, path, text)?;
-        let plain = plain_line(alloc, roster, word, *column, *descends)?;
+        let plain = plain_line(alloc, &list, 0, list.len())?;
         assert_eq!(rt; joined.as_str(), plain.as_str(), "{text}");
+        compare_pages(rt, alloc, rows, path, text, &list)?;
     }
     Ok(())
 }
@@ -188,7 +232,7 @@ fn compare(rt: &impl Abort, alloc: Global, path: &Path, roster: &[Person]) -> Re
 }
 
 #[test]
-fn joined_pages_are_the_list(rt: HostRuntime) -> Result<(), Fail> {
+fn pages_are_parts_of_the_list(rt: HostRuntime) -> Result<(), Fail> {
     let alloc = rt.alloc();
     let router = PathRouter::new(alloc)?;
     let path = path_of(&rt, alloc, &router, "users")?;

@@ -5,11 +5,11 @@ use Rattle.std.proofs.lemmas.Slice.Eq.{bytes_eq-Decides}
 use Rattle.std.specs.Cmp.Lexicographic.{pointwise}
 use Rattle.std.specs.HashSet as bag
 use Rattle.hub_spec.specs.views.Seen.{leads_up}
+use Rattle.reference_rules.proofs.Pigeonhole.{few_apart}
 use Rattle.reference_rules.specs.Parents.{is_id, nth_parent, parent_of}
 use Rattle.roster_types.specs.Keys.{count_of}
 use Rattle.roster_types.specs.Records.{Record}
 use Rattle.roster_values.specs.declared.kind.Kind.TheVariants.{Orgs}
-use Rattle.query_pages.proofs.OrgChains.{few_apart}
 use Rattle.query_pages.proofs.Upward.{reached}
 use Rattle.query_pages.specs.Ancestors.{IsClosed, is_in}
 use denote.Ref.{Bor}

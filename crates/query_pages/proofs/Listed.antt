@@ -1,5 +1,6 @@
 -- The rows of a list are of one kind.
-use Rattle.std.proofs.Common.{◌≡◌, ℕ, ◌≤◌, List, [], ◌∷◌, Bool, true, false, ◌&&◌, cond, filter, length, refl, sym, ap, ◌∙◌, arith, None, Some, Option}
+use Rattle.std.proofs.Common.{◌≡◌, ℕ, ◌≤◌, List, [], ◌∷◌, Bool, true, false, cond, filter, length, refl, sym, ap, ◌∙◌, arith, None, Some, Option}
+use Rattle.std.proofs.lemmas.Bool.{and_from}
 use Rattle.std.specs.List.{AllByRecursion}
 use Rattle.filter_grammar.specs.declared.query.Order.TheVariants.{Asc}
 use Rattle.hub_spec.proofs.ListLemmas.{arranged_by_id, ascends_kept}
@@ -35,15 +36,11 @@ fewer p q (x ∷ rows) so =
       | false ↦ λ _. elim (q x) as (λ b. length (filter p rows) ≤ length (cond b (x ∷ filter q rows) (filter q rows))) [ true ↦ omega arith | false ↦ rest ]
     ] refl
 
-both_true : (a b : Bool) → a ≡ true → b ≡ true → (a && b) ≡ true
-both_true true b e f = f
-both_true false b e f = e
-
 -- a test that only rows of a kind pass
 module _ (kind : Kind) (test : Record → Bool) (of : (row : Record) → test row ≡ true → is_of_kind kind row ≡ true) (rows : List Record) where
   -- all that pass are among the rows of the kind
   pub listed_start : filter test (rest_of kind None rows) ≡ filter test rows
-  listed_start = narrower test (is_next kind None) rows (λ row e. both_true _ _ (of row e) refl)
+  listed_start = narrower test (is_next kind None) rows (λ row e. and_from _ _ (of row e) refl)
 
   pub listed_few : length (filter test rows) ≤ count_of kind rows
   listed_few = omega (arith, fewer test (is_of_kind kind) rows of, length-filter (is_of_kind kind) rows)

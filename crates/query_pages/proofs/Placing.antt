@@ -7,7 +7,7 @@ use Rattle.std.specs.List.Sorted.{IsSortedBy, IsStableBy, ties}
 use Rattle.std.specs.Ordering.{is_lt}
 use Rattle.filter_grammar.specs.declared.query.Order.{Order}
 use Rattle.hub_spec.proofs.Sorting.{Rises, arranged_rises, arranged_stable, by_key, rises, same_sorted, sorting_orders}
-use Rattle.query_pages.specs.Placed.{AreKeyed, row_of, rows_placed}
+use Rattle.query_pages.specs.Placed.{AreKeyed, rows_placed}
 use Rattle.query_pages.specs.declared.in_order.Placed.{Placed}
 use Rattle.roster_types.specs.Records.{Record}
 use Rattle.filter_grammar.specs.rows.Orders.{Sorting, arranged, comes_before, directed, sort_key_cmp}
@@ -78,9 +78,8 @@ module _ (sorting : Sorting) where
       let right = λ (p : Placed). p.key ≡ sorting.key p.row.now in
       sorted_placed old new (all_by_recursion right old keyed) (all_by_recursion right new (All-permutation right old new moved keyed)) sorted stable
 
-pub rows_pushed : (found : List Placed) (p : Placed) (left whole : List Record) → rows_placed found ++ (row_of p ∷ left) ≡ whole → rows_placed (found ++ p ∷ []) ++ left ≡ whole
-rows_pushed [] p left whole so = so
-rows_pushed (q ∷ found) p left whole so = ap (λ ys. row_of q ∷ ys) (rows_pushed found p left (rows_placed found ++ (row_of p ∷ left)) refl) ∙ so
+  pub placed_keyed : (old new : List Placed) → AreKeyed sorting old → IsPermutation old new → AreKeyed sorting new
+  placed_keyed old new keyed moved = All-permutation (λ (p : Placed). p.key ≡ sorting.key p.row.now) old new moved keyed
 
 pub keyed_more : (sorting : Sorting) (found : List Placed) (p : Placed) → AreKeyed sorting found → p.key ≡ sorting.key p.row.now → AreKeyed sorting (found ++ p ∷ [])
 keyed_more sorting [] p keyed e zero d lt = e

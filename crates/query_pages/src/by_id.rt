@@ -31,6 +31,7 @@ pub fn part_by_id<R: Steps, T: ListTest>(
     rows.ascend();
     let mut found = Vec::new(alloc);
     let mut total: u64 = 0;
+    // Where the walk stands, so that the next row is found in a step.
     let mut near = 0;
     let mut after = None;
     while let Some(row) = walk.next(rows, after, &mut near) {

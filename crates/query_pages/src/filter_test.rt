@@ -6,28 +6,28 @@ ghost use Rattle.filter_grammar.specs.rows.Filters as filters;
 ghost use Rattle.query_pages.specs.FilterTests as spec;
 ghost use Rattle.roster_types.specs.Records.{Record};
 
-use crate::text_test::{TextTest, text_test};
+use crate::field_test::{FieldTest, field_test};
 use filter_grammar::{Filter, Joint, passes};
 use roster_base::NoMemory;
 use roster_types::row::Row;
 use roster_values::Kind;
 use std::alloc::Global;
 
-/// A filter that asks for texts alone.
+/// A filter that asks for fields of the field table alone.
 #[derive(Clone, Copy)]
-pub enum TextFilter<'q> {
-    One(TextTest<'q>),
-    Two(TextTest<'q>, Joint, TextTest<'q>),
+pub enum ReadyFilter<'q> {
+    One(FieldTest<'q>),
+    Two(FieldTest<'q>, Joint, FieldTest<'q>),
 }
 
-impl TextFilter<'_> {
+impl ReadyFilter<'_> {
     // Whether a row passes.
     fn passes(self, alloc: Global, row: &Row) -> Result<bool, NoMemory>
-        ensures { IfOk result (λ b. b ≡ spec.text_filter_passes self.entry row.now) }
+        ensures { IfOk result (λ b. b ≡ spec.ready_filter_passes self.entry row.now) }
     {
         match self {
-            TextFilter::One(test) => test.passes(alloc, row),
-            TextFilter::Two(first, joint, second) => {
+            ReadyFilter::One(test) => test.passes(alloc, row),
+            ReadyFilter::Two(first, joint, second) => {
                 let first = first.passes(alloc, row)?;
                 let second = second.passes(alloc, row)?;
                 Ok(joined(joint, first, second))
@@ -45,17 +45,25 @@ fn joined(joint: Joint, first: bool, second: bool) -> bool
     }
 }
 
-// A filter as rows of a kind are asked for it, where it asks for texts alone.
-fn text_filter<'q>(kind: Kind, filter: &'q Option<Filter>) -> Option<TextFilter<'q>>
-    ensures { ForSome result (λ test. (row : Record) → row.kind ≡ kind → filters.passes filter.now row ≡ spec.text_filter_passes test row) }
+// A filter as rows of a kind are asked for it, where it asks for fields of the field table alone.
+fn ready_filter<'q>(
+    alloc: Global,
+    kind: Kind,
+    filter: &'q Option<Filter>,
+) -> Option<ReadyFilter<'q>>
+    ensures { ForSome result (λ test. (row : Record) → row.kind ≡ kind → filters.passes filter.now row ≡ spec.ready_filter_passes test row) }
 {
     let Some(asked) = filter else {
         return None;
     };
-    let first = text_test(kind, &asked.first)?;
+    let first = field_test(alloc, kind, &asked.first)?;
     match &asked.second {
-        None => Some(TextFilter::One(first)),
-        Some((joint, second)) => Some(TextFilter::Two(first, *joint, text_test(kind, second)?)),
+        None => Some(ReadyFilter::One(first)),
+        Some((joint, second)) => Some(ReadyFilter::Two(
+            first,
+            *joint,
+            field_test(alloc, kind, second)?,
+        )),
     }
 }
 
@@ -65,20 +73,20 @@ pub struct FilterTest<'q> {
     filter: &'q Option<Filter>,
     kind: Kind,
     // What stands for the filter at rows of the kind.
-    texts: Option<TextFilter<'q>>,
-    ghost same: { ForSome texts (λ test. (row : Record) → row.kind ≡ kind → filters.passes filter.now row ≡ spec.text_filter_passes test row) },
+    ready: Option<ReadyFilter<'q>>,
+    ghost same: { ForSome ready (λ test. (row : Record) → row.kind ≡ kind → filters.passes filter.now row ≡ spec.ready_filter_passes test row) },
 }
 
 impl<'q> FilterTest<'q> {
     /// The filter, made ready for the rows of a kind.
-    pub fn new(kind: Kind, filter: &'q Option<Filter>) -> FilterTest<'q>
+    pub fn new(alloc: Global, kind: Kind, filter: &'q Option<Filter>) -> FilterTest<'q>
         ensures { result.filter.now ≡ filter.now }
     {
-        let texts = text_filter(kind, filter);
+        let ready = ready_filter(alloc, kind, filter);
         FilterTest {
             filter,
             kind,
-            texts,
+            ready,
         }
     }
 
@@ -86,8 +94,8 @@ impl<'q> FilterTest<'q> {
     pub fn passes(&self, alloc: Global, row: &Row) -> Result<bool, NoMemory>
         ensures { IfOk result (λ b. b ≡ filters.passes self.now.filter.now row.now) }
     {
-        match self.texts {
-            Some(texts) if row.kind() == self.kind => texts.passes(alloc, row),
+        match self.ready {
+            Some(ready) if row.kind() == self.kind => ready.passes(alloc, row),
             _ => passes(alloc, row, self.filter),
         }
     }

@@ -1,7 +1,8 @@
 //! Rows with what they are sorted by.
 
-ghost use Rattle.std.specs.Prelude.{◌≡◌, IfOk, OnOk, filter};
+ghost use Rattle.std.specs.Prelude.{◌≡◌, ◌≤◌, ◌*◌, ◌++◌, IfOk, OnOk, [], ◌∷◌, filter, length};
 ghost use Rattle.hub_spec.specs.views.Pages.{slice};
+ghost use Rattle.query_pages.specs.Firsts.{first};
 ghost use Rattle.query_pages.specs.Placed.{AreKeyed, rows_placed};
 ghost use Rattle.query_pages.specs.Sortings.{sorting_shown};
 ghost use Rattle.filter_grammar.specs.rows.Orders.{arranged};
@@ -22,21 +23,31 @@ pub struct Placed<'r> {
     pub row: &'r Row,
 }
 
-/// The rows of a list, all on a way through the rows, as they stand, each with its key.
-pub fn gathered<'r, R: Steps, T: ListTest>(
+/// The first rows of a list in an order, and the length of the whole list.
+#[derive(Drop)]
+pub struct First<'r> {
+    pub rows: Vec<Placed<'r>>,
+    pub total: u64,
+}
+
+/// The first rows of a list in an order, at most so many, all on a way through the rows.
+pub fn first_rows<'r, R: Steps, T: ListTest>(
     alloc: Global,
     rows: &'r R,
     test: &T,
     walk: &Walk<'_>,
     sorting: Sorting<'_>,
-) -> Result<Vec<Placed<'r>>, NoMemory>
+    count: u64,
+) -> Result<First<'r>, NoMemory>
     requires { Covers walk.now (T.passes test.now) (R.rows rows.now) }
-    ensures rows { IfOk result (λ v. rows_placed v.items ≡ filter (T.passes test.now) (R.rows rows.now)) }
-    ensures keys { IfOk result (λ v. AreKeyed (sorting_shown sorting.entry) v.items) }
+    ensures rows { IfOk result (λ f. rows_placed f.rows.items ≡ first count (sorting_shown sorting.entry) (filter (T.passes test.now) (R.rows rows.now))) }
+    ensures total { IfOk result (λ f. f.total ≡ length (filter (T.passes test.now) (R.rows rows.now))) }
 {
-    // For the order of the rows.
+    // For the order of the rows, and so that their count doesn't wrap.
     rows.ascend();
     let mut found = Vec::new(alloc);
+    let mut total: u64 = 0;
+    // Where the walk stands, so that the next row is found in a step.
     let mut near = 0;
     let mut after = None;
     while let Some(row) = walk.next(rows, after, &mut near) {
@@ -44,16 +55,51 @@ pub fn gathered<'r, R: Steps, T: ListTest>(
         if !test.passes(alloc, row)? {
             continue;
         }
-        let key = sorting.key(alloc, row)?;
-        found.push(Placed { key, row })?;
+        add(alloc, sorting, count, row, &mut found)?;
+        total += 1;
     }
-    Ok(found)
+    cut(sorting, count, &mut found)?;
+    Ok(First { rows: found, total })
 }
 
-/// Sorts rows by their keys; those with equal keys stay as they stand.
-pub fn sort(sorting: Sorting<'_>, rows: &mut Vec<Placed<'_>>) -> Result<(), NoMemory>
+// Adds a row with its key. Whenever twice as many have come as are asked for, the first alone stay, so that a long list takes no more
+// memory than they do.
+fn add<'r>(
+    alloc: Global,
+    sorting: Sorting<'_>,
+    count: u64,
+    row: &'r Row,
+    found: &mut Vec<Placed<'r>>,
+) -> Result<(), NoMemory>
+    requires { AreKeyed (sorting_shown sorting) found.old.items }
+    ensures rows { OnOk result (first count (sorting_shown sorting.entry) (rows_placed found.new.items) ≡ first count (sorting_shown sorting.entry) (rows_placed found.old.items ++ row.now ∷ [])) }
+    ensures keys { OnOk result (AreKeyed (sorting_shown sorting.entry) found.new.items) }
+    ensures few { OnOk result (length found.new.items ≤ 2 * count) }
+{
+    let key = sorting.key(alloc, row)?;
+    found.push(Placed { key, row })?;
+    if found.len() as u64 / 2 < count {
+        return Ok(());
+    }
+    cut(sorting, count, found)
+}
+
+// Puts rows in order, and lets go of those behind the first so many.
+fn cut(sorting: Sorting<'_>, count: u64, rows: &mut Vec<Placed<'_>>) -> Result<(), NoMemory>
     requires { AreKeyed (sorting_shown sorting) rows.old.items }
-    ensures { OnOk result (rows_placed rows.new.items ≡ arranged (sorting_shown sorting.entry) (rows_placed rows.old.items)) }
+    ensures rows { OnOk result (rows_placed rows.new.items ≡ first count (sorting_shown sorting.entry) (rows_placed rows.old.items)) }
+    ensures keys { OnOk result (AreKeyed (sorting_shown sorting.entry) rows.new.items) }
+{
+    sort(sorting, rows)?;
+    rows.truncate(count as usize);
+    Ok(())
+}
+
+// Sorts rows by their keys; those with equal keys stay as they stand.
+fn sort(sorting: Sorting<'_>, rows: &mut Vec<Placed<'_>>) -> Result<(), NoMemory>
+    requires { AreKeyed (sorting_shown sorting) rows.old.items }
+    ensures rows { OnOk result (rows_placed rows.new.items ≡ arranged (sorting_shown sorting.entry) (rows_placed rows.old.items)) }
+    ensures keys { OnOk result (AreKeyed (sorting_shown sorting.entry) rows.new.items) }
 {
     let order = sorting.order();
     rows.sort_by(|one, other| directed(order, one.key.compare(&other.key)))?;

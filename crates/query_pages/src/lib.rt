@@ -5,6 +5,7 @@
 pub mod belonging;
 mod by_id;
 mod deltas;
+mod field_test;
 mod filter_test;
 mod in_order;
 mod links;

@@ -8,7 +8,7 @@ ghost use Rattle.filter_grammar.specs.rows.Orders.{arranged};
 ghost use Rattle.row_walks.specs.Walks.{Covers};
 
 use crate::by_id::part_by_id;
-use crate::in_order::{copied, gathered, sort};
+use crate::in_order::{copied, first_rows};
 use crate::list_test::ListTest;
 use crate::sorting::Sorting;
 use filter_grammar::{Order, Query};
@@ -37,11 +37,11 @@ fn part_sorted<R: Steps, T: ListTest>(
     ensures rows { IfOk result (λ p. p.rows ≡ slice query.now.limit query.now.offset (arranged (sorting_shown sorting.entry) (filter (T.passes test.now) (R.rows rows.now)))) }
     ensures total { IfOk result (λ p. p.total ≡ length (arranged (sorting_shown sorting.entry) (filter (T.passes test.now) (R.rows rows.now)))) }
 {
-    let mut placed = gathered(alloc, rows, test, walk, sorting)?;
-    sort(sorting, &mut placed)?;
+    let count = query.offset.saturating_add(query.limit);
+    let first = first_rows(alloc, rows, test, walk, sorting, count)?;
     Ok(Part {
-        rows: copied(alloc, &placed, query.offset, query.limit)?,
-        total: placed.len() as u64,
+        rows: copied(alloc, &first.rows, query.offset, query.limit)?,
+        total: first.total,
     })
 }
 

@@ -76,7 +76,7 @@ fn part<R: Steps>(
     if !has_objects(rows, path) {
         return Ok(None);
     }
-    let test = FilterTest::new(path.route().lists().kind(), &query.test);
+    let test = FilterTest::new(alloc, path.route().lists().kind(), &query.test);
     let listed = Listed {
         rows,
         path,

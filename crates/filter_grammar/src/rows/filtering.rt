@@ -4,19 +4,19 @@ ghost use Rattle.std.specs.Prelude.{◌≡◌, IfOk, Some, option_map, true};
 ghost use Rattle.std.specs.Option.{ForSome};
 ghost use Rattle.filter_grammar.specs.Manners.{manner_of, number_in};
 ghost use Rattle.filter_grammar.specs.Subjects.{subject_shown};
+ghost use Rattle.roster_values.specs.CellText.{cell_text, has_short_year};
 ghost use Rattle.roster_values.specs.Table.{form_of};
 ghost use Rattle.roster_values.specs.Value.{shown};
 ghost use Rattle.filter_grammar.specs.rows.Filters as spec;
-ghost use Rattle.filter_grammar.specs.rows.SubjectValues.{has_short_year};
 
 use crate::filter::{Comparison, Filter, Joint, Predicate};
 use crate::numbers::number_of_text;
-use crate::rows::cell_text::cell_text;
 use crate::rows::sets::set_passes;
 use crate::rows::subject_value::subject_value;
-use crate::rows::texts::{folded, folded_value, holds, stands_in, text_passes};
+use crate::rows::texts::{holds, stands_in, text_passes};
 use crate::subject::{Subject, subject_of};
 use roster_base::NoMemory;
+use roster_types::cell_text::cell_text;
 use roster_types::row::Row;
 use roster_values::{FieldForm, ValueRef};
 use std::alloc::Global;
@@ -70,7 +70,8 @@ fn subject_passes(
     value_passes(alloc, subject.form(), comparison.predicate, value, given)
 }
 
-fn value_passes(
+/// Whether a value of a form passes a comparison with a text.
+pub fn value_passes(
     alloc: Global,
     form: FieldForm,
     predicate: Predicate,
@@ -89,17 +90,34 @@ fn value_passes(
             None => Ok(is_not_equal(predicate)),
         },
         _ => match value {
-            Some(value) => {
-                let text = folded_value(alloc, value)?;
-                let given = folded(alloc, given)?;
-                Ok(text_passes(predicate, text.as_str(), given.as_str()))
-            }
+            Some(value) => cell_passes(alloc, predicate, value, given),
             None => Ok(is_not_equal(predicate)),
         },
     }
 }
 
-fn is_not_equal(predicate: Predicate) -> bool
+// Whether the text of a value passes. Where the value is a text, it is compared where it stands.
+#[tactic(auto, unfolding(roster_values::specs::CellText::cell_text))]
+fn cell_passes(
+    alloc: Global,
+    predicate: Predicate,
+    value: ValueRef<'_>,
+    given: &str,
+) -> Result<bool, NoMemory>
+    requires { has_short_year (shown value) ≡ true }
+    ensures { IfOk result (λ b. b ≡ spec.text_passes predicate (cell_text (shown value.entry)) given.now) }
+{
+    match value {
+        ValueRef::Text(text) => Ok(text_passes(predicate, text.as_str(), given)),
+        ValueRef::Id(id) => Ok(text_passes(predicate, id.as_str(), given)),
+        ValueRef::Word(word) => Ok(text_passes(predicate, word, given)),
+        ValueRef::Ref(id) => Ok(text_passes(predicate, id.as_str(), given)),
+        other => Ok(text_passes(predicate, cell_text(alloc, other)?.as_str(), given)),
+    }
+}
+
+/// Whether a predicate lets through what isn't there.
+pub fn is_not_equal(predicate: Predicate) -> bool
     ensures { result ≡ spec.is_not_equal predicate }
 {
     matches!(predicate, Predicate::NotEqual)
@@ -127,7 +145,8 @@ fn number_passes(
     }
 }
 
-fn numbers_pass(predicate: Predicate, number: Option<i64>, given: Option<i64>) -> bool
+/// What a predicate says of two numbers; nothing passes where one isn't there.
+pub fn numbers_pass(predicate: Predicate, number: Option<i64>, given: Option<i64>) -> bool
     ensures { result ≡ spec.numbers_pass predicate number given }
 {
     match (number, given) {
@@ -136,8 +155,8 @@ fn numbers_pass(predicate: Predicate, number: Option<i64>, given: Option<i64>) -
     }
 }
 
-// The number that a value is compared by.
-fn number_in(value: ValueRef<'_>) -> Option<i64>
+/// The number that a value is compared by: of a day, of a moment's milliseconds, or the number itself.
+pub fn number_in(value: ValueRef<'_>) -> Option<i64>
     ensures { result ≡ number_in (Some (shown value.entry)) }
 {
     match value {

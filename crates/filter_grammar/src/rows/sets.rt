@@ -8,10 +8,10 @@ ghost use Rattle.roster_values.specs.Value.{shown};
 ghost use Rattle.filter_grammar.specs.rows.Filters as spec;
 
 use crate::filter::Predicate;
-use crate::rows::cell_text::user_id_text;
 use crate::rows::texts::folded;
 use roster_base::{Items, NoMemory, Text};
 use roster_texts::Id;
+use roster_types::cell_text::user_id_text;
 use roster_values::lists::read_items;
 use roster_values::{UserId, ValueRef};
 use std::alloc::Global;

@@ -2,9 +2,10 @@
 
 ghost use Rattle.std.specs.Prelude.{◌≡◌, IfOk, Some, true};
 ghost use Rattle.filter_grammar.specs.Subjects.{subject_shown};
+ghost use Rattle.roster_values.specs.CellText.{has_short_year};
 ghost use Rattle.roster_values.specs.Value.{shown};
 ghost use Rattle.filter_grammar.specs.rows.Orders as spec;
-ghost use Rattle.filter_grammar.specs.rows.SubjectValues.{has_short_year, subject_value};
+ghost use Rattle.filter_grammar.specs.rows.SubjectValues.{subject_value};
 
 use crate::rows::subject_value::subject_value;
 use crate::rows::texts::folded_value;

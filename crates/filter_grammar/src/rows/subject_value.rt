@@ -3,6 +3,7 @@
 ghost use Rattle.std.specs.Prelude.{◌≡◌, true, bytes_eq, find, option_map, position, IfSome};
 ghost use Rattle.filter_grammar.specs.Subjects.{subject_shown};
 ghost use Rattle.roster_types.specs.Records.{field_of, place_in};
+ghost use Rattle.roster_values.specs.CellText.{has_short_year};
 ghost use Rattle.roster_values.specs.Table.{info_of, table};
 ghost use Rattle.roster_values.specs.Value.{shown};
 ghost use Rattle.filter_grammar.specs.rows.SubjectValues as spec;
@@ -16,7 +17,7 @@ use roster_values::{FieldInfo, Kind, ValueRef};
 /// What a row has there; nothing where it has nothing.
 pub(crate) fn subject_value<'r>(row: &'r Row, subject: Subject<'_>) -> Option<ValueRef<'r>>
     ensures value { option_map shown result ≡ spec.subject_value (subject_shown subject.entry) row.now }
-    ensures year { IfSome result (λ v. spec.has_short_year (shown v) ≡ true) }
+    ensures year { IfSome result (λ v. has_short_year (shown v) ≡ true) }
 {
     match subject {
         Subject::OfTable(info) => lent_field(row, info.name),
@@ -26,7 +27,7 @@ pub(crate) fn subject_value<'r>(row: &'r Row, subject: Subject<'_>) -> Option<Va
 
 fn lent_entry<'e>(entries: &'e [Entry], key: &str) -> Option<ValueRef<'e>>
     ensures value { option_map shown result ≡ spec.entry_value (find (λ e. bytes_eq e.key key.now) entries.now) }
-    ensures year { IfSome result (λ v. spec.has_short_year (shown v) ≡ true) }
+    ensures year { IfSome result (λ v. has_short_year (shown v) ≡ true) }
 {
     for entry in entries {
         if entry.key.as_str() == key {
@@ -38,7 +39,7 @@ fn lent_entry<'e>(entries: &'e [Entry], key: &str) -> Option<ValueRef<'e>>
 
 fn lent_field<'r>(row: &'r Row, name: &str) -> Option<ValueRef<'r>>
     ensures value { option_map shown result ≡ field_of row.now name.now }
-    ensures year { IfSome result (λ v. spec.has_short_year (shown v) ≡ true) }
+    ensures year { IfSome result (λ v. has_short_year (shown v) ≡ true) }
 {
     let place = place_of(row.kind(), name)?;
     row.value(place)

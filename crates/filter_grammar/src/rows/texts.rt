@@ -1,17 +1,17 @@
 //! Texts compared without regard to the case of their letters.
 
-ghost use Rattle.std.specs.Prelude.{◌≡◌, IfOk, string_bytes, true};
+ghost use Rattle.std.specs.Prelude.{◌≡◌, IfOk, nat_eq, string_bytes, true};
 ghost use Rattle.std.specs.Cmp.Lexicographic.{slice_cmp};
+ghost use Rattle.std.specs.List.{starts_with};
 ghost use Rattle.std.specs.Ordering.{nat_cmp};
 ghost use Rattle.std.specs.declared.cmp.Ordering.{Ordering as Order};
-ghost use Rattle.roster_values.specs.CellText.{cell_text};
+ghost use Rattle.roster_values.specs.CellText.{cell_text, has_short_year};
 ghost use Rattle.roster_values.specs.Value.{shown};
 ghost use Rattle.filter_grammar.specs.rows.Filters as spec;
-ghost use Rattle.filter_grammar.specs.rows.SubjectValues.{has_short_year};
 
 use crate::filter::Predicate;
-use crate::rows::cell_text::cell_text;
 use roster_base::NoMemory;
+use roster_types::cell_text::cell_text;
 use roster_values::ValueRef;
 use std::alloc::Global;
 use std::cmp::Ordering;
@@ -57,12 +57,59 @@ pub(crate) fn stands_in(part: &str, text: &str) -> bool
     text.contains(part)
 }
 
-/// Whether a text passes, both being folded.
+// Which of two texts comes first. They are compared where they stand, with no copies.
+fn folded_cmp(text: &[u8], other: &[u8]) -> Ordering
+    ensures { result ≡ slice_cmp nat_cmp (spec.folded text.now) (spec.folded other.now) }
+{
+    let mut rest = text;
+    let mut others = other;
+    while let Some((byte, later)) = rest.split_first() {
+        let Some((other_byte, other_later)) = others.split_first() else {
+            return Ordering::Greater;
+        };
+        let order = byte
+            .to_ascii_lowercase()
+            .cmp(&other_byte.to_ascii_lowercase());
+        if order.is_ne() {
+            return order;
+        }
+        rest = later;
+        others = other_later;
+    }
+    if others.is_empty() {
+        Ordering::Equal
+    } else {
+        Ordering::Less
+    }
+}
+
+fn begins(part: &[u8], text: &[u8]) -> bool
+    ensures { result ≡ starts_with nat_eq (spec.folded text.now) (spec.folded part.now) }
+{
+    part.len() <= text.len() && text[..part.len()].eq_ignore_ascii_case(part)
+}
+
+// Whether a text stands somewhere in another, both as they are.
+#[tactic(auto, unfolding(crate::specs::rows::Filters::stands_in))]
+fn stands_folded_in(part: &[u8], text: &[u8]) -> bool
+    ensures { result ≡ spec.stands_in (spec.folded part.now) (spec.folded text.now) }
+{
+    let mut rest = text;
+    while let Some((_, later)) = rest.split_first() {
+        if begins(part, rest) {
+            return true;
+        }
+        rest = later;
+    }
+    begins(part, rest)
+}
+
+/// Whether a text passes.
 pub(crate) fn text_passes(predicate: Predicate, text: &str, value: &str) -> bool
-    ensures { result ≡ spec.folded_passes predicate text.now value.now }
+    ensures { result ≡ spec.text_passes predicate text.now value.now }
 {
     match predicate {
-        Predicate::Contains => stands_in(value, text),
-        _ => holds(predicate, text.cmp(value)),
+        Predicate::Contains => stands_folded_in(value.as_bytes(), text.as_bytes()),
+        _ => holds(predicate, folded_cmp(text.as_bytes(), value.as_bytes())),
     }
 }

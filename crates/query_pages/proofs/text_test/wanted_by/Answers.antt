@@ -2,7 +2,7 @@ use Rattle.std.proofs.Common.{◌∙◌, ap}
 use Rattle.filter_grammar.specs.Manners.{AsText}
 use Rattle.filter_grammar.specs.declared.filter.Predicate.{Predicate}
 use Rattle.filter_grammar.specs.rows.Filters.{value_passes}
-use Rattle.query_pages.proofs.TextTests.{equal_texts, unequal_texts}
+use Rattle.query_pages.proofs.FilterTests.{equal_texts, unequal_texts}
 use Rattle.query_pages.proofs.text_test.wanted_by.Goals as goal
 
 pub returns-in-Equal : goal.returns-in-Equal

@@ -4,7 +4,7 @@ use Rattle.filter_grammar.proofs.ValueLemmas.{lent_year}
 use Rattle.roster_types.proofs.Sums.{fields-values}
 use Rattle.roster_types.specs.Records.{all_values}
 use Rattle.roster_values.specs.Table.{info_of, table}
-use Rattle.query_pages.proofs.text_test.value_at.Goals as goal
+use Rattle.query_pages.proofs.field_test.value_at.Goals as goal
 
 pub returns-then-place-fields-clause-value : goal.returns-then-place-fields-clause-value
 returns-then-place-fields-clause-value c =

@@ -1,7 +1,0 @@
-use Rattle.std.proofs.Common.{◌∙◌, ap, string_bytes}
-use Rattle.std.specs.List.{join_with_byte}
-use Rattle.filter_grammar.proofs.LineSteps.{joined_text}
-use Rattle.filter_grammar.proofs.rows.cell_text.joined_user_ids.Goals as goal
-
-pub returns : goal.returns
-returns c = rw c.as_slice.ensures.value at c.in_ok-join.ensures.ok ∙ joined_text string_bytes c.in_ok-texts.texts.items ∙ ap (join_with_byte 44) c.in_ok-texts.ensures

@@ -1,5 +1,0 @@
-use Rattle.std.proofs.Common.{◌≡◌, map, take}
-use Rattle.filter_grammar.proofs.rows.cell_text.lent_ids.Given as goal
-
-abbrev pub invariant-loop-id : goal.invariant-loop-id
-invariant-loop-id l = map (λ s. s.now) l.lent.items ≡ take l.id-index l.ids

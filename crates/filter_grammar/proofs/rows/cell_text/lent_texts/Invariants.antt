@@ -1,5 +1,0 @@
-use Rattle.std.proofs.Common.{◌≡◌, map, take}
-use Rattle.filter_grammar.proofs.rows.cell_text.lent_texts.Given as goal
-
-abbrev pub invariant-loop-text : goal.invariant-loop-text
-invariant-loop-text l = map (λ s. s.now) l.lent.items ≡ take l.text-index l.texts
