@@ -126,19 +126,19 @@ rows_in_areas stand state this =
     each t (change ∷ changes) told = (told.0.rows, each t changes told.1)
 
 -- format 2 has them as spans
-pub rows_in_spans : (stand : Items → Type 0) (t : HubTables) (has : HasSpans stand t) (found : List Item) → map entry_of found ≡ listed 7 [] (255 ∷ []) (items_in has.base t) → HasRows stand (Spans found) t
-rows_in_spans stand t has found is = record {
+pub rows_in_spans : (stand : Items → Type 0) (t : HubTables) → HasSpans stand t → HasRows stand Spans t
+rows_in_spans stand t has = record {
   changes = record {
     tables = tables_of stand t has;
     rows = each t.changes (span_told.changes_told has.base t has.are has.spans has.plain);
   };
-  base = (has.base, ap (where_label (came_within 0 t.base.number)) is ∙ span_told.base_told has.base t has.are has.spans has.plain, has.spans);
+  base = (has.base, span_told.base_told has.base t has.are has.spans has.plain, has.spans);
 }
   where
     each : (changes : List Change) → AllByRecursion (λ change. where_label (came_within change.version change.version) (listed 7 [] (255 ∷ []) (items_in has.base t)) ≡ own_spans change) changes
-        → AllByRecursion (TellChange (Spans found) (items_in has.base t)) changes
+        → AllByRecursion (TellChange Spans (items_in has.base t)) changes
     each [] told = tt
-    each (change ∷ changes) told = (ap (where_label (came_within change.version change.version)) is ∙ told.0, each changes told.1)
+    each (change ∷ changes) told = (told.0, each changes told.1)
 
 -- ---- the number of the format
 

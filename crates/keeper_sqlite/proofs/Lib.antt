@@ -7,4 +7,5 @@ pub mod TellingLemmas
 pub mod EntryLemmas
 pub mod CopyKeepingLemmas
 pub mod RangeLemmas
+pub mod RestLemmas
 pub mod HoldingLemmas

@@ -7,6 +7,7 @@ mod oldest;
 mod prepare;
 mod reading;
 mod rows;
+mod spans;
 mod state;
 pub mod tables;
 

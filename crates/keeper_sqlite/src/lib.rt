@@ -5,6 +5,7 @@ pub mod closed;
 pub mod copy;
 pub mod hub;
 mod ranges;
+mod rest;
 pub mod sql_items;
 pub mod stored_items;
 

@@ -1,6 +1,6 @@
-//! Whole ranges of items.
+//! Ranges of items.
 
-ghost use Rattle.std.specs.Prelude.{◌≡◌, Bool, IfOk, OnOk, map, option_map, slice_get};
+ghost use Rattle.std.specs.Prelude.{◌≡◌, ◌≤◌, Bool, IfOk, OnOk, map, take};
 ghost use Rattle.sqlite.specs.Held.{state};
 ghost use Rattle.sqlite.specs.State.{HasCleanDisk};
 ghost use Rattle.roster_base.specs.Faults.{CountsFailure};
@@ -42,16 +42,19 @@ pub fn all_of<S: Alter>(
     Ok(items)
 }
 
-/// The first item of the area whose label is at least `from` and below `to`, in the order of label bytes.
-pub fn first_of<S: Alter>(
+/// The first `limit` items of the area whose label is at least `from` and below `to`, in the order of label bytes. The limit is at most
+/// 10^15.
+pub fn part_of<S: Alter>(
     alloc: Global,
     store: &mut ItemStore<S>,
     area: u32,
     from: &[u8],
     to: &[u8],
-) -> Result<Option<Item>, KeeperError>
-    ensures item { (m : Items) → StandsFor (state S.Store store.old.connection) m → IsTrusted (state S.Store store.new.connection)
-        → IfOk result (λ item. option_map entry_of item ≡ slice_get (listed area from.now to.now m) 0) }
+    limit: u64,
+) -> Result<Vec<Item>, KeeperError>
+    requires { limit ≤ 1000000000000000 }
+    ensures items { (m : Items) → StandsFor (state S.Store store.old.connection) m → IsTrusted (state S.Store store.new.connection)
+        → IfOk result (λ items. map entry_of items.items ≡ take limit (listed area from.now to.now m)) }
     ensures same { (m : Items) → StandsFor (state S.Store store.old.connection) m → StandsFor (state S.Store store.new.connection) m }
     ensures cause { CountsFailure store.old.faults store.new.faults result }
     ensures trust { IsTrusted (state S.Store store.new.connection) → IsTrusted (state S.Store store.old.connection) }
@@ -59,6 +62,6 @@ pub fn first_of<S: Alter>(
     ensures signs { Stay (shown_by (state S.Store store.new.connection)) (shown_by (state S.Store store.old.connection)) }
     ensures live { HasCleanDisk (state S.Store store.new.connection) → OnOk result (IsTrusted (state S.Store store.new.connection)) }
 {
-    let mut items = store.range(alloc, area, from, to, 1)?;
-    Ok(items.pop())
+    let items = store.range(alloc, area, from, to, limit)?;
+    Ok(items)
 }

@@ -5,7 +5,7 @@ ghost use Rattle.sqlite.specs.Held.{state};
 ghost use Rattle.item_store.specs.Stands.{StandsFor};
 ghost use Rattle.keeper_sqlite.specs.Trust.{IsLost, IsTrusted, MayHold, shown_by};
 
-use crate::ranges::{all_of, first_of};
+use crate::ranges::{all_of, part_of};
 use crate::stored_items::StoredItems;
 use item_store::{Edit, Item, ItemStore};
 use roster_base::KeeperError;
@@ -88,14 +88,15 @@ impl<S: Alter + Drop> StoredItems for SqlItems<S> {
         all_of(alloc, &mut self.store, area, from, to)
     }
 
-    fn first_of(
+    fn part_of(
         &mut self,
         alloc: Global,
         area: u32,
         from: &[u8],
         to: &[u8],
-    ) -> Result<Option<Item>, KeeperError> {
-        first_of(alloc, &mut self.store, area, from, to)
+        limit: u64,
+    ) -> Result<Vec<Item>, KeeperError> {
+        part_of(alloc, &mut self.store, area, from, to, limit)
     }
 
     fn commit(&mut self, edits: &[Edit]) -> Result<(), KeeperError> {

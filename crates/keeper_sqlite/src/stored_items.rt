@@ -1,6 +1,6 @@
 //! Stores of items.
 
-ghost use Rattle.std.specs.Prelude.{◌≡◌, ◌⊎◌, ℕ, IfOk, IsErr, OnErr, OnOk, map, option_map, slice_get};
+ghost use Rattle.std.specs.Prelude.{◌≡◌, ◌≤◌, ◌⊎◌, ℕ, IfOk, IsErr, OnErr, OnOk, map, take};
 ghost use Rattle.roster_base.specs.Faults.{CountsError, CountsFailure};
 ghost use Rattle.roster_base.specs.declared.keeper.KeeperError.TheVariants as keeper;
 ghost use Rattle.item_maps.specs.Edits.{after, entry_of};
@@ -14,7 +14,7 @@ use std::alloc::Global;
 
 /// Items that a store keeps. What the clauses say of items holds as long as the store can be trusted.
 pub trait StoredItems: Drop {
-    ghost use Rattle.std.specs.Prelude.{◌≡◌, ◌⊎◌, ℕ, IfOk, IsErr, OnErr, OnOk, map, option_map, slice_get};
+    ghost use Rattle.std.specs.Prelude.{◌≡◌, ◌≤◌, ◌⊎◌, ℕ, IfOk, IsErr, OnErr, OnOk, map, take};
     ghost use Rattle.roster_base.specs.Faults.{CountsError, CountsFailure};
     ghost use Rattle.roster_base.specs.declared.keeper.KeeperError.TheVariants as keeper;
     ghost use Rattle.item_maps.specs.Edits.{after, entry_of};
@@ -59,16 +59,18 @@ pub trait StoredItems: Drop {
         ensures signs { Stay (shows self.new) (shows self.old) }
         ensures live { shows self.new Clean → OnOk result (is_trusted self.new) };
 
-    /// The first item of the area whose label is at least `from` and below `to`, in the order of label bytes. The items stay as they
-    /// are.
-    fn first_of(
+    /// The first `limit` items of the area whose label is at least `from` and below `to`, in the order of label bytes. The items stay
+    /// as they are. The limit is at most 10^15.
+    fn part_of(
         &mut self,
         alloc: Global,
         area: u32,
         from: &[u8],
         to: &[u8],
-    ) -> Result<Option<Item>, KeeperError>
-        ensures item { (m : Items) → stands_for self.old m → is_trusted self.new → IfOk result (λ item. option_map entry_of item ≡ slice_get (listed area from.now to.now m) 0) }
+        limit: u64,
+    ) -> Result<Vec<Item>, KeeperError>
+        requires { limit ≤ 1000000000000000 }
+        ensures items { (m : Items) → stands_for self.old m → is_trusted self.new → IfOk result (λ items. map entry_of items.items ≡ take limit (listed area from.now to.now m)) }
         ensures same { Stay (stands_for self.old) (stands_for self.new) }
         ensures cause { CountsFailure (fault_count self.old) (fault_count self.new) result }
         ensures trust { is_trusted self.new → is_trusted self.old }

@@ -67,14 +67,15 @@ impl StoredItems for FileItems {
         self.items.all_of(alloc, area, from, to)
     }
 
-    fn first_of(
+    fn part_of(
         &mut self,
         alloc: Global,
         area: u32,
         from: &[u8],
         to: &[u8],
-    ) -> Result<Option<Item>, KeeperError> {
-        self.items.first_of(alloc, area, from, to)
+        limit: u64,
+    ) -> Result<Vec<Item>, KeeperError> {
+        self.items.part_of(alloc, area, from, to, limit)
     }
 
     fn commit(&mut self, edits: &[Edit]) -> Result<(), KeeperError> {

@@ -139,12 +139,14 @@ fn item_above<S: StoredItems>(
     ensures signs { Stay (S.shows store.new) (S.shows store.old) }
     ensures live { S.shows store.new Clean → OnOk result (S.is_trusted store.new) }
 {
-    store.first_of(
+    let mut items = store.part_of(
         alloc,
         CopyArea::Outbox.number(),
         &(after + 1).to_be_bytes(),
         &(LAST + 1).to_be_bytes(),
-    )
+        1,
+    )?;
+    Ok(items.pop())
 }
 
 // The entry with the least number above `after`, which is below the greatest.

@@ -37,11 +37,7 @@ fn read_tables<S: StoredItems>(
         Ok(keep) => keep,
         Err(_) => return Err(store.refuse()),
     };
-    let rows = base_rows(alloc, store, &laid, number)?;
-    let later = match laid.behind(alloc, number)? {
-        Some(later) => later,
-        None => return Err(store.refuse()),
-    };
+    let (rows, later) = base_rows(alloc, store, laid, number)?;
     let grants = grants_at(alloc, store, number)?;
     let changes = changes_in(alloc, store, &later, number, keep)?;
     let marks = marks_in(alloc, store)?;

@@ -13,8 +13,7 @@ use crate::hub::prepare::prepare;
 use crate::hub::reading::tables_from;
 use crate::hub::rows::StoredRows;
 use crate::stored_items::StoredItems;
-use hub_format::HubArea;
-use roster_base::{Items, KeeperError};
+use roster_base::KeeperError;
 use std::alloc::Global;
 use version_core::hub_tables::HubTables;
 
@@ -29,8 +28,7 @@ fn load_ready<S: StoredItems>(alloc: Global, store: &mut S) -> Result<HubTables,
     ensures signs { Stay (S.shows store.new) (S.shows store.old) }
     ensures live { S.shows store.new Clean → OnOk result (S.is_trusted store.new) }
 {
-    let spans = store.all_of(alloc, HubArea::Spans.number(), &[], &[255])?;
-    tables_from(alloc, store, StoredRows::Spans(Items::from_vec(spans)))
+    tables_from(alloc, store, StoredRows::Spans)
 }
 
 /// What a store keeps. One that has no items keeps version 0, and one whose tables stand for no state of a hub fails.

@@ -24,8 +24,8 @@ returns-clause-tables g c t has sure =
     let two = c.in_ok-rows.ensures.same m one in
     let listed = listed_alike 5 (number c.in_ok-keep.number) (number (c.in_ok-keep.number + 1)) m (items_of t) tables.grants in
     let grants = c.in_ok-grants.ensures.grants m t.base.grants two tables.fit.grants (listed ∙ ap (λ n. listed_of 5 n (items_of t)) bases ∙ base_grants_told t tables.are tables.fit ∙ ap (λ n. grants_under n t.base.grants) (sym bases)) at_grants in
-    let later = changes_later (s c.args.store.now) (s c.grants_at.new.store) c.args.laid c.in-Some.later t c.in_ok-keep.number bases
-    (λ n stands. c.in_ok-grants.ensures.same n (c.in_ok-rows.ensures.same n (c.in_ok-keep.ensures.same n stands))) (rw c.in-Some.is at c.in_ok-later.ensures) has.changes in
+    let later = changes_later (s c.args.store.now) (s c.grants_at.new.store) c.args.laid c.in_ok-rows.later t c.in_ok-keep.number bases
+    (λ n stands. c.in_ok-grants.ensures.same n (c.in_ok-rows.ensures.same n (c.in_ok-keep.ensures.same n stands))) has.changes (c.in_ok-rows.ensures.later m one at_rows) in
     let changes = c.in_ok-changes.ensures.changes t later bases keeps at_changes in
     let four = tables_stay (s c.grants_at.new.store) (s c.changes_in.new.store) t c.in_ok-changes.ensures.same later.tables in
     let marks = c.in_ok-marks.ensures.marks t four sure in

@@ -1,4 +1,0 @@
-use Rattle.keeper_sqlite.proofs.sql_items.SqlItemsStoredItems.first_of.Goals as goal
-
-pub returns-clause-held : goal.returns-clause-held
-returns-clause-held g c = c.first_of.ensures.held c.args.self.now.lost
