@@ -15,7 +15,7 @@ ghost use Rattle.roster_base.specs.Faults.{Rose};
 ghost use Rattle.version_core.specs.HubStates.{newest_number};
 ghost use Rattle.consumer_outbox.specs.Sends.{not_begun};
 
-use crate::sending::send_all;
+use crate::sending::{Sender, send_all};
 use exchange_link::{Link, NoRun, SendAnswer, begin_run};
 use keeper_memory::CopyKeeper;
 use roster_texts::Token;
@@ -64,14 +64,13 @@ pub fn send<C: CopyKeeper, L: Link>(
 {
     match begin_run(alloc, copy) {
         Err(why) => not_begun(why),
-        Ok(state) => send_all(
-            alloc,
-            copy,
-            link,
-            state.run,
-            state.last_number,
-            token,
-            tries as u64,
-        ),
+        Ok(state) => {
+            let by = Sender {
+                token,
+                run: state.run,
+                tries: tries as u64,
+            };
+            send_all(alloc, copy, link, by, state.last_number)
+        }
     }
 }

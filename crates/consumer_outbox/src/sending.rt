@@ -32,6 +32,14 @@ use roster_base::KeeperError;
 use roster_texts::Token;
 use std::alloc::Global;
 
+/// What each request of a call has: whose it is, its run, and how often it is tried.
+#[derive(Clone, Copy)]
+pub struct Sender<'a> {
+    pub token: &'a Token,
+    pub run: u64,
+    pub tries: u64,
+}
+
 fn broken(error: KeeperError) -> SendAnswer
     ensures { result ≡ broken_answer error }
 {
@@ -99,35 +107,33 @@ fn ask_for<L: Link>(
     alloc: Global,
     link: &mut L,
     entry: OutEntry,
-    run: u64,
-    token: &Token,
+    by: Sender<'_>,
     count: &mut u64,
-    tries: u64,
 ) -> Outcome
     requires write { IsOutWrite entry.write }
     requires number { (1 ≤ entry.number) × (entry.number ≤ LAST) }
-    requires run { (1 ≤ run) × (run ≤ LAST) }
-    requires tries { (0 < tries) × (tries ≤ 100) }
-    requires few { count.old + tries ≤ 100 * LAST }
-    ensures count { (count.old ≤ count.new) × (count.new ≤ count.old + tries) }
+    requires run { (1 ≤ by.run) × (by.run ≤ LAST) }
+    requires tries { (0 < by.tries) × (by.tries ≤ 100) }
+    requires few { count.old + by.tries ≤ 100 * LAST }
+    ensures count { (count.old ≤ count.new) × (count.new ≤ count.old + by.entry.tries) }
     ensures asked { IsMore (L.asked link.old) (count.new - count.old) (L.asked link.new) }
     ensures later { L.fault_count link.old ≤ L.fault_count link.new }
     ensures link_leads { L.leads link.old link.new }
-    ensures own { IfOwn result (λ w. IsOwnReply (L.kept link.new) run count.new w) }
+    ensures own { IfOwn result (λ w. IsOwnReply (L.kept link.new) by.entry.run count.new w) }
     ensures none { result ≡ Outcome.NoReply → (1 ≤ count.new) × IsNoReply (L.kept link.new) × ((after : Told) → L.tells link.new after → ⊥) }
-    ensures missed { result ≡ Outcome.Missed → (count.new ≡ count.old + tries) × (tries ≤ L.missed link.new)
-        × RoseBy tries (L.fault_count link.old) (L.fault_count link.new)
-        × ((w : Reply) → IsReplyText (L.kept link.new) w → w.echo ≡ Some (number run count.new) → ⊥) }
+    ensures missed { result ≡ Outcome.Missed → (count.new ≡ count.old + by.entry.tries) × (by.entry.tries ≤ L.missed link.new)
+        × RoseBy by.entry.tries (L.fault_count link.old) (L.fault_count link.new)
+        × ((w : Reply) → IsReplyText (L.kept link.new) w → w.echo ≡ Some (number by.entry.run count.new) → ⊥) }
     ensures told { (after : Told) → L.tells link.new after → (before : Told) × L.tells link.old before
-        × Asks run count.old count.new (Carries token.now entry) before after
-        × (IsReady run count.old before.sent → IfOwn result (λ w. IsOwnRead before after (numbered (request_of token.now entry) (number run count.new)) w)) }
-    ensures last { result ≢ Outcome.NoMemory → (marked_by (numbered (request_of token.now entry) (number run count.new)) ≡ Some (mark_of entry))
-        × ((after : Told) → L.tells link.new after → IsLast (numbered (request_of token.now entry) (number run count.new)) after.sent) }
+        × Asks by.entry.run count.old count.new (Carries by.entry.token.now entry) before after
+        × (IsReady by.entry.run count.old before.sent → IfOwn result (λ w. IsOwnRead before after (numbered (request_of by.entry.token.now entry) (number by.entry.run count.new)) w)) }
+    ensures last { result ≢ Outcome.NoMemory → (marked_by (numbered (request_of by.entry.token.now entry) (number by.entry.run count.new)) ≡ Some (mark_of entry))
+        × ((after : Told) → L.tells link.new after → IsLast (numbered (request_of by.entry.token.now entry) (number by.entry.run count.new)) after.sent) }
     ensures asks { (after : Told) → L.tells link.new after → (before : Told) × L.tells link.old before
-        × SendsOn (IsTry (numbered (request_of token.now entry))) run count.old count.new (result ≡ Outcome.NoMemory) before.sent after.sent }
+        × SendsOn (IsTry (numbered (request_of by.entry.token.now entry))) by.entry.run count.old count.new (result ≡ Outcome.NoMemory) before.sent after.sent }
 {
-    match request_for(alloc, token, entry) {
-        Ok(request) => ask(alloc, link, request, run, count, tries),
+    match request_for(alloc, by.token, entry) {
+        Ok(request) => ask(alloc, link, request, by.run, count, by.tries),
         Err(_) => Outcome::NoMemory,
     }
 }
@@ -138,18 +144,16 @@ fn send_entry<C: CopyKeeper, L: Link>(
     copy: &mut C,
     link: &mut L,
     entry: OutEntry,
-    run: u64,
-    token: &Token,
+    by: Sender<'_>,
     count: &mut u64,
-    tries: u64,
 ) -> Option<SendAnswer>
     requires first { (c : Copy) → C.stands_for copy.old c → first_unsettled c.entries ≡ Some entry }
     requires write { IsOutWrite entry.write }
     requires number { (1 ≤ entry.number) × (entry.number ≤ LAST) }
-    requires run { (1 ≤ run) × (run ≤ LAST) }
-    requires tries { (0 < tries) × (tries ≤ 100) }
-    requires few { count.old + tries ≤ 100 * LAST }
-    ensures count { (count.old ≤ count.new) × (count.new ≤ count.old + tries) }
+    requires run { (1 ≤ by.run) × (by.run ≤ LAST) }
+    requires tries { (0 < by.tries) × (by.tries ≤ 100) }
+    requires few { count.old + by.tries ≤ 100 * LAST }
+    ensures count { (count.old ≤ count.new) × (count.new ≤ count.old + by.entry.tries) }
     ensures asked { IsMore (L.asked link.old) (count.new - count.old) (L.asked link.new) }
     ensures heard { L.fault_count link.old ≤ L.fault_count link.new }
     ensures link_leads { L.leads link.old link.new }
@@ -157,27 +161,27 @@ fn send_entry<C: CopyKeeper, L: Link>(
     ensures copy_leads { C.leads copy.old copy.new }
     ensures copy { (after : Copy) → C.stands_for copy.new after → (before : Copy) × C.stands_for copy.old before × Goes entry.number result before after }
     ensures link { (after : Told) → L.tells link.new after → (before : Told) × L.tells link.old before × Moved before after }
-    ensures agree { ((c : Copy) (t : Told) → C.stands_for copy.old c → L.tells link.old t → Ready run count.old c t)
-        → (c : Copy) (t : Told) → C.stands_for copy.new c → L.tells link.new t → Ready run count.new c t }
-    ensures told { ((c : Copy) (t : Told) → C.stands_for copy.old c → L.tells link.old t → Ready run count.old c t)
+    ensures agree { ((c : Copy) (t : Told) → C.stands_for copy.old c → L.tells link.old t → Ready by.entry.run count.old c t)
+        → (c : Copy) (t : Told) → C.stands_for copy.new c → L.tells link.new t → Ready by.entry.run count.new c t }
+    ensures told { ((c : Copy) (t : Told) → C.stands_for copy.old c → L.tells link.old t → Ready by.entry.run count.old c t)
         → (c : Copy) (t : Told) → C.stands_for copy.new c → L.tells link.new t
-        → (before : Told) × L.tells link.old before × ToldIf token.now before t c.entries result }
-    ensures complete { ((c : Copy) (t : Told) → C.stands_for copy.old c → L.tells link.old t → Ready run count.old c t)
+        → (before : Told) × L.tells link.old before × ToldIf by.entry.token.now before t c.entries result }
+    ensures complete { ((c : Copy) (t : Told) → C.stands_for copy.old c → L.tells link.old t → Ready by.entry.run count.old c t)
         → ¬ Rose (L.fault_count link.old) (L.fault_count link.new) → ¬ Rose (C.fault_count copy.old) (C.fault_count copy.new)
         → (c : Copy) (t : Told) → C.stands_for copy.new c → L.tells link.new t
         → (before : Told) × L.tells link.old before
-        × (¬ Rose before.hub_faults t.hub_faults → CanSendAll token.now (newest_number before.hub) (entry ∷ []) t.hub → IsFineIf result) }
-    ensures cause { CauseIf (L.kept link.new) run count.new ((tries ≤ L.missed link.new) × (tries ≤ count.new) × RoseBy tries (L.fault_count link.old) (L.fault_count link.new)) (Rose (C.fault_count copy.old) (C.fault_count copy.new)) result }
-    ensures exact { (w : Reply) → IsOwnReply (L.kept link.new) run count.new w → ExactIf w result }
+        × (¬ Rose before.hub_faults t.hub_faults → CanSendAll by.entry.token.now (newest_number before.hub) (entry ∷ []) t.hub → IsFineIf result) }
+    ensures cause { CauseIf (L.kept link.new) by.entry.run count.new ((by.entry.tries ≤ L.missed link.new) × (by.entry.tries ≤ count.new) × RoseBy by.entry.tries (L.fault_count link.old) (L.fault_count link.new)) (Rose (C.fault_count copy.old) (C.fault_count copy.new)) result }
+    ensures exact { (w : Reply) → IsOwnReply (L.kept link.new) by.entry.run count.new w → ExactIf w result }
     ensures names { IfSome result (λ a. IfSome (number_in a) (λ n. n ≡ entry.number)) }
     ensures stays { (c : Copy) → C.stands_for copy.new c → EndsIf result → first_unsettled c.entries ≡ Some entry }
-    ensures last { EndsIf result → (1 ≤ count.new) × ((c : Copy) (t : Told) → C.stands_for copy.new c → L.tells link.new t → CarriesFirst token.now (number run count.new) c.entries t.sent) }
+    ensures last { EndsIf result → (1 ≤ count.new) × ((c : Copy) (t : Told) → C.stands_for copy.new c → L.tells link.new t → CarriesFirst by.entry.token.now (number by.entry.run count.new) c.entries t.sent) }
     ensures asks { (after : Told) → L.tells link.new after → (before : Told) × L.tells link.old before
-        × SendsOn (IsTry (numbered (request_of token.now entry))) run count.old count.new (result ≡ Some SendAnswer.NoMemory) before.sent after.sent }
-    ensures full { IsInterrupted result → count.new ≡ count.old + tries }
+        × SendsOn (IsTry (numbered (request_of by.entry.token.now entry))) by.entry.run count.old count.new (result ≡ Some SendAnswer.NoMemory) before.sent after.sent }
+    ensures full { IsInterrupted result → count.new ≡ count.old + by.entry.tries }
 {
     let number = entry.number;
-    match ask_for(alloc, link, entry, run, token, count, tries) {
+    match ask_for(alloc, link, entry, by, count) {
         Outcome::Own(reply) => take_reply(alloc, copy, number, &reply),
         Outcome::NoReply => Some(SendAnswer::BadReply { number }),
         Outcome::Missed => Some(SendAnswer::Interrupted { number }),
@@ -222,41 +226,39 @@ pub fn send_all<C: CopyKeeper, L: Link>(
     alloc: Global,
     copy: &mut C,
     link: &mut L,
-    run: u64,
+    by: Sender<'_>,
     last: u64,
-    token: &Token,
-    tries: u64,
 ) -> SendAnswer
-    requires run { (1 ≤ run) × (run ≤ LAST) }
-    requires tries { (0 < tries) × (tries ≤ 100) }
+    requires run { (1 ≤ by.run) × (by.run ≤ LAST) }
+    requires tries { (0 < by.tries) × (by.tries ≤ 100) }
     ensures copy { (after : Copy) → C.stands_for copy.new after → (before : Copy) × C.stands_for copy.old before
         × ((settled : ℕ) × SoFar settled before after × AllSettled result settled after.entries)
-        × (L.asked link.new ≤ L.asked link.old + tries * unsettled before.entries) }
+        × (L.asked link.new ≤ L.asked link.old + by.entry.tries * unsettled before.entries) }
     ensures link { (after : Told) → L.tells link.new after → (before : Told) × L.tells link.old before × Moved before after }
-    ensures agree { ((c : Copy) (t : Told) → C.stands_for copy.old c → L.tells link.old t → Ready run 0 c t)
-        → (c : Copy) (t : Told) → C.stands_for copy.new c → L.tells link.new t → (count : ℕ) × Ready run count c t }
-    ensures told { ((c : Copy) (t : Told) → C.stands_for copy.old c → L.tells link.old t → Ready run 0 c t)
+    ensures agree { ((c : Copy) (t : Told) → C.stands_for copy.old c → L.tells link.old t → Ready by.entry.run 0 c t)
+        → (c : Copy) (t : Told) → C.stands_for copy.new c → L.tells link.new t → (count : ℕ) × Ready by.entry.run count c t }
+    ensures told { ((c : Copy) (t : Told) → C.stands_for copy.old c → L.tells link.old t → Ready by.entry.run 0 c t)
         → (c : Copy) (t : Told) → C.stands_for copy.new c → L.tells link.new t
-        → (before : Told) × L.tells link.old before × SendToldCause token.now before t c.entries result }
-    ensures complete { ((c : Copy) (t : Told) → C.stands_for copy.old c → L.tells link.old t → Ready run 0 c t)
+        → (before : Told) × L.tells link.old before × SendToldCause by.entry.token.now before t c.entries result }
+    ensures complete { ((c : Copy) (t : Told) → C.stands_for copy.old c → L.tells link.old t → Ready by.entry.run 0 c t)
         → ¬ Rose (L.fault_count link.old) (L.fault_count link.new) → ¬ Rose (C.fault_count copy.old) (C.fault_count copy.new)
         → (c : Copy) (t : Told) → C.stands_for copy.new c → L.tells link.new t
         → (b : Copy) × (before : Told) × C.stands_for copy.old b × L.tells link.old before
-        × (¬ Rose before.hub_faults t.hub_faults → CanSendAll token.now (newest_number before.hub) b.entries t.hub → IsFine result) }
+        × (¬ Rose before.hub_faults t.hub_faults → CanSendAll by.entry.token.now (newest_number before.hub) b.entries t.hub → IsFine result) }
     ensures later { C.fault_count copy.old ≤ C.fault_count copy.new }
     ensures copy_leads { C.leads copy.old copy.new }
     ensures not_last { result ≢ SendAnswer.LastRun }
     ensures link_leads { L.leads link.old link.new }
     ensures cause { (n : ℕ) × IsMore (L.asked link.old) n (L.asked link.new)
-        × SendCauseOf (L.kept link.new) run n ((tries ≤ L.missed link.new) × (tries ≤ n) × RoseBy tries (L.fault_count link.old) (L.fault_count link.new)) (Rose (C.fault_count copy.old) (C.fault_count copy.new)) result
-        × ((w : Reply) → IsOwnReply (L.kept link.new) run n w → IsSendAside result ⊎ AnswersSend w result)
+        × SendCauseOf (L.kept link.new) by.entry.run n ((by.entry.tries ≤ L.missed link.new) × (by.entry.tries ≤ n) × RoseBy by.entry.tries (L.fault_count link.old) (L.fault_count link.new)) (Rose (C.fault_count copy.old) (C.fault_count copy.new)) result
+        × ((w : Reply) → IsOwnReply (L.kept link.new) by.entry.run n w → IsSendAside result ⊎ AnswersSend w result)
         × ((c : Copy) → C.stands_for copy.new c → NamesFirst result c.entries)
-        × (EndsAtEntry result → (1 ≤ n) × ((c : Copy) (t : Told) → C.stands_for copy.new c → L.tells link.new t → CarriesFirst token.now (number run n) c.entries t.sent)) }
+        × (EndsAtEntry result → (1 ≤ n) × ((c : Copy) (t : Told) → C.stands_for copy.new c → L.tells link.new t → CarriesFirst by.entry.token.now (number by.entry.run n) c.entries t.sent)) }
     ensures asks { (n : ℕ) × IsMore (L.asked link.old) n (L.asked link.new)
         × ((after : Copy) (tells : Told) → C.stands_for copy.new after → L.tells link.new tells
         → (before : Copy) × (told : Told) × C.stands_for copy.old before × L.tells link.old told
-        × SendsOn (IsWriteUnder token.now before.entries) run 0 n (result ≡ SendAnswer.NoMemory) told.sent tells.sent
-        × TriedEntry result token.now run n tries after.entries tells.sent) }
+        × SendsOn (IsWriteUnder by.entry.token.now before.entries) by.entry.run 0 n (result ≡ SendAnswer.NoMemory) told.sent tells.sent
+        × TriedEntry result by.entry.token.now by.entry.run n by.entry.tries after.entries tells.sent) }
 {
     let mut count: u64 = 0;
     let mut after: u64 = 0;
@@ -267,7 +269,7 @@ pub fn send_all<C: CopyKeeper, L: Link>(
             Ok(None) => return SendAnswer::Settled { count: settled },
             Ok(Some(entry)) => {
                 let number = entry.number;
-                match send_entry(alloc, copy, link, entry, run, token, &mut count, tries) {
+                match send_entry(alloc, copy, link, entry, by, &mut count) {
                     Some(answer) => return answer,
                     None => {
                         settled += 1;

@@ -1,6 +1,7 @@
 -- An own reply at a state that keeps the pin and knows the token gives a page.
 use Rattle.std.proofs.Common.{◌≡◌, ◌-◌, ◌<◌, ◌≤◌, inl, inr, ⊎_elim, ℕ, Bool, true, false, List, [], ◌∷◌, ◌++◌, length, take, drop, Option, Some, None, Ok, refl, sym, ◌∙◌, ap, subst, arith, min, not, length-append}
-use Rattle.std.specs.Prelude.{◌==◌, nat_lt, ◌&&◌, if◌then◌else◌, option_map, Result, max, is_some}
+use Rattle.std.proofs.lemmas.Bool.{and_from, and_parts}
+use Rattle.std.specs.Prelude.{◌==◌, nat_lt, if◌then◌else◌, option_map, Result, max, is_some}
 use Rattle.std.proofs.Math.Seq.{drop-append_seam}
 use Rattle.std.proofs.lemmas.List.{length-drop, length-take, take-append-drop}
 use Rattle.std.proofs.lemmas.Bool.Decides.{nat_tests}
@@ -81,17 +82,9 @@ judged_at stage limit w n e = ap (λ n. by_status n stage limit w) e
 ascends-append : (d : Option (List ℕ)) (xs ys : List Record) → ascends d (xs ++ ys) ≡ true → (ascends d xs ≡ true) × (ascends (last_from d xs) ys ≡ true)
 ascends-append d [] ys e = (refl, e)
 ascends-append d (x ∷ xs) ys e =
-    let b = and_true (is_after d x.id) (ascends (Some x.id) (xs ++ ys)) e in
+    let b = and_parts (is_after d x.id) (ascends (Some x.id) (xs ++ ys)) e in
     let r = ascends-append (Some x.id) xs ys b.1 in
-    (both (is_after d x.id) (ascends (Some x.id) xs) b.0 r.0, r.1)
-  where
-    and_true : (a b : Bool) → (a && b) ≡ true → (a ≡ true) × (b ≡ true)
-    and_true true b e = (refl, e)
-    and_true false b e = cc
-
-    both : (a b : Bool) → a ≡ true → b ≡ true → (a && b) ≡ true
-    both true b e f = f
-    both false b e f = cc
+    (and_from (is_after d x.id) (ascends (Some x.id) xs) b.0 r.0, r.1)
 
 -- a page of a list that ascends
 page_ascends : (p l rows : List Record) (limit : ℕ) → IsFrontOf p l → ascends None l ≡ true → rows ≡ take limit (drop (length p) l) → ascends (last_from None p) rows ≡ true
@@ -160,11 +153,7 @@ shut_done (Some s) token limit v w mid kind offset et x lt read st ver none =
     let at : list_of (version_at mid v) token (place_of_kind (kind_at (length s.done))) ≡ list_of (version_at mid v) s.token (length s.done) =
     ap (list_of (version_at mid v) token) (place_at (length s.done) lt) ∙ ap (λ t. list_of (version_at mid v) t (length s.done)) (sym et) in
     let nought : length s.present ≡ 0 = let h = ap length (fits.present).1 in let g = length-append s.present (fits.present).0 in let i = ap length (sym at ∙ none) in omega (arith, h, g, i) in
-    done_close _ v kind offset (judged_at (Some (state_of s)) limit w 403 st ∙ ap (shut_act (Some (state_of s))) ver ∙ enter _ _ _ (both (s.pin == v) (length s.present == 0) (eq_test s.pin v (sym e)) (eq_test (length s.present) 0 nought)))
-  where
-    both : (a b : Bool) → a ≡ true → b ≡ true → (a && b) ≡ true
-    both true b e f = f
-    both false b e f = cc
+    done_close _ v kind offset (judged_at (Some (state_of s)) limit w 403 st ∙ ap (shut_act (Some (state_of s))) ver ∙ enter _ _ _ (and_from (s.pin == v) (length s.present == 0) (eq_test s.pin v (sym e)) (eq_test (length s.present) 0 nought)))
 
 -- the pin of the call lies below where the stage is pinned
 pin_below : (first : Option StageState) (o : Option Stage) (start a : HubState) → Grew start a → StageFitsIf o a → PinLaw first start (option_map state_of o) → 0 < length a.published → first_pin first start < length a.published

@@ -1,6 +1,7 @@
 -- Requests for pages may be sent.
-use Rattle.std.proofs.Common.{◌≡◌, ◌^◌, ◌<◌, ◌≤◌, ℕ, Bool, true, false, List, [], ◌∷◌, ◌++◌, length, Option, Some, None, refl, ◌∙◌, arith, length-append}
-use Rattle.std.specs.Prelude.{◌&&◌, ◌||◌, codes, decimal, IfSome}
+use Rattle.std.proofs.Common.{◌≡◌, ◌^◌, ◌<◌, ◌≤◌, ℕ, true, List, [], ◌∷◌, ◌++◌, length, Option, Some, None, refl, ◌∙◌, arith, length-append}
+use Rattle.std.proofs.lemmas.Bool.{and_from, or_left}
+use Rattle.std.specs.Prelude.{codes, decimal, IfSome}
 use Rattle.std.specs.Char.{is_ascii_alphanumeric}
 use Rattle.std.specs.List.{list_all}
 use Rattle.std.specs.Str.Parse.{AllDigits}
@@ -19,32 +20,20 @@ use Rattle.status_info.specs.declared.request.Echo.{Echo}
 use Rattle.exchange_link.specs.Requests.{numbered}
 use Rattle.consumer_sync.specs.Requests.{unnumbered}
 
-or_left : (a b : Bool) → a ≡ true → (a || b) ≡ true
-or_left true b e = refl
-or_left false b e = cc
-
 sent_digit : (c : ℕ) → 48 ≤ c → c ≤ 57 → is_ascii_alphanumeric c ≡ true
 sent_digit c low high = grind (arith, nat_tests)
-
-all_true : (a b : Bool) → a ≡ true → b ≡ true → (a && b) ≡ true
-all_true true b e f = f
-all_true false b e f = cc
 
 digits_sent : (ds : List ℕ) → AllDigits 10 ds → list_all is_sent_byte ds ≡ true
 digits_sent [] x = refl
 digits_sent (c ∷ ds) x =
     let (low, high) = digit_from_value c x.0 in
-    all_true (is_sent_byte c) (list_all is_sent_byte ds) (or_left (is_ascii_alphanumeric c) _ (sent_digit c low high)) (digits_sent ds x.1)
+    and_from (is_sent_byte c) (list_all is_sent_byte ds) (or_left (is_ascii_alphanumeric c) _ (sent_digit c low high)) (digits_sent ds x.1)
 
 pub decimal_sent : (n : ℕ) → n < 2 ^ 64 → list_all is_sent_byte (decimal n) ≡ true
 decimal_sent n small = let (numeral, value) = decimal_is_IsNumeral n small in digits_sent (decimal n) numeral.1
 
 pub both : (xs ys : List ℕ) → list_all is_sent_byte xs ≡ true → list_all is_sent_byte ys ≡ true → list_all is_sent_byte (xs ++ ys) ≡ true
-both xs ys e f = list_all-append is_sent_byte xs ys ∙ and_true (list_all is_sent_byte xs) (list_all is_sent_byte ys) e f
-  where
-    and_true : (a b : Bool) → a ≡ true → b ≡ true → (a && b) ≡ true
-    and_true true b e f = f
-    and_true false b e f = cc
+both xs ys e f = list_all-append is_sent_byte xs ys ∙ and_from (list_all is_sent_byte xs) (list_all is_sent_byte ys) e f
 
 word_sent : (kind : Kind) → list_all is_sent_byte (plural_of kind) ≡ true
 word_sent Orgs = refl

@@ -22,11 +22,10 @@ ghost use Rattle.consumer_sync.specs.Requests.{IsUnmarked};
 ghost use Rattle.exchange_link.specs.Requests.{Asks, IsReady};
 
 use crate::judging::{kind, kinds_done, staged};
-use crate::page::fetch;
+use crate::page::{Asker, fetch};
 use crate::staging::take_reply;
 use exchange_link::{Link, Outcome, SyncAnswer};
 use keeper_memory::{CopyKeeper, StageState};
-use roster_texts::Token;
 use roster_values::Kind;
 use std::alloc::Global;
 
@@ -39,54 +38,53 @@ pub fn fill<C: CopyKeeper, L: Link>(
     copy: &mut C,
     link: &mut L,
     stage: &mut Option<StageState>,
-    run: u64,
-    token: &Token,
-    limit: u64,
-    tries: u64,
+    by: Asker<'_>,
 ) -> Option<SyncAnswer>
     requires holds { (c : Copy) → C.stands_for copy.old c → stage_of c ≡ stage.old }
-    requires token { HasToken token.now stage.old }
+    requires token { HasToken by.token.now stage.old }
     requires few { kinds_of stage.old ≤ kind_count }
-    requires run { (1 ≤ run) × (run ≤ LAST) }
-    requires limit { (0 < limit) × (limit ≤ 1000) }
-    requires tries { (0 < tries) × (tries ≤ 100) }
+    requires run { (1 ≤ by.run) × (by.run ≤ LAST) }
+    requires limit { (0 < by.limit) × (by.limit ≤ 1000) }
+    requires tries { (0 < by.tries) × (by.tries ≤ 100) }
     ensures holds { result ≡ None → (c : Copy) → C.stands_for copy.new c → stage_of c ≡ stage.new }
     ensures done { result ≡ None → kinds_of stage.new ≡ kind_count }
-    ensures copy { (after : Copy) → C.stands_for copy.new after → (before : Copy) × C.stands_for copy.old before × Ends token.now result before after }
+    ensures copy { (after : Copy) → C.stands_for copy.new after → (before : Copy) × C.stands_for copy.old before × Ends by.entry.token.now result before after }
     ensures faulted { result ≡ Some SyncAnswer.KeeperFault → (after : Copy) → C.stands_for copy.new after → (before : Copy) × C.stands_for copy.old before
-        × (Ends token.now result before after × (StageOn token.now before.stage after.stage ⊎ SaysGone (L.kept link.new))) }
-    ensures link { (after : Told) → L.tells link.new after → (before : Told) × L.tells link.old before × (count : ℕ) × Asks run 0 count IsUnmarked before after
-        × (result ≡ None → IsSmall stage.old → IsReady run 0 before.sent → PinLaw stage.old before.hub stage.new) }
-    ensures agree { ((c : Copy) (t : Told) → C.stands_for copy.old c → L.tells link.old t → CopyFits c t.hub × IsReady run 0 t.sent)
+        × (Ends by.entry.token.now result before after × (StageOn by.entry.token.now before.stage after.stage ⊎ SaysGone (L.kept link.new))) }
+    ensures link { (after : Told) → L.tells link.new after → (before : Told) × L.tells link.old before × (count : ℕ) × Asks by.entry.run 0 count IsUnmarked before after
+        × (result ≡ None → IsSmall stage.old → IsReady by.entry.run 0 before.sent → PinLaw stage.old before.hub stage.new) }
+    ensures agree { ((c : Copy) (t : Told) → C.stands_for copy.old c → L.tells link.old t → CopyFits c t.hub × IsReady by.entry.run 0 t.sent)
         → (c : Copy) (t : Told) → C.stands_for copy.new c → L.tells link.new t → CopyFits c t.hub }
-    ensures bound { ((c : Copy) (t : Told) → C.stands_for copy.old c → L.tells link.old t → CopyFits c t.hub × IsReady run 0 t.sent)
+    ensures bound { ((c : Copy) (t : Told) → C.stands_for copy.old c → L.tells link.old t → CopyFits c t.hub × IsReady by.entry.run 0 t.sent)
         → (c : Copy) (t : Told) → C.stands_for copy.new c → L.tells link.new t
-        → (n : ℕ) × (L.asked link.new ≤ L.asked link.old + n) × Bounded n tries limit token.now stage.old (λ v. IsCallPinIf result c t.sent v) t.hub }
-    ensures complete { ((c : Copy) (t : Told) → C.stands_for copy.old c → L.tells link.old t → CopyFits c t.hub × IsReady run 0 t.sent)
+        → (n : ℕ) × (L.asked link.new ≤ L.asked link.old + n) × Bounded n by.entry.tries by.entry.limit by.entry.token.now stage.old (λ v. IsCallPinIf result c t.sent v) t.hub }
+    ensures complete { ((c : Copy) (t : Told) → C.stands_for copy.old c → L.tells link.old t → CopyFits c t.hub × IsReady by.entry.run 0 t.sent)
         → ¬ Rose (L.fault_count link.old) (L.fault_count link.new) → ¬ Rose (C.fault_count copy.old) (C.fault_count copy.new)
         → (c : Copy) (t : Told) → C.stands_for copy.new c → L.tells link.new t
-        → (before : Told) × L.tells link.old before × (¬ Rose before.hub_faults t.hub_faults → StandsAt (first_pin stage.old before.hub) token.now t.hub → IsDoneIf result) }
-    ensures told { ((c : Copy) (t : Told) → C.stands_for copy.old c → L.tells link.old t → CopyFits c t.hub × IsReady run 0 t.sent)
+        → (before : Told) × L.tells link.old before × (¬ Rose before.hub_faults t.hub_faults → StandsAt (first_pin stage.old before.hub) by.entry.token.now t.hub → IsDoneIf result) }
+    ensures told { ((c : Copy) (t : Told) → C.stands_for copy.old c → L.tells link.old t → CopyFits c t.hub × IsReady by.entry.run 0 t.sent)
         → (c : Copy) (t : Told) → C.stands_for copy.new c → L.tells link.new t
-        → (before : Told) × L.tells link.old before × ToldIf token.now before t result }
+        → (before : Told) × L.tells link.old before × ToldIf by.entry.token.now before t result }
     ensures ends { IsEndIf result }
     ensures later { C.fault_count copy.old ≤ C.fault_count copy.new }
     ensures copy_leads { C.leads copy.old copy.new }
     ensures link_leads { L.leads link.old link.new }
     ensures cause { (asked : Option State) × (n : ℕ) × IsMore (L.asked link.old) n (L.asked link.new)
-        × CauseIf asked limit (L.kept link.new) run n ((tries ≤ L.missed link.new) × (tries ≤ n) × RoseBy tries (L.fault_count link.old) (L.fault_count link.new)) (Rose (C.fault_count copy.old) (C.fault_count copy.new)) result
-        × ((w : Reply) → IsOwnReply (L.kept link.new) run n w → ExactIf (pin_of asked) w result)
-        × (1 ≤ n → result ≢ Some SyncAnswer.NoMemory → (t : Told) → L.tells link.new t → IsLast (request_of asked run n token.now limit) t.sent)
+        × CauseIf asked by.entry.limit (L.kept link.new) by.entry.run n ((by.entry.tries ≤ L.missed link.new) × (by.entry.tries ≤ n) × RoseBy by.entry.tries (L.fault_count link.old) (L.fault_count link.new)) (Rose (C.fault_count copy.old) (C.fault_count copy.new)) result
+        × ((w : Reply) → IsOwnReply (L.kept link.new) by.entry.run n w → ExactIf (pin_of asked) w result)
+        × (1 ≤ n → result ≢ Some SyncAnswer.NoMemory → (t : Told) → L.tells link.new t → IsLast (request_of asked by.entry.run n by.entry.token.now by.entry.limit) t.sent)
         × (AsksOnIf result → (1 ≤ n) × ((c : Copy) → C.stands_for copy.new c → stage_of c ≡ asked)) }
     ensures asks { (count : ℕ) × IsMore (L.asked link.old) count (L.asked link.new)
         × ((after : Told) → L.tells link.new after → (before : Told) × L.tells link.old before
-        × SendsOn (IsPageUnder token.now limit) run 0 count (result ≡ Some SyncAnswer.NoMemory) before.sent after.sent
-        × TriedIf result token.now limit run count tries after.sent) }
+        × SendsOn (IsPageUnder by.entry.token.now by.entry.limit) by.entry.run 0 count (result ≡ Some SyncAnswer.NoMemory) before.sent after.sent
+        × TriedIf result by.entry.token.now by.entry.limit by.entry.run count by.entry.tries after.sent) }
 {
     let mut count: u64 = 0;
     'rounds: while kinds_done(stage) < KINDS {
-        match fetch(alloc, link, stage, run, token, limit, &mut count, tries) {
-            Outcome::Own(reply) => match take_reply(alloc, copy, stage, token, limit, &reply) {
+        match fetch(alloc, link, stage, by, &mut count) {
+            Outcome::Own(reply) => match take_reply(
+                alloc, copy, stage, by.token, by.limit, &reply,
+            ) {
                 None => {}
                 answer => return answer,
             },

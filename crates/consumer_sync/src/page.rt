@@ -27,6 +27,15 @@ use roster_values::Kind;
 use status_info::{MarkField, Request, Verb};
 use std::alloc::Global;
 
+/// What each request of a call has: whose it is, how many rows it asks for, its run, and how often it is tried.
+#[derive(Clone, Copy)]
+pub struct Asker<'a> {
+    pub token: &'a Token,
+    pub limit: u64,
+    pub run: u64,
+    pub tries: u64,
+}
+
 /// The path of a kind's pages.
 #[tactic(auto, unfolding(hub_spec::specs::requests::PageRequests::page_path))]
 pub fn path_text(alloc: Global, kind: Kind) -> Result<String, NoMemory>
@@ -108,34 +117,31 @@ pub fn fetch<L: Link>(
     alloc: Global,
     link: &mut L,
     stage: &Option<StageState>,
-    run: u64,
-    token: &Token,
-    limit: u64,
+    by: Asker<'_>,
     count: &mut u64,
-    tries: u64,
 ) -> Outcome
     requires room { kinds_of stage.now < kind_count }
-    requires run { (1 ≤ run) × (run ≤ LAST) }
-    requires tries { (0 < tries) × (tries ≤ 100) }
-    requires few { count.old + tries ≤ 100 * LAST }
-    ensures count { (count.old ≤ count.new) × (count.new ≤ count.old + tries) }
+    requires run { (1 ≤ by.run) × (by.run ≤ LAST) }
+    requires tries { (0 < by.tries) × (by.tries ≤ 100) }
+    requires few { count.old + by.tries ≤ 100 * LAST }
+    ensures count { (count.old ≤ count.new) × (count.new ≤ count.old + by.entry.tries) }
     ensures asked { IsMore (L.asked link.old) (count.new - count.old) (L.asked link.new) }
     ensures later { L.fault_count link.old ≤ L.fault_count link.new }
     ensures link_leads { L.leads link.old link.new }
-    ensures own { IfOwn result (λ w. IsOwnReply (L.kept link.new) run count.new w) }
+    ensures own { IfOwn result (λ w. IsOwnReply (L.kept link.new) by.entry.run count.new w) }
     ensures none { result ≡ Outcome.NoReply → (1 ≤ count.new) × IsNoReply (L.kept link.new) × ((after : Told) → L.tells link.new after → ⊥) }
-    ensures missed { result ≡ Outcome.Missed → (count.new ≡ count.old + tries) × (tries ≤ L.missed link.new)
-        × RoseBy tries (L.fault_count link.old) (L.fault_count link.new)
-        × ((w : Reply) → IsReplyText (L.kept link.new) w → w.echo ≡ Some (number run count.new) → ⊥) }
+    ensures missed { result ≡ Outcome.Missed → (count.new ≡ count.old + by.entry.tries) × (by.entry.tries ≤ L.missed link.new)
+        × RoseBy by.entry.tries (L.fault_count link.old) (L.fault_count link.new)
+        × ((w : Reply) → IsReplyText (L.kept link.new) w → w.echo ≡ Some (number by.entry.run count.new) → ⊥) }
     ensures told { (after : Told) → L.tells link.new after → (before : Told) × L.tells link.old before
-        × Asks run count.old count.new IsUnmarked before after
-        × (IsReady run count.old before.sent → IfOwn result (λ w. IsOwnRead before after (request_of stage.now run count.new token.now limit) w)) }
-    ensures last { result ≢ Outcome.NoMemory → (after : Told) → L.tells link.new after → IsLast (request_of stage.now run count.new token.now limit) after.sent }
+        × Asks by.entry.run count.old count.new IsUnmarked before after
+        × (IsReady by.entry.run count.old before.sent → IfOwn result (λ w. IsOwnRead before after (request_of stage.now by.entry.run count.new by.entry.token.now by.entry.limit) w)) }
+    ensures last { result ≢ Outcome.NoMemory → (after : Told) → L.tells link.new after → IsLast (request_of stage.now by.entry.run count.new by.entry.token.now by.entry.limit) after.sent }
     ensures asks { (after : Told) → L.tells link.new after → (before : Told) × L.tells link.old before
-        × SendsOn (IsTry (request_under (next_page token.now limit stage.now))) run count.old count.new (result ≡ Outcome.NoMemory) before.sent after.sent }
+        × SendsOn (IsTry (request_under (next_page by.entry.token.now by.entry.limit stage.now))) by.entry.run count.old count.new (result ≡ Outcome.NoMemory) before.sent after.sent }
 {
-    match page_request(alloc, token, limit, stage) {
-        Ok(request) => ask(alloc, link, request, run, count, tries),
+    match page_request(alloc, by.token, by.limit, stage) {
+        Ok(request) => ask(alloc, link, request, by.run, count, by.tries),
         Err(_) => Outcome::NoMemory,
     }
 }

@@ -30,7 +30,7 @@ entries-init g c = record {
   kept = λ w own. absurd (omega (arith, own.from));
   copy = λ d stands. (d, stands, so_far_none d);
   link = λ t tells. (t, tells, moved_refl t);
-  sends = λ d t stands tells. (d, t, stands, tells, so_far_none d, sends_refl (IsWriteUnder c.args.token.now d.entries) c.args.run 0 ⊥ t.sent);
+  sends = λ d t stands tells. (d, t, stands, tells, so_far_none d, sends_refl (IsWriteUnder c.args.by.token.now d.entries) c.args.by.run 0 ⊥ t.sent);
   agree = λ entry d t stands tells. entry d t stands tells;
   heard = omega arith;
   copy_leads = g.met.C.CopyKeeper.stays _;
@@ -43,7 +43,7 @@ entries-init g c = record {
 pub returns-in-Err-clause-copy : goal.returns-in-Err-clause-copy
 returns-in-Err-clause-copy g c d stands =
     let w = c.entries.invariant.copy d (c.next_unsettled.ensures.same d stands) in
-    (w.0, w.1, (c.entries.settled, w.2, aside_settled c.in-Err.answer c.entries.settled d.entries c.in-Err.ensures.cause.0), bound_at c.args.tries c.entries.settled c.entries.count _ _ _ c.entries.invariant.bound c.entries.invariant.asked.most w.2.entries.enough)
+    (w.0, w.1, (c.entries.settled, w.2, aside_settled c.in-Err.answer c.entries.settled d.entries c.in-Err.ensures.cause.0), bound_at c.args.by.tries c.entries.settled c.entries.count _ _ _ c.entries.invariant.bound c.entries.invariant.asked.most w.2.entries.enough)
 
 pub returns-in-Err-clause-agree : goal.returns-in-Err-clause-agree
 returns-in-Err-clause-agree g c entry d t stands tells = (c.entries.count, c.entries.invariant.agree entry d t (c.next_unsettled.ensures.same d stands) tells)
@@ -51,7 +51,7 @@ returns-in-Err-clause-agree g c entry d t stands tells = (c.entries.count, c.ent
 pub returns-in-Err-clause-told : goal.returns-in-Err-clause-told
 returns-in-Err-clause-told g c entry d t stands tells =
     let z = c.entries.invariant.link t tells in
-    (z.0, z.1, aside_told c.args.token.now z.0 t d.entries c.in-Err.answer c.in-Err.ensures.cause.0)
+    (z.0, z.1, aside_told c.args.by.token.now z.0 t d.entries c.in-Err.answer c.in-Err.ensures.cause.0)
 
 pub returns-in-Err-clause-complete : goal.returns-in-Err-clause-complete
 returns-in-Err-clause-complete g c entry link copy d t stands tells =
@@ -63,7 +63,7 @@ pub returns-in-Err-clause-cause : goal.returns-in-Err-clause-cause
 returns-in-Err-clause-cause g c = (
   c.entries.count,
   c.entries.invariant.asked,
-  aside_cause _ c.args.run c.entries.count _ _ c.in-Err.answer c.in-Err.ensures.cause.0 (λ e. let rose = c.in-Err.ensures.cause.1 e in omega (arith, rose, c.entries.invariant.later)),
+  aside_cause _ c.args.by.run c.entries.count _ _ c.in-Err.answer c.in-Err.ensures.cause.0 (λ e. let rose = c.in-Err.ensures.cause.1 e in omega (arith, rose, c.entries.invariant.later)),
   λ w own. inl c.in-Err.ensures.cause.0,
   λ d stands. aside_names c.in-Err.answer d.entries c.in-Err.ensures.cause.0,
   λ ends. absurd (aside_stays c.in-Err.answer c.in-Err.ensures.cause.0 ends),
@@ -75,7 +75,7 @@ pub returns-in-Ok-None-clause-copy : goal.returns-in-Ok-None-clause-copy
 returns-in-Ok-None-clause-copy g c d stands =
     let w = c.entries.invariant.copy d (c.next_unsettled.ensures.same d stands) in
     let none : first_unsettled d.entries ≡ None = c.in-Ok-None.ensures.next d stands ∙ c.in-Ok-None.field-0-is in
-    (w.0, w.1, (c.entries.settled, w.2, (refl, none)), bound_at c.args.tries c.entries.settled c.entries.count _ _ _ c.entries.invariant.bound c.entries.invariant.asked.most w.2.entries.enough)
+    (w.0, w.1, (c.entries.settled, w.2, (refl, none)), bound_at c.args.by.tries c.entries.settled c.entries.count _ _ _ c.entries.invariant.bound c.entries.invariant.asked.most w.2.entries.enough)
 
 pub returns-in-Ok-None-clause-agree : goal.returns-in-Ok-None-clause-agree
 returns-in-Ok-None-clause-agree g c entry d t stands tells = (c.entries.count, c.entries.invariant.agree entry d t (c.next_unsettled.ensures.same d stands) tells)
@@ -103,7 +103,7 @@ returns-in-Some-clause-copy g c d stands =
       w.0,
       w.1,
       goes_end c.entries.settled _ c.in-Some.answer w.0 x.0 d c.in-Ok-Some.entry w.2 first c.in-Some.ensures.cause.0 x.2,
-      bound_at c.args.tries (c.entries.settled + 1) c.send_entry.new.count _ _ _ (bound_next c.args.tries c.entries.settled c.entries.count c.send_entry.new.count c.entries.invariant.bound c.send_entry.ensures.count.1) asked.most
+      bound_at c.args.by.tries (c.entries.settled + 1) c.send_entry.new.count _ _ _ (bound_next c.args.by.tries c.entries.settled c.entries.count c.send_entry.new.count c.entries.invariant.bound c.send_entry.ensures.count.1) asked.most
           (entry_left c.entries.settled w.0 x.0 c.in-Ok-Some.entry w.2 first),
     )
 
@@ -121,7 +121,7 @@ pub returns-in-Some-clause-told : goal.returns-in-Some-clause-told
 returns-in-Some-clause-told g c entry d t stands tells =
     let y = c.in-Some.ensures.told (λ (e : Copy) (u : Told) se te. c.entries.invariant.agree entry e u (c.next_unsettled.ensures.same e se) te) d t stands tells in
     let z = c.entries.invariant.link y.0 y.1 in
-    (z.0, z.1, told_on c.args.token.now z.0 y.0 t d.entries c.in-Some.answer z.2 y.2)
+    (z.0, z.1, told_on c.args.by.token.now z.0 y.0 t d.entries c.in-Some.answer z.2 y.2)
 
 pub returns-in-Some-clause-complete : goal.returns-in-Some-clause-complete
 returns-in-Some-clause-complete g c entry link copy d t stands tells =
@@ -136,7 +136,7 @@ returns-in-Some-clause-complete g c entry link copy d t stands tells =
       w.1,
       z.1,
       λ quiet can. y.2 (λ rose. quiet (let low = z.2.counts in omega (arith, rose, low)))
-          (can_send c.args.token.now c.entries.settled z.0 y.0 t.hub w.0 x.0 c.in-Ok-Some.entry z.2 w.2 first can),
+          (can_send c.args.by.token.now c.entries.settled z.0 y.0 t.hub w.0 x.0 c.in-Ok-Some.entry z.2 w.2 first can),
     )
 
 pub returns-in-Some-clause-not_last : goal.returns-in-Some-clause-not_last
@@ -146,7 +146,7 @@ pub returns-in-Some-clause-cause : goal.returns-in-Some-clause-cause
 returns-in-Some-clause-cause g c = (
   c.send_entry.new.count,
   more_to _ _ _ c.entries.count c.send_entry.new.count c.entries.invariant.asked c.send_entry.ensures.count.0 c.send_entry.ensures.asked,
-  cause_more _ c.args.run c.send_entry.new.count _ _ _ _ c.in-Some.answer (λ m. (m.0, m.1, rose_from c.args.tries _ _ _ c.entries.invariant.heard m.2))
+  cause_more _ c.args.by.run c.send_entry.new.count _ _ _ _ c.in-Some.answer (λ m. (m.0, m.1, rose_from c.args.by.tries _ _ _ c.entries.invariant.heard m.2))
       (λ rose. omega (arith, rose, c.entries.invariant.later, c.next_unsettled.ensures.later)) c.in-Some.ensures.cause.1,
   λ w own. c.in-Some.ensures.exact w own,
   λ d stands. end_names c.in-Some.answer d.entries c.in-Ok-Some.entry c.in-Some.ensures.cause.0 (λ ends. c.in-Some.ensures.stays d stands ends) c.in-Some.ensures.names,
@@ -164,7 +164,7 @@ entries-preserved g c =
           goes_to _ x.0 d c.in-Ok-Some.entry (g.met.C.CopyKeeper.is_copy c.next_unsettled.new.copy x.0 x.1) (c.in-Ok-Some.ensures.next x.0 x.1 ∙ c.in-Ok-Some.field-0-is) x.2;
       few = omega (arith, can.above, c.entries.invariant.few);
       room = omega (arith, c.entries.invariant.room, c.send_entry.ensures.count.1, c.requires.tries.1);
-      bound = bound_next c.args.tries c.entries.settled c.entries.count c.send_entry.new.count c.entries.invariant.bound c.send_entry.ensures.count.1;
+      bound = bound_next c.args.by.tries c.entries.settled c.entries.count c.send_entry.new.count c.entries.invariant.bound c.send_entry.ensures.count.1;
       asked = more_to _ _ _ c.entries.count c.send_entry.new.count c.entries.invariant.asked c.send_entry.ensures.count.0 c.send_entry.ensures.asked;
       kept = λ w own. c.in-None.ensures.exact w own;
       copy = λ d stands.
@@ -185,7 +185,7 @@ entries-preserved g c =
             z.2,
             z.3,
             goes_on c.entries.settled _ z.0 x.0 d c.in-Ok-Some.entry z.4 first x.2,
-            sends_entry c.args.token.now c.entries.settled c.args.run c.entries.count c.send_entry.new.count z.0 x.0 c.in-Ok-Some.entry _ ⊥ _ _ _ z.4 first (λ e. absurd (none_some e)) z.5 y.2,
+            sends_entry c.args.by.token.now c.entries.settled c.args.by.run c.entries.count c.send_entry.new.count z.0 x.0 c.in-Ok-Some.entry _ ⊥ _ _ _ z.4 first (λ e. absurd (none_some e)) z.5 y.2,
           );
       agree = λ entry d t stands tells. c.in-None.ensures.agree (λ (e : Copy) (u : Told) se te. c.entries.invariant.agree entry e u (c.next_unsettled.ensures.same e se) te) d t stands tells;
       heard = omega (arith, c.entries.invariant.heard, c.send_entry.ensures.heard);
@@ -201,7 +201,7 @@ returns-clause-copy g c d stands =
     let w = c.entries.invariant.copy d stands in
     let is = g.met.C.CopyKeeper.is_copy c.entries.copy d stands in
     let none : first_unsettled d.entries ≡ None = walk_over c.entries.after d.last_number 1_000_000_000_000_000 d.entries (omega (arith, c.entries-test.false)) is.last is.entries.below (c.entries.invariant.walked d stands) in
-    (w.0, w.1, (c.entries.settled, w.2, (refl, none)), bound_at c.args.tries c.entries.settled c.entries.count _ _ _ c.entries.invariant.bound c.entries.invariant.asked.most w.2.entries.enough)
+    (w.0, w.1, (c.entries.settled, w.2, (refl, none)), bound_at c.args.by.tries c.entries.settled c.entries.count _ _ _ c.entries.invariant.bound c.entries.invariant.asked.most w.2.entries.enough)
 
 pub returns-clause-agree : goal.returns-clause-agree
 returns-clause-agree g c entry d t stands tells = (c.entries.count, c.entries.invariant.agree entry d t stands tells)
@@ -226,7 +226,7 @@ returns-in-Err-clause-asks g c = (
   c.entries.invariant.asked,
   λ d t stands tells.
       let z = c.entries.invariant.sends d t (c.next_unsettled.ensures.same d stands) tells in
-      (z.0, z.1, z.2, z.3, sends_weaker (IsWriteUnder c.args.token.now z.0.entries) (IsWriteUnder c.args.token.now z.0.entries) c.args.run 0 c.entries.count ⊥ _ _ _ (λ n q h. h) (λ h. absurd h) z.5, aside_tried c.in-Err.answer c.args.token.now c.args.run c.entries.count c.args.tries d.entries t.sent c.in-Err.ensures.cause.0),
+      (z.0, z.1, z.2, z.3, sends_weaker (IsWriteUnder c.args.by.token.now z.0.entries) (IsWriteUnder c.args.by.token.now z.0.entries) c.args.by.run 0 c.entries.count ⊥ _ _ _ (λ n q h. h) (λ h. absurd h) z.5, aside_tried c.in-Err.answer c.args.by.token.now c.args.by.run c.entries.count c.args.by.tries d.entries t.sent c.in-Err.ensures.cause.0),
 )
 
 pub returns-in-Ok-None-clause-asks : goal.returns-in-Ok-None-clause-asks
@@ -235,7 +235,7 @@ returns-in-Ok-None-clause-asks g c = (
   c.entries.invariant.asked,
   λ d t stands tells.
       let z = c.entries.invariant.sends d t (c.next_unsettled.ensures.same d stands) tells in
-      (z.0, z.1, z.2, z.3, sends_weaker (IsWriteUnder c.args.token.now z.0.entries) (IsWriteUnder c.args.token.now z.0.entries) c.args.run 0 c.entries.count ⊥ _ _ _ (λ n q h. h) (λ h. absurd h) z.5, tt),
+      (z.0, z.1, z.2, z.3, sends_weaker (IsWriteUnder c.args.by.token.now z.0.entries) (IsWriteUnder c.args.by.token.now z.0.entries) c.args.by.run 0 c.entries.count ⊥ _ _ _ (λ n q h. h) (λ h. absurd h) z.5, tt),
 )
 
 pub returns-in-Some-clause-asks : goal.returns-in-Some-clause-asks
@@ -251,8 +251,8 @@ returns-in-Some-clause-asks g c = (
         z.1,
         z.2,
         z.3,
-        sends_entry c.args.token.now c.entries.settled c.args.run c.entries.count c.send_entry.new.count z.0 x.0 c.in-Ok-Some.entry _ _ _ _ _ z.4 first (λ e. some_answer e) z.5 y.2,
-        entry_tried c.in-Some.answer c.args.token.now c.args.run c.entries.count c.send_entry.new.count c.args.tries c.in-Ok-Some.entry d.entries _ _ (λ ends. c.in-Some.ensures.stays d stands ends) c.in-Some.ensures.full y.2,
+        sends_entry c.args.by.token.now c.entries.settled c.args.by.run c.entries.count c.send_entry.new.count z.0 x.0 c.in-Ok-Some.entry _ _ _ _ _ z.4 first (λ e. some_answer e) z.5 y.2,
+        entry_tried c.in-Some.answer c.args.by.token.now c.args.by.run c.entries.count c.send_entry.new.count c.args.by.tries c.in-Ok-Some.entry d.entries _ _ (λ ends. c.in-Some.ensures.stays d stands ends) c.in-Some.ensures.full y.2,
       ),
 )
 
@@ -262,7 +262,7 @@ returns-clause-asks g c = (
   c.entries.invariant.asked,
   λ d t stands tells.
       let z = c.entries.invariant.sends d t stands tells in
-      (z.0, z.1, z.2, z.3, sends_weaker (IsWriteUnder c.args.token.now z.0.entries) (IsWriteUnder c.args.token.now z.0.entries) c.args.run 0 c.entries.count ⊥ _ _ _ (λ n q h. h) (λ h. absurd h) z.5, tt),
+      (z.0, z.1, z.2, z.3, sends_weaker (IsWriteUnder c.args.by.token.now z.0.entries) (IsWriteUnder c.args.by.token.now z.0.entries) c.args.by.run 0 c.entries.count ⊥ _ _ _ (λ n q h. h) (λ h. absurd h) z.5, tt),
 )
 
 -- ---- what was called

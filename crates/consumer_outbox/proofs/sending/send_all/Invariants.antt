@@ -18,15 +18,15 @@ invariant-entries g l =
       walked : (c : Copy) → S l.copy c → SettledTo l.after c.entries;
       few : l.settled ≤ l.after;
       room : l.count ≤ 100 * l.settled;
-      bound : l.count ≤ l.tries * l.settled;
+      bound : l.count ≤ l.by.tries * l.settled;
       asked : IsMore (g.L.Link.asked l.fn.link) l.count (g.L.Link.asked l.link);
-      kept : (w : WireReply) → IsOwnReply (g.L.Link.kept l.link) l.run l.count w → Settled w;
+      kept : (w : WireReply) → IsOwnReply (g.L.Link.kept l.link) l.by.run l.count w → Settled w;
       copy : (after : Copy) → S l.copy after → (before : Copy) × S l.fn.copy before × SoFar l.settled before after;
       link : (after : Told) → T l.link after → (before : Told) × T l.fn.link before × Moved before after;
       sends : (after : Copy) (t : Told) → S l.copy after → T l.link t → (before : Copy) × (first : Told) × S l.fn.copy before × T l.fn.link first × SoFar l.settled before after
-          × SendsOn (IsWriteUnder l.token before.entries) l.run 0 l.count ⊥ first.sent t.sent;
-      agree : ((c : Copy) (t : Told) → S l.fn.copy c → T l.fn.link t → Ready l.run 0 c t)
-          → (c : Copy) (t : Told) → S l.copy c → T l.link t → Ready l.run l.count c t;
+          × SendsOn (IsWriteUnder l.by.token.now before.entries) l.by.run 0 l.count ⊥ first.sent t.sent;
+      agree : ((c : Copy) (t : Told) → S l.fn.copy c → T l.fn.link t → Ready l.by.run 0 c t)
+          → (c : Copy) (t : Told) → S l.copy c → T l.link t → Ready l.by.run l.count c t;
       heard : g.L.Link.fault_count l.fn.link ≤ g.L.Link.fault_count l.link;
       copy_leads : g.C.CopyKeeper.leads l.fn.copy l.copy;
       link_leads : g.L.Link.leads l.fn.link l.link;

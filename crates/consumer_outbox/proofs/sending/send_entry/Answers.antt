@@ -21,21 +21,21 @@ returns-in-Own-clause-copy g c after stands = let x = c.take_reply.ensures.told 
 
 pub returns-in-Own-clause-agree : goal.returns-in-Own-clause-agree
 returns-in-Own-clause-agree g c entry d t stands tells =
-    let token = c.args.token.now in
-    let q : Request = numbered (request_of token c.args.entry) (number c.args.run c.ask_for.new.count) in
+    let token = c.args.by.token.now in
+    let q : Request = numbered (request_of token c.args.entry) (number c.args.by.run c.ask_for.new.count) in
     let x = c.take_reply.ensures.told d stands in
     let y = c.in-Own.ensures.told t tells in
     let ready = entry x.0 y.0 x.1 y.1 in
     let first = c.requires.first x.0 x.1 in
     let last = c.in-Own.ensures.last (own_other c.in-Own.reply) in
     let said = said_of y.0 t q token (mark_of c.args.entry) c.in-Own.reply refl last.0 (y.3 ready.numbers) in
-    ready_taken y.0 t token c.args.entry c.in-Own.reply said c.args.run c.ask_for.new.count q c.take_reply.result x.0 d first refl last.0 (last.1 t tells) x.2
-    (ready_asked token c.args.entry c.args.run c.args.count.now c.ask_for.new.count x.0 y.0 t y.2 first (g.met.C.CopyKeeper.is_copy c.args.copy.now x.0 x.1) ready)
+    ready_taken y.0 t token c.args.entry c.in-Own.reply said c.args.by.run c.ask_for.new.count q c.take_reply.result x.0 d first refl last.0 (last.1 t tells) x.2
+    (ready_asked token c.args.entry c.args.by.run c.args.count.now c.ask_for.new.count x.0 y.0 t y.2 first (g.met.C.CopyKeeper.is_copy c.args.copy.now x.0 x.1) ready)
 
 pub returns-in-Own-clause-told : goal.returns-in-Own-clause-told
 returns-in-Own-clause-told g c entry d t stands tells =
-    let token = c.args.token.now in
-    let q : Request = numbered (request_of token c.args.entry) (number c.args.run c.ask_for.new.count) in
+    let token = c.args.by.token.now in
+    let q : Request = numbered (request_of token c.args.entry) (number c.args.by.run c.ask_for.new.count) in
     let x = c.take_reply.ensures.told d stands in
     let y = c.in-Own.ensures.told t tells in
     let ready = entry x.0 y.0 x.1 y.1 in
@@ -45,8 +45,8 @@ returns-in-Own-clause-told g c entry d t stands tells =
 
 pub returns-in-Own-clause-complete : goal.returns-in-Own-clause-complete
 returns-in-Own-clause-complete g c entry link copy d t stands tells =
-    let token = c.args.token.now in
-    let q : Request = numbered (request_of token c.args.entry) (number c.args.run c.ask_for.new.count) in
+    let token = c.args.by.token.now in
+    let q : Request = numbered (request_of token c.args.entry) (number c.args.by.run c.ask_for.new.count) in
     let x = c.take_reply.ensures.told d stands in
     let y = c.in-Own.ensures.told t tells in
     let ready = entry x.0 y.0 x.1 y.1 in
@@ -56,7 +56,7 @@ returns-in-Own-clause-complete g c entry link copy d t stands tells =
     (y.0, y.1, λ quiet can. taken_fine y.0 t token c.args.entry c.in-Own.reply said c.take_reply.result (g.met.L.Link.is_hub c.ask_for.new.link t tells) quiet can yet (λ e. copy (c.take_reply.ensures.cause e)) c.take_reply.ensures.answer)
 
 pub returns-in-Own-clause-cause : goal.returns-in-Own-clause-cause
-returns-in-Own-clause-cause g c = taken_cause c.args.entry.number c.in-Own.reply _ c.args.run c.ask_for.new.count _ _ c.take_reply.result c.in-Own.ensures.own c.take_reply.ensures.answer c.take_reply.ensures.cause
+returns-in-Own-clause-cause g c = taken_cause c.args.entry.number c.in-Own.reply _ c.args.by.run c.ask_for.new.count _ _ c.take_reply.result c.in-Own.ensures.own c.take_reply.ensures.answer c.take_reply.ensures.cause
 
 pub returns-in-Own-clause-exact : goal.returns-in-Own-clause-exact
 returns-in-Own-clause-exact g c w own =
@@ -74,7 +74,7 @@ returns-in-Own-clause-last g c ends = (
   λ d t stands tells.
       let x = c.take_reply.ensures.told d stands in
       let last = c.in-Own.ensures.last (own_other c.in-Own.reply) in
-      carries_first c.args.token.now (number c.args.run c.ask_for.new.count) d.entries t.sent c.args.entry (stays_first _ c.args.entry.number c.take_reply.result x.0 d c.args.entry x.2 ends (c.requires.first x.0 x.1)) (last.1 t tells) last.0,
+      carries_first c.args.by.token.now (number c.args.by.run c.ask_for.new.count) d.entries t.sent c.args.entry (stays_first _ c.args.entry.number c.take_reply.result x.0 d c.args.entry x.2 ends (c.requires.first x.0 x.1)) (last.1 t tells) last.0,
 )
 
 pub returns-in-NoReply-clause-exact : goal.returns-in-NoReply-clause-exact
@@ -83,7 +83,7 @@ returns-in-NoReply-clause-exact g c w own = absurd ((c.in-NoReply.ensures.none r
 pub returns-in-Missed-clause-agree : goal.returns-in-Missed-clause-agree
 returns-in-Missed-clause-agree g c entry d t stands tells =
     let y = c.ask_for.ensures.told t tells in
-    ready_asked c.args.token.now c.args.entry c.args.run c.args.count.now c.ask_for.new.count d y.0 t y.2 (c.requires.first d stands) (g.met.C.CopyKeeper.is_copy c.args.copy.now d stands) (entry d y.0 stands y.1)
+    ready_asked c.args.by.token.now c.args.entry c.args.by.run c.args.count.now c.ask_for.new.count d y.0 t y.2 (c.requires.first d stands) (g.met.C.CopyKeeper.is_copy c.args.copy.now d stands) (entry d y.0 stands y.1)
 
 pub returns-in-Missed-clause-exact : goal.returns-in-Missed-clause-exact
 returns-in-Missed-clause-exact g c w own = absurd ((c.in-Missed.ensures.missed refl).3 w own.text own.number)
@@ -91,7 +91,7 @@ returns-in-Missed-clause-exact g c w own = absurd ((c.in-Missed.ensures.missed r
 pub returns-in-NoMemory-clause-agree : goal.returns-in-NoMemory-clause-agree
 returns-in-NoMemory-clause-agree g c entry d t stands tells =
     let y = c.ask_for.ensures.told t tells in
-    ready_asked c.args.token.now c.args.entry c.args.run c.args.count.now c.ask_for.new.count d y.0 t y.2 (c.requires.first d stands) (g.met.C.CopyKeeper.is_copy c.args.copy.now d stands) (entry d y.0 stands y.1)
+    ready_asked c.args.by.token.now c.args.entry c.args.by.run c.args.count.now c.ask_for.new.count d y.0 t y.2 (c.requires.first d stands) (g.met.C.CopyKeeper.is_copy c.args.copy.now d stands) (entry d y.0 stands y.1)
 
 pub returns-in-NoMemory-clause-complete : goal.returns-in-NoMemory-clause-complete
 returns-in-NoMemory-clause-complete g c entry link copy d t stands tells =
@@ -101,7 +101,7 @@ returns-in-NoMemory-clause-complete g c entry link copy d t stands tells =
 pub returns-in-Own-clause-asks : goal.returns-in-Own-clause-asks
 returns-in-Own-clause-asks g c after tells =
     let y = c.ask_for.ensures.asks after tells in
-    (y.0, y.1, sends_try c.args.token.now c.args.entry c.args.run c.args.count.now c.ask_for.new.count _ _ _ _ (λ e. absurd (own_other c.in-Own.reply (sym c.in-Own.is ∙ e))) y.2)
+    (y.0, y.1, sends_try c.args.by.token.now c.args.entry c.args.by.run c.args.count.now c.ask_for.new.count _ _ _ _ (λ e. absurd (own_other c.in-Own.reply (sym c.in-Own.is ∙ e))) y.2)
 
 pub returns-in-Own-clause-full : goal.returns-in-Own-clause-full
 returns-in-Own-clause-full g c ends = absurd (own_ends (verdict_of c.args.entry.number c.in-Own.reply) c.args.entry.number c.take_reply.result c.take_reply.ensures.answer ends)
@@ -109,12 +109,12 @@ returns-in-Own-clause-full g c ends = absurd (own_ends (verdict_of c.args.entry.
 pub returns-in-NoReply-clause-asks : goal.returns-in-NoReply-clause-asks
 returns-in-NoReply-clause-asks g c after tells =
     let y = c.ask_for.ensures.asks after tells in
-    (y.0, y.1, sends_try c.args.token.now c.args.entry c.args.run c.args.count.now c.ask_for.new.count _ _ _ _ (λ e. absurd (none_other (sym c.in-NoReply.is ∙ e))) y.2)
+    (y.0, y.1, sends_try c.args.by.token.now c.args.entry c.args.by.run c.args.count.now c.ask_for.new.count _ _ _ _ (λ e. absurd (none_other (sym c.in-NoReply.is ∙ e))) y.2)
 
 pub returns-in-Missed-clause-asks : goal.returns-in-Missed-clause-asks
 returns-in-Missed-clause-asks g c after tells =
     let y = c.ask_for.ensures.asks after tells in
-    (y.0, y.1, sends_try c.args.token.now c.args.entry c.args.run c.args.count.now c.ask_for.new.count _ _ _ _ (λ e. absurd (missed_other (sym c.in-Missed.is ∙ e))) y.2)
+    (y.0, y.1, sends_try c.args.by.token.now c.args.entry c.args.by.run c.args.count.now c.ask_for.new.count _ _ _ _ (λ e. absurd (missed_other (sym c.in-Missed.is ∙ e))) y.2)
 
 pub returns-in-Missed-clause-full : goal.returns-in-Missed-clause-full
 returns-in-Missed-clause-full g c ends = (c.in-Missed.ensures.missed refl).0
@@ -122,4 +122,4 @@ returns-in-Missed-clause-full g c ends = (c.in-Missed.ensures.missed refl).0
 pub returns-in-NoMemory-clause-asks : goal.returns-in-NoMemory-clause-asks
 returns-in-NoMemory-clause-asks g c after tells =
     let y = c.ask_for.ensures.asks after tells in
-    (y.0, y.1, sends_try c.args.token.now c.args.entry c.args.run c.args.count.now c.ask_for.new.count _ _ _ _ (λ e. refl) y.2)
+    (y.0, y.1, sends_try c.args.by.token.now c.args.entry c.args.by.run c.args.count.now c.ask_for.new.count _ _ _ _ (λ e. refl) y.2)

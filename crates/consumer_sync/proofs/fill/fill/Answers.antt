@@ -63,7 +63,7 @@ returns-in-NoReply-clause-bound g c entry d t stands tells =
     let st = subst (λ (s : Option StageState). StandingIf s y.0.hub) (c.rounds.invariant.holds d stands) (standing_if d.stage y.0.hub (c.rounds.invariant.agree entry d y.0 stands y.1).stage) in (
       c.fetch.new.count,
       omega (arith, c.rounds.invariant.asked.most, c.fetch.ensures.asked.most, c.fetch.ensures.count.0),
-      bound_end c.rounds.count c.fetch.new.count c.args.tries c.args.limit c.args.token.now c.args.stage.now c.rounds.stage (λ v. HasPin v d.stage) z.0.hub y.0.hub t.hub (c.rounds.invariant.bound entry d y.0 stands y.1) (c.fetch.ensures.count).1 (y.2).moved.grew
+      bound_end c.rounds.count c.fetch.new.count c.args.by.tries c.args.by.limit c.args.by.token.now c.args.stage.now c.rounds.stage (λ v. HasPin v d.stage) z.0.hub y.0.hub t.hub (c.rounds.invariant.bound entry d y.0 stands y.1) (c.fetch.ensures.count).1 (y.2).moved.grew
           st (z.3 small ready) lt (pin_same d.stage c.rounds.stage (c.rounds.invariant.holds d stands)),
     )
 
@@ -129,7 +129,7 @@ returns-in-Missed-clause-bound g c entry d t stands tells =
     let st = subst (λ (s : Option StageState). StandingIf s y.0.hub) (c.rounds.invariant.holds d stands) (standing_if d.stage y.0.hub (c.rounds.invariant.agree entry d y.0 stands y.1).stage) in (
       c.fetch.new.count,
       omega (arith, c.rounds.invariant.asked.most, c.fetch.ensures.asked.most, c.fetch.ensures.count.0),
-      bound_end c.rounds.count c.fetch.new.count c.args.tries c.args.limit c.args.token.now c.args.stage.now c.rounds.stage (λ v. HasPin v d.stage) z.0.hub y.0.hub t.hub (c.rounds.invariant.bound entry d y.0 stands y.1) (c.fetch.ensures.count).1 (y.2).moved.grew
+      bound_end c.rounds.count c.fetch.new.count c.args.by.tries c.args.by.limit c.args.by.token.now c.args.stage.now c.rounds.stage (λ v. HasPin v d.stage) z.0.hub y.0.hub t.hub (c.rounds.invariant.bound entry d y.0 stands y.1) (c.fetch.ensures.count).1 (y.2).moved.grew
           st (z.3 small ready) lt (pin_same d.stage c.rounds.stage (c.rounds.invariant.holds d stands)),
     )
 
@@ -152,7 +152,7 @@ returns-in-Missed-clause-later g c =
 pub returns-in-Missed-clause-cause : goal.returns-in-Missed-clause-cause
 returns-in-Missed-clause-cause g c =
     let m = c.in-Missed.ensures.missed refl in
-    let many : c.args.tries ≤ c.fetch.new.count = omega (arith, m.0) in (
+    let many : c.args.by.tries ≤ c.fetch.new.count = omega (arith, m.0) in (
       c.rounds.stage,
       c.fetch.new.count,
       record { least = omega (arith, c.rounds.invariant.asked.least, c.fetch.ensures.asked.least, c.fetch.ensures.count.0); most = omega (arith, c.rounds.invariant.asked.most, c.fetch.ensures.asked.most, c.fetch.ensures.count.0) },
@@ -196,7 +196,7 @@ returns-in-NoMemory-clause-bound g c entry d t stands tells =
     let st = subst (λ (s : Option StageState). StandingIf s y.0.hub) (c.rounds.invariant.holds d stands) (standing_if d.stage y.0.hub (c.rounds.invariant.agree entry d y.0 stands y.1).stage) in (
       c.fetch.new.count,
       omega (arith, c.rounds.invariant.asked.most, c.fetch.ensures.asked.most, c.fetch.ensures.count.0),
-      bound_end c.rounds.count c.fetch.new.count c.args.tries c.args.limit c.args.token.now c.args.stage.now c.rounds.stage (λ v. HasPin v d.stage) z.0.hub y.0.hub t.hub (c.rounds.invariant.bound entry d y.0 stands y.1) (c.fetch.ensures.count).1 (y.2).moved.grew
+      bound_end c.rounds.count c.fetch.new.count c.args.by.tries c.args.by.limit c.args.by.token.now c.args.stage.now c.rounds.stage (λ v. HasPin v d.stage) z.0.hub y.0.hub t.hub (c.rounds.invariant.bound entry d y.0 stands y.1) (c.fetch.ensures.count).1 (y.2).moved.grew
           st (z.3 small ready) lt (pin_same d.stage c.rounds.stage (c.rounds.invariant.holds d stands)),
     )
 
@@ -227,7 +227,7 @@ returns-in-NoReply-clause-asks g c = (
   λ after tells.
       let y = c.fetch.ensures.asks after tells in
       let z = c.rounds.invariant.sends y.0 y.1 in
-      (z.0, z.1, sends_page c.args.token.now c.args.limit c.args.run 0 c.rounds.count c.fetch.new.count c.rounds.stage _ _ _ _ _ (λ e. absurd (none_other (sym c.in-NoReply.is ∙ e))) z.2 y.2, tt),
+      (z.0, z.1, sends_page c.args.by.token.now c.args.by.limit c.args.by.run 0 c.rounds.count c.fetch.new.count c.rounds.stage _ _ _ _ _ (λ e. absurd (none_other (sym c.in-NoReply.is ∙ e))) z.2 y.2, tt),
 )
 
 pub returns-in-Missed-clause-asks : goal.returns-in-Missed-clause-asks
@@ -237,7 +237,7 @@ returns-in-Missed-clause-asks g c = (
   λ after tells.
       let y = c.fetch.ensures.asks after tells in
       let z = c.rounds.invariant.sends y.0 y.1 in
-      (z.0, z.1, sends_page c.args.token.now c.args.limit c.args.run 0 c.rounds.count c.fetch.new.count c.rounds.stage _ _ _ _ _ (λ e. absurd (missed_other (sym c.in-Missed.is ∙ e))) z.2 y.2, tried_page c.args.token.now c.args.limit c.args.run c.rounds.count c.fetch.new.count c.args.tries c.rounds.stage _ _ _ _ _ c.kind-in-Missed.ensures c.staged-in-Missed.ensures.staged (c.in-Missed.ensures.missed refl).0 (λ e. missed_other (sym c.in-Missed.is ∙ e)) y.2),
+      (z.0, z.1, sends_page c.args.by.token.now c.args.by.limit c.args.by.run 0 c.rounds.count c.fetch.new.count c.rounds.stage _ _ _ _ _ (λ e. absurd (missed_other (sym c.in-Missed.is ∙ e))) z.2 y.2, tried_page c.args.by.token.now c.args.by.limit c.args.by.run c.rounds.count c.fetch.new.count c.args.by.tries c.rounds.stage _ _ _ _ _ c.kind-in-Missed.ensures c.staged-in-Missed.ensures.staged (c.in-Missed.ensures.missed refl).0 (λ e. missed_other (sym c.in-Missed.is ∙ e)) y.2),
 )
 
 pub returns-in-NoMemory-clause-asks : goal.returns-in-NoMemory-clause-asks
@@ -247,21 +247,21 @@ returns-in-NoMemory-clause-asks g c = (
   λ after tells.
       let y = c.fetch.ensures.asks after tells in
       let z = c.rounds.invariant.sends y.0 y.1 in
-      (z.0, z.1, sends_page c.args.token.now c.args.limit c.args.run 0 c.rounds.count c.fetch.new.count c.rounds.stage _ _ _ _ _ (λ e. refl) z.2 y.2, tt),
+      (z.0, z.1, sends_page c.args.by.token.now c.args.by.limit c.args.by.run 0 c.rounds.count c.fetch.new.count c.rounds.stage _ _ _ _ _ (λ e. refl) z.2 y.2, tt),
 )
 
 pub rounds-preserved : goal.rounds-preserved
 rounds-preserved g c =
     let lt : kinds_of c.rounds.stage < kind_count = omega (arith, c.rounds-test.true, c.kinds_done.ensures) in
     let on = c.take_reply.ensures.on c.in-None.is in
-    let page = taken_page c.rounds.stage c.args.limit c.in-Own.reply on.0 on.1 in
+    let page = taken_page c.rounds.stage c.args.by.limit c.in-Own.reply on.0 on.1 in
     let next = on.2 in
-    let fell : weight c.take_reply.new.stage < weight c.rounds.stage = subst (λ (s : Option StageState). weight s < weight c.rounds.stage) (sym next) (weight_falls c.rounds.stage c.args.limit c.args.token.now on.0 c.requires.limit.0 lt page.0) in
+    let fell : weight c.take_reply.new.stage < weight c.rounds.stage = subst (λ (s : Option StageState). weight s < weight c.rounds.stage) (sym next) (weight_falls c.rounds.stage c.args.by.limit c.args.by.token.now on.0 c.requires.limit.0 lt page.0) in
     record {
       holds = c.take_reply.ensures.holds c.in-None.is;
-      token = subst (λ (s : Option StageState). HasToken c.args.token.now s) (sym next) (token_on c.rounds.stage c.args.token.now on.0 c.rounds.invariant.token);
-      small = λ small. subst (λ s. IsSmall s) (sym next) (small_on c.rounds.stage c.args.limit c.args.token.now c.in-Own.reply on.0 page.0 page.1 (version_low _ c.in-Own.reply c.in-Own.ensures.own.text) (c.rounds.invariant.small small));
-      few = subst (λ (s : Option StageState). kinds_of s ≤ kind_count) (sym next) (kinds_on c.rounds.stage c.args.token.now on.0 lt);
+      token = subst (λ (s : Option StageState). HasToken c.args.by.token.now s) (sym next) (token_on c.rounds.stage c.args.by.token.now on.0 c.rounds.invariant.token);
+      small = λ small. subst (λ s. IsSmall s) (sym next) (small_on c.rounds.stage c.args.by.limit c.args.by.token.now c.in-Own.reply on.0 page.0 page.1 (version_low _ c.in-Own.reply c.in-Own.ensures.own.text) (c.rounds.invariant.small small));
+      few = subst (λ (s : Option StageState). kinds_of s ≤ kind_count) (sym next) (kinds_on c.rounds.stage c.args.by.token.now on.0 lt);
       room = omega (arith, fell, c.fetch.ensures.count.1, c.requires.tries.1, c.rounds.invariant.room);
       copy = λ after stands.
           let x = c.take_reply.ensures.told after stands in
@@ -274,9 +274,9 @@ rounds-preserved g c =
             z.1,
             asks_trans _ _ _ _ _ _ _ _ z.2 y.2,
             λ small ready.
-                let said = said_of y.0 after c.rounds.stage c.args.run c.fetch.new.count c.args.token.now c.args.limit c.in-Own.reply (can_next c.rounds.stage c.args.token.now c.args.limit c.requires.limit.0 c.requires.limit.1 (c.rounds.invariant.small small)) (y.3 (z.2.ready ready)) in
-                let p = own_page y.0 after c.rounds.stage c.args.token.now c.args.limit c.in-Own.reply on.0 said lt on.1 in
-                subst (λ (s : Option StageState). PinLaw c.args.stage.now z.0.hub s) (sym next) (pin_on c.args.stage.now c.rounds.stage z.0.hub y.0.hub c.args.token.now on.0 (z.3 small ready) (z.2).moved.grew p.pin),
+                let said = said_of y.0 after c.rounds.stage c.args.by.run c.fetch.new.count c.args.by.token.now c.args.by.limit c.in-Own.reply (can_next c.rounds.stage c.args.by.token.now c.args.by.limit c.requires.limit.0 c.requires.limit.1 (c.rounds.invariant.small small)) (y.3 (z.2.ready ready)) in
+                let p = own_page y.0 after c.rounds.stage c.args.by.token.now c.args.by.limit c.in-Own.reply on.0 said lt on.1 in
+                subst (λ (s : Option StageState). PinLaw c.args.stage.now z.0.hub s) (sym next) (pin_on c.args.stage.now c.rounds.stage z.0.hub y.0.hub c.args.by.token.now on.0 (z.3 small ready) (z.2).moved.grew p.pin),
           );
       agree = λ entry d t stands tells.
           let y = c.in-Own.ensures.told t tells in
@@ -285,8 +285,8 @@ rounds-preserved g c =
           let w = c.rounds.invariant.copy x.0 x.1 in
           let ready = (entry w.0 z.0 w.1 z.1).1 in
           let small : IsSmall c.args.stage.now = subst (λ s. IsSmall s) (c.requires.holds w.0 w.1) (small_fits (z.0).hub (g.met.L.Link.is_hub c.args.link.now z.0 z.1) (w.0).stage (entry w.0 z.0 w.1 z.1).0.stage) in
-          let said = said_of y.0 t c.rounds.stage c.args.run c.fetch.new.count c.args.token.now c.args.limit c.in-Own.reply (can_next c.rounds.stage c.args.token.now c.args.limit c.requires.limit.0 c.requires.limit.1 (c.rounds.invariant.small small)) (y.3 (z.2.ready ready)) in
-          performs_agrees x.0 d y.0 t c.rounds.stage c.args.token.now c.args.limit c.in-Own.reply _ (c.rounds.invariant.holds x.0 x.1) c.rounds.invariant.token (y.2).moved.grew (c.rounds.invariant.agree entry x.0 y.0 x.1 y.1) said lt x.2;
+          let said = said_of y.0 t c.rounds.stage c.args.by.run c.fetch.new.count c.args.by.token.now c.args.by.limit c.in-Own.reply (can_next c.rounds.stage c.args.by.token.now c.args.by.limit c.requires.limit.0 c.requires.limit.1 (c.rounds.invariant.small small)) (y.3 (z.2.ready ready)) in
+          performs_agrees x.0 d y.0 t c.rounds.stage c.args.by.token.now c.args.by.limit c.in-Own.reply _ (c.rounds.invariant.holds x.0 x.1) c.rounds.invariant.token (y.2).moved.grew (c.rounds.invariant.agree entry x.0 y.0 x.1 y.1) said lt x.2;
       asked = record { least = omega (arith, c.rounds.invariant.asked.least, c.fetch.ensures.asked.least, c.fetch.ensures.count.0); most = omega (arith, c.rounds.invariant.asked.most, c.fetch.ensures.asked.most, c.fetch.ensures.count.0) };
       bound = λ entry d t stands tells.
           let y = c.in-Own.ensures.told t tells in
@@ -295,21 +295,21 @@ rounds-preserved g c =
           let w = c.rounds.invariant.copy x.0 x.1 in
           let ready = (entry w.0 z.0 w.1 z.1).1 in
           let small : IsSmall c.args.stage.now = subst (λ s. IsSmall s) (c.requires.holds w.0 w.1) (small_fits (z.0).hub (g.met.L.Link.is_hub c.args.link.now z.0 z.1) (w.0).stage (entry w.0 z.0 w.1 z.1).0.stage) in
-          let said = said_of y.0 t c.rounds.stage c.args.run c.fetch.new.count c.args.token.now c.args.limit c.in-Own.reply (can_next c.rounds.stage c.args.token.now c.args.limit c.requires.limit.0 c.requires.limit.1 (c.rounds.invariant.small small)) (y.3 (z.2.ready ready)) in
-          let p = own_page y.0 t c.rounds.stage c.args.token.now c.args.limit c.in-Own.reply on.0 said lt on.1 in
+          let said = said_of y.0 t c.rounds.stage c.args.by.run c.fetch.new.count c.args.by.token.now c.args.by.limit c.in-Own.reply (can_next c.rounds.stage c.args.by.token.now c.args.by.limit c.requires.limit.0 c.requires.limit.1 (c.rounds.invariant.small small)) (y.3 (z.2.ready ready)) in
+          let p = own_page y.0 t c.rounds.stage c.args.by.token.now c.args.by.limit c.in-Own.reply on.0 said lt on.1 in
           let st = subst (λ (s : Option StageState). StandingIf s y.0.hub) (c.rounds.invariant.holds x.0 x.1) (standing_if (x.0).stage y.0.hub (c.rounds.invariant.agree entry x.0 y.0 x.1 y.1).stage) in
-          subst (λ (s : Option StageState). BoundSoFar c.fetch.new.count c.args.tries c.args.limit c.args.token.now c.args.stage.now s t.hub) (sym next)
-          (bound_on c.rounds.count c.fetch.new.count c.args.tries c.args.limit c.args.token.now c.args.stage.now c.rounds.stage z.0.hub y.0.hub t.hub on.0 c.requires.limit.0
+          subst (λ (s : Option StageState). BoundSoFar c.fetch.new.count c.args.by.tries c.args.by.limit c.args.by.token.now c.args.stage.now s t.hub) (sym next)
+          (bound_on c.rounds.count c.fetch.new.count c.args.by.tries c.args.by.limit c.args.by.token.now c.args.stage.now c.rounds.stage z.0.hub y.0.hub t.hub on.0 c.requires.limit.0
           (c.rounds.invariant.bound entry x.0 y.0 x.1 y.1) (c.fetch.ensures.count).1 (y.2).moved.grew st (z.3 small ready) page.0 p);
       heard = omega (arith, c.rounds.invariant.heard, c.fetch.ensures.later);
       later = omega (arith, c.rounds.invariant.later, c.take_reply.ensures.later);
       copy_leads = g.met.C.CopyKeeper.leads_on _ _ _ c.rounds.invariant.copy_leads c.take_reply.ensures.copy_leads;
       link_leads = g.met.L.Link.leads_on _ _ _ c.rounds.invariant.link_leads c.fetch.ensures.link_leads;
-      page = λ w own. subst (λ (r : WireReply). IsPageStatus r.status) (one_answer _ c.in-Own.reply w c.in-Own.ensures.own.text own.text) (page_status c.rounds.stage c.args.limit c.in-Own.reply on.0 on.1);
+      page = λ w own. subst (λ (r : WireReply). IsPageStatus r.status) (one_answer _ c.in-Own.reply w c.in-Own.ensures.own.text own.text) (page_status c.rounds.stage c.args.by.limit c.in-Own.reply on.0 on.1);
       sends = λ after tells.
           let y = c.fetch.ensures.asks after tells in
           let z = c.rounds.invariant.sends y.0 y.1 in
-          (z.0, z.1, sends_page c.args.token.now c.args.limit c.args.run 0 c.rounds.count c.fetch.new.count c.rounds.stage _ ⊥ _ _ _ (λ e. own_other c.in-Own.reply (sym c.in-Own.is ∙ e)) z.2 y.2);
+          (z.0, z.1, sends_page c.args.by.token.now c.args.by.limit c.args.by.run 0 c.rounds.count c.fetch.new.count c.rounds.stage _ ⊥ _ _ _ (λ e. own_other c.in-Own.reply (sym c.in-Own.is ∙ e)) z.2 y.2);
       last = (c.rounds.stage, λ some t tells. c.fetch.ensures.last (λ e. own_other c.in-Own.reply (sym c.in-Own.is ∙ e)) t tells);
     }
 
@@ -317,8 +317,8 @@ pub rounds-smaller : goal.rounds-smaller
 rounds-smaller g c =
     let lt : kinds_of c.rounds.stage < kind_count = omega (arith, c.rounds-test.true, c.kinds_done.ensures) in
     let on = c.take_reply.ensures.on c.in-None.is in
-    let page = taken_page c.rounds.stage c.args.limit c.in-Own.reply on.0 on.1 in
-    subst (λ (s : Option StageState). weight s < weight c.rounds.stage) (sym on.2) (weight_falls c.rounds.stage c.args.limit c.args.token.now on.0 c.requires.limit.0 lt page.0)
+    let page = taken_page c.rounds.stage c.args.by.limit c.in-Own.reply on.0 on.1 in
+    subst (λ (s : Option StageState). weight s < weight c.rounds.stage) (sym on.2) (weight_falls c.rounds.stage c.args.by.limit c.args.by.token.now on.0 c.requires.limit.0 lt page.0)
 
 pub returns-in_default-clause-holds : goal.returns-in_default-clause-holds
 returns-in_default-clause-holds g c e = absurd (c.in_default.not-None e)
@@ -333,7 +333,7 @@ pub returns-in_default-clause-copy : goal.returns-in_default-clause-copy
 returns-in_default-clause-copy g c after stands =
     let x = c.take_reply.ensures.told after stands in
     let w = c.rounds.invariant.copy x.0 x.1 in
-    (w.0, w.1, ends_on c.args.token.now (judged c.rounds.stage c.args.limit c.in-Own.reply) c.take_reply.result w.0 x.0 after w.2 x.2)
+    (w.0, w.1, ends_on c.args.by.token.now (judged c.rounds.stage c.args.by.limit c.in-Own.reply) c.take_reply.result w.0 x.0 after w.2 x.2)
 
 pub returns-in_default-clause-faulted : goal.returns-in_default-clause-faulted
 returns-in_default-clause-faulted g c is after stands =
@@ -342,9 +342,9 @@ returns-in_default-clause-faulted g c is after stands =
       w.0,
       w.1,
       (
-        ends_on c.args.token.now (judged c.rounds.stage c.args.limit c.in-Own.reply) c.take_reply.result w.0 x.0 after w.2 x.2,
-        ⊎_elim (λ on. inl on) (λ gone. inr (says_gone c.rounds.stage c.args.limit c.in-Own.reply _ c.args.run c.fetch.new.count c.in-Own.ensures.own gone))
-            (fault_stage c.args.token.now (judged c.rounds.stage c.args.limit c.in-Own.reply) c.take_reply.result w.0 x.0 after w.2 x.2),
+        ends_on c.args.by.token.now (judged c.rounds.stage c.args.by.limit c.in-Own.reply) c.take_reply.result w.0 x.0 after w.2 x.2,
+        ⊎_elim (λ on. inl on) (λ gone. inr (says_gone c.rounds.stage c.args.by.limit c.in-Own.reply _ c.args.by.run c.fetch.new.count c.in-Own.ensures.own gone))
+            (fault_stage c.args.by.token.now (judged c.rounds.stage c.args.by.limit c.in-Own.reply) c.take_reply.result w.0 x.0 after w.2 x.2),
       ),
     )
 
@@ -363,8 +363,8 @@ returns-in_default-clause-agree g c entry d t stands tells =
     let w = c.rounds.invariant.copy x.0 x.1 in
     let ready = (entry w.0 z.0 w.1 z.1).1 in
     let small : IsSmall c.args.stage.now = subst (λ s. IsSmall s) (c.requires.holds w.0 w.1) (small_fits (z.0).hub (g.met.L.Link.is_hub c.args.link.now z.0 z.1) (w.0).stage (entry w.0 z.0 w.1 z.1).0.stage) in
-    let said = said_of y.0 t c.rounds.stage c.args.run c.fetch.new.count c.args.token.now c.args.limit c.in-Own.reply (can_next c.rounds.stage c.args.token.now c.args.limit c.requires.limit.0 c.requires.limit.1 (c.rounds.invariant.small small)) (y.3 (z.2.ready ready)) in
-    performs_agrees x.0 d y.0 t c.rounds.stage c.args.token.now c.args.limit c.in-Own.reply _ (c.rounds.invariant.holds x.0 x.1) c.rounds.invariant.token (y.2).moved.grew (c.rounds.invariant.agree entry x.0 y.0 x.1 y.1) said lt x.2
+    let said = said_of y.0 t c.rounds.stage c.args.by.run c.fetch.new.count c.args.by.token.now c.args.by.limit c.in-Own.reply (can_next c.rounds.stage c.args.by.token.now c.args.by.limit c.requires.limit.0 c.requires.limit.1 (c.rounds.invariant.small small)) (y.3 (z.2.ready ready)) in
+    performs_agrees x.0 d y.0 t c.rounds.stage c.args.by.token.now c.args.by.limit c.in-Own.reply _ (c.rounds.invariant.holds x.0 x.1) c.rounds.invariant.token (y.2).moved.grew (c.rounds.invariant.agree entry x.0 y.0 x.1 y.1) said lt x.2
 
 pub returns-in_default-clause-bound : goal.returns-in_default-clause-bound
 returns-in_default-clause-bound g c entry d t stands tells =
@@ -375,17 +375,17 @@ returns-in_default-clause-bound g c entry d t stands tells =
     let w = c.rounds.invariant.copy x.0 x.1 in
     let ready = (entry w.0 z.0 w.1 z.1).1 in
     let small : IsSmall c.args.stage.now = subst (λ s. IsSmall s) (c.requires.holds w.0 w.1) (small_fits (z.0).hub (g.met.L.Link.is_hub c.args.link.now z.0 z.1) (w.0).stage (entry w.0 z.0 w.1 z.1).0.stage) in
-    let said = said_of y.0 t c.rounds.stage c.args.run c.fetch.new.count c.args.token.now c.args.limit c.in-Own.reply (can_next c.rounds.stage c.args.token.now c.args.limit c.requires.limit.0 c.requires.limit.1 (c.rounds.invariant.small small)) (y.3 (z.2.ready ready)) in
+    let said = said_of y.0 t c.rounds.stage c.args.by.run c.fetch.new.count c.args.by.token.now c.args.by.limit c.in-Own.reply (can_next c.rounds.stage c.args.by.token.now c.args.by.limit c.requires.limit.0 c.requires.limit.1 (c.rounds.invariant.small small)) (y.3 (z.2.ready ready)) in
     let st = subst (λ (s : Option StageState). StandingIf s y.0.hub) (c.rounds.invariant.holds x.0 x.1) (standing_if (x.0).stage y.0.hub (c.rounds.invariant.agree entry x.0 y.0 x.1 y.1).stage) in
     let cause = ⊎_elim
-    (λ (b : IsBroken c.take_reply.result). broken_cause c.rounds.stage c.args.limit (g.L.Link.kept c.fetch.new.link) c.args.run c.fetch.new.count (Unit {0}) (Unit {0}) c.take_reply.result (λ e. tt) b)
-    (λ (e : c.take_reply.result ≡ answer_of (judged c.rounds.stage c.args.limit c.in-Own.reply) (kind_at (kinds_of c.rounds.stage)) (staged_of c.rounds.stage)).
-    answer_cause c.rounds.stage c.args.limit c.in-Own.reply (g.L.Link.kept c.fetch.new.link) c.args.run c.fetch.new.count c.take_reply.result (Unit {0}) (Unit {0}) c.in-Own.ensures.own e)
+    (λ (b : IsBroken c.take_reply.result). broken_cause c.rounds.stage c.args.by.limit (g.L.Link.kept c.fetch.new.link) c.args.by.run c.fetch.new.count (Unit {0}) (Unit {0}) c.take_reply.result (λ e. tt) b)
+    (λ (e : c.take_reply.result ≡ answer_of (judged c.rounds.stage c.args.by.limit c.in-Own.reply) (kind_at (kinds_of c.rounds.stage)) (staged_of c.rounds.stage)).
+    answer_cause c.rounds.stage c.args.by.limit c.in-Own.reply (g.L.Link.kept c.fetch.new.link) c.args.by.run c.fetch.new.count c.take_reply.result (Unit {0}) (Unit {0}) c.in-Own.ensures.own e)
     c.take_reply.ensures.answer in (
       c.fetch.new.count,
       omega (arith, c.rounds.invariant.asked.most, c.fetch.ensures.asked.most, c.fetch.ensures.count.0),
-      bound_end c.rounds.count c.fetch.new.count c.args.tries c.args.limit c.args.token.now c.args.stage.now c.rounds.stage (λ v. IsCallPinIf c.take_reply.result d t.sent v) z.0.hub y.0.hub t.hub (c.rounds.invariant.bound entry x.0 y.0 x.1 y.1) (c.fetch.ensures.count).1 (y.2).moved.grew
-          st (z.3 small ready) lt (λ s e. call_pin c.take_reply.result d t.sent c.rounds.stage c.args.token.now c.args.limit _ c.args.run c.fetch.new.count _ _ cause (c.fetch.ensures.last (λ no. own_other c.in-Own.reply (sym c.in-Own.is ∙ no)) t tells) s e (pin_performs _ c.args.token.now _ x.0 d c.rounds.stage (c.rounds.invariant.holds x.0 x.1) x.2 s e)),
+      bound_end c.rounds.count c.fetch.new.count c.args.by.tries c.args.by.limit c.args.by.token.now c.args.stage.now c.rounds.stage (λ v. IsCallPinIf c.take_reply.result d t.sent v) z.0.hub y.0.hub t.hub (c.rounds.invariant.bound entry x.0 y.0 x.1 y.1) (c.fetch.ensures.count).1 (y.2).moved.grew
+          st (z.3 small ready) lt (λ s e. call_pin c.take_reply.result d t.sent c.rounds.stage c.args.by.token.now c.args.by.limit _ c.args.by.run c.fetch.new.count _ _ cause (c.fetch.ensures.last (λ no. own_other c.in-Own.reply (sym c.in-Own.is ∙ no)) t tells) s e (pin_performs _ c.args.by.token.now _ x.0 d c.rounds.stage (c.rounds.invariant.holds x.0 x.1) x.2 s e)),
     )
 
 pub returns-in_default-clause-complete : goal.returns-in_default-clause-complete
@@ -397,7 +397,7 @@ returns-in_default-clause-complete g c entry link copy d t stands tells =
     let w = c.rounds.invariant.copy x.0 x.1 in
     let ready = (entry w.0 z.0 w.1 z.1).1 in
     let small : IsSmall c.args.stage.now = subst (λ s. IsSmall s) (c.requires.holds w.0 w.1) (small_fits (z.0).hub (g.met.L.Link.is_hub c.args.link.now z.0 z.1) (w.0).stage (entry w.0 z.0 w.1 z.1).0.stage) in
-    let said = said_of y.0 t c.rounds.stage c.args.run c.fetch.new.count c.args.token.now c.args.limit c.in-Own.reply (can_next c.rounds.stage c.args.token.now c.args.limit c.requires.limit.0 c.requires.limit.1 (c.rounds.invariant.small small)) (y.3 (z.2.ready ready)) in
+    let said = said_of y.0 t c.rounds.stage c.args.by.run c.fetch.new.count c.args.by.token.now c.args.by.limit c.in-Own.reply (can_next c.rounds.stage c.args.by.token.now c.args.by.limit c.requires.limit.0 c.requires.limit.1 (c.rounds.invariant.small small)) (y.3 (z.2.ready ready)) in
     let counts = (z.2).moved.counts in (
       z.0,
       z.1,
@@ -405,9 +405,9 @@ returns-in_default-clause-complete g c entry link copy d t stands tells =
           (λ (b : IsBroken c.take_reply.result). ⊎_elim
           (λ (e : c.take_reply.result ≡ Some answer.KeeperFault). absurd (copy (let r = c.take_reply.ensures.cause e in omega (arith, r, c.rounds.invariant.later))))
           (λ (e : c.take_reply.result ≡ Some answer.NoMemory). subst (λ (r : Option SyncAnswer). IsDoneIf r) (sym e) tt) b)
-          (λ (e : c.take_reply.result ≡ answer_of (judged c.rounds.stage c.args.limit c.in-Own.reply) (kind_at (kinds_of c.rounds.stage)) (staged_of c.rounds.stage)).
+          (λ (e : c.take_reply.result ≡ answer_of (judged c.rounds.stage c.args.by.limit c.in-Own.reply) (kind_at (kinds_of c.rounds.stage)) (staged_of c.rounds.stage)).
           subst (λ (r : Option SyncAnswer). IsDoneIf r) (sym e)
-          (own_done x.0 c.rounds.stage c.args.stage.now y.0 t z.0.hub c.args.token.now c.args.limit c.in-Own.reply _ _ (c.rounds.invariant.holds x.0 x.1) c.rounds.invariant.token (c.rounds.invariant.agree entry x.0 y.0 x.1 y.1).stage lt said
+          (own_done x.0 c.rounds.stage c.args.stage.now y.0 t z.0.hub c.args.by.token.now c.args.by.limit c.in-Own.reply _ _ (c.rounds.invariant.holds x.0 x.1) c.rounds.invariant.token (c.rounds.invariant.agree entry x.0 y.0 x.1 y.1).stage lt said
           (z.2).moved.grew (g.met.L.Link.is_hub c.rounds.link y.0 y.1) (g.met.L.Link.is_hub c.fetch.new.link t tells) (z.3 small ready) (λ rose. hub (omega (arith, rose, counts))) at))
           c.take_reply.ensures.answer,
     )
@@ -421,14 +421,14 @@ returns-in_default-clause-told g c entry d t stands tells =
     let w = c.rounds.invariant.copy x.0 x.1 in
     let ready = (entry w.0 z.0 w.1 z.1).1 in
     let small : IsSmall c.args.stage.now = subst (λ s. IsSmall s) (c.requires.holds w.0 w.1) (small_fits (z.0).hub (g.met.L.Link.is_hub c.args.link.now z.0 z.1) (w.0).stage (entry w.0 z.0 w.1 z.1).0.stage) in
-    let said = said_of y.0 t c.rounds.stage c.args.run c.fetch.new.count c.args.token.now c.args.limit c.in-Own.reply (can_next c.rounds.stage c.args.token.now c.args.limit c.requires.limit.0 c.requires.limit.1 (c.rounds.invariant.small small)) (y.3 (z.2.ready ready)) in (
+    let said = said_of y.0 t c.rounds.stage c.args.by.run c.fetch.new.count c.args.by.token.now c.args.by.limit c.in-Own.reply (can_next c.rounds.stage c.args.by.token.now c.args.by.limit c.requires.limit.0 c.requires.limit.1 (c.rounds.invariant.small small)) (y.3 (z.2.ready ready)) in (
       z.0,
       z.1,
       ⊎_elim
-          (λ (b : IsBroken c.take_reply.result). broken_told c.args.token.now z.0 t c.take_reply.result b)
-          (λ (e : c.take_reply.result ≡ answer_of (judged c.rounds.stage c.args.limit c.in-Own.reply) (kind_at (kinds_of c.rounds.stage)) (staged_of c.rounds.stage)).
-          subst (λ (r : Option SyncAnswer). ToldIf c.args.token.now z.0 t r) (sym e)
-          (own_told x.0 c.rounds.stage z.0 y.0 t c.args.token.now c.args.limit c.in-Own.reply _ _ (z.2).moved (c.rounds.invariant.holds x.0 x.1) c.rounds.invariant.token (c.rounds.invariant.agree entry x.0 y.0 x.1 y.1).stage lt said))
+          (λ (b : IsBroken c.take_reply.result). broken_told c.args.by.token.now z.0 t c.take_reply.result b)
+          (λ (e : c.take_reply.result ≡ answer_of (judged c.rounds.stage c.args.by.limit c.in-Own.reply) (kind_at (kinds_of c.rounds.stage)) (staged_of c.rounds.stage)).
+          subst (λ (r : Option SyncAnswer). ToldIf c.args.by.token.now z.0 t r) (sym e)
+          (own_told x.0 c.rounds.stage z.0 y.0 t c.args.by.token.now c.args.by.limit c.in-Own.reply _ _ (z.2).moved (c.rounds.invariant.holds x.0 x.1) c.rounds.invariant.token (c.rounds.invariant.agree entry x.0 y.0 x.1 y.1).stage lt said))
           c.take_reply.ensures.answer,
     )
 
@@ -439,13 +439,13 @@ returns-in_default-clause-cause g c =
       c.fetch.new.count,
       record { least = omega (arith, c.rounds.invariant.asked.least, c.fetch.ensures.asked.least, c.fetch.ensures.count.0); most = omega (arith, c.rounds.invariant.asked.most, c.fetch.ensures.asked.most, c.fetch.ensures.count.0) },
       ⊎_elim
-          (λ (b : IsBroken c.take_reply.result). broken_cause c.rounds.stage c.args.limit _ _ _ _ _ c.take_reply.result (λ e. let r = c.take_reply.ensures.cause e in omega (arith, r, c.rounds.invariant.later)) b)
-          (λ (e : c.take_reply.result ≡ answer_of (judged c.rounds.stage c.args.limit c.in-Own.reply) (kind_at (kinds_of c.rounds.stage)) (staged_of c.rounds.stage)).
-          answer_cause c.rounds.stage c.args.limit c.in-Own.reply _ _ _ c.take_reply.result _ _ own e)
+          (λ (b : IsBroken c.take_reply.result). broken_cause c.rounds.stage c.args.by.limit _ _ _ _ _ c.take_reply.result (λ e. let r = c.take_reply.ensures.cause e in omega (arith, r, c.rounds.invariant.later)) b)
+          (λ (e : c.take_reply.result ≡ answer_of (judged c.rounds.stage c.args.by.limit c.in-Own.reply) (kind_at (kinds_of c.rounds.stage)) (staged_of c.rounds.stage)).
+          answer_cause c.rounds.stage c.args.by.limit c.in-Own.reply _ _ _ c.take_reply.result _ _ own e)
           c.take_reply.ensures.answer,
-      λ w other. exact_own c.rounds.stage c.args.limit _ _ _ c.in-Own.reply w (kind_at (kinds_of c.rounds.stage)) (staged_of c.rounds.stage) c.take_reply.result own other c.take_reply.ensures.answer,
+      λ w other. exact_own c.rounds.stage c.args.by.limit _ _ _ c.in-Own.reply w (kind_at (kinds_of c.rounds.stage)) (staged_of c.rounds.stage) c.take_reply.result own other c.take_reply.ensures.answer,
       λ some ne t tells. c.fetch.ensures.last (λ e. own_other c.in-Own.reply (sym c.in-Own.is ∙ e)) t tells,
-      λ on. (own.from, λ d stands. let x = c.take_reply.ensures.told d stands in ap stage_of (performs_on (judged c.rounds.stage c.args.limit c.in-Own.reply) c.args.token.now c.take_reply.result x.0 d x.2 on) ∙ c.rounds.invariant.holds x.0 x.1),
+      λ on. (own.from, λ d stands. let x = c.take_reply.ensures.told d stands in ap stage_of (performs_on (judged c.rounds.stage c.args.by.limit c.in-Own.reply) c.args.by.token.now c.take_reply.result x.0 d x.2 on) ∙ c.rounds.invariant.holds x.0 x.1),
     )
 
 pub returns-in_default-clause-asks : goal.returns-in_default-clause-asks
@@ -455,7 +455,7 @@ returns-in_default-clause-asks g c = (
   λ after tells.
       let y = c.fetch.ensures.asks after tells in
       let z = c.rounds.invariant.sends y.0 y.1 in
-      (z.0, z.1, sends_page c.args.token.now c.args.limit c.args.run 0 c.rounds.count c.fetch.new.count c.rounds.stage _ _ _ _ _ (λ e. absurd (own_other c.in-Own.reply (sym c.in-Own.is ∙ e))) z.2 y.2, tried_own c.rounds.stage c.take_reply.result (judged c.rounds.stage c.args.limit c.in-Own.reply) c.args.token.now c.args.limit c.args.run c.fetch.new.count c.args.tries _ c.take_reply.ensures.answer),
+      (z.0, z.1, sends_page c.args.by.token.now c.args.by.limit c.args.by.run 0 c.rounds.count c.fetch.new.count c.rounds.stage _ _ _ _ _ (λ e. absurd (own_other c.in-Own.reply (sym c.in-Own.is ∙ e))) z.2 y.2, tried_own c.rounds.stage c.take_reply.result (judged c.rounds.stage c.args.by.limit c.in-Own.reply) c.args.by.token.now c.args.by.limit c.args.by.run c.fetch.new.count c.args.by.tries _ c.take_reply.ensures.answer),
 )
 
 pub returns-clause-asks : goal.returns-clause-asks
@@ -464,7 +464,7 @@ returns-clause-asks g c = (
   c.rounds.invariant.asked,
   λ after tells.
       let z = c.rounds.invariant.sends after tells in
-      (z.0, z.1, sends_weaker (IsPageUnder c.args.token.now c.args.limit) (IsPageUnder c.args.token.now c.args.limit) c.args.run 0 c.rounds.count ⊥ _ _ _ (λ n q h. h) (λ h. absurd h) z.2, tt),
+      (z.0, z.1, sends_weaker (IsPageUnder c.args.by.token.now c.args.by.limit) (IsPageUnder c.args.by.token.now c.args.by.limit) c.args.by.run 0 c.rounds.count ⊥ _ _ _ (λ n q h. h) (λ h. absurd h) z.2, tt),
 )
 
 pub returns-clause-holds : goal.returns-clause-holds
@@ -489,7 +489,7 @@ returns-clause-bound g c entry d t stands tells =
     let small : IsSmall c.args.stage.now = subst (λ s. IsSmall s) (c.requires.holds w.0 w.1) (small_fits (z.0).hub (g.met.L.Link.is_hub c.args.link.now z.0 z.1) (w.0).stage (entry w.0 z.0 w.1 z.1).0.stage) in (
       c.rounds.count,
       c.rounds.invariant.asked.most,
-      bound_done c.rounds.count c.args.tries c.args.limit c.args.token.now c.args.stage.now c.rounds.stage (λ v. HasPin v d.stage) z.0.hub t.hub (c.rounds.invariant.bound entry d t stands tells) (z.3 small ready) (pin_same d.stage c.rounds.stage (c.rounds.invariant.holds d stands)),
+      bound_done c.rounds.count c.args.by.tries c.args.by.limit c.args.by.token.now c.args.stage.now c.rounds.stage (λ v. HasPin v d.stage) z.0.hub t.hub (c.rounds.invariant.bound entry d t stands tells) (z.3 small ready) (pin_same d.stage c.rounds.stage (c.rounds.invariant.holds d stands)),
     )
 
 pub returns-clause-complete : goal.returns-clause-complete
@@ -527,11 +527,11 @@ returns-clause-ends g c = tt
 
 pub returns-in_default-clause-ends : goal.returns-in_default-clause-ends
 returns-in_default-clause-ends g c =
-    cause_end c.rounds.stage c.args.limit (g.L.Link.kept c.fetch.new.link) c.args.run c.fetch.new.count (Unit {0}) (Unit {0}) c.take_reply.result
+    cause_end c.rounds.stage c.args.by.limit (g.L.Link.kept c.fetch.new.link) c.args.by.run c.fetch.new.count (Unit {0}) (Unit {0}) c.take_reply.result
     (⊎_elim
-    (λ (b : IsBroken c.take_reply.result). broken_cause c.rounds.stage c.args.limit (g.L.Link.kept c.fetch.new.link) c.args.run c.fetch.new.count (Unit {0}) (Unit {0}) c.take_reply.result (λ e. tt) b)
-    (λ (e : c.take_reply.result ≡ answer_of (judged c.rounds.stage c.args.limit c.in-Own.reply) (kind_at (kinds_of c.rounds.stage)) (staged_of c.rounds.stage)).
-    answer_cause c.rounds.stage c.args.limit c.in-Own.reply (g.L.Link.kept c.fetch.new.link) c.args.run c.fetch.new.count c.take_reply.result (Unit {0}) (Unit {0}) c.in-Own.ensures.own e)
+    (λ (b : IsBroken c.take_reply.result). broken_cause c.rounds.stage c.args.by.limit (g.L.Link.kept c.fetch.new.link) c.args.by.run c.fetch.new.count (Unit {0}) (Unit {0}) c.take_reply.result (λ e. tt) b)
+    (λ (e : c.take_reply.result ≡ answer_of (judged c.rounds.stage c.args.by.limit c.in-Own.reply) (kind_at (kinds_of c.rounds.stage)) (staged_of c.rounds.stage)).
+    answer_cause c.rounds.stage c.args.by.limit c.in-Own.reply (g.L.Link.kept c.fetch.new.link) c.args.by.run c.fetch.new.count c.take_reply.result (Unit {0}) (Unit {0}) c.in-Own.ensures.own e)
     c.take_reply.ensures.answer)
 
 pub returns-in-NoReply-clause-link_leads : goal.returns-in-NoReply-clause-link_leads

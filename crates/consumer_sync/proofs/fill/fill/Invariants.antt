@@ -21,24 +21,24 @@ invariant-rounds g l =
     let T = g.L.Link.tells in
     record {
       holds : (c : Copy) → S l.copy c → stage_of c ≡ l.stage;
-      token : HasToken l.token l.stage;
+      token : HasToken l.by.token.now l.stage;
       few : kinds_of l.stage ≤ kind_count;
       small : IsSmall l.fn.stage → IsSmall l.stage;
       room : l.count + 100 * weight l.stage ≤ 2000000000;
-      copy : (after : Copy) → S l.copy after → (before : Copy) × S l.fn.copy before × Fills l.token before after;
-      link : (after : Told) → T l.link after → (before : Told) × T l.fn.link before × Asks l.run 0 l.count IsUnmarked before after × (IsSmall l.fn.stage → IsReady l.run 0 before.sent → PinLaw l.fn.stage before.hub l.stage);
-      agree : ((c : Copy) (t : Told) → S l.fn.copy c → T l.fn.link t → CopyFits c t.hub × IsReady l.run 0 t.sent)
+      copy : (after : Copy) → S l.copy after → (before : Copy) × S l.fn.copy before × Fills l.by.token.now before after;
+      link : (after : Told) → T l.link after → (before : Told) × T l.fn.link before × Asks l.by.run 0 l.count IsUnmarked before after × (IsSmall l.fn.stage → IsReady l.by.run 0 before.sent → PinLaw l.fn.stage before.hub l.stage);
+      agree : ((c : Copy) (t : Told) → S l.fn.copy c → T l.fn.link t → CopyFits c t.hub × IsReady l.by.run 0 t.sent)
           → (c : Copy) (t : Told) → S l.copy c → T l.link t → CopyFits c t.hub;
       asked : IsMore (g.L.Link.asked l.fn.link) l.count (g.L.Link.asked l.link);
-      bound : ((c : Copy) (t : Told) → S l.fn.copy c → T l.fn.link t → CopyFits c t.hub × IsReady l.run 0 t.sent)
-          → (c : Copy) (t : Told) → S l.copy c → T l.link t → BoundSoFar l.count l.tries l.limit l.token l.fn.stage l.stage t.hub;
+      bound : ((c : Copy) (t : Told) → S l.fn.copy c → T l.fn.link t → CopyFits c t.hub × IsReady l.by.run 0 t.sent)
+          → (c : Copy) (t : Told) → S l.copy c → T l.link t → BoundSoFar l.count l.by.tries l.by.limit l.by.token.now l.fn.stage l.stage t.hub;
       heard : g.L.Link.fault_count l.fn.link ≤ g.L.Link.fault_count l.link;
       later : g.C.CopyKeeper.fault_count l.fn.copy ≤ g.C.CopyKeeper.fault_count l.copy;
       copy_leads : g.C.CopyKeeper.leads l.fn.copy l.copy;
       link_leads : g.L.Link.leads l.fn.link l.link;
-      page : (w : WireReply) → IsOwnReply (g.L.Link.kept l.link) l.run l.count w → IsPageStatus w.status;
-      sends : (after : Told) → T l.link after → (before : Told) × T l.fn.link before × SendsOn (IsPageUnder l.token l.limit) l.run 0 l.count ⊥ before.sent after.sent;
-      last : (asked : Option StageState) × (1 ≤ l.count → (t : Told) → T l.link t → IsLast (request_of asked l.run l.count l.token l.limit) t.sent);
+      page : (w : WireReply) → IsOwnReply (g.L.Link.kept l.link) l.by.run l.count w → IsPageStatus w.status;
+      sends : (after : Told) → T l.link after → (before : Told) × T l.fn.link before × SendsOn (IsPageUnder l.by.token.now l.by.limit) l.by.run 0 l.count ⊥ before.sent after.sent;
+      last : (asked : Option StageState) × (1 ≤ l.count → (t : Told) → T l.link t → IsLast (request_of asked l.by.run l.count l.by.token.now l.by.limit) t.sent);
     }
 
 abbrev pub decreases-rounds : goal.decreases-rounds
