@@ -1,5 +1,5 @@
 -- A copy in which a kind is staged fits the state of the hub.
-use Rattle.std.proofs.Common.{◌≡◌, ◌≢◌, ◌+◌, ◌-◌, ◌<◌, ◌≤◌, ◌⊎◌, inr, ℕ, Bool, true, false, List, [], ◌++◌, length, drop, Option, Some, None, refl, sym, ◌∙◌, ap, subst, arith, length-append, append_assoc}
+use Rattle.std.proofs.Common.{◌≡◌, ◌≢◌, ◌-◌, ◌<◌, ◌≤◌, ◌⊎◌, inr, ℕ, Bool, true, false, List, [], ◌++◌, length, drop, Option, Some, None, refl, sym, ◌∙◌, ap, subst, arith, length-append, append_assoc}
 use Rattle.std.specs.Prelude.{◌==◌, IfSome, IsSomeAnd, get_or, option_map, unwrap_or}
 use Rattle.std.specs.Option.{option_map_or}
 use Rattle.std.proofs.Math.Seq.{drop-append_seam}
@@ -15,7 +15,7 @@ use Rattle.exchange_link.specs.Agreement.{AreSeen, CopyFits, HeldFitsIf, IsFront
 use Rattle.exchange_link.specs.Places.{kind_at, kinds_of, pin_of, staged_of}
 use Rattle.exchange_link.specs.Sayings.{knows, list_of}
 use Rattle.exchange_link.specs.declared.answer.SyncAnswer.{SyncAnswer}
-use Rattle.hub_spec.proofs.CutDeltas.{cut_to_cut, list_ascends, list_is_of}
+use Rattle.hub_spec.proofs.CutDeltas.{cut_to_cut}
 use Rattle.hub_spec.proofs.Versions.{version_is}
 use Rattle.hub_spec.specs.rules.Checks.{version_at}
 use Rattle.hub_spec.specs.rules.States.{IsHub}
@@ -31,15 +31,13 @@ use Rattle.consumer_sync.proofs.KindLemmas.{place_at}
 use Rattle.consumer_sync.specs.Filling.{HasToken}
 use Rattle.consumer_sync.specs.Staging.{Adds, IsBroken, Taking, open_copy, taken}
 use Rattle.consumer_sync.specs.Staging.Adds.{Opened, Stays, Takes}
-use Rattle.consumer_deltas.proofs.DeltaFitLemmas.{fits_delta}
 use Rattle.consumer_deltas.proofs.DeltaFollowLemmas.{following_all, following_rest}
 use Rattle.consumer_deltas.specs.DeltaAnswers.{HasBase}
 use Rattle.consumer_deltas.specs.DeltaFilling.{StagesKind, first_place, no_page}
-use Rattle.consumer_deltas.specs.DeltaFits.{fits}
 use Rattle.consumer_deltas.specs.DeltaGathering.{IsDelta, IsShutAt}
 use Rattle.consumer_deltas.specs.DeltaJudging.{Sofar}
 use Rattle.consumer_deltas.specs.DeltaMerging.{Merges, StagesList, merged_with, rest_of}
-use Rattle.consumer_deltas.specs.DeltaMerging.Merges.{Fails, Merged, Unfit}
+use Rattle.consumer_deltas.specs.DeltaMerging.Merges.{Fails, Merged}
 use Rattle.consumer_deltas.specs.DeltaMerging.StagesList.{Staged, TooMany}
 use Rattle.consumer_deltas.specs.DeltaStaging.{Stages, following, part_of}
 use Rattle.consumer_deltas.specs.DeltaStaging.Stages.{Opens, Part, Stays as StaysAll, Whole}
@@ -75,9 +73,18 @@ staged_some (Some s) h token et x lt fresh = λ none.
     let some : length s.present ≢ 0 = grind (arith, nat_tests, fresh) in
     some (omega (arith, ap length (x.fits.present).1, length-append s.present (x.fits.present).0, ap length (sym (list_at s h token et lt) ∙ none)))
 
-pub may_ask : (c : Copy) (stage : Option StageState) (h : HubState) (token : List ℕ) (base limit : ℕ) → stage_of c ≡ stage → HasToken token stage → kinds_of stage < kind_count → CopyFits c h → HasBase base token c → MayAsk h token (first_place stage base limit)
-may_ask c stage h token base limit e et lt x has = subst (λ s. MayAsk h token (first_place s base limit)) e (record {
+-- what is held of a kind is the list of the base
+held_is : (o : Option Held) (stage : Option Stage) (h : HubState) (base : ℕ) (token : List ℕ) (kind : Kind) → HeldFitsIf o stage h → IsBase base token o → option_map_or (λ (held : Held). get_or held.lists (place_of_kind kind) []) o [] ≡ list_in (version_at h base) token kind
+held_is None stage h base token kind x has = absurd has
+held_is (Some held) stage h base token kind x has =
+    let seen : AreSeen held.lists (version_at h held.version) token = subst (λ (t : Option (List ℕ)). IfSome t (AreSeen held.lists (version_at h held.version))) has.1 x.seen in
+    ap (λ (ls : List (List Record)). get_or ls (place_of_kind kind) []) seen.same ∙ ap (λ n. list_in (version_at h n) token kind) has.0
+
+pub may_ask : (c : Copy) (stage : Option StageState) (h : HubState) (token : List ℕ) (base limit : ℕ) (held : List Record) → stage_of c ≡ stage → HasToken token stage → kinds_of stage < kind_count → CopyFits c h → HasBase base token c
+    → held ≡ held_list c (kind_at (kinds_of stage)) → MayAsk h token (first_place stage base limit) held
+may_ask c stage h token base limit held e et lt x has shown = subst (λ s. MayAsk h token (first_place s base limit) held) e (record {
   based = base_stands c.held c.stage h base token x.held has;
+  shown = shown ∙ ap (λ s. held_list c (kind_at (kinds_of s))) (sym e) ∙ held_is c.held c.stage h base token (kind_at (kinds_of (stage_of c))) x.held has;
   pinned = pin_stands c.held c.stage h base token x.stage x.held has;
   staged = staged_some c.stage h token (subst (λ s. HasToken token s) (sym e) et) x.stage (subst (λ s. kinds_of s < kind_count) (sym e) lt);
 })
@@ -194,16 +201,6 @@ module _ (c : Copy) (h : HubState) (token : List ℕ) (base pin : ℕ) (x : Copy
 
 -- ---- what is gathered of a kind
 
--- what is held of a kind is the list of the base
-held_is : (o : Option Held) (stage : Option Stage) (h : HubState) (base : ℕ) (token : List ℕ) (kind : Kind) → HeldFitsIf o stage h → IsBase base token o → option_map_or (λ (held : Held). get_or held.lists (place_of_kind kind) []) o [] ≡ list_in (version_at h base) token kind
-held_is None stage h base token kind x has = absurd has
-held_is (Some held) stage h base token kind x has =
-    let seen : AreSeen held.lists (version_at h held.version) token = subst (λ (t : Option (List ℕ)). IfSome t (AreSeen held.lists (version_at h held.version))) has.1 x.seen in
-    ap (λ (ls : List (List Record)). get_or ls (place_of_kind kind) []) seen.same ∙ ap (λ n. list_in (version_at h n) token kind) has.0
-
-true_false : {b : Bool} → b ≡ true → b ≡ false → ⊥
-true_false e f = cc
-
 module _ (c after : Copy) (stage : Option StageState) (a h : HubState) (hub : IsHub h) (token : List ℕ) (base limit : ℕ) (e : stage_of c ≡ stage) (et : HasToken token stage) (lt : kinds_of stage < kind_count) (x : CopyFits c h) (has : HasBase base token c) where
   abbrev kind : Kind
   kind = kind_at (kinds_of stage)
@@ -246,11 +243,6 @@ module _ (c after : Copy) (stage : Option StageState) (a h : HubState) (hub : Is
     whole : merged_with kind entries c ≡ list_in (version_at h pin) token kind
     whole = (λ i. merged (old i) (is.puts i) (is.gone i)) ∙ cut_to_cut (version_at h base) (version_at h pin) was now token kind
 
-    fitting : fits kind (held_list c kind) entries.puts entries.gone ≡ true
-    fitting = (λ i. fits kind (old i) (is.puts i) (is.gone i))
-        ∙ fits_delta kind (list_in (version_at h base) token kind) (list_in (version_at h pin) token kind) (list_is_of (version_at h base) token kind) (list_is_of (version_at h pin) token kind)
-        (list_ascends (version_at h base) was token kind) (list_ascends (version_at h pin) now token kind)
-
     next : merged_with kind entries c ≡ list_of (version_at h pin) token (kinds_of (option_map state_of c.stage))
     next = whole ∙ ap (list_of (version_at h pin) token) place_is
 
@@ -271,8 +263,7 @@ module _ (c after : Copy) (stage : Option StageState) (a h : HubState) (hub : Is
 
     -- a kind whose entries are those that a hub tells
     pub merges_fits : Merges kind entries stage pin token r c after → CopyFits after h × ((r ≡ None) ⊎ IsBroken r)
-    merges_fits (Merged f s) = list_staged s
-    merges_fits (Unfit unlike is' e') = absurd (true_false fitting unlike)
+    merges_fits (Merged s) = list_staged s
     merges_fits (Fails b e') = (subst (λ d. CopyFits d h) (sym e') x, inr b)
 
   -- the pin isn't older than the base

@@ -31,7 +31,7 @@ use Rattle.consumer_deltas.specs.DeltaGathering.{ending_of}
 use Rattle.consumer_deltas.specs.DeltaGathering.Stops.{Given, NoReply, NoneCame, Wants}
 use Rattle.consumer_deltas.specs.DeltaJudging.{Sofar, count_in, delta_judged}
 use Rattle.consumer_deltas.specs.DeltaMerging.{Unmerged}
-use Rattle.consumer_deltas.specs.DeltaMerging.Unmerged.{Broke as Broken, TooMany as OverLimit, Unfit as Misfit, Wants as Wanting}
+use Rattle.consumer_deltas.specs.DeltaMerging.Unmerged.{Broke as Broken, TooMany as OverLimit, Wants as Wanting}
 use Rattle.consumer_deltas.specs.declared.answer.DeltaAnswer.{DeltaAnswer}
 use Rattle.consumer_deltas.specs.declared.answer.DeltaAnswer.TheVariants.{BaseGone, Ended, NoBase}
 use Rattle.consumer_deltas.specs.declared.judging.DeltaAct.{DeltaAct}
@@ -58,15 +58,14 @@ given_needs missed broke x here n = tt
 unmerged_needs : (missed broke : Type 0) (copies : Copy → Type 0) (kind : Kind) (entries : Sofar) (s : SyncAnswer) → Unmerged broke copies kind entries s → Needs missed broke (Ended s)
 unmerged_needs missed broke copies kind entries s (Broken b e) = subst (λ s. Needs missed broke (Ended s)) (sym e) b
 unmerged_needs missed broke copies kind entries s (Wanting e) = subst (λ s. Needs missed broke (Ended s)) (sym e) tt
-unmerged_needs missed broke copies kind entries s (Misfit unlike e) = subst (λ s. Needs missed broke (Ended s)) (sym e) tt
 unmerged_needs missed broke copies kind entries s (OverLimit n many is e) = subst (λ s. Needs missed broke (Ended s)) (sym e) tt
 
 halts_needs : (kept : List ℕ) (run count : ℕ) (missed broke : Type 0) (copies : Copy → Type 0) (place : Place) (a : DeltaAnswer) → Halts kept run count missed broke copies place a → Needs missed broke a
-halts_needs kept run count missed broke copies place a (Stopped (Given g)) = subst (Needs missed broke) (sym g.given) (given_needs missed broke (delta_judged g.here g.sofar g.reply) g.here (count_in g.sofar))
-halts_needs kept run count missed broke copies place a (Stopped (NoneCame offset m unlike e)) = subst (Needs missed broke) (sym e) m
-halts_needs kept run count missed broke copies place a (Stopped (NoReply offset unlike e)) = subst (Needs missed broke) (sym e) tt
-halts_needs kept run count missed broke copies place a (Stopped (Wants e)) = subst (Needs missed broke) (sym e) tt
-halts_needs kept run count missed broke copies place a (Merging entries are s u e) = subst (Needs missed broke) (sym e) (unmerged_needs missed broke copies place.kind entries s u)
+halts_needs kept run count missed broke copies place a (Stopped held shown (Given g)) = subst (Needs missed broke) (sym g.given) (given_needs missed broke (delta_judged g.here g.sofar g.reply) g.here (count_in g.sofar))
+halts_needs kept run count missed broke copies place a (Stopped held shown (NoneCame offset m unlike e)) = subst (Needs missed broke) (sym e) m
+halts_needs kept run count missed broke copies place a (Stopped held shown (NoReply offset unlike e)) = subst (Needs missed broke) (sym e) tt
+halts_needs kept run count missed broke copies place a (Stopped held shown (Wants e)) = subst (Needs missed broke) (sym e) tt
+halts_needs kept run count missed broke copies place a (Merging entries are shown s u e) = subst (Needs missed broke) (sym e) (unmerged_needs missed broke copies place.kind entries s u)
 halts_needs kept run count missed broke copies place a (Broke b e) = subst (Needs missed broke) (sym e) b
 halts_needs kept run count missed broke copies place a (WantsBeside e) = subst (Needs missed broke) (sym e) tt
 

@@ -1,9 +1,13 @@
 -- What the kinds make of a copy, over any link.
-use Rattle.std.proofs.Common.{◌≡◌, ◌⊎◌, ⊎_elim, inl, inr, ℕ, ◌++◌, List, Option, Some, None, refl, sym, subst, ap, ◌∙◌, append_assoc}
+use Rattle.std.proofs.Common.{◌≡◌, ◌⊎◌, ⊎_elim, inl, inr, arith, min, ℕ, ◌+◌, ◌-◌, ◌^◌, ◌++◌, List, Option, Some, None, refl, sym, subst, ap, ◌∙◌, append_assoc}
 use Rattle.std.specs.Prelude.{IfSome}
 use Rattle.keeper_memory.specs.copy.Changes.{copy_after}
-use Rattle.keeper_memory.specs.copy.Copies.{Copy, Stage}
+use Rattle.keeper_memory.specs.copy.Copies.{Copy, Stage, held_list}
 use Rattle.keeper_memory.specs.declared.copy.change.CopyChange.TheVariants.{Drop}
+use Rattle.http_wire.specs.declared.answer.WireReply.{WireReply}
+use Rattle.roster_base.specs.Faults.{CountsError, Rose}
+use Rattle.roster_base.specs.declared.keeper.KeeperError.{KeeperError}
+use Rattle.roster_base.specs.declared.keeper.KeeperError.TheVariants as fault
 use Rattle.exchange_link.specs.Agreement.{IsFrontOf}
 use Rattle.exchange_link.specs.Synchronised.{Grows, StageOn, staged_list}
 use Rattle.exchange_link.specs.declared.answer.SyncAnswer.{SyncAnswer}
@@ -11,15 +15,17 @@ use Rattle.exchange_link.specs.declared.answer.SyncAnswer.TheVariants as answer
 use Rattle.consumer_sync.proofs.FillLemmas.{fills_end, fills_open, fills_taken, grows_refl}
 use Rattle.consumer_sync.specs.Faulted.{SaysGone}
 use Rattle.consumer_sync.specs.Filling.{Ends, Fills, StageEnds}
-use Rattle.consumer_sync.specs.Staging.{Adds, IsBroken, IsNotGone, Taking}
+use Rattle.consumer_sync.specs.Staging.{Adds, IsBroken, IsNotGone, Taking, broken_answer}
 use Rattle.consumer_sync.specs.Staging.Adds.{Opened, Stays as StaysAdded, Takes}
-use Rattle.consumer_deltas.specs.DeltaFilling.{CanStage, DeltaEnds, Halts, IsPinGone, LetsGo, StagesKind, Unstaged, no_page}
+use Rattle.consumer_deltas.specs.DeltaCalls.{IsDeltaAside}
+use Rattle.consumer_deltas.specs.DeltaCauses.{RepliesIf}
+use Rattle.consumer_deltas.specs.DeltaFilling.{CanStage, DeltaEnds, Halts, IsPinGone, LetsGo, StagesKind, StandsOn, Unstaged, no_page}
 use Rattle.consumer_deltas.specs.DeltaFilling.Halts.{Broke, Merging, Wants}
 use Rattle.consumer_deltas.specs.DeltaFilling.LetsGo.{Fails as FailsToGo, Goes, Stays, Wants as WantsToGo}
 use Rattle.consumer_deltas.specs.DeltaMerging.{Merges, StagesList, Unmerged, rest_of}
-use Rattle.consumer_deltas.specs.DeltaMerging.Merges.{Fails, Merged, Unfit}
+use Rattle.consumer_deltas.specs.DeltaMerging.Merges.{Fails, Merged}
 use Rattle.consumer_deltas.specs.DeltaMerging.StagesList.{Staged, TooMany}
-use Rattle.consumer_deltas.specs.DeltaMerging.Unmerged.{Broke as Broken, TooMany as OverLimit, Unfit as Misfit, Wants as Wanting}
+use Rattle.consumer_deltas.specs.DeltaMerging.Unmerged.{Broke as Broken, TooMany as OverLimit, Wants as Wanting}
 use Rattle.consumer_deltas.specs.DeltaGathering.{IsGathered}
 use Rattle.consumer_deltas.specs.DeltaJudging.{Sofar}
 use Rattle.consumer_deltas.specs.DeltaStaging.{Stages, part_of}
@@ -29,6 +35,7 @@ use Rattle.consumer_deltas.specs.declared.answer.DeltaAnswer.TheVariants.{BaseGo
 use Rattle.consumer_deltas.specs.declared.gather.Delta.{Delta}
 use Rattle.consumer_deltas.specs.declared.gather.Delta.TheVariants as delta
 use Rattle.consumer_deltas.specs.declared.judging.Place.{Place}
+use Rattle.consumer_deltas.proofs.DeltaMergeLemmas.{merges_held, same_list}
 use Rattle.consumer_deltas.proofs.DeltaStopLemmas.{IsDeltaEnd}
 use Rattle.keeper_memory.specs.declared.copy.state.StageState.{StageState}
 use Rattle.roster_types.specs.Records.{Record}
@@ -48,8 +55,7 @@ list_fills kind stage pin token rows result first before after f (Staged few s) 
 list_fills kind stage pin token rows result first before after f (TooMany many is e) = subst (λ d. Fills token first d) (sym e) f
 
 merges_fills : (kind : Kind) (entries : Sofar) (stage : Option StageState) (pin : ℕ) (token : List ℕ) (result : Option SyncAnswer) (first before after : Copy) → Fills token first before → Merges kind entries stage pin token result before after → Fills token first after
-merges_fills kind entries stage pin token result first before after f (Merged fits s) = list_fills kind stage pin token _ result first before after f s
-merges_fills kind entries stage pin token result first before after f (Unfit unlike is e) = subst (λ d. Fills token first d) (sym e) f
+merges_fills kind entries stage pin token result first before after f (Merged s) = list_fills kind stage pin token _ result first before after f s
 merges_fills kind entries stage pin token result first before after f (Fails b e) = subst (λ d. Fills token first d) (sym e) f
 
 adds_fills : (k : Taking) (token : List ℕ) (result : Option SyncAnswer) (first before after : Copy) → Fills token first before → Adds k token result before after → Fills token first after
@@ -61,7 +67,7 @@ on_refl : (token : List ℕ) (o : Option Stage) → StageOn token o o
 on_refl token None = tt
 on_refl token (Some s) = grows_refl s
 
-fills_refl : (token : List ℕ) (c : Copy) → Fills token c c
+pub fills_refl : (token : List ℕ) (c : Copy) → Fills token c c
 fills_refl token c = record { run = refl; held = refl; entries = refl; last_number = refl; stage = on_refl token c.stage }
 
 pub kind_fills : (d : Delta) (kind : Kind) (stage : Option StageState) (token : List ℕ) (result : Option SyncAnswer) (before after : Copy) → StagesKind d kind stage token result before after → Fills token before after
@@ -72,14 +78,12 @@ kind_fills (delta.Whole pin entries) kind stage token result before after s = me
 abbrev pub IsMergeEnd : SyncAnswer → Type 0
 IsMergeEnd answer.KeeperFault = Unit {0}
 IsMergeEnd answer.NoMemory = Unit {0}
-IsMergeEnd (answer.BadReply kind offset) = Unit {0}
 IsMergeEnd (answer.TooLarge kind total) = Unit {0}
 IsMergeEnd a = ⊥
 
 unmerged_end : (broke : Type 0) (copies : Copy → Type 0) (kind : Kind) (entries : Sofar) (a : SyncAnswer) → Unmerged broke copies kind entries a → IsMergeEnd a
 unmerged_end broke copies kind entries a (Broken b e) = subst IsMergeEnd (sym e) tt
 unmerged_end broke copies kind entries a (Wanting e) = subst IsMergeEnd (sym e) tt
-unmerged_end broke copies kind entries a (Misfit unlike e) = subst IsMergeEnd (sym e) tt
 unmerged_end broke copies kind entries a (OverLimit n many is e) = subst IsMergeEnd (sym e) tt
 
 pub unstaged_end : (broke : Type 0) (copies : Copy → Type 0) (kind : Kind) (d : Delta) (a : SyncAnswer) → Unstaged broke copies kind d a → IsMergeEnd a
@@ -93,9 +97,9 @@ merge_known a m = tt
 pub merge_ends : (token : List ℕ) (base : ℕ) (a : SyncAnswer) (before after : Copy) → IsMergeEnd a → Fills token before after → DeltaEnds token base (Some (Ended a)) before after
 merge_ends token base a before after m f = fills_end token (Some a) before after (merge_known a m) f
 
-pub merge_halts : (kept : List ℕ) (run count : ℕ) (missed broke : Type 0) (copies : Copy → Type 0) (place : Place) (d : Delta) (a : SyncAnswer) → CanStage place.kind d → Unstaged broke copies place.kind d a → Halts kept run count missed broke copies place (Ended a)
-merge_halts kept run count missed broke copies place (delta.Closed pin) a can u = ⊎_elim (λ x. Broke x.0 (ap Ended x.1)) (λ (e : a ≡ answer.NoMemory). Wants (ap Ended e)) u
-merge_halts kept run count missed broke copies place (delta.Whole pin entries) a can u = Merging entries can.1 a u refl
+pub merge_halts : (kept : List ℕ) (run count : ℕ) (missed broke : Type 0) (copies : Copy → Type 0) (place : Place) (d : Delta) (a : SyncAnswer) → CanStage place.kind d → ((c : Copy) → copies c → StandsOn (held_list c place.kind) d) → Unstaged broke copies place.kind d a → Halts kept run count missed broke copies place (Ended a)
+merge_halts kept run count missed broke copies place (delta.Closed pin) a can stands u = ⊎_elim (λ x. Broke x.0 (ap Ended x.1)) (λ (e : a ≡ answer.NoMemory). Wants (ap Ended e)) u
+merge_halts kept run count missed broke copies place (delta.Whole pin entries) a can stands u = Merging entries can.1 stands a u refl
 
 -- ---- a stage whose pin is gone
 
@@ -192,6 +196,33 @@ closed_ends broke copies kind pin None b f = tt
 closed_ends broke copies kind pin (Some a) b f = ⊎_elim (λ (e : Some a ≡ None). no_answer e)
     (λ b. ⊎_elim (λ (e : Some a ≡ Some answer.KeeperFault). inl (f e, some_answer e)) (λ (e : Some a ≡ Some answer.NoMemory). inr (some_answer e)) b) b
 
-pub can_stage : (place : Place) (d : Delta) → IsGathered place d → CanStage place.kind d
-can_stage place (delta.Closed pin) x = x.0.low
-can_stage place (delta.Whole pin entries) x = (x.0.low, x.1)
+pub can_stage : (place : Place) (held : List Record) (d : Delta) → IsGathered place held d → CanStage place.kind d
+can_stage place held (delta.Closed pin) x = x.0.low
+can_stage place held (delta.Whole pin entries) x = (x.0.low, x.1)
+
+-- what was gathered was judged by what is held
+pub gathered_on : (place : Place) (held rows : List Record) (d : Delta) → IsGathered place held d → held ≡ rows → StandsOn rows d
+gathered_on place held rows (delta.Closed pin) x e = tt
+gathered_on place held rows (delta.Whole pin entries) x e = x.2 ∙ e
+
+-- and staging leaves what is held
+pub stands_behind : (d : Delta) (kind : Kind) (stage : Option StageState) (token : List ℕ) (result : Option SyncAnswer) (before after : Copy) → StandsOn (held_list before kind) d → StagesKind d kind stage token result before after → StandsOn (held_list after kind) d
+stands_behind (delta.Closed pin) kind stage token result before after on s = tt
+stands_behind (delta.Whole pin entries) kind stage token result before after on s = on ∙ same_list kind before after (merges_held kind entries stage pin token result before after s)
+
+-- ---- the keeper gave up before
+
+pub broken_ends : (token : List ℕ) (base : ℕ) (e : KeeperError) (a : SyncAnswer) (r : DeltaAnswer) (c : Copy) → a ≡ broken_answer e → r ≡ Ended a → DeltaEnds token base (Some r) c c
+broken_ends token base fault.Failed a r c is gives = subst (λ r. DeltaEnds token base (Some r) c c) (sym (gives ∙ ap Ended is)) (merge_ends token base answer.KeeperFault c c tt (fills_refl token c))
+broken_ends token base fault.NoMemory a r c is gives = subst (λ r. DeltaEnds token base (Some r) c c) (sym (gives ∙ ap Ended is)) (merge_ends token base answer.NoMemory c c tt (fills_refl token c))
+
+pub broken_halts : (kept : List ℕ) (run count before now : ℕ) (missed : Type 0) (copies : Copy → Type 0) (place : Place) (e : KeeperError) (a : SyncAnswer) (r : DeltaAnswer) → CountsError before now e → a ≡ broken_answer e → r ≡ Ended a
+    → Halts kept run count missed (Rose before now) copies place r
+broken_halts kept run count before now missed copies place fault.Failed a r counts is gives =
+    let rose : now ≡ min (before + 1) (2 ^ 64 - 1) = counts in
+    Broke (omega (arith, rose)) (gives ∙ ap Ended is)
+broken_halts kept run count before now missed copies place fault.NoMemory a r counts is gives = Wants (gives ∙ ap Ended is)
+
+pub broken_replies : (place : Place) (w : WireReply) (e : KeeperError) (a : SyncAnswer) (r : DeltaAnswer) → a ≡ broken_answer e → r ≡ Ended a → RepliesIf place w r
+broken_replies place w fault.Failed a r is gives = inl (subst IsDeltaAside (sym (gives ∙ ap Ended is)) tt)
+broken_replies place w fault.NoMemory a r is gives = inl (subst IsDeltaAside (sym (gives ∙ ap Ended is)) tt)

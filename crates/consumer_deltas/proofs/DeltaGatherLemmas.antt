@@ -12,12 +12,13 @@ use Rattle.exchange_link.specs.Causes.{IsMore, IsOwnReply}
 use Rattle.exchange_link.specs.DeltaPages.{delta_page_request}
 use Rattle.exchange_link.specs.declared.answer.SyncAnswer.TheVariants as answer
 use Rattle.http_wire.specs.declared.answer.WireReply.{WireReply}
+use Rattle.roster_types.specs.Records.{Record}
 use Rattle.roster_values.specs.declared.kind.Kind.{Kind}
 use Rattle.status_info.specs.declared.request.Request.{Request}
 use Rattle.consumer_deltas.proofs.DeltaJudgeLemmas.{IsPart}
 use Rattle.consumer_deltas.proofs.DeltaListLemmas.{ids_join, list_join, no_list}
 use Rattle.consumer_deltas.specs.DeltaGathering.{AreEntries, Given, NoReply, NoneCame, Stops, Wants}
-use Rattle.consumer_deltas.specs.DeltaJudging.{Sofar, count_in, entry_limit, ids_ascend, is_whole, nothing_yet, with_page}
+use Rattle.consumer_deltas.specs.DeltaJudging.{MayCome, Sofar, count_in, entry_limit, is_whole, nothing_yet, with_page}
 use Rattle.consumer_sync.specs.Judging.{agrees}
 use Rattle.consumer_deltas.specs.DeltaRequests.{IsDeltaUnder, page_asked}
 use Rattle.consumer_deltas.specs.declared.answer.DeltaAnswer.{DeltaAnswer}
@@ -39,8 +40,7 @@ IsAmong (Some total) came = (came < total) × (total ≤ entry_limit)
 
 pub record AreOpen (kind : Kind) (sofar : Sofar) : Type 0 where
   pub among : IsAmong sofar.total (count_in sofar)
-  pub puts : IsList kind sofar.puts
-  pub gone : ids_ascend None sofar.gone ≡ true
+  pub come : MayCome kind sofar
 
 came_less : (total : Option ℕ) (came t : ℕ) → IsAmong total came → agrees total t ≡ true → came ≤ t
 came_less None came t among same = omega (arith, among)
@@ -63,22 +63,24 @@ module _ (place : Place) (sofar : Sofar) (w : WireReply) (pin : ℕ) (page : Ent
   pub small : count_in joined ≤ entry_limit
   small = omega (arith, not_more, part.few)
 
-  puts_on : IsList place.kind joined.puts
-  puts_on = list_join place.kind sofar.puts page.puts far.puts kinds part.puts
-
-  gone_on : ids_ascend None joined.gone ≡ true
-  gone_on = ids_join None sofar.gone page.gone far.gone part.gone
+  come_on : MayCome place.kind joined
+  come_on = record {
+    held = far.come.held;
+    puts = list_join place.kind sofar.puts page.puts far.come.puts kinds part.puts;
+    gone = ids_join None sofar.gone page.gone far.come.gone part.gone;
+    fits = part.fits;
+  }
 
   -- the last page
   pub entries_whole : is_whole joined ≡ true → AreEntries place.kind joined
-  entries_whole whole = record { whole = whole; few = small; puts = puts_on; gone = gone_on }
+  entries_whole whole = record { whole = whole; few = small; come = come_on }
 
   pub less_yet : is_whole joined ≡ false → count_in joined < total
   less_yet other = let e : (total == count_in joined) ≡ false = other in grind (arith, nat_tests, e, not_more)
 
   -- or one in between
   pub entries_open : is_whole joined ≡ false → AreOpen place.kind joined
-  entries_open other = record { among = (less_yet other, part.few); puts = puts_on; gone = gone_on }
+  entries_open other = record { among = (less_yet other, part.few); come = come_on }
 
   pub left_less : 0 < place.limit → is_whole joined ≡ false → left_of joined.total (count_in joined) < left_of sofar.total (count_in sofar)
   left_less some other =
@@ -86,8 +88,8 @@ module _ (place : Place) (sofar : Sofar) (w : WireReply) (pin : ℕ) (page : Ent
       (left_falls sofar.total (count_in sofar) (length page.puts + length page.gone) place.limit total far.among part.same part.few some part.count (let l = less_yet other in omega (arith, counted, l)))
 
 -- before the first page
-pub open_first : (kind : Kind) → AreOpen kind nothing_yet
-open_first kind = record { among = refl; puts = no_list kind; gone = refl }
+pub open_first : (kind : Kind) (held : List Record) → IsList kind held → AreOpen kind (nothing_yet held)
+open_first kind held is = record { among = refl; come = record { held = is; puts = no_list kind; gone = refl; fits = refl } }
 
 few_came : (total : Option ℕ) (came : ℕ) → IsAmong total came → came ≤ entry_limit
 few_came None came among = omega (arith, among)
@@ -120,13 +122,24 @@ pub pin_is : (o : Option ℕ) (p pin : ℕ) → agrees o pin ≡ true → o ≡ 
 pin_is o p pin same e = let test : agrees (Some p) pin ≡ true = sym (ap (λ o. agrees o pin) e) ∙ same in grind (arith, nat_tests, test)
 
 -- why the pages end, at the first of them
-pub stops_on : (kept : List ℕ) (run count : ℕ) (missed given : Type 0) (here place : Place) (a : DeltaAnswer) → here.kind ≡ place.kind → here.base ≡ place.base → here.limit ≡ place.limit → IsPinOf here.pin place.pin → (missed → given)
-    → Stops kept run count missed here a → Stops kept run count given place a
-stops_on kept run count missed given here place a kind base limit pin f (Given x) =
-    Given (record { sofar = x.sofar; here = x.here; reply = x.reply; own = x.own; kind = x.kind ∙ kind; base = x.base ∙ base; limit = x.limit ∙ limit; pin = pin_on x.here.pin here.pin place.pin x.pin pin; given = x.given })
-stops_on kept run count missed given here place a kind base limit pin f (NoneCame offset m unlike e) = NoneCame offset (f m) unlike (e ∙ ap (λ k. Ended (answer.Interrupted k offset)) kind)
-stops_on kept run count missed given here place a kind base limit pin f (NoReply offset none e) = NoReply offset none (e ∙ ap (λ k. Ended (answer.BadReply k offset)) kind)
-stops_on kept run count missed given here place a kind base limit pin f (Wants e) = Wants e
+pub stops_on : (kept : List ℕ) (run count : ℕ) (missed given : Type 0) (here place : Place) (judged held : List Record) (a : DeltaAnswer) → here.kind ≡ place.kind → here.base ≡ place.base → here.limit ≡ place.limit → IsPinOf here.pin place.pin → judged ≡ held → (missed → given)
+    → Stops kept run count missed here judged a → Stops kept run count given place held a
+stops_on kept run count missed given here place judged held a kind base limit pin same f (Given x) = Given (record {
+  sofar = x.sofar;
+  here = x.here;
+  reply = x.reply;
+  own = x.own;
+  shown = x.shown ∙ same;
+  come = subst (λ k. MayCome k x.sofar) kind x.come;
+  kind = x.kind ∙ kind;
+  base = x.base ∙ base;
+  limit = x.limit ∙ limit;
+  pin = pin_on x.here.pin here.pin place.pin x.pin pin;
+  given = x.given;
+})
+stops_on kept run count missed given here place judged held a kind base limit pin same f (NoneCame offset m unlike e) = NoneCame offset (f m) unlike (e ∙ ap (λ k. Ended (answer.Interrupted k offset)) kind)
+stops_on kept run count missed given here place judged held a kind base limit pin same f (NoReply offset none e) = NoReply offset none (e ∙ ap (λ k. Ended (answer.BadReply k offset)) kind)
+stops_on kept run count missed given here place judged held a kind base limit pin same f (Wants e) = Wants e
 
 -- the tries of one request are requests of the call
 pub sends_delta : (token : List ℕ) (place : Place) (offset run from to : ℕ) (wants given : Type 0) (x y : List Request) → (wants → given)

@@ -9,7 +9,7 @@ use Rattle.roster_types.specs.Records.{Record}
 use Rattle.row_json.specs.Deltas.{gone_of}
 use Rattle.row_json.specs.Reading.{rows_of}
 use Rattle.row_json.specs.declared.fault.JsonFault.{JsonFault}
-use Rattle.consumer_deltas.specs.DeltaJudging.{Sofar, base_act, closed_act, count_in, delta_judged, differing_act, entries_from, entries_of, entry_limit, ids_ascend, last_id, lost_act, page_act, part_act, read_act}
+use Rattle.consumer_deltas.specs.DeltaJudging.{Sofar, base_act, closed_act, count_in, delta_judged, differing_act, entries_from, entries_of, entry_limit, fits_held, ids_ascend, last_id, lost_act, page_act, part_act, read_act, with_page}
 use Rattle.consumer_sync.specs.Judging.{agrees}
 use Rattle.consumer_deltas.specs.declared.gathered.Entries.{Entries}
 use Rattle.consumer_deltas.specs.declared.judging.DeltaAct.{DeltaAct}
@@ -90,6 +90,7 @@ pub record IsPart (place : Place) (sofar : Sofar) (w : WireReply) (pin : ℕ) (p
   pub count : length page.puts + length page.gone ≡ min place.limit (total - count_in sofar)
   pub puts : ascends (last_from None sofar.puts) page.puts ≡ true
   pub gone : ids_ascend (last_id None sofar.gone) page.gone ≡ true
+  pub fits : fits_held place.kind (with_page sofar page total) ≡ true
 
 pub record IsClosed (place : Place) (w : WireReply) (pin : ℕ) : Type 0 where
   pub status : w.status ≡ 403
@@ -139,12 +140,13 @@ entries_read (Ok puts) (Ok gone) page e =
 
 module _ (place : Place) (sofar : Sofar) (w : WireReply) (pin : ℕ) (page : Entries) (total : ℕ) where
   part_is : (v t : ℕ) (read : Entries) → w.status ≡ 200 → w.version ≡ Some v → w.total ≡ Some t → rows_of place.kind w.body ≡ Ok read.puts → gone_of w.body ≡ Ok read.gone → agrees place.pin v ≡ true → t ≤ entry_limit → agrees sofar.total t ≡ true
-      → part_act sofar place.limit v t read ≡ takes pin page total → IsPart place sofar w pin page total
+      → part_act place.kind sofar place.limit v t read ≡ takes pin page total → IsPart place sofar w pin page total
   part_is v t read status version told rows ids pinned few same e =
       let a = passed (takes pin page total) (takes_on pin page total) (length read.puts + length read.gone == min place.limit (t - count_in sofar)) _ e in
       let b = passed (takes pin page total) (takes_on pin page total) (ascends (last_from None sofar.puts) read.puts) _ a.1 in
       let c = passed (takes pin page total) (takes_on pin page total) (ids_ascend (last_id None sofar.gone) read.gone) _ b.1 in
-      let (same_pin, same_page, same_total) = same_take v t read pin total page c.1 in
+      let d = passed (takes pin page total) (takes_on pin page total) (fits_held place.kind (with_page sofar read t)) _ c.1 in
+      let (same_pin, same_page, same_total) = same_take v t read pin total page d.1 in
       let count : length read.puts + length read.gone ≡ min place.limit (t - count_in sofar) = grind (arith, nat_tests, a.0) in
       record {
         status = status;
@@ -158,10 +160,11 @@ module _ (place : Place) (sofar : Sofar) (w : WireReply) (pin : ℕ) (page : Ent
         count = sym (ap (λ (p : Entries). length p.puts + length p.gone) same_page) ∙ count ∙ ap (λ (n : ℕ). min place.limit (n - count_in sofar)) same_total;
         puts = sym (ap (λ (p : Entries). ascends (last_from None sofar.puts) p.puts) same_page) ∙ b.0;
         gone = sym (ap (λ (p : Entries). ids_ascend (last_id None sofar.gone) p.gone) same_page) ∙ c.0;
+        fits = sym (λ i. fits_held place.kind (with_page sofar (same_page i) (same_total i))) ∙ d.0;
       }
 
   read_is : (v t : ℕ) (o : Option Entries) → w.status ≡ 200 → w.version ≡ Some v → w.total ≡ Some t → entries_of place.kind w.body ≡ o → agrees place.pin v ≡ true → t ≤ entry_limit → agrees sofar.total t ≡ true
-      → read_act sofar place.limit v t o ≡ takes pin page total → IsPart place sofar w pin page total
+      → read_act place.kind sofar place.limit v t o ≡ takes pin page total → IsPart place sofar w pin page total
   read_is v t None status version told is pinned few same e = cc
   read_is v t (Some read) status version told is pinned few same e =
       let both = entries_read (rows_of place.kind w.body) (gone_of w.body) read is in
@@ -200,15 +203,16 @@ module _ (place : Place) (sofar : Sofar) (w : WireReply) (pin : ℕ) where
       let c = passed (act.Close pin) on (agrees sofar.total t) _ b.1 in
       of_read (entries_of place.kind w.body) c.1
     where
-      of_part : (read : Entries) → part_act sofar place.limit v t read ≡ act.Close pin → ⊥
+      of_part : (read : Entries) → part_act place.kind sofar place.limit v t read ≡ act.Close pin → ⊥
       of_part read e =
           let on = closes_on pin in
           let a = passed (act.Close pin) on (length read.puts + length read.gone == min place.limit (t - count_in sofar)) _ e in
           let b = passed (act.Close pin) on (ascends (last_from None sofar.puts) read.puts) _ a.1 in
           let c = passed (act.Close pin) on (ids_ascend (last_id None sofar.gone) read.gone) _ b.1 in
-          take_not_close v t read pin c.1
+          let d = passed (act.Close pin) on (fits_held place.kind (with_page sofar read t)) _ c.1 in
+          take_not_close v t read pin d.1
 
-      of_read : (o : Option Entries) → read_act sofar place.limit v t o ≡ act.Close pin → ⊥
+      of_read : (o : Option Entries) → read_act place.kind sofar place.limit v t o ≡ act.Close pin → ⊥
       of_read None e = cc
       of_read (Some read) e = of_part read e
 

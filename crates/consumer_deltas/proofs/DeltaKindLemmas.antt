@@ -19,12 +19,14 @@ use Rattle.hub_spec.specs.rules.Checks.{version_at}
 use Rattle.hub_spec.specs.rules.Growth.{Grew}
 use Rattle.hub_spec.specs.rules.States.{IsHub}
 use Rattle.hub_spec.specs.views.Deltas.{delta as what_differs}
+use Rattle.roster_base.specs.declared.keeper.KeeperError.{KeeperError}
+use Rattle.roster_base.specs.declared.keeper.KeeperError.TheVariants as fault
 use Rattle.roster_types.specs.Records.{Record}
 use Rattle.roster_values.specs.declared.kind.Kind.{Kind}
 use Rattle.version_core.specs.HubStates.{HubState}
 use Rattle.consumer_sync.specs.Filling.{HasToken}
 use Rattle.consumer_sync.specs.Judging.{opened, paged}
-use Rattle.consumer_sync.specs.Staging.{Adds, IsBroken, Taking, open_copy, taken}
+use Rattle.consumer_sync.specs.Staging.{Adds, IsBroken, Taking, broken_answer, open_copy, taken}
 use Rattle.consumer_sync.specs.Staging.Adds.{Opened, Stays as StaysAdded, Takes}
 use Rattle.consumer_deltas.proofs.DeltaAgreeLemmas.{kind_fits}
 use Rattle.consumer_deltas.specs.DeltaAnswers.{DeltaTold, HasBase}
@@ -32,7 +34,7 @@ use Rattle.consumer_deltas.specs.DeltaFilling.{IsPinGone, KindTold, LetsGo, Stag
 use Rattle.consumer_deltas.specs.DeltaFilling.LetsGo.{Fails as FailsToGo, Goes, Stays, Wants as WantsToGo}
 use Rattle.consumer_deltas.specs.DeltaJudging.{Sofar}
 use Rattle.consumer_deltas.specs.DeltaMerging.{Merges, StagesList, rest_of}
-use Rattle.consumer_deltas.specs.DeltaMerging.Merges.{Fails, Merged, Unfit}
+use Rattle.consumer_deltas.specs.DeltaMerging.Merges.{Fails, Merged}
 use Rattle.consumer_deltas.specs.DeltaMerging.StagesList.{Staged, TooMany}
 use Rattle.consumer_deltas.specs.DeltaStaging.{Stages, part_of}
 use Rattle.consumer_deltas.specs.DeltaStaging.Stages.{Opens, Part, Stays as StaysAll, Whole}
@@ -90,8 +92,7 @@ module _ (v : ℕ) (token : List ℕ) (before after : Copy) (is : IsPinnedAt v b
   list_pin kind stage rows r (TooMany many is' e) = pin_stays e
 
   merges_pin : (kind : Kind) (entries : Sofar) (stage : Option StageState) (r : Option SyncAnswer) → Merges kind entries stage v token r before after → IsPinnedAt v after.stage
-  merges_pin kind entries stage r (Merged f s) = list_pin kind stage _ r s
-  merges_pin kind entries stage r (Unfit unlike is' e) = pin_stays e
+  merges_pin kind entries stage r (Merged s) = list_pin kind stage _ r s
   merges_pin kind entries stage r (Fails b e) = pin_stays e
 
 kind_pin : (d : Delta) (kind : Kind) (stage : Option StageState) (token : List ℕ) (r : Option SyncAnswer) (before after : Copy) → IsPinnedAt (pin_in d) before.stage → StagesKind d kind stage token r before after → IsPinnedAt (pin_in d) after.stage
@@ -149,6 +150,27 @@ goes_copy given result before after (Stays not is e) = inl e
 goes_copy given result before after (Goes gone is e) = inr e
 goes_copy given result before after (FailsToGo gone is x) = x
 goes_copy given result before after (WantsToGo gone is e) = inl e
+
+-- what is held stays, whether the stage goes or not
+pub goes_held : (given result : DeltaAnswer) (before after : Copy) → LetsGo given result before after → before.held ≡ after.held
+goes_held given result before after go = ⊎_elim (λ (same : after ≡ before). ap (λ (c : Copy). c.held) (sym same)) (λ (dropped : after ≡ copy_after Drop before). ap (λ (c : Copy). c.held) (sym dropped)) (goes_copy given result before after go)
+
+-- the keeper gave up before anything was asked for
+broken_is_beside : (e : KeeperError) → IsBeside (Ended (broken_answer e))
+broken_is_beside fault.Failed = tt
+broken_is_beside fault.NoMemory = tt
+
+pub broken_told : (token : List ℕ) (limit tries base n : ℕ) (stage new : Option StageState) (told : Told) (c : Copy) → stage_of c ≡ stage → CopyFits c told.hub → n ≤ tries → (e : KeeperError) (a : SyncAnswer) (r : DeltaAnswer) → a ≡ broken_answer e → r ≡ Ended a
+    → KindTold token limit tries base n stage new (Some r) told told c
+broken_told token limit tries base n stage new told c at fits few e a r is gives =
+    let beside : IsBeside r = subst IsBeside (sym (gives ∙ ap Ended is)) (broken_is_beside e) in
+    record {
+      fits = fits;
+      cause = beside_told token told told r beside;
+      gone = beside_gone (pin_of stage) told.hub r beside;
+      stays = same_stays stage c r at;
+      bound = inl few;
+    }
 
 module _ (token : List ℕ) (limit tries base n : ℕ) (stage : Option StageState) (told t : Told) (before : Copy) (e : stage_of before ≡ stage) (fits : CopyFits before t.hub) where
   abbrev place : Place

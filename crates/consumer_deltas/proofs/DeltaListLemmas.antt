@@ -125,3 +125,11 @@ list_join kind rows more is kinds up = record {
   kinds = All-append (λ (row : Record). row.kind ≡ kind) rows more is.kinds kinds;
   ascend = rows_join None rows more is.ascend up;
 }
+
+-- what follows is a list by itself
+alone : (last : Option (List ℕ)) (rows : List Record) → ascends last rows ≡ true → ascends None rows ≡ true
+alone last [] up = refl
+alone last (row ∷ rows) up = and_second (is_after last row.id) _ up
+
+pub list_alone : (kind : Kind) (last : Option (List ℕ)) (rows : List Record) → All (λ row. row.kind ≡ kind) rows → ascends last rows ≡ true → IsList kind rows
+list_alone kind last rows kinds up = record { kinds = kinds; ascend = alone last rows up }

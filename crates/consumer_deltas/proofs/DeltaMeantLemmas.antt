@@ -43,14 +43,16 @@ use Rattle.version_core.specs.declared.change.BaseVersion.{BaseVersion}
 use Rattle.version_core.specs.declared.grant_row.GrantRow.{GrantRow}
 use Rattle.consumer_sync.specs.Judging.{agrees}
 use Rattle.consumer_deltas.proofs.DeltaEntryLemmas.{delta_short, gone_next, gone_up, part_count, puts_next, puts_up}
+use Rattle.consumer_deltas.proofs.DeltaFitLemmas.{first_fits, fits_delta}
 use Rattle.consumer_deltas.proofs.DeltaJudgeLemmas.{IsClosed, IsPart, closed_taken, closes_on, goes_on, not_both, part_taken, takes_on}
 use Rattle.consumer_deltas.proofs.DeltaGatherLemmas.{pin_is}
 use Rattle.consumer_deltas.proofs.DeltaPagesLemmas.{Paged, paged_end, paged_next}
 use Rattle.consumer_deltas.proofs.DeltaTellLemmas.{PinLaw, delta_law_of, delta_told_of}
 use Rattle.consumer_deltas.proofs.DeltaToldLemmas.{first_on, first_whole, part_told}
 use Rattle.consumer_deltas.specs.DeltaAnswers.{DeltaTold}
+use Rattle.consumer_deltas.specs.DeltaFits.{fits}
 use Rattle.consumer_deltas.specs.DeltaGathering.{AreFirst, IsDelta, IsPartOf, IsShutAt, ending_of}
-use Rattle.consumer_deltas.specs.DeltaJudging.{Sofar, base_act, by_status, closed_act, count_in, delta_judged, differing_act, entries_from, entry_limit, ids_ascend, is_whole, last_id, lost_act, nothing_yet, read_act, with_page}
+use Rattle.consumer_deltas.specs.DeltaJudging.{Sofar, base_act, by_status, closed_act, count_in, delta_judged, differing_act, entries_from, entry_limit, fits_held, ids_ascend, is_whole, last_id, lost_act, nothing_yet, read_act, with_page}
 use Rattle.consumer_deltas.specs.DeltaRequests.{page_asked}
 use Rattle.consumer_deltas.specs.DeltaTelling.{IsAtPin, IsPinFrom, MayAsk, PagesBounded}
 use Rattle.consumer_deltas.specs.declared.answer.DeltaAnswer.{DeltaAnswer}
@@ -109,6 +111,7 @@ Came h token here sofar (Some total) = IsSomeAnd here.pin (λ pin. IsFirstPart h
 
 pub record Knows (h : HubState) (token : List ℕ) (here : Place) (sofar : Sofar) : Type 0 where
   pub based : here.base < length h.published
+  pub shown : sofar.held ≡ list_in (version_at h here.base) token here.kind
   pub pinned : IfSome here.pin (λ pin. (pin < length h.published) × (here.base ≤ pin))
   pub staged : here.is_fresh ≡ false → IsSomeAnd here.pin (λ pin. Shows h token here.kind pin)
   pub came : Came h token here sofar sofar.total
@@ -118,9 +121,10 @@ shows_seen h token kind None x = absurd x
 shows_seen h token kind (Some pin) x = inr x
 
 -- before the first page
-pub knows_first : (h : HubState) (token : List ℕ) (place : Place) → MayAsk h token place → Knows h token place nothing_yet
-knows_first h token place may = record {
+pub knows_first : (h : HubState) (token : List ℕ) (place : Place) (held : List Record) → MayAsk h token place held → Knows h token place (nothing_yet held)
+knows_first h token place held may = record {
   based = may.based;
+  shown = may.shown;
   pinned = may.pinned;
   staged = λ e. shows_seen h token place.kind place.pin (may.staged e);
   came = (refl, refl);
@@ -153,6 +157,7 @@ module _ (a b : HubState) (grew : Grew a b) where
   pub knows_on : (token : List ℕ) (here : Place) (sofar : Sofar) → Knows a token here sofar → Knows b token here sofar
   knows_on token here sofar x = record {
     based = let stands = x.based in let longer = grew.longer in omega (arith, stands, longer);
+    shown = x.shown ∙ ap (λ v. list_in v token here.kind) (sym (grew.same here.base x.based));
     pinned = pinned_on here.base here.pin x.pinned;
     staged = λ e. shows_on here.base token here.kind here.pin x.pinned (x.staged e);
     came = came_on token here sofar sofar.total x.based x.pinned x.came;
@@ -249,6 +254,7 @@ module _ (a b : HubState) (token : List ℕ) (here : Place) (sofar : Sofar) (pin
   pub knows_next : Knows b token (next_place here pin) (with_page sofar page total)
   knows_next = record {
     based = let stands = x.based in let longer = grew.longer in omega (arith, stands, longer);
+    shown = x.shown ∙ ap (λ v. list_in v token here.kind) (sym (grew.same here.base x.based));
     pinned = (means.part.standing, means.part.low);
     staged = λ e. inl means.opened;
     came = record { total_is = means.part.total_is; first = joined_first };
@@ -313,17 +319,18 @@ judged_at place sofar w n e = ap (λ n. by_status n place sofar w) e
 
 page_take : (place : Place) (sofar : Sofar) (w : WireReply) (v t : ℕ) (page : Entries) → w.status ≡ 200 → w.version ≡ Some v → w.total ≡ Some t → agrees place.pin v ≡ true → t ≤ entry_limit → agrees sofar.total t ≡ true
     → rows_of place.kind w.body ≡ Ok page.puts → gone_of w.body ≡ Ok page.gone → length page.puts + length page.gone ≡ min place.limit (t - count_in sofar)
-    → ascends (last_from None sofar.puts) page.puts ≡ true → ids_ascend (last_id None sofar.gone) page.gone ≡ true → delta_judged place sofar w ≡ act.Take v page t
-page_take place sofar w v t page status version told pinned few same rows ids count up up' =
+    → ascends (last_from None sofar.puts) page.puts ≡ true → ids_ascend (last_id None sofar.gone) page.gone ≡ true → fits_held place.kind (with_page sofar page t) ≡ true → delta_judged place sofar w ≡ act.Take v page t
+page_take place sofar w v t page status version told pinned few same rows ids count up up' fit =
     judged_at place sofar w 200 status
     ∙ (λ i. differing_act place.kind sofar place.pin place.limit (version i) (told i) w.body)
     ∙ pass (agrees place.pin v) _ _ pinned
     ∙ skip (nat_lt entry_limit t) _ _ (few_test t few)
     ∙ pass (agrees sofar.total t) _ _ same
-    ∙ (λ i. read_act sofar place.limit v t (entries_from (rows i) (ids i)))
+    ∙ (λ i. read_act place.kind sofar place.limit v t (entries_from (rows i) (ids i)))
     ∙ pass (length page.puts + length page.gone == min place.limit (t - count_in sofar)) _ _ (eq_test _ _ count)
     ∙ pass (ascends (last_from None sofar.puts) page.puts) _ _ up
     ∙ pass (ids_ascend (last_id None sofar.gone) page.gone) _ _ up'
+    ∙ pass (fits_held place.kind (with_page sofar page t)) _ _ fit
 
 -- one of three, of which the last is none
 first_two : (A B C : Type 0) → A ⊎ (B ⊎ C) → (C → ⊥) → A ⊎ B
@@ -435,7 +442,10 @@ module _ (a b : Told) (token : List ℕ) (here : Place) (sofar : Sofar) (w : Wir
         (page_take here sofar w version (length differing) page status is told (agrees_pin here.pin version (newest_number mid) read) few (same_total sofar.total x.came) rows ids
         (part_count sofar here.limit differing first_now)
         (puts_next sofar here.limit differing first_now (puts_up here.kind base_rows pin_rows are_old are_new up_old up_new))
-        (gone_next sofar here.limit differing first_now (gone_up here.kind base_rows pin_rows are_old are_new up_old up_new)))
+        (gone_next sofar here.limit differing first_now (gone_up here.kind base_rows pin_rows are_old are_new up_old up_new))
+        (ap (λ held. fits here.kind held (with_page sofar page (length differing)).puts (with_page sofar page (length differing)).gone) x.shown
+        ∙ first_fits here.kind base_rows (with_page sofar page (length differing)) differing (first_on sofar page (length differing) here.limit differing first_now refl refl)
+        (fits_delta here.kind base_rows pin_rows are_old are_new up_old up_new)))
 
   told_ends : PinLaw mid (page_asked token here (count_in sofar)) w → TellsFrom mid (page_asked token here (count_in sofar)) here.base w → Ends (delta_judged here sofar w)
   told_ends law (NotKnown status none) = subst Ends (sym (judged_at here sofar w 401 status)) (mid, from, to, none)
@@ -478,8 +488,8 @@ pub record Gathering (before h : HubState) (token : List ℕ) (place here : Plac
   pub known : Knows h token here sofar
   pub pin : (v : ℕ) → IsPinFrom here.pin h v → IsPinFrom place.pin before v
 
-pub gathering_first : (h : HubState) (token : List ℕ) (place : Place) (sofar : Sofar) → sofar ≡ nothing_yet → MayAsk h token place → Gathering h h token place place sofar
-gathering_first h token place sofar e may = subst (λ s. Gathering h h token place place s) (sym e) (record { known = knows_first h token place may; pin = λ v x. x })
+pub gathering_first : (h : HubState) (token : List ℕ) (place : Place) (held : List Record) (sofar : Sofar) → sofar ≡ nothing_yet held → MayAsk h token place held → Gathering h h token place place sofar
+gathering_first h token place held sofar e may = subst (λ s. Gathering h h token place place s) (sym e) (record { known = knows_first h token place held may; pin = λ v x. x })
 
 module _ (before : HubState) (a b : Told) (hub : IsHub a.hub) (grew : Grew a.hub b.hub) (token : List ℕ) (place here : Place) (sofar : Sofar) (n : Echo) (w : WireReply) (some : 1 ≤ here.limit) (few : here.limit ≤ 1000)
     (came : count_in sofar ≤ entry_limit) (x : Gathering before a.hub token place here sofar) (own : IsOwnRead a b (delta_page_request (page_asked token here (count_in sofar)) here.base n) w) where

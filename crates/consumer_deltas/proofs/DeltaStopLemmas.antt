@@ -2,7 +2,7 @@
 use Rattle.std.proofs.Common.{◌≡◌, ◌⊎◌, ⊎_elim, inl, inr, ◌<◌, ◌≤◌, ℕ, Bool, true, false, List, Option, Some, None, refl, sym, subst, ap, ◌∙◌, arith, not, is_some}
 use Rattle.std.specs.Prelude.{◌==◌, IfSome, if◌then◌else◌, min, nat_lt, ◌+◌, ◌-◌, length, ◌&&◌}
 use Rattle.std.proofs.lemmas.Bool.Decides.{nat_tests}
-use Rattle.keeper_memory.specs.copy.Copies.{Copy}
+use Rattle.keeper_memory.specs.copy.Copies.{Copy, held_list}
 use Rattle.keeper_memory.specs.copy.Lists.{ascends, last_from}
 use Rattle.consumer_sync.specs.Faulted.{SaysGone}
 use Rattle.consumer_sync.specs.Filling.{IsEnd}
@@ -13,6 +13,7 @@ use Rattle.exchange_link.specs.declared.answer.SyncAnswer.{SyncAnswer}
 use Rattle.exchange_link.specs.declared.answer.SyncAnswer.TheVariants as answer
 use Rattle.http_wire.proofs.AnswerLemmas.{one_answer}
 use Rattle.http_wire.specs.declared.answer.WireReply.{WireReply}
+use Rattle.roster_types.specs.Records.{Record}
 use Rattle.roster_values.specs.declared.kind.Kind.{Kind}
 use Rattle.status_info.specs.declared.request.Request.{Request}
 use Rattle.version_core.specs.HubStates.{HubState}
@@ -23,8 +24,8 @@ use Rattle.consumer_deltas.specs.DeltaFilling.Halts.{Broke, Merging, Stopped, Wa
 use Rattle.consumer_deltas.specs.DeltaGathering.{Stops, ending_of}
 use Rattle.consumer_deltas.specs.DeltaGathering.Stops.{Given, NoReply, NoneCame, Wants}
 use Rattle.consumer_deltas.specs.DeltaMerging.{Unmerged}
-use Rattle.consumer_deltas.specs.DeltaMerging.Unmerged.{Broke as Broken, TooMany as OverLimit, Unfit as Misfit, Wants as Wanting}
-use Rattle.consumer_deltas.specs.DeltaJudging.{Sofar, base_act, by_status, closed_act, count_in, delta_judged, differing_act, entries_of, entry_limit, ids_ascend, last_id, lost_act, page_act, part_act, read_act}
+use Rattle.consumer_deltas.specs.DeltaMerging.Unmerged.{Broke as Broken, TooMany as OverLimit, Wants as Wanting}
+use Rattle.consumer_deltas.specs.DeltaJudging.{Sofar, base_act, by_status, closed_act, count_in, delta_judged, differing_act, entries_of, entry_limit, fits_held, ids_ascend, last_id, lost_act, page_act, part_act, read_act, with_page}
 use Rattle.consumer_deltas.specs.DeltaRequests.{IsDeltaUnder}
 use Rattle.consumer_deltas.specs.DeltaTelling.{GonePin, IsPinFrom, NamesPin}
 use Rattle.consumer_deltas.specs.declared.answer.DeltaAnswer.{DeltaAnswer}
@@ -49,13 +50,13 @@ ending_end act.HubFault here n = tt
 ending_end act.HubNoMemory here n = tt
 ending_end x here n = tt
 
-pub stops_end : (kept : List ℕ) (run count : ℕ) (missed : Type 0) (place : Place) (a : DeltaAnswer) → Stops kept run count missed place a → IsDeltaEnd place.base a
-stops_end kept run count missed place a (Given g) =
+pub stops_end : (kept : List ℕ) (run count : ℕ) (missed : Type 0) (place : Place) (held : List Record) (a : DeltaAnswer) → Stops kept run count missed place held a → IsDeltaEnd place.base a
+stops_end kept run count missed place held a (Given g) =
     let here : Place = g.here in
     subst (λ b. IsDeltaEnd b a) g.base (subst (λ r. IsDeltaEnd here.base r) (sym g.given) (ending_end (delta_judged here g.sofar g.reply) here (count_in g.sofar)))
-stops_end kept run count missed place a (NoneCame offset m unlike e) = subst (λ r. IsDeltaEnd place.base r) (sym e) tt
-stops_end kept run count missed place a (NoReply offset unlike e) = subst (λ r. IsDeltaEnd place.base r) (sym e) tt
-stops_end kept run count missed place a (Wants e) = subst (λ r. IsDeltaEnd place.base r) (sym e) tt
+stops_end kept run count missed place held a (NoneCame offset m unlike e) = subst (λ r. IsDeltaEnd place.base r) (sym e) tt
+stops_end kept run count missed place held a (NoReply offset unlike e) = subst (λ r. IsDeltaEnd place.base r) (sym e) tt
+stops_end kept run count missed place held a (Wants e) = subst (λ r. IsDeltaEnd place.base r) (sym e) tt
 
 -- ---- a pin that is gone
 
@@ -83,19 +84,20 @@ IsKept x = IsGoneAct x → ⊥
 kept_base : (base oldest : ℕ) → IsKept (base_act base oldest)
 kept_base base oldest = either IsKept (nat_lt base oldest) (act.BaseGone oldest) act.BadReply (λ _ is. is) (λ _ is. is)
 
-kept_part : (sofar : Sofar) (limit v t : ℕ) (page : Entries) → IsKept (part_act sofar limit v t page)
-kept_part sofar limit v t page =
+kept_part : (kind : Kind) (sofar : Sofar) (limit v t : ℕ) (page : Entries) → IsKept (part_act kind sofar limit v t page)
+kept_part kind sofar limit v t page =
     either IsKept (not (length page.puts + length page.gone == min limit (t - count_in sofar))) _ _ (λ _ is. is)
-    (λ _. either IsKept (not (ascends (last_from None sofar.puts) page.puts)) _ _ (λ _ is. is) (λ _. either IsKept (not (ids_ascend (last_id None sofar.gone) page.gone)) _ _ (λ _ is. is) (λ _ is. is)))
+    (λ _. either IsKept (not (ascends (last_from None sofar.puts) page.puts)) _ _ (λ _ is. is) (λ _. either IsKept (not (ids_ascend (last_id None sofar.gone) page.gone)) _ _ (λ _ is. is)
+    (λ _. either IsKept (not (fits_held kind (with_page sofar page t))) _ _ (λ _ is. is) (λ _ is. is))))
 
-kept_read : (sofar : Sofar) (limit v t : ℕ) (o : Option Entries) → IsKept (read_act sofar limit v t o)
-kept_read sofar limit v t None = λ is. is
-kept_read sofar limit v t (Some page) = kept_part sofar limit v t page
+kept_read : (kind : Kind) (sofar : Sofar) (limit v t : ℕ) (o : Option Entries) → IsKept (read_act kind sofar limit v t o)
+kept_read kind sofar limit v t None = λ is. is
+kept_read kind sofar limit v t (Some page) = kept_part kind sofar limit v t page
 
 kept_page : (place : Place) (sofar : Sofar) (v t : ℕ) (body : List ℕ) → IsKept (page_act place.kind sofar place.pin place.limit v t body)
 kept_page place sofar v t body =
     either IsKept (not (agrees place.pin v)) _ _ (λ _ is. is)
-    (λ _. either IsKept (nat_lt entry_limit t) _ _ (λ _ is. is) (λ _. either IsKept (not (agrees sofar.total t)) _ _ (λ _ is. is) (λ _. kept_read sofar place.limit v t (entries_of place.kind body))))
+    (λ _. either IsKept (nat_lt entry_limit t) _ _ (λ _ is. is) (λ _. either IsKept (not (agrees sofar.total t)) _ _ (λ _ is. is) (λ _. kept_read place.kind sofar place.limit v t (entries_of place.kind body))))
 
 kept_differing : (place : Place) (sofar : Sofar) (v t : Option ℕ) (body : List ℕ) → IsKept (differing_act place.kind sofar place.pin place.limit v t body)
 kept_differing place sofar (Some v) (Some t) body = kept_page place sofar v t body
@@ -125,13 +127,13 @@ gone_says place sofar w =
     (λ _. either (SaysOldest w) (w.status == 500) _ _ (λ _ is. absurd is)
     (λ _. either (SaysOldest w) (w.status == 503) _ _ (λ _ is. absurd is) (λ _ is. absurd is))))))
 
-pub stops_gone : (kept : List ℕ) (run count : ℕ) (missed : Type 0) (place : Place) (a : DeltaAnswer) → Stops kept run count missed place a → IsPinGone a → SaysGone kept
-stops_gone kept run count missed place a (Given g) is =
+pub stops_gone : (kept : List ℕ) (run count : ℕ) (missed : Type 0) (place : Place) (held : List Record) (a : DeltaAnswer) → Stops kept run count missed place held a → IsPinGone a → SaysGone kept
+stops_gone kept run count missed place held a (Given g) is =
     let says = gone_says g.here g.sofar g.reply (gone_act (delta_judged g.here g.sofar g.reply) g.here (count_in g.sofar) (subst IsPinGone g.given is)) in
     (g.reply, g.own.text, says.0, says.1)
-stops_gone kept run count missed place a (NoneCame offset m unlike e) is = absurd (subst IsPinGone e is)
-stops_gone kept run count missed place a (NoReply offset unlike e) is = absurd (subst IsPinGone e is)
-stops_gone kept run count missed place a (Wants e) is = absurd (subst IsPinGone e is)
+stops_gone kept run count missed place held a (NoneCame offset m unlike e) is = absurd (subst IsPinGone e is)
+stops_gone kept run count missed place held a (NoReply offset unlike e) is = absurd (subst IsPinGone e is)
+stops_gone kept run count missed place held a (Wants e) is = absurd (subst IsPinGone e is)
 
 -- the pin that is gone is the one that was asked for
 abbrev pub GoneAt : Option ℕ → DeltaAct → Type 0
@@ -233,12 +235,12 @@ gives here sofar w n = record {
   base_gone = λ oldest es eo lt le. ap (λ x. ending_of x here n) (judged_at here sofar w 404 es ∙ ap (lost_act here.base here.pin) eo ∙ lost_base here.base here.pin oldest lt le);
 }
 
-pub stops_replies : (kept : List ℕ) (run count : ℕ) (missed : Type 0) (place : Place) (a : DeltaAnswer) → Stops kept run count missed place a → (w : WireReply) → IsOwnReply kept run count w → RepliesIf place w a
-stops_replies kept run count missed place a (Given g) w own =
+pub stops_replies : (kept : List ℕ) (run count : ℕ) (missed : Type 0) (place : Place) (held : List Record) (a : DeltaAnswer) → Stops kept run count missed place held a → (w : WireReply) → IsOwnReply kept run count w → RepliesIf place w a
+stops_replies kept run count missed place held a (Given g) w own =
     inr (g.here, g.base, g.pin, subst (λ r. RepliesTo g.here r a) (one_answer kept g.reply w g.own.text own.text) (subst (λ r. RepliesTo g.here g.reply r) (sym g.given) (gives g.here g.sofar g.reply (count_in g.sofar))))
-stops_replies kept run count missed place a (NoneCame offset m unlike e) w own = absurd (unlike w own)
-stops_replies kept run count missed place a (NoReply offset unlike e) w own = absurd (unlike w own.text)
-stops_replies kept run count missed place a (Wants e) w own = inl (subst IsDeltaAside (sym e) tt)
+stops_replies kept run count missed place held a (NoneCame offset m unlike e) w own = absurd (unlike w own)
+stops_replies kept run count missed place held a (NoReply offset unlike e) w own = absurd (unlike w own.text)
+stops_replies kept run count missed place held a (Wants e) w own = inl (subst IsDeltaAside (sym e) tt)
 
 not_page : (w : WireReply) (n : ℕ) (K : Type 0) → IsPageStatus w.status → w.status ≡ n → (n ≡ 200 → ⊥) → (n ≡ 403 → ⊥) → K
 not_page w n K page e a b = absurd (⊎_elim (λ (x : w.status ≡ 200). a (sym e ∙ x)) (λ (x : w.status ≡ 403). b (sym e ∙ x)) page)
@@ -263,22 +265,21 @@ aside_replies place w a is = inl is
 
 -- ---- with other counts
 
-stops_map : (kept : List ℕ) (run count : ℕ) (missed other : Type 0) (place : Place) (a : DeltaAnswer) → (missed → other) → Stops kept run count missed place a → Stops kept run count other place a
-stops_map kept run count missed other place a f (Given g) = Given g
-stops_map kept run count missed other place a f (NoneCame offset m unlike e) = NoneCame offset (f m) unlike e
-stops_map kept run count missed other place a f (NoReply offset unlike e) = NoReply offset unlike e
-stops_map kept run count missed other place a f (Wants e) = Wants e
+stops_map : (kept : List ℕ) (run count : ℕ) (missed other : Type 0) (place : Place) (held : List Record) (a : DeltaAnswer) → (missed → other) → Stops kept run count missed place held a → Stops kept run count other place held a
+stops_map kept run count missed other place held a f (Given g) = Given g
+stops_map kept run count missed other place held a f (NoneCame offset m unlike e) = NoneCame offset (f m) unlike e
+stops_map kept run count missed other place held a f (NoReply offset unlike e) = NoReply offset unlike e
+stops_map kept run count missed other place held a f (Wants e) = Wants e
 
 unmerged_map : (broke broken : Type 0) (copies : Copy → Type 0) (kind : Kind) (entries : Sofar) (s : SyncAnswer) → (broke → broken) → Unmerged broke copies kind entries s → Unmerged broken copies kind entries s
 unmerged_map broke broken copies kind entries s f (Broken b e) = Broken (f b) e
 unmerged_map broke broken copies kind entries s f (Wanting e) = Wanting e
-unmerged_map broke broken copies kind entries s f (Misfit unlike e) = Misfit unlike e
 unmerged_map broke broken copies kind entries s f (OverLimit n many is e) = OverLimit n many is e
 
 pub halts_map : (kept : List ℕ) (run count : ℕ) (missed other broke broken : Type 0) (copies : Copy → Type 0) (place : Place) (a : DeltaAnswer) → (missed → other) → (broke → broken)
     → Halts kept run count missed broke copies place a → Halts kept run count other broken copies place a
-halts_map kept run count missed other broke broken copies place a f g (Stopped s) = Stopped (stops_map kept run count missed other place a f s)
-halts_map kept run count missed other broke broken copies place a f g (Merging entries are s u e) = Merging entries are s (unmerged_map broke broken copies place.kind entries s g u) e
+halts_map kept run count missed other broke broken copies place a f g (Stopped held shown s) = Stopped held shown (stops_map kept run count missed other place held a f s)
+halts_map kept run count missed other broke broken copies place a f g (Merging entries are shown s u e) = Merging entries are shown s (unmerged_map broke broken copies place.kind entries s g u) e
 halts_map kept run count missed other broke broken copies place a f g (Broke b e) = Broke (g b) e
 halts_map kept run count missed other broke broken copies place a f g (WantsBeside e) = WantsBeside e
 
@@ -287,12 +288,11 @@ halts_map kept run count missed other broke broken copies place a f g (WantsBesi
 merged_end : (broke : Type 0) (copies : Copy → Type 0) (kind : Kind) (entries : Sofar) (a : SyncAnswer) → Unmerged broke copies kind entries a → IsEnd a
 merged_end broke copies kind entries a (Broken b e) = subst IsEnd (sym e) tt
 merged_end broke copies kind entries a (Wanting e) = subst IsEnd (sym e) tt
-merged_end broke copies kind entries a (Misfit unlike e) = subst IsEnd (sym e) tt
 merged_end broke copies kind entries a (OverLimit n many is e) = subst IsEnd (sym e) tt
 
 pub halts_end : (kept : List ℕ) (run count : ℕ) (missed broke : Type 0) (copies : Copy → Type 0) (place : Place) (a : DeltaAnswer) → Halts kept run count missed broke copies place a → IsDeltaEnd place.base a
-halts_end kept run count missed broke copies place a (Stopped s) = stops_end kept run count missed place a s
-halts_end kept run count missed broke copies place a (Merging entries are s u e) = subst (λ r. IsDeltaEnd place.base r) (sym e) (merged_end broke copies place.kind entries s u)
+halts_end kept run count missed broke copies place a (Stopped held shown s) = stops_end kept run count missed place held a s
+halts_end kept run count missed broke copies place a (Merging entries are shown s u e) = subst (λ r. IsDeltaEnd place.base r) (sym e) (merged_end broke copies place.kind entries s u)
 halts_end kept run count missed broke copies place a (Broke b e) = subst (λ r. IsDeltaEnd place.base r) (sym e) tt
 halts_end kept run count missed broke copies place a (WantsBeside e) = subst (λ r. IsDeltaEnd place.base r) (sym e) tt
 
@@ -313,19 +313,20 @@ replies_on kept run count place (Some a) not x w own = x w own
 abbrev pub Outcome : DeltaAnswer → DeltaAnswer → Type 0 → Type 0
 Outcome given result broke = (result ≡ given) ⊎ (((result ≡ Ended answer.KeeperFault) × broke) ⊎ (result ≡ Ended answer.NoMemory))
 
-pub stops_halt : (kept : List ℕ) (run count : ℕ) (missed broke : Type 0) (copies : Copy → Type 0) (place : Place) (given result : DeltaAnswer) → Stops kept run count missed place given → Outcome given result broke → Halts kept run count missed broke copies place result
-stops_halt kept run count missed broke copies place given result stops out = ⊎_elim
-    (λ (e : result ≡ given). Stopped (subst (λ a. Stops kept run count missed place a) (sym e) stops))
+pub stops_halt : (kept : List ℕ) (run count : ℕ) (missed broke : Type 0) (copies : Copy → Type 0) (place : Place) (held : List Record) (given result : DeltaAnswer) → ((c : Copy) → copies c → held ≡ held_list c place.kind) → Stops kept run count missed place held given → Outcome given result broke
+    → Halts kept run count missed broke copies place result
+stops_halt kept run count missed broke copies place held given result shown stops out = ⊎_elim
+    (λ (e : result ≡ given). Stopped held shown (subst (λ a. Stops kept run count missed place held a) (sym e) stops))
     (λ y. ⊎_elim (λ (x : (result ≡ Ended answer.KeeperFault) × broke). Broke x.1 x.0) (λ (e : result ≡ Ended answer.NoMemory). WantsBeside e) y) out
 
-pub halt_replies : (kept : List ℕ) (run count : ℕ) (missed broke : Type 0) (place : Place) (given result : DeltaAnswer) → Stops kept run count missed place given → Outcome given result broke → (w : WireReply) → IsOwnReply kept run count w → RepliesIf place w result
-halt_replies kept run count missed broke place given result stops out w own = ⊎_elim
-    (λ (e : result ≡ given). subst (λ a. RepliesIf place w a) (sym e) (stops_replies kept run count missed place given stops w own))
+pub halt_replies : (kept : List ℕ) (run count : ℕ) (missed broke : Type 0) (place : Place) (held : List Record) (given result : DeltaAnswer) → Stops kept run count missed place held given → Outcome given result broke → (w : WireReply) → IsOwnReply kept run count w → RepliesIf place w result
+halt_replies kept run count missed broke place held given result stops out w own = ⊎_elim
+    (λ (e : result ≡ given). subst (λ a. RepliesIf place w a) (sym e) (stops_replies kept run count missed place held given stops w own))
     (λ y. inl (⊎_elim (λ (x : (result ≡ Ended answer.KeeperFault) × broke). subst IsDeltaAside (sym x.0) tt) (λ (e : result ≡ Ended answer.NoMemory). subst IsDeltaAside (sym e) tt) y)) out
 
 -- at the same place
-pub stops_at : (kept : List ℕ) (run count : ℕ) (missed : Type 0) (here there : Place) (a : DeltaAnswer) → here ≡ there → Stops kept run count missed here a → Stops kept run count missed there a
-stops_at kept run count missed here there a e x = subst (λ p. Stops kept run count missed p a) e x
+pub stops_at : (kept : List ℕ) (run count : ℕ) (missed : Type 0) (here there : Place) (held : List Record) (a : DeltaAnswer) → here ≡ there → Stops kept run count missed here held a → Stops kept run count missed there held a
+stops_at kept run count missed here there held a e x = subst (λ p. Stops kept run count missed p held a) e x
 
 pub sends_at : (token : List ℕ) (here there : Place) (run from to : ℕ) (wants : Type 0) (before after : List Request) → here ≡ there → SendsOn (IsDeltaUnder token here.limit here.base) run from to wants before after
     → SendsOn (IsDeltaUnder token there.limit there.base) run from to wants before after
@@ -337,15 +338,15 @@ asks_some : (a : DeltaAnswer) (count : ℕ) → 1 ≤ count → AsksSome a count
 asks_some (BaseGone held oldest) count some = some
 asks_some a count some = tt
 
-stops_some : (kept : List ℕ) (run count : ℕ) (missed : Type 0) (place : Place) (a : DeltaAnswer) → Stops kept run count missed place a → AsksSome a count
-stops_some kept run count missed place a (Given g) = asks_some a count g.own.from
-stops_some kept run count missed place a (NoneCame offset m unlike e) = subst (λ a. AsksSome a count) (sym e) tt
-stops_some kept run count missed place a (NoReply offset unlike e) = subst (λ a. AsksSome a count) (sym e) tt
-stops_some kept run count missed place a (Wants e) = subst (λ a. AsksSome a count) (sym e) tt
+stops_some : (kept : List ℕ) (run count : ℕ) (missed : Type 0) (place : Place) (held : List Record) (a : DeltaAnswer) → Stops kept run count missed place held a → AsksSome a count
+stops_some kept run count missed place held a (Given g) = asks_some a count g.own.from
+stops_some kept run count missed place held a (NoneCame offset m unlike e) = subst (λ a. AsksSome a count) (sym e) tt
+stops_some kept run count missed place held a (NoReply offset unlike e) = subst (λ a. AsksSome a count) (sym e) tt
+stops_some kept run count missed place held a (Wants e) = subst (λ a. AsksSome a count) (sym e) tt
 
 halts_some : (kept : List ℕ) (run count : ℕ) (missed broke : Type 0) (copies : Copy → Type 0) (place : Place) (a : DeltaAnswer) → Halts kept run count missed broke copies place a → AsksSome a count
-halts_some kept run count missed broke copies place a (Stopped s) = stops_some kept run count missed place a s
-halts_some kept run count missed broke copies place a (Merging entries are s u e) = subst (λ a. AsksSome a count) (sym e) tt
+halts_some kept run count missed broke copies place a (Stopped held shown s) = stops_some kept run count missed place held a s
+halts_some kept run count missed broke copies place a (Merging entries are shown s u e) = subst (λ a. AsksSome a count) (sym e) tt
 halts_some kept run count missed broke copies place a (Broke b e) = subst (λ a. AsksSome a count) (sym e) tt
 halts_some kept run count missed broke copies place a (WantsBeside e) = subst (λ a. AsksSome a count) (sym e) tt
 

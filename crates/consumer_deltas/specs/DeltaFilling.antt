@@ -23,11 +23,12 @@ use Rattle.exchange_link.specs.declared.answer.SyncAnswer.TheVariants as answer
 use Rattle.hub_spec.specs.rules.Checks.{version_at}
 use Rattle.hub_spec.specs.views.Deltas.{delta as what_differs}
 use Rattle.keeper_memory.specs.copy.Changes.{copy_after}
-use Rattle.keeper_memory.specs.copy.Copies.{Copy}
+use Rattle.keeper_memory.specs.copy.Copies.{Copy, held_list}
 use Rattle.keeper_memory.specs.copy.States.{stage_of}
 use Rattle.keeper_memory.specs.declared.copy.change.CopyChange.TheVariants.{Drop}
 use Rattle.keeper_memory.specs.declared.copy.state.StageState.{StageState}
 use Rattle.keeper_memory.specs.declared.copy.state.TheConstants.{LAST}
+use Rattle.roster_types.specs.Records.{Record}
 use Rattle.roster_values.specs.declared.kind.Kind.{Kind}
 use Rattle.version_core.specs.HubStates.{HubState}
 
@@ -61,6 +62,11 @@ abbrev pub CanStage : Kind → Delta → Type 0
 CanStage kind (delta.Closed pin) = pin ≤ LAST
 CanStage kind (delta.Whole pin entries) = (pin ≤ LAST) × AreEntries kind entries
 
+-- the entries were judged by these rows
+abbrev pub StandsOn : List Record → Delta → Type 0
+StandsOn held (delta.Closed pin) = ⊤
+StandsOn held (delta.Whole pin entries) = entries.held ≡ held
+
 -- the version at which it was gathered
 abbrev pub pin_in : Delta → ℕ
 pin_in (delta.Closed pin) = pin
@@ -88,10 +94,11 @@ DeltaEnds token base (Some (Ended a)) before after = Ends token (Some a) before 
 DeltaEnds token base (Some (BaseGone held oldest)) before after = (held ≡ base) × Fills token before after
 DeltaEnds token base (Some NoBase) before after = ⊥
 
--- why the kinds end: the pages of one stopped, its entries weren't merged with what is held, or keeper or memory gave up beside
+-- why the kinds end: the pages of one stopped, which were judged by what is held of it, its entries weren't merged with that, or keeper or
+-- memory gave up beside
 pub data Halts (kept : List ℕ) (run count : ℕ) (missed broke : Type 0) (copies : Copy → Type 0) (place : Place) (a : DeltaAnswer) : Type 0 where
-  Stopped : Stops kept run count missed place a → Halts kept run count missed broke copies place a
-  Merging : (entries : Sofar) → AreEntries place.kind entries → (s : SyncAnswer) → Unmerged broke copies place.kind entries s → a ≡ Ended s → Halts kept run count missed broke copies place a
+  Stopped : (held : List Record) → ((c : Copy) → copies c → held ≡ held_list c place.kind) → Stops kept run count missed place held a → Halts kept run count missed broke copies place a
+  Merging : (entries : Sofar) → AreEntries place.kind entries → ((c : Copy) → copies c → entries.held ≡ held_list c place.kind) → (s : SyncAnswer) → Unmerged broke copies place.kind entries s → a ≡ Ended s → Halts kept run count missed broke copies place a
   Broke : broke → a ≡ Ended answer.KeeperFault → Halts kept run count missed broke copies place a
   Wants : a ≡ Ended answer.NoMemory → Halts kept run count missed broke copies place a
 

@@ -1,6 +1,6 @@
 -- The delta of a kind, page after page.
 use Rattle.std.specs.Prelude.{◌≡◌, ◌⊎◌, ◌+◌, ◌*◌, ◌<◌, ◌≤◌, ◌++◌, ℕ, true, List, [], None, length}
-use Rattle.consumer_deltas.specs.DeltaJudging.{Sofar, count_in, delta_judged, entry_limit, ids_ascend, is_whole}
+use Rattle.consumer_deltas.specs.DeltaJudging.{MayCome, Sofar, count_in, delta_judged, entry_limit, is_whole}
 use Rattle.consumer_sync.specs.Judging.{agrees}
 use Rattle.consumer_deltas.specs.declared.answer.DeltaAnswer.{DeltaAnswer}
 use Rattle.consumer_deltas.specs.declared.answer.DeltaAnswer.TheVariants.{Ended, BaseGone}
@@ -18,8 +18,8 @@ use Rattle.exchange_link.specs.Sayings.{knows, list_of}
 use Rattle.hub_spec.specs.rules.Checks.{version_at}
 use Rattle.hub_spec.specs.views.Deltas.{delta as what_differs}
 use Rattle.hub_spec.specs.views.Pages.{slice}
-use Rattle.keeper_memory.specs.copy.Lists.{IsList}
 use Rattle.keeper_memory.specs.declared.copy.state.TheConstants.{LAST}
+use Rattle.roster_types.specs.Records.{Record}
 use Rattle.roster_values.specs.Kinds.{place_of_kind}
 use Rattle.roster_values.specs.declared.kind.Kind.{Kind}
 use Rattle.row_deltas.specs.Deltas.{ids_gone, rows_put}
@@ -40,12 +40,11 @@ ending_of a place offset = Ended (answer.BadReply place.kind offset)
 abbrev pub most_asked : ℕ
 most_asked = 100 * (entry_limit + 2)
 
--- entries of a kind that may be merged with rows that are held, but for which of them they speak
+-- entries of a kind that may be merged with the rows that are held
 pub record AreEntries (kind : Kind) (entries : Sofar) : Type 0 where
   pub whole : is_whole entries ≡ true
   pub few : count_in entries ≤ entry_limit
-  pub puts : IsList kind entries.puts
-  pub gone : ids_ascend None entries.gone ≡ true
+  pub come : MayCome kind entries
 
 -- a version that may be the pin
 pub record IsPinAt (place : Place) (pin : ℕ) : Type 0 where
@@ -53,16 +52,19 @@ pub record IsPinAt (place : Place) (pin : ℕ) : Type 0 where
   pub low : pin ≤ LAST
 
 -- a whole delta at the pin, where there was one; a kind that isn't opened is so from the first
-abbrev pub IsGathered : Place → Delta → Type 0
-IsGathered place (delta.Closed pin) = IsPinAt place pin × (place.is_fresh ≡ true)
-IsGathered place (delta.Whole pin entries) = IsPinAt place pin × AreEntries place.kind entries
+abbrev pub IsGathered : Place → List Record → Delta → Type 0
+IsGathered place held (delta.Closed pin) = IsPinAt place pin × (place.is_fresh ≡ true)
+IsGathered place held (delta.Whole pin entries) = IsPinAt place pin × AreEntries place.kind entries × (entries.held ≡ held)
 
--- the last reply is the call's own, and gives this answer for the page that was asked for behind some entries of the kind
-pub record IsGiven (kept : List ℕ) (run count : ℕ) (place : Place) (a : DeltaAnswer) : Type 0 where
+-- the last reply is the call's own, and gives this answer for the page that was asked for behind some entries of the kind, which fit what
+-- is held of it
+pub record IsGiven (kept : List ℕ) (run count : ℕ) (place : Place) (held : List Record) (a : DeltaAnswer) : Type 0 where
   pub sofar : Sofar
   pub here : Place
   pub reply : WireReply
   pub own : IsOwnReply kept run count reply
+  pub shown : sofar.held ≡ held
+  pub come : MayCome place.kind sofar
   pub kind : here.kind ≡ place.kind
   pub base : here.base ≡ place.base
   pub limit : here.limit ≡ place.limit
@@ -70,11 +72,11 @@ pub record IsGiven (kept : List ℕ) (run count : ℕ) (place : Place) (a : Delt
   pub given : a ≡ ending_of (delta_judged here sofar reply) here (count_in sofar)
 
 -- why the pages of a kind end before the delta is whole
-pub data Stops (kept : List ℕ) (run count : ℕ) (missed : Type 0) (place : Place) (a : DeltaAnswer) : Type 0 where
-  Given : IsGiven kept run count place a → Stops kept run count missed place a
-  NoneCame : (offset : ℕ) → missed → ((w : WireReply) → IsOwnReply kept run count w → ⊥) → a ≡ Ended (answer.Interrupted place.kind offset) → Stops kept run count missed place a
-  NoReply : (offset : ℕ) → IsNoReply kept → a ≡ Ended (answer.BadReply place.kind offset) → Stops kept run count missed place a
-  Wants : a ≡ Ended answer.NoMemory → Stops kept run count missed place a
+pub data Stops (kept : List ℕ) (run count : ℕ) (missed : Type 0) (place : Place) (held : List Record) (a : DeltaAnswer) : Type 0 where
+  Given : IsGiven kept run count place held a → Stops kept run count missed place held a
+  NoneCame : (offset : ℕ) → missed → ((w : WireReply) → IsOwnReply kept run count w → ⊥) → a ≡ Ended (answer.Interrupted place.kind offset) → Stops kept run count missed place held a
+  NoReply : (offset : ℕ) → IsNoReply kept → a ≡ Ended (answer.BadReply place.kind offset) → Stops kept run count missed place held a
+  Wants : a ≡ Ended answer.NoMemory → Stops kept run count missed place held a
 
 -- ---- over a link that tells
 

@@ -1,7 +1,7 @@
 -- What a reply to a request for what differs means.
 use Rattle.std.specs.Prelude.{◌≡◌, ⊤, ℕ, ◌+◌, ◌-◌, ◌==◌, ◌&&◌, ◌++◌, not, Bool, true, false, nat_lt, min, List, [], ◌∷◌, length, Option, Some, None, Result, Ok, Err, if◌then◌else◌}
 use Rattle.std.specs.List.{All}
-use Rattle.keeper_memory.specs.copy.Lists.{ascends, last_from}
+use Rattle.keeper_memory.specs.copy.Lists.{IsList, ascends, last_from}
 use Rattle.http_wire.specs.declared.answer.WireReply.{WireReply}
 use Rattle.roster_types.specs.Keys.{is_after}
 use Rattle.roster_types.specs.Records.{Record}
@@ -10,23 +10,26 @@ use Rattle.row_json.specs.Deltas.{gone_of}
 use Rattle.row_json.specs.Reading.{rows_of}
 use Rattle.row_json.specs.declared.fault.JsonFault.{JsonFault}
 use Rattle.consumer_sync.specs.Judging.{agrees}
+use Rattle.consumer_deltas.specs.DeltaFits.{fits}
 use Rattle.consumer_deltas.specs.declared.gathered.Entries.{Entries}
 use Rattle.consumer_deltas.specs.declared.gathered.Gathered.TheInside.{Inside}
 use Rattle.consumer_deltas.specs.declared.judging.DeltaAct.{DeltaAct}
 use Rattle.consumer_deltas.specs.declared.judging.DeltaAct.TheVariants.{Take, Close, PinGone, BaseGone, UnknownToken, TooLarge, BadReply, HubFault, HubNoMemory}
 use Rattle.consumer_deltas.specs.declared.judging.Place.{Place}
 
--- what has come of the delta of a kind: the rows that are put, the ids that are gone, and how many entries there are in all
+-- the rows that are held of a kind, and what has come of its delta: the rows that are put, the ids that are gone, and how many entries
+-- there are in all
 pub record Sofar : Type 0 where
+  pub held : List Record
   pub puts : List Record
   pub gone : List (List ℕ)
   pub total : Option ℕ
 
 abbrev pub sofar_of : Inside → Sofar
-sofar_of g = record { puts = g.puts.items; gone = g.gone.items; total = g.total }
+sofar_of g = record { held = g.held; puts = g.puts.items; gone = g.gone.items; total = g.total }
 
-abbrev pub nothing_yet : Sofar
-nothing_yet = record { puts = []; gone = []; total = None }
+abbrev pub nothing_yet : List Record → Sofar
+nothing_yet held = record { held = held; puts = []; gone = []; total = None }
 
 -- how many entries have come: the offset of the next page
 abbrev pub count_in : Sofar → ℕ
@@ -34,7 +37,7 @@ count_in sofar = length sofar.puts + length sofar.gone
 
 -- with the entries of one more page
 abbrev pub with_page : Sofar → Entries → ℕ → Sofar
-with_page sofar page total = record { puts = sofar.puts ++ page.puts; gone = sofar.gone ++ page.gone; total = Some total }
+with_page sofar page total = record { held = sofar.held; puts = sofar.puts ++ page.puts; gone = sofar.gone ++ page.gone; total = Some total }
 
 abbrev pub is_total : Option ℕ → ℕ → Bool
 is_total None n = false
@@ -52,6 +55,17 @@ ids_ascend last (id ∷ ids) = is_after last id && ids_ascend (Some id) ids
 abbrev pub last_id : Option (List ℕ) → List (List ℕ) → Option (List ℕ)
 last_id last [] = last
 last_id last (id ∷ ids) = last_id (Some id) ids
+
+-- the entries fit the rows that are held
+abbrev pub fits_held : Kind → Sofar → Bool
+fits_held kind sofar = fits kind sofar.held sofar.puts sofar.gone
+
+-- entries of a kind that may come: in order, and such that they fit the rows that are held
+pub record MayCome (kind : Kind) (sofar : Sofar) : Type 0 where
+  pub held : IsList kind sofar.held
+  pub puts : IsList kind sofar.puts
+  pub gone : ids_ascend None sofar.gone ≡ true
+  pub fits : fits_held kind sofar ≡ true
 
 -- the most entries that a delta may have
 abbrev pub entry_limit : ℕ
@@ -72,12 +86,13 @@ abbrev pub closed_act : Option ℕ → Bool → Option ℕ → DeltaAct
 closed_act pin is_fresh None = BadReply
 closed_act pin is_fresh (Some v) = if agrees pin v && is_fresh then Close v else BadReply
 
--- a page's entries follow those that came
-abbrev pub part_act : Sofar → ℕ → ℕ → ℕ → Entries → DeltaAct
-part_act sofar limit v t page =
+-- a page's entries follow those that came, and with them fit what is held
+abbrev pub part_act : Kind → Sofar → ℕ → ℕ → ℕ → Entries → DeltaAct
+part_act kind sofar limit v t page =
     if not (length page.puts + length page.gone == min limit (t - count_in sofar)) then BadReply
     else if not (ascends (last_from None sofar.puts) page.puts) then BadReply
     else if not (ids_ascend (last_id None sofar.gone) page.gone) then BadReply
+    else if not (fits_held kind (with_page sofar page t)) then BadReply
     else Take v page t
 
 -- the entries that the body of a page says
@@ -89,16 +104,16 @@ entries_from (Err fault) gone = None
 abbrev pub entries_of : Kind → List ℕ → Option Entries
 entries_of kind body = entries_from (rows_of kind body) (gone_of body)
 
-abbrev pub read_act : Sofar → ℕ → ℕ → ℕ → Option Entries → DeltaAct
-read_act sofar limit v t None = BadReply
-read_act sofar limit v t (Some page) = part_act sofar limit v t page
+abbrev pub read_act : Kind → Sofar → ℕ → ℕ → ℕ → Option Entries → DeltaAct
+read_act kind sofar limit v t None = BadReply
+read_act kind sofar limit v t (Some page) = part_act kind sofar limit v t page
 
 abbrev pub page_act : Kind → Sofar → Option ℕ → ℕ → ℕ → ℕ → List ℕ → DeltaAct
 page_act kind sofar pin limit v t body =
     if not (agrees pin v) then BadReply
     else if nat_lt entry_limit t then TooLarge t
     else if not (agrees sofar.total t) then BadReply
-    else read_act sofar limit v t (entries_of kind body)
+    else read_act kind sofar limit v t (entries_of kind body)
 
 abbrev pub differing_act : Kind → Sofar → Option ℕ → ℕ → Option ℕ → Option ℕ → List ℕ → DeltaAct
 differing_act kind sofar pin limit (Some v) (Some t) body = page_act kind sofar pin limit v t body

@@ -1,7 +1,6 @@
 -- The delta of a kind, merged with what is held of it.
-use Rattle.std.specs.Prelude.{◌≡◌, ◌<◌, ◌≤◌, ℕ, true, false, List, length, Option, Some}
-use Rattle.consumer_deltas.specs.DeltaFits.{fits}
-use Rattle.consumer_deltas.specs.DeltaJudging.{Sofar, count_in}
+use Rattle.std.specs.Prelude.{◌≡◌, ◌<◌, ◌≤◌, ℕ, true, List, length, Option, Some}
+use Rattle.consumer_deltas.specs.DeltaJudging.{Sofar}
 use Rattle.consumer_deltas.specs.DeltaStaging.{Stages, following}
 use Rattle.consumer_sync.specs.Staging.{IsBroken, Taking}
 use Rattle.exchange_link.specs.declared.answer.SyncAnswer.{SyncAnswer}
@@ -17,10 +16,6 @@ use Rattle.version_core.specs.Version.{row_limit}
 abbrev pub rest_of : Option StageState → ℕ → List Record → Taking
 rest_of stage pin rows = record { pin = pin; rows = following stage rows; total = length rows; done = true }
 
--- the entries fit the rows that are held of the kind
-abbrev pub FitsHeld : Kind → Sofar → Copy → Type 0
-FitsHeld kind entries c = fits kind (held_list c kind) entries.puts entries.gone ≡ true
-
 -- the rows that are held of a kind, with the entries
 abbrev pub merged_with : Kind → Sofar → Copy → List Record
 merged_with kind entries c = merged (held_list c kind) entries.puts entries.gone
@@ -30,15 +25,13 @@ pub data StagesList (kind : Kind) (stage : Option StageState) (pin : ℕ) (token
   Staged : length rows ≤ row_limit → Stages (rest_of stage pin rows) token result before after → StagesList kind stage pin token rows result before after
   TooMany : row_limit < length rows → result ≡ Some (answer.TooLarge kind (length rows)) → after ≡ before → StagesList kind stage pin token rows result before after
 
--- the entries are merged with what is held, and the list is staged; where they don't fit, or keeper or memory gave up before, all is as it was
+-- the entries are merged with what is held, and the list is staged; where keeper or memory gave up before, all is as it was
 pub data Merges (kind : Kind) (entries : Sofar) (stage : Option StageState) (pin : ℕ) (token : List ℕ) (result : Option SyncAnswer) (before after : Copy) : Type 0 where
-  Merged : FitsHeld kind entries before → StagesList kind stage pin token (merged_with kind entries before) result before after → Merges kind entries stage pin token result before after
-  Unfit : fits kind (held_list before kind) entries.puts entries.gone ≡ false → result ≡ Some (answer.BadReply kind (count_in entries)) → after ≡ before → Merges kind entries stage pin token result before after
+  Merged : StagesList kind stage pin token (merged_with kind entries before) result before after → Merges kind entries stage pin token result before after
   Fails : IsBroken result → after ≡ before → Merges kind entries stage pin token result before after
 
--- why the entries aren't staged: keeper or memory gave up, they don't fit what is held, or the list would be too long
+-- why the entries aren't staged: keeper or memory gave up, or the list would be too long
 pub data Unmerged (broke : Type 0) (copies : Copy → Type 0) (kind : Kind) (entries : Sofar) (a : SyncAnswer) : Type 0 where
   Broke : broke → a ≡ answer.KeeperFault → Unmerged broke copies kind entries a
   Wants : a ≡ answer.NoMemory → Unmerged broke copies kind entries a
-  Unfit : ((c : Copy) → copies c → fits kind (held_list c kind) entries.puts entries.gone ≡ false) → a ≡ answer.BadReply kind (count_in entries) → Unmerged broke copies kind entries a
   TooMany : (n : ℕ) → row_limit < n → ((c : Copy) → copies c → n ≡ length (merged_with kind entries c)) → a ≡ answer.TooLarge kind n → Unmerged broke copies kind entries a

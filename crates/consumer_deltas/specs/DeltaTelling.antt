@@ -12,7 +12,9 @@ use Rattle.exchange_link.specs.Exchanges.{Told}
 use Rattle.exchange_link.specs.Sayings.{list_of}
 use Rattle.exchange_link.specs.declared.answer.SyncAnswer.TheVariants as answer
 use Rattle.hub_spec.specs.rules.Checks.{version_at}
+use Rattle.hub_spec.specs.views.Cuts.{list_in}
 use Rattle.hub_spec.specs.views.Deltas.{delta as what_differs}
+use Rattle.roster_types.specs.Records.{Record}
 use Rattle.roster_values.specs.Kinds.{place_of_kind}
 use Rattle.version_core.specs.HubStates.{HubState, newest_number}
 
@@ -21,9 +23,11 @@ abbrev pub IsPinFrom : Option ℕ → HubState → ℕ → Type 0
 IsPinFrom None h v = newest_number h ≤ v
 IsPinFrom (Some pin) h v = v ≡ pin
 
--- a delta of the kind may be asked for at this state: both versions were published, and where rows of the kind are staged, there are some
-pub record MayAsk (h : HubState) (token : List ℕ) (place : Place) : Type 0 where
+-- a delta of the kind may be asked for at this state: both versions were published, what is held is the list of the base, and where rows of
+-- the kind are staged, there are some
+pub record MayAsk (h : HubState) (token : List ℕ) (place : Place) (held : List Record) : Type 0 where
   pub based : place.base < length h.published
+  pub shown : held ≡ list_in (version_at h place.base) token place.kind
   pub pinned : IfSome place.pin (λ pin. (pin < length h.published) × (place.base ≤ pin))
   pub staged : place.is_fresh ≡ false → IsSomeAnd place.pin (λ pin. list_of (version_at h pin) token (place_of_kind place.kind) ≢ [])
 

@@ -4,7 +4,7 @@ ghost use Rattle.std.specs.Prelude.{◌≡◌, ◌⊎◌, ◌+◌, ◌-◌, ◌*
 ghost use Rattle.consumer_deltas.specs.DeltaAnswers.{HasBase};
 ghost use Rattle.consumer_deltas.specs.DeltaCalls.{AsksSome};
 ghost use Rattle.consumer_deltas.specs.DeltaCauses.{RepliesIf, RepliesOn};
-ghost use Rattle.consumer_deltas.specs.DeltaFilling.{CanStage, DeltaEnds, FillTold, Halts, IsPinGone, KindTold, LetsGo, StagesKind, Unstaged, first_place, pin_in};
+ghost use Rattle.consumer_deltas.specs.DeltaFilling.{CanStage, DeltaEnds, FillTold, Halts, IsPinGone, KindTold, LetsGo, StagesKind, StandsOn, Unstaged, first_place, pin_in};
 ghost use Rattle.consumer_deltas.specs.DeltaGathering.{most_asked};
 ghost use Rattle.consumer_deltas.specs.DeltaRequests.{IsDeltaUnder};
 ghost use Rattle.consumer_sync.specs.Faulted.{SaysGone};
@@ -20,20 +20,20 @@ ghost use Rattle.exchange_link.specs.Places.{kind_at, kinds_of};
 ghost use Rattle.exchange_link.specs.Requests.{Asks, IsReady};
 ghost use Rattle.exchange_link.specs.Synchronised.{StageOn};
 ghost use Rattle.http_wire.specs.declared.answer.WireReply.{WireReply as Reply};
-ghost use Rattle.keeper_memory.specs.copy.Copies.{Copy};
+ghost use Rattle.keeper_memory.specs.copy.Copies.{Copy, held_list};
 ghost use Rattle.keeper_memory.specs.copy.Lists.{kind_count};
 ghost use Rattle.keeper_memory.specs.copy.States.{stage_of};
 ghost use Rattle.keeper_memory.specs.declared.copy.state.TheConstants.{LAST};
 ghost use Rattle.roster_base.specs.Faults.{Rose};
 
 use crate::answer::DeltaAnswer;
-use crate::gather::{Delta, gather};
+use crate::gather::{Delta, ended, gather};
 use crate::judging::Place;
 use crate::merged::stage_delta;
 use crate::request::Asker;
 use consumer_sync::fill::KINDS;
 use consumer_sync::judging::{kind, kinds_done, pin, staged};
-use consumer_sync::staging::{broken, take_page};
+use consumer_sync::staging::{StagedPage, broken, take_page};
 use exchange_link::{Link, SyncAnswer};
 use keeper_memory::{CopyChange, CopyKeeper, StageState};
 use roster_base::Items;
@@ -87,6 +87,7 @@ fn stage_kind<C: CopyKeeper>(
     requires holds { (c : Copy) → C.stands_for copy.old c → stage_of c ≡ stage.old }
     requires room { kinds_of stage.old < kind_count }
     requires gathered { CanStage (kind_at (kinds_of stage.old)) delta }
+    requires held { (c : Copy) → C.stands_for copy.old c → StandsOn (held_list c (kind_at (kinds_of stage.old))) delta }
     ensures on { result ≡ None → stage.new ≡ Some (paged (opened stage.old (pin_in delta) token.now) [] 0 true) }
     ensures holds { result ≡ None → (c : Copy) → C.stands_for copy.new c → stage_of c ≡ stage.new }
     ensures told { (after : Copy) → C.stands_for copy.new after → (before : Copy) × C.stands_for copy.old before
@@ -100,8 +101,13 @@ fn stage_kind<C: CopyKeeper>(
             let kind = kind(stage);
             // Read for its range.
             let _staged = staged(stage);
-            let none = Items::new(alloc);
-            take_page(alloc, copy, stage, token, pin, kind, none, 0, true)
+            let page = StagedPage {
+                kind,
+                rows: Items::new(alloc),
+                total: 0,
+                done: true,
+            };
+            take_page(alloc, copy, stage, token, pin, page)
         }
         Delta::Whole { pin, entries } => stage_delta(alloc, copy, stage, token, pin, &entries),
     }
@@ -147,11 +153,14 @@ fn fill_kind<C: CopyKeeper, L: Link>(
         → KindTold by.entry.token.now by.entry.limit by.entry.tries by.entry.base (count.new - count.old) stage.old stage.new result told t after) }
 {
     let place = first_page(stage, by);
-    match gather(alloc, link, by, place, count) {
-        Err(answer) => Some(let_go(alloc, copy, answer)),
-        Ok(delta) => match stage_kind(alloc, copy, stage, by.token, delta) {
-            None => None,
-            Some(answer) => Some(DeltaAnswer::Ended { answer }),
+    match copy.held(alloc, place.kind) {
+        Err(error) => Some(ended(broken(error))),
+        Ok(held) => match gather(alloc, link, by, place, held, count) {
+            Err(answer) => Some(let_go(alloc, copy, answer)),
+            Ok(delta) => match stage_kind(alloc, copy, stage, by.token, delta) {
+                None => None,
+                Some(answer) => Some(DeltaAnswer::Ended { answer }),
+            },
         },
     }
 }

@@ -4,7 +4,7 @@ ghost use Rattle.std.specs.Prelude.{◌≡◌, ◌+◌, ◌-◌, ◌*◌, ◌^�
 ghost use Rattle.consumer_deltas.specs.DeltaAnswers.{DeltaTold};
 ghost use Rattle.consumer_deltas.specs.DeltaFilling.{IsPinGone};
 ghost use Rattle.consumer_deltas.specs.DeltaGathering.{IsGathered, Stops, ending_of, most_asked};
-ghost use Rattle.consumer_deltas.specs.DeltaJudging.{ArePuts, count_in, delta_judged, is_whole, with_page};
+ghost use Rattle.consumer_deltas.specs.DeltaJudging.{ArePuts, MayCome, count_in, delta_judged, is_whole, with_page};
 ghost use Rattle.consumer_deltas.specs.DeltaRequests.{IsDeltaUnder, page_asked};
 ghost use Rattle.consumer_deltas.specs.DeltaTelling.{MayAsk, PagesTold};
 ghost use Rattle.consumer_sync.specs.Requests.{IsUnmarked};
@@ -15,6 +15,7 @@ ghost use Rattle.exchange_link.specs.Exchanges.{Told};
 ghost use Rattle.exchange_link.specs.Owning.{IsOwnRead};
 ghost use Rattle.exchange_link.specs.Requests.{Asks, IsReady, number};
 ghost use Rattle.http_wire.specs.declared.answer.WireReply.{WireReply as Reply};
+ghost use Rattle.keeper_memory.specs.copy.Lists.{IsList};
 ghost use Rattle.keeper_memory.specs.declared.copy.state.TheConstants.{LAST};
 
 use crate::answer::DeltaAnswer;
@@ -22,6 +23,8 @@ use crate::gathered::{Entries, Gathered};
 use crate::judging::{DeltaAct, Place, judge};
 use crate::request::{Asker, fetch};
 use exchange_link::{Link, Outcome, SyncAnswer};
+use roster_base::Items;
+use roster_types::row::Row;
 use std::alloc::Global;
 
 /// The delta of a kind, whole, at a version.
@@ -68,7 +71,8 @@ fn next_act<L: Link>(
     sofar: &Gathered,
     count: &mut u64,
 ) -> Result<DeltaAct, DeltaAnswer>
-    requires came { count_in sofar.now < 2 ^ 64 }
+    requires few_came { count_in sofar.now < 2 ^ 64 }
+    requires come { MayCome place.kind sofar.now }
     requires limit { place.limit < 2 ^ 64 }
     requires base { place.base < 2 ^ 64 }
     requires pin { IfSome place.pin (λ n. n < 2 ^ 64) }
@@ -81,7 +85,7 @@ fn next_act<L: Link>(
     ensures link_leads { L.leads link.old link.new }
     ensures act { IfOk result (λ a. (w : Reply) × IsOwnReply (L.kept link.new) by.entry.run count.new w × (a ≡ delta_judged place sofar.now w)) }
     ensures kinds { IfOk result (ArePuts place.kind) }
-    ensures cause { IfErr result (Stops (L.kept link.new) by.entry.run count.new ((by.entry.tries ≤ L.missed link.new) × (by.entry.tries ≤ count.new) × RoseBy by.entry.tries (L.fault_count link.old) (L.fault_count link.new)) place) }
+    ensures cause { IfErr result (Stops (L.kept link.new) by.entry.run count.new ((by.entry.tries ≤ L.missed link.new) × (by.entry.tries ≤ count.new) × RoseBy by.entry.tries (L.fault_count link.old) (L.fault_count link.new)) place sofar.now.held) }
     ensures gone { IfErr result (λ a. IsPinGone a → ⊥) }
     // Over a link that tells, where no number was used twice, the reply is the hub's own.
     ensures told { (after : Told) → L.tells link.new after → (before : Told) × L.tells link.old before
@@ -128,23 +132,25 @@ fn add(sofar: &mut Gathered, page: Entries, total: u64) -> Result<bool, DeltaAns
     }
 }
 
-/// Asks for the whole delta of a kind from the base on, page after page. The pin is that of `place`, or the version that the first page
-/// tells.
+/// Asks for the whole delta of a kind from the base on, page after page, each judged by the rows that are held. The pin is that of `place`,
+/// or the version that the first page tells.
 pub fn gather<L: Link>(
     alloc: Global,
     link: &mut L,
     by: Asker<'_>,
     place: Place,
+    held: Items<Row>,
     count: &mut u64,
 ) -> Result<Delta, DeltaAnswer>
+    requires held { IsList place.kind held }
     requires limit { (0 < place.limit) × (place.limit ≤ 1000) }
     requires base { place.base < 2 ^ 64 }
     requires pin { IfSome place.pin (λ n. n < 2 ^ 64) }
     requires run { (1 ≤ by.run) × (by.run ≤ LAST) }
     requires tries { (0 < by.tries) × (by.tries ≤ 100) }
     requires few { count.old + most_asked ≤ 100 * LAST }
-    ensures whole { IfOk result (IsGathered place) }
-    ensures cause { IfErr result (Stops (L.kept link.new) by.entry.run count.new ((by.entry.tries ≤ L.missed link.new) × (by.entry.tries ≤ count.new) × RoseBy by.entry.tries (L.fault_count link.old) (L.fault_count link.new)) place) }
+    ensures whole { IfOk result (IsGathered place held) }
+    ensures cause { IfErr result (Stops (L.kept link.new) by.entry.run count.new ((by.entry.tries ≤ L.missed link.new) × (by.entry.tries ≤ count.new) × RoseBy by.entry.tries (L.fault_count link.old) (L.fault_count link.new)) place held) }
     ensures count { (count.old ≤ count.new) × (count.new ≤ count.old + most_asked) }
     ensures asked { IsMore (L.asked link.old) (count.new - count.old) (L.asked link.new) }
     ensures later { L.fault_count link.old ≤ L.fault_count link.new }
@@ -154,9 +160,9 @@ pub fn gather<L: Link>(
         × SendsOn (IsDeltaUnder by.entry.token.now place.limit place.base) by.entry.run count.old count.new (result ≡ Err (DeltaAnswer.Ended SyncAnswer.NoMemory)) before.sent after.sent }
     // Over a link that tells; and where no number was used twice.
     ensures told { (after : Told) → L.tells link.new after → (before : Told) × L.tells link.old before × Asks by.entry.run count.old count.new IsUnmarked before after
-        × (IsReady by.entry.run count.old before.sent → MayAsk before.hub by.entry.token.now place → PagesTold before after by.entry.token.now place by.entry.tries (count.new - count.old) result) }
+        × (IsReady by.entry.run count.old before.sent → MayAsk before.hub by.entry.token.now place held → PagesTold before after by.entry.token.now place by.entry.tries (count.new - count.old) result) }
 {
-    let mut sofar = Gathered::new(alloc);
+    let mut sofar = Gathered::new(alloc, held);
     let mut here = place;
     'pages: loop {
         match next_act(alloc, link, by, here, &sofar, count) {

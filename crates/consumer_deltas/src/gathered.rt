@@ -1,4 +1,4 @@
-//! What a call has of the delta of a kind.
+//! What a call has of a kind: the rows that are held, and its delta.
 
 ghost use Rattle.std.specs.Prelude.{◌≡◌, ◌<◌, ◌^◌, None, OnOk, option_copied};
 ghost use Rattle.consumer_deltas.specs.DeltaJudging.{count_in, is_whole, last_id, nothing_yet, with_page};
@@ -17,10 +17,11 @@ pub struct Entries {
     pub gone: Items<Id>,
 }
 
-/// What has come of the delta of a kind: in the order of their ids the rows that are put and the ids that are gone, and how many entries
-/// there are in all, once a page has said it.
+/// The rows that are held of a kind, and what has come of its delta: in the order of their ids the rows that are put and the ids that are
+/// gone, and how many entries there are in all, once a page has said it.
 #[derive(Drop)]
 pub struct Gathered {
+    held: Items<Row>,
     puts: Vec<Row>,
     gone: Vec<Id>,
     total: Option<u64>,
@@ -35,15 +36,23 @@ impl Model for Gathered {
 }
 
 impl Gathered {
-    /// Nothing yet.
-    pub fn new(alloc: Global) -> Gathered
-        ensures { result ≡ nothing_yet }
+    /// Nothing yet beside what is held.
+    pub fn new(alloc: Global, held: Items<Row>) -> Gathered
+        ensures { result ≡ nothing_yet held }
     {
         Gathered {
+            held,
             puts: Vec::new(alloc),
             gone: Vec::new(alloc),
             total: None,
         }
+    }
+
+    /// The rows that are held.
+    pub fn held(&self) -> &[Row]
+        ensures { result.now ≡ self.now.held }
+    {
+        self.held.as_slice()
     }
 
     /// The rows that are put.

@@ -2,9 +2,10 @@
 
 ghost use Rattle.std.specs.Prelude.{◌≡◌, ◌<◌, ◌^◌, IfOk, IfSome, option_copied};
 ghost use Rattle.std.specs.List.{All};
-ghost use Rattle.consumer_deltas.specs.DeltaJudging.{ArePuts, base_act, closed_act, count_in, delta_judged, differing_act, entries_of, ids_ascend, lost_act, page_act, part_act};
+ghost use Rattle.consumer_deltas.specs.DeltaJudging.{ArePuts, MayCome, base_act, closed_act, count_in, delta_judged, differing_act, entries_of, ids_ascend, lost_act, page_act, part_act};
 ghost use Rattle.roster_values.specs.declared.kind.Kind.{Kind as Kinds};
 
+use crate::fits::fits_on;
 use crate::gathered::{Entries, Gathered};
 use consumer_sync::judging::{ascend, is_above, is_none_or};
 use http_wire::WireReply;
@@ -102,18 +103,22 @@ fn judge_closed(pin: Option<u64>, is_fresh: bool, version: Option<u64>) -> Delta
     }
 }
 
-fn judge_part(sofar: &Gathered, limit: u64, v: u64, t: u64, page: Entries) -> DeltaAct
-    requires { count_in sofar.now < 2 ^ 64 }
-    ensures act { result ≡ part_act sofar.now limit v t page }
-    ensures kinds { (kind : Kinds) → All (λ row. row.kind ≡ kind) page.puts → ArePuts kind result }
+fn judge_part(place: Place, sofar: &Gathered, v: u64, t: u64, page: Entries) -> DeltaAct
+    requires few { count_in sofar.now < 2 ^ 64 }
+    requires come { MayCome place.kind sofar.now }
+    requires kinds { All (λ row. row.kind ≡ place.kind) page.puts }
+    ensures act { result ≡ part_act place.kind sofar.now place.limit v t page }
+    ensures kinds { ArePuts place.kind result }
 {
     let left = t.saturating_sub(sofar.count());
     let count = page.puts.as_slice().len() as u64 + page.gone.as_slice().len() as u64;
-    if count != limit.min(left) {
+    if count != place.limit.min(left) {
         DeltaAct::BadReply
     } else if !ascend(sofar.last_put(), page.puts.as_slice()) {
         DeltaAct::BadReply
     } else if !are_ascending(sofar.last_gone(), page.gone.as_slice()) {
+        DeltaAct::BadReply
+    } else if !fits_on(place.kind, sofar, &page) {
         DeltaAct::BadReply
     } else {
         DeltaAct::Take {
@@ -151,7 +156,8 @@ fn judge_page(
     t: u64,
     body: &[u8],
 ) -> Result<DeltaAct, NoMemory>
-    requires { count_in sofar.now < 2 ^ 64 }
+    requires few { count_in sofar.now < 2 ^ 64 }
+    requires come { MayCome place.kind sofar.now }
     ensures act { IfOk result (λ a. a ≡ page_act place.kind sofar.now place.pin place.limit v t body.now) }
     ensures kinds { IfOk result (ArePuts place.kind) }
 {
@@ -165,7 +171,7 @@ fn judge_page(
         return Ok(DeltaAct::BadReply);
     }
     match read_page(alloc, place.kind, body) {
-        Ok(Some(page)) => Ok(judge_part(sofar, place.limit, v, t, page)),
+        Ok(Some(page)) => Ok(judge_part(place, sofar, v, t, page)),
         Ok(None) => Ok(DeltaAct::BadReply),
         Err(error) => Err(error),
     }
@@ -179,7 +185,8 @@ fn judge_differing(
     total: Option<u64>,
     body: &[u8],
 ) -> Result<DeltaAct, NoMemory>
-    requires { count_in sofar.now < 2 ^ 64 }
+    requires few { count_in sofar.now < 2 ^ 64 }
+    requires come { MayCome place.kind sofar.now }
     ensures act { IfOk result (λ a. a ≡ differing_act place.kind sofar.now place.pin place.limit version total body.now) }
     ensures kinds { IfOk result (ArePuts place.kind) }
 {
@@ -196,7 +203,8 @@ pub fn judge(
     sofar: &Gathered,
     reply: &WireReply,
 ) -> Result<DeltaAct, NoMemory>
-    requires { count_in sofar.now < 2 ^ 64 }
+    requires few { count_in sofar.now < 2 ^ 64 }
+    requires come { MayCome place.kind sofar.now }
     ensures act { IfOk result (λ a. a ≡ delta_judged place sofar.now reply.now) }
     // The rows that it carries are of the kind that was asked for.
     ensures kinds { IfOk result (ArePuts place.kind) }

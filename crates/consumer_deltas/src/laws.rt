@@ -1,6 +1,6 @@
 //! What holds of the deltas that a consumer takes. Each function here does nothing; its contract is a law.
 
-ghost use Rattle.std.specs.Prelude.{◌≡◌, ◌<◌, ◌^◌, ℕ, ℤ, true, List, length};
+ghost use Rattle.std.specs.Prelude.{◌≡◌, ◌++◌, ◌<◌, ◌^◌, ℕ, ℤ, true, List, length};
 ghost use Rattle.std.specs.Str.{is_utf8};
 ghost use Rattle.consumer_deltas.specs.DeltaFits.{fits};
 ghost use Rattle.consumer_deltas.specs.DeltaGathering.{AreFirst, IsPartOf};
@@ -49,6 +49,12 @@ pub fn a_delta_fits_its_old_rows()
 pub fn a_told_page_is_a_part_of_the_delta()
     ensures { (state later : HubState) → Grew state later → (token : List ℕ) (place : Place) (sofar : Sofar) (w : WireReply) (pin : ℕ) (page : Entries) (total : ℕ)
         → delta_judged place sofar w ≡ act.Take pin page total → TellsFrom state (page_asked token place (count_in sofar)) place.base w → IsPartOf later token place sofar pin page total }
+{}
+
+/// With those that came before, the entries of a page that is taken fit what is held.
+pub fn a_page_that_is_taken_fits_what_is_held()
+    ensures { (place : Place) (sofar : Sofar) (w : WireReply) (pin : ℕ) (page : Entries) (total : ℕ)
+        → delta_judged place sofar w ≡ act.Take pin page total → fits place.kind sofar.held (sofar.puts ++ page.puts) (sofar.gone ++ page.gone) ≡ true }
 {}
 
 /// Such parts, one behind the other, are its first entries.

@@ -1,14 +1,13 @@
 //! The delta of a kind, merged with what is held of it, and staged.
 
-ghost use Rattle.std.specs.Prelude.{◌≡◌, ◌⊎◌, ◌<◌, ◌≤◌, [], true, false, None, Some, IfOk, IfSome, length, map};
-ghost use Rattle.consumer_deltas.specs.DeltaFits.{fits};
+ghost use Rattle.std.specs.Prelude.{◌≡◌, ◌⊎◌, ◌<◌, ◌≤◌, [], true, None, Some, IfOk, IfSome, length, map};
 ghost use Rattle.consumer_deltas.specs.DeltaGathering.{AreEntries};
-ghost use Rattle.consumer_deltas.specs.DeltaJudging.{ids_ascend};
+ghost use Rattle.consumer_deltas.specs.DeltaJudging.{MayCome};
 ghost use Rattle.consumer_deltas.specs.DeltaMerging.{Merges, StagesList, Unmerged};
 ghost use Rattle.consumer_sync.specs.Judging.{opened, paged};
 ghost use Rattle.consumer_sync.specs.Staging.{IsBroken};
 ghost use Rattle.exchange_link.specs.Places.{kind_at, kinds_of};
-ghost use Rattle.keeper_memory.specs.copy.Copies.{Copy};
+ghost use Rattle.keeper_memory.specs.copy.Copies.{Copy, held_list};
 ghost use Rattle.keeper_memory.specs.copy.Lists.{IsList, kind_count};
 ghost use Rattle.keeper_memory.specs.copy.States.{stage_of};
 ghost use Rattle.keeper_memory.specs.declared.copy.state.TheConstants.{LAST};
@@ -16,15 +15,13 @@ ghost use Rattle.roster_base.specs.Faults.{Rose};
 ghost use Rattle.row_deltas.specs.Deltas.{merged};
 ghost use Rattle.version_core.specs.Version.{row_limit};
 
-use crate::fits::fits;
 use crate::gathered::Gathered;
 use crate::staged::{ListAt, stage_rows};
 use consumer_sync::judging::{MAX_ROWS, kind};
-use consumer_sync::staging::broken;
 use exchange_link::SyncAnswer;
 use keeper_memory::{CopyKeeper, StageState};
 use roster_base::NoMemory;
-use roster_texts::{Id, Token};
+use roster_texts::Token;
 use roster_types::row::Row;
 use roster_values::Kind;
 use row_merges::merge;
@@ -66,26 +63,12 @@ fn stage_list<C: CopyKeeper>(
     stage_rows(alloc, copy, stage, list, rows)
 }
 
-// The rows that are held of a kind, with those that are put and without those that are gone; none where these don't fit them.
-fn merged_rows<'r>(
-    alloc: Global,
-    kind: Kind,
-    held: &'r [Row],
-    puts: &'r [Row],
-    gone: &[Id],
-) -> Result<Option<Vec<&'r Row>>, NoMemory>
-    requires held { IsList kind held.now }
-    requires puts { IsList kind puts.now }
-    requires gone { ids_ascend None gone.now ≡ true }
-    ensures some { IfOk result (λ o. IfSome o (λ rows. (fits kind held.now puts.now gone.now ≡ true) × (map (λ row. row.now) rows.items ≡ merged held.now puts.now gone.now))) }
-    ensures none { IfOk result (λ o. o ≡ None → fits kind held.now puts.now gone.now ≡ false) }
+// The rows that are held of a kind, with those that are put and without those that are gone.
+fn merged_rows(alloc: Global, kind: Kind, entries: &Gathered) -> Result<Vec<&Row>, NoMemory>
+    requires { MayCome kind entries.now }
+    ensures { IfOk result (λ rows. map (λ row. row.now) rows.items ≡ merged entries.now.held entries.now.puts entries.now.gone) }
 {
-    if fits(kind, held, puts, gone) {
-        let rows = merge(alloc, kind, held, puts, gone)?;
-        Ok(Some(rows))
-    } else {
-        Ok(None)
-    }
+    merge(alloc, kind, entries.held(), entries.puts(), entries.gone())
 }
 
 /// Merges what differs of the next kind with the rows that are held of it, and stages the list.
@@ -101,6 +84,7 @@ pub fn stage_delta<C: CopyKeeper>(
     requires last { pin ≤ LAST }
     requires room { kinds_of stage.old < kind_count }
     requires entries { AreEntries (kind_at (kinds_of stage.old)) entries.now }
+    requires held { (c : Copy) → C.stands_for copy.old c → entries.now.held ≡ held_list c (kind_at (kinds_of stage.old)) }
     ensures on { result ≡ None → stage.new ≡ Some (paged (opened stage.old pin token.now) [] 0 true) }
     ensures holds { result ≡ None → (c : Copy) → C.stands_for copy.new c → stage_of c ≡ stage.new }
     ensures told { (after : Copy) → C.stands_for copy.new after → (before : Copy) × C.stands_for copy.old before
@@ -111,21 +95,8 @@ pub fn stage_delta<C: CopyKeeper>(
     ensures cause { result ≡ Some SyncAnswer.KeeperFault → Rose (C.fault_count copy.old) (C.fault_count copy.new) }
 {
     let kind = kind(stage);
-    match copy.held(alloc, kind) {
-        Err(error) => Some(broken(error)),
-        Ok(held) => match merged_rows(
-            alloc,
-            kind,
-            held.as_slice(),
-            entries.puts(),
-            entries.gone(),
-        ) {
-            Err(_) => Some(SyncAnswer::NoMemory),
-            Ok(None) => {
-                let offset = entries.count();
-                Some(SyncAnswer::BadReply { kind, offset })
-            }
-            Ok(Some(rows)) => stage_list(alloc, copy, stage, token, pin, rows.as_slice()),
-        },
+    match merged_rows(alloc, kind, entries) {
+        Err(_) => Some(SyncAnswer::NoMemory),
+        Ok(rows) => stage_list(alloc, copy, stage, token, pin, rows.as_slice()),
     }
 }

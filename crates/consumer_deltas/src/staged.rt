@@ -15,7 +15,7 @@ ghost use Rattle.roster_base.specs.Faults.{Rose};
 ghost use Rattle.roster_values.specs.Kinds.{place_of_kind};
 
 use consumer_sync::judging::{is_above, last, staged};
-use consumer_sync::staging::take_page;
+use consumer_sync::staging::{StagedPage, take_page};
 use exchange_link::SyncAnswer;
 use keeper_memory::{CopyKeeper, StageState};
 use roster_base::{Items, NoMemory, TryCopy};
@@ -119,9 +119,15 @@ fn stage_page<C: CopyKeeper>(
     ensures cause { result ≡ Some SyncAnswer.KeeperFault → Rose (C.fault_count copy.old) (C.fault_count copy.new) }
 {
     match copies(alloc, rows) {
-        Ok(rows) => take_page(
-            alloc, copy, stage, list.token, list.pin, list.kind, rows, list.total, done,
-        ),
+        Ok(rows) => {
+            let page = StagedPage {
+                kind: list.kind,
+                rows,
+                total: list.total,
+                done,
+            };
+            take_page(alloc, copy, stage, list.token, list.pin, page)
+        }
         Err(_) => Some(SyncAnswer::NoMemory),
     }
 }

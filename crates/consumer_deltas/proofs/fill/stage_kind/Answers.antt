@@ -1,6 +1,7 @@
 use Rattle.std.proofs.Common.{◌∙◌, ap, sym, subst, true, [], List, Some}
 use Rattle.std.specs.Prelude.{IfSome}
 use Rattle.exchange_link.specs.Places.{kind_at, kinds_of}
+use Rattle.keeper_memory.specs.copy.Copies.{held_list}
 use Rattle.roster_base.specs.Faults.{Rose}
 use Rattle.roster_types.specs.Records.{Record}
 use Rattle.roster_values.specs.Kinds.{place_of_kind}
@@ -8,7 +9,7 @@ use Rattle.consumer_sync.proofs.KindLemmas.{place_at}
 use Rattle.consumer_sync.specs.Judging.{opened, paged}
 use Rattle.consumer_sync.specs.Staging.{Adds}
 use Rattle.consumer_deltas.proofs.DeltaFillLemmas.{closed_ends}
-use Rattle.consumer_deltas.specs.DeltaFilling.{CanStage, StagesKind, Unstaged, pin_in}
+use Rattle.consumer_deltas.specs.DeltaFilling.{CanStage, StagesKind, StandsOn, Unstaged, pin_in}
 use Rattle.consumer_deltas.proofs.fill.stage_kind.Goals as goal
 
 pub take_page-requires-clause-last : goal.take_page-requires-clause-last
@@ -26,7 +27,7 @@ returns-in-Closed-clause-told g c after stands =
       x.0,
       x.1,
       subst (λ d. StagesKind d (kind_at (kinds_of c.args.stage.now)) c.args.stage.now c.args.token.now c.take_page.result x.0 after) (sym c.in-Closed.is)
-          (subst (λ (rows : List Record). Adds (record { pin = c.in-Closed.pin; rows = rows; total = 0; done = true }) c.args.token.now c.take_page.result x.0 after) c.new-none.ensures x.2),
+          (subst (λ (rows : List Record). Adds (record { pin = c.in-Closed.pin; rows = rows; total = 0; done = true }) c.args.token.now c.take_page.result x.0 after) c.new.ensures x.2),
     )
 
 pub returns-in-Closed-clause-ends : goal.returns-in-Closed-clause-ends
@@ -39,6 +40,9 @@ stage_delta-requires-clause-last g c = (subst (λ d. CanStage (kind_at (kinds_of
 
 pub stage_delta-requires-clause-entries : goal.stage_delta-requires-clause-entries
 stage_delta-requires-clause-entries g c = (subst (λ d. CanStage (kind_at (kinds_of c.args.stage.now)) d) c.in-Whole.is c.requires.gathered).1
+
+pub stage_delta-requires-clause-held : goal.stage_delta-requires-clause-held
+stage_delta-requires-clause-held g c d stands = subst (λ e. StandsOn (held_list d (kind_at (kinds_of c.args.stage.now))) e) c.in-Whole.is (c.requires.held d stands)
 
 pub returns-in-Whole-clause-on : goal.returns-in-Whole-clause-on
 returns-in-Whole-clause-on g c none = c.stage_delta.ensures.on none ∙ ap (λ d. Some (paged (opened c.args.stage.now (pin_in d) c.args.token.now) [] 0 true)) (sym c.in-Whole.is)

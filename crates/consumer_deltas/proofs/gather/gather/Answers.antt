@@ -14,7 +14,7 @@ use Rattle.consumer_deltas.proofs.DeltaPagesLemmas.{NoneYet}
 use Rattle.consumer_deltas.proofs.DeltaStopLemmas.{GoneAt, ending_gone, ending_names, gone_at, none_gone, none_named}
 use Rattle.consumer_deltas.specs.DeltaAnswers.{DeltaTold}
 use Rattle.consumer_deltas.specs.DeltaGathering.{AreEntries, Given, Wants, ending_of}
-use Rattle.consumer_deltas.specs.DeltaJudging.{ArePuts, Sofar, count_in, delta_judged, entry_limit, is_whole, with_page}
+use Rattle.consumer_deltas.specs.DeltaJudging.{ArePuts, MayCome, Sofar, count_in, delta_judged, entry_limit, is_whole, with_page}
 use Rattle.consumer_deltas.specs.DeltaTelling.{GonePin, IsPinFrom, NamesPin}
 use Rattle.consumer_deltas.specs.declared.answer.DeltaAnswer.{DeltaAnswer}
 use Rattle.consumer_deltas.specs.declared.gather.Delta.TheVariants as delta
@@ -35,13 +35,14 @@ pages-init g c =
       same = λ pin e. e;
       asked_for = inl refl;
       fresh = λ e. e;
-      entries = subst (λ (s : Sofar). AreOpen c.args.place.kind s) (sym none) (open_first c.args.place.kind);
+      entries = subst (λ (s : Sofar). AreOpen c.args.place.kind s) (sym none) (open_first c.args.place.kind c.args.held c.requires.held);
+      held = ap (λ (s : Sofar). s.held) none;
       count = omega arith;
       room = omega (arith, left);
       asked = record { least = omega arith; most = omega arith };
       later = omega arith;
       link_leads = g.met.L.Link.stays _;
-      told = λ after tells. (after, tells, asks_refl _ _ _ _, λ ready may. (gathering_first after.hub c.args.by.token.now c.args.place _ none may, NoneYet (omega arith) (ap count_in none) refl));
+      told = λ after tells. (after, tells, asks_refl _ _ _ _, λ ready may. (gathering_first after.hub c.args.by.token.now c.args.place c.args.held _ none may, NoneYet (omega arith) (ap count_in none) refl));
       asks = λ after tells. (after, tells, sends_refl _ _ _ _ _);
     }
 
@@ -51,7 +52,8 @@ next_act-requires g c =
     let few = open_small c.args.place.kind c.pages.sofar i.entries in
     let left = open_left c.args.place.kind c.pages.sofar i.entries in
     record {
-      came = omega (arith, few);
+      few_came = omega (arith, few);
+      come = subst (λ (k : Kind). MayCome k c.pages.sofar) (sym i.kind) i.entries.come;
       limit = omega (arith, i.limit, c.requires.limit.1);
       base = omega (arith, i.base, c.requires.base);
       pin = i.pin;
@@ -103,6 +105,7 @@ pages-preserved g c =
       asked_for = subst (λ (p : Place). IsPinOf p.pin c.args.place.pin) (sym at) (pin_first c.args.place.pin pin (i.same pin part.pinned));
       fresh = λ fresh. absurd (not_both _ fresh (ap (λ (p : Place). p.is_fresh) at));
       entries = subst (λ (s : Sofar). AreOpen c.args.place.kind s) (sym joined) (subst (λ (k : Kind). AreOpen k (with_page sofar page total)) i.kind (entries_open here sofar w.0 pin page total far part kinds other));
+      held = ap (λ (s : Sofar). s.held) joined ∙ i.held;
       count = omega (arith, i.count, c.next_act.ensures.count.0);
       room = omega (arith, fell, i.room, c.next_act.ensures.count.1, c.requires.tries.1);
       asked = asked_on _ _ _ _ _ _ i.count c.next_act.ensures.count.0 i.asked c.next_act.ensures.asked;
@@ -149,7 +152,7 @@ pages-smaller g c =
 pub returns-in-Err-clause-cause : goal.returns-in-Err-clause-cause
 returns-in-Err-clause-cause g c =
     let i = c.pages.invariant in
-    stops_on _ c.args.by.run c.next_act.new.count _ _ c.pages.here c.args.place c.in-Err.answer i.kind i.base i.limit i.asked_for (λ m. (m.0, m.1, let rose = m.2 in omega (arith, rose, i.later))) c.in-Err.ensures.cause
+    stops_on _ c.args.by.run c.next_act.new.count _ _ c.pages.here c.args.place c.pages.sofar.held c.args.held c.in-Err.answer i.kind i.base i.limit i.asked_for i.held (λ m. (m.0, m.1, let rose = m.2 in omega (arith, rose, i.later))) c.in-Err.ensures.cause
 
 pub returns-in-Err-clause-count : goal.returns-in-Err-clause-count
 returns-in-Err-clause-count g c =
@@ -263,6 +266,7 @@ returns-then-whole-clause-whole g c =
     let whole : is_whole (with_page sofar page total) ≡ true = sym c.in-Ok-add.ensures.whole ∙ c.if-whole.true in (
       record { same = i.same pin part.pinned; low = low_version _ c.args.by.run c.next_act.new.count w.0 pin w.1 part.version },
       subst (λ (s : Sofar). AreEntries c.args.place.kind s) (sym c.in-Ok-add.ensures.added) (subst (λ (k : Kind). AreEntries k (with_page sofar page total)) i.kind (entries_whole here sofar w.0 pin page total far part kinds whole)),
+      ap (λ (s : Sofar). s.held) c.in-Ok-add.ensures.added ∙ i.held,
     )
 
 pub returns-then-whole-clause-page : goal.returns-then-whole-clause-page
@@ -401,6 +405,8 @@ returns-in_default-clause-cause g c =
       here = c.pages.here;
       reply = w.0;
       own = w.1;
+      shown = i.held;
+      come = i.entries.come;
       kind = i.kind;
       base = i.base;
       limit = i.limit;

@@ -26,13 +26,14 @@ invariant-pages g l =
       asked_for : IsPinOf l.here.pin l.fn.place.pin;
       fresh : l.here.is_fresh ≡ true → l.fn.place.is_fresh ≡ true;
       entries : AreOpen l.fn.place.kind l.sofar;
+      held : l.sofar.held ≡ l.fn.held;
       count : l.fn.count ≤ l.count;
       room : l.count + 100 * left_of l.sofar.total (count_in l.sofar) ≤ l.fn.count + 100 * (entry_limit + 1);
       asked : IsMore (g.L.Link.asked l.fn.link) (l.count - l.fn.count) (g.L.Link.asked l.link);
       later : g.L.Link.fault_count l.fn.link ≤ g.L.Link.fault_count l.link;
       link_leads : g.L.Link.leads l.fn.link l.link;
       told : (after : Told) → T l.link after → (before : Told) × T l.fn.link before × Asks l.by.run l.fn.count l.count IsUnmarked before after
-          × (IsReady l.by.run l.fn.count before.sent → MayAsk before.hub l.by.token.now l.fn.place → Gathering before.hub after.hub l.by.token.now l.fn.place l.here l.sofar × Paged before.hub after.hub l.by.token.now l.fn.place l.here l.sofar l.by.tries (l.count - l.fn.count));
+          × (IsReady l.by.run l.fn.count before.sent → MayAsk before.hub l.by.token.now l.fn.place l.fn.held → Gathering before.hub after.hub l.by.token.now l.fn.place l.here l.sofar × Paged before.hub after.hub l.by.token.now l.fn.place l.here l.sofar l.by.tries (l.count - l.fn.count));
       asks : (after : Told) → T l.link after → (before : Told) × T l.fn.link before × SendsOn (IsDeltaUnder l.by.token.now l.fn.place.limit l.fn.place.base) l.by.run l.fn.count l.count ⊥ before.sent after.sent;
     }
 

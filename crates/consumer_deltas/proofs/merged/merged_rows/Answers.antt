@@ -1,16 +1,17 @@
-use Rattle.std.proofs.Common.{None}
+use Rattle.std.proofs.Common.{ℕ, List, None, sym, subst}
+use Rattle.roster_types.specs.Keys.{Ascends, row_key}
+use Rattle.roster_types.specs.Records.{Record}
+use Rattle.row_deltas.specs.Deltas.{AreOf, id_key}
 use Rattle.consumer_deltas.proofs.DeltaListLemmas.{ids_rise, rows_are, rows_rise}
 use Rattle.consumer_deltas.proofs.merged.merged_rows.Goals as goal
 
-pub fits-requires : goal.fits-requires
-fits-requires c = record { held = rows_rise c.args.kind c.args.held.now c.requires.held; puts = rows_rise c.args.kind c.args.puts.now c.requires.puts }
-
 pub merge-requires : goal.merge-requires
 merge-requires c =
+    let kind = c.args.kind in
     record {
-      held = rows_are c.args.kind c.args.held.now c.requires.held;
-      puts = rows_are c.args.kind c.args.puts.now c.requires.puts;
-      held_rise = rows_rise c.args.kind c.args.held.now c.requires.held;
-      puts_rise = rows_rise c.args.kind c.args.puts.now c.requires.puts;
-      gone_rise = ids_rise c.args.kind None c.args.gone.now c.requires.gone;
+      held = subst (λ (rows : List Record). AreOf kind rows) (sym c.held.ensures) (rows_are kind c.args.entries.now.held c.requires.held);
+      puts = subst (λ (rows : List Record). AreOf kind rows) (sym c.puts.ensures) (rows_are kind c.args.entries.now.puts c.requires.puts);
+      held_rise = subst (λ (rows : List Record). Ascends row_key rows) (sym c.held.ensures) (rows_rise kind c.args.entries.now.held c.requires.held);
+      puts_rise = subst (λ (rows : List Record). Ascends row_key rows) (sym c.puts.ensures) (rows_rise kind c.args.entries.now.puts c.requires.puts);
+      gone_rise = subst (λ (ids : List (List ℕ)). Ascends (id_key kind) ids) (sym c.gone.ensures) (ids_rise kind None c.args.entries.now.gone c.requires.gone);
     }
