@@ -25,6 +25,8 @@ pub record IsDeltaOf (task : Task) (a : DeltaAnswer) (copies : CopyRun) (link : 
   pub last_run : (after : Copy) → copies.stands after → (before : Copy) × copies.stood before × DeltaLastLaw a before after
   pub cause : DeltaCaused task.token task.limit copies.stood copies.stands link.asked_before link.asked_now link.kept
       (λ n. (task.tries ≤ link.missed) × (task.tries ≤ n) × RoseBy task.tries link.faults_before link.faults_now) (Rose copies.faults_before copies.faults_now) a
+  pub later : copies.faults_before ≤ copies.faults_now
+  pub link_later : link.faults_before ≤ link.faults_now
   -- over one that tells
   pub asks : (after : Told) → link.tells after → (before : Told) × link.told before
       × AsksDeltas task.token task.limit task.tries copies.stood copies.stands link.asked_before link.asked_now a before.sent after.sent

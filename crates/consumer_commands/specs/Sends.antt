@@ -2,6 +2,7 @@
 use Rattle.std.specs.Prelude.{◌≡◌, ◌≢◌, ℕ, ◌*◌, ◌+◌, ◌≤◌, Result, Err}
 use Rattle.keeper_memory.specs.copy.Copies.{Copy}
 use Rattle.keeper_memory.specs.declared.copy.state.TheConstants.{LAST}
+use Rattle.exchange_link.specs.Asked.{AsksWrites}
 use Rattle.exchange_link.specs.Causes.{RoseBy}
 use Rattle.exchange_link.specs.Entering.{EntersWrite}
 use Rattle.exchange_link.specs.Exchanges.{Told}
@@ -41,6 +42,8 @@ pub record IsSendOf (task : Sending) (a : SendAnswer) (copies : CopyRun) (link :
   pub cause : SendCaused task.token copies.stands link.tells link.asked_before link.asked_now link.kept
       (λ n. (task.tries ≤ link.missed) × (task.tries ≤ n) × RoseBy task.tries link.faults_before link.faults_now) (Rose copies.faults_before copies.faults_now) a
   -- over one that tells
+  pub asks : (after : Copy) (tells : Told) → copies.stands after → link.tells tells → (before : Copy) × (told : Told) × copies.stood before × link.told told
+      × AsksWrites task.token task.tries link.asked_before link.asked_now a before after told.sent tells.sent
   pub told : AgreedAll copies link → (after : Copy) (tells : Told) → copies.stands after → link.tells tells
       → (before : Copy) × (told : Told) × copies.stood before × link.told told × WasSent task.token a before told after tells
   -- where no call of the link and of the copy's keeper failed

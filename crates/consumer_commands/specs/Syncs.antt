@@ -1,9 +1,11 @@
 -- What is promised of a synchronisation between a copy and a link: the clauses of `consumer_sync::sync`, one by one.
-use Rattle.std.specs.Prelude.{◌≢◌, ℕ, ◌+◌, ◌≤◌}
+use Rattle.std.specs.Prelude.{◌≡◌, ◌≢◌, ℕ, ◌+◌, ◌≤◌}
+use Rattle.consumer_sync.specs.Faulted.{FaultLaw}
 use Rattle.keeper_memory.specs.copy.Copies.{Copy}
 use Rattle.keeper_memory.specs.copy.States.{stage_of}
 use Rattle.keeper_memory.specs.declared.copy.state.TheConstants.{LAST}
 use Rattle.exchange_link.specs.Agreement.{StageAgrees}
+use Rattle.exchange_link.specs.Asked.{AsksPages}
 use Rattle.exchange_link.specs.Bounds.{Bounded, IsCallPin}
 use Rattle.exchange_link.specs.Causes.{Caused, LastLaw, RoseBy, ToldCause}
 use Rattle.exchange_link.specs.Completeness.{IsDone, StandsAt, first_pin}
@@ -11,6 +13,7 @@ use Rattle.exchange_link.specs.Exchanges.{Told}
 use Rattle.exchange_link.specs.Marks.{MarksTold}
 use Rattle.exchange_link.specs.Synchronised.{Leaves, Synchronised, own_state}
 use Rattle.exchange_link.specs.declared.answer.SyncAnswer.{SyncAnswer}
+use Rattle.exchange_link.specs.declared.answer.SyncAnswer.TheVariants.{KeeperFault}
 use Rattle.roster_base.specs.Faults.{Rose}
 use Rattle.consumer_commands.specs.Consumers.{CopyRun, LinkRun}
 use Rattle.hub_words.specs.Tasks.{Task}
@@ -22,10 +25,14 @@ Agreed copy link = (c : Copy) (t : Told) → copy.stood c → link.told t → St
 pub record IsSyncOf (task : Task) (a : SyncAnswer) (copies : CopyRun) (link : LinkRun) : Type 0 where
   -- over any link
   pub copy : (after : Copy) → copies.stands after → (before : Copy) × copies.stood before × Leaves task.token a before after
+  pub faulted : a ≡ KeeperFault → (after : Copy) → copies.stands after → (before : Copy) × copies.stood before × FaultLaw task.token link.kept before after
   pub last_run : (after : Copy) → copies.stands after → (before : Copy) × copies.stood before × LastLaw a before after
+  pub later : copies.faults_before ≤ copies.faults_now
   pub cause : Caused task.token task.limit copies.stands link.tells link.asked_before link.asked_now link.kept
       (λ n. (task.tries ≤ link.missed) × (task.tries ≤ n) × RoseBy task.tries link.faults_before link.faults_now) (Rose copies.faults_before copies.faults_now) a
   -- over one that tells
+  pub asks : (after : Told) → link.tells after → (before : Told) × link.told before
+      × AsksPages task.token task.limit task.tries copies.stands link.asked_before link.asked_now a before.sent after.sent
   pub told : Agreed copies link → (after : Copy) (tells : Told) → copies.stands after → link.tells tells
       → (before : Copy) × (told : Told) × copies.stood before × link.told told × Synchronised task.token a before told after tells
   pub bound : Agreed copies link → (after : Copy) (tells : Told) → copies.stands after → link.tells tells

@@ -14,7 +14,22 @@ use std::alloc::Global;
 /// Status 6.
 pub const COPY_FAILED: &str = "copy store failed\n";
 
-/// The status of the process: 0, 6 to 9, or 12 to 17.
+/// Status 9.
+pub(crate) const UNKNOWN_TOKEN: &str = "unknown token\n";
+
+/// Status 14.
+pub(crate) const HUB_FAILED: &str = "hub failed\n";
+
+/// Status 15.
+pub(crate) const HUB_NO_MEMORY: &str = "hub without memory\n";
+
+/// Status 16.
+pub(crate) const LAST_NUMBER: &str = "last number\n";
+
+/// Status 17.
+pub(crate) const NO_MEMORY: &str = "no memory\n";
+
+/// The status of the process: each cause of a stop has its own.
 pub fn sync_status(answer: SyncAnswer) -> u8
     ensures value { result ≡ lines.sync_status answer }
     ensures other { result ≢ 1 }
@@ -56,7 +71,7 @@ fn gone_line(alloc: Global, pin: u64, oldest: u64) -> Result<String, NoMemory>
     Ok(format!(in alloc; "pin gone {pin} {oldest}\n")?)
 }
 
-fn fixed_line(alloc: Global, line: &str) -> Result<String, NoMemory>
+pub(crate) fn fixed_line(alloc: Global, line: &str) -> Result<String, NoMemory>
     ensures { IfOk result (λ t. string_bytes t ≡ line.now) }
 {
     Ok(String::from_str(alloc, line)?)
@@ -74,13 +89,13 @@ pub fn sync_line(alloc: Global, answer: SyncAnswer) -> Result<String, NoMemory>
             place_line(alloc, "interrupted ", kind, offset)
         }
         SyncAnswer::PinGone { pin, oldest } => gone_line(alloc, pin, oldest),
-        SyncAnswer::UnknownToken => fixed_line(alloc, "unknown token\n"),
+        SyncAnswer::UnknownToken => fixed_line(alloc, UNKNOWN_TOKEN),
         SyncAnswer::BadReply { kind, offset } => place_line(alloc, "bad reply ", kind, offset),
         SyncAnswer::TooLarge { kind, total } => place_line(alloc, "too large ", kind, total),
-        SyncAnswer::HubFault => fixed_line(alloc, "hub failed\n"),
-        SyncAnswer::HubNoMemory => fixed_line(alloc, "hub without memory\n"),
-        SyncAnswer::LastRun => fixed_line(alloc, "last number\n"),
-        SyncAnswer::NoMemory => fixed_line(alloc, "no memory\n"),
+        SyncAnswer::HubFault => fixed_line(alloc, HUB_FAILED),
+        SyncAnswer::HubNoMemory => fixed_line(alloc, HUB_NO_MEMORY),
+        SyncAnswer::LastRun => fixed_line(alloc, LAST_NUMBER),
+        SyncAnswer::NoMemory => fixed_line(alloc, NO_MEMORY),
     }
 }
 

@@ -3,13 +3,15 @@
 ghost use Rattle.std.specs.Prelude.{◌≡◌, ◌≢◌, IfOk, string_bytes};
 ghost use Rattle.consumer_commands.specs.SendLines as lines;
 
-use crate::line::COPY_FAILED;
+use crate::line::{
+    COPY_FAILED, HUB_FAILED, HUB_NO_MEMORY, LAST_NUMBER, NO_MEMORY, UNKNOWN_TOKEN, fixed_line,
+};
 use exchange_link::{EnterError, SendAnswer};
 use keeper_memory::OutEntry;
 use roster_base::NoMemory;
 use std::alloc::Global;
 
-/// The status of the process: 0, 6, 7, 9 to 12, or 14 to 17.
+/// The status of the process: each cause of a stop has its own.
 pub fn send_status(answer: SendAnswer) -> u8
     ensures value { result ≡ lines.send_status answer }
     ensures other { result ≢ 1 }
@@ -38,12 +40,6 @@ fn number_line(alloc: Global, word: &str, number: u64) -> Result<String, NoMemor
     Ok(line)
 }
 
-fn fixed_line(alloc: Global, line: &str) -> Result<String, NoMemory>
-    ensures { IfOk result (λ t. string_bytes t ≡ line.now) }
-{
-    Ok(String::from_str(alloc, line)?)
-}
-
 /// The line of an answer.
 #[tactic(auto, unfolding(crate::specs::SendLines::send_text))]
 pub fn send_line(alloc: Global, answer: SendAnswer) -> Result<String, NoMemory>
@@ -53,14 +49,14 @@ pub fn send_line(alloc: Global, answer: SendAnswer) -> Result<String, NoMemory>
         SendAnswer::Settled { count } => number_line(alloc, "settled ", count),
         SendAnswer::KeeperFault => fixed_line(alloc, COPY_FAILED),
         SendAnswer::Interrupted { number } => number_line(alloc, "interrupted ", number),
-        SendAnswer::UnknownToken => fixed_line(alloc, "unknown token\n"),
+        SendAnswer::UnknownToken => fixed_line(alloc, UNKNOWN_TOKEN),
         SendAnswer::NoScope { number } => number_line(alloc, "no scope ", number),
         SendAnswer::MarkTaken { number } => number_line(alloc, "mark taken ", number),
         SendAnswer::BadReply { number } => number_line(alloc, "bad reply ", number),
-        SendAnswer::HubFault { .. } => fixed_line(alloc, "hub failed\n"),
-        SendAnswer::HubNoMemory { .. } => fixed_line(alloc, "hub without memory\n"),
-        SendAnswer::LastRun => fixed_line(alloc, "last number\n"),
-        SendAnswer::NoMemory => fixed_line(alloc, "no memory\n"),
+        SendAnswer::HubFault { .. } => fixed_line(alloc, HUB_FAILED),
+        SendAnswer::HubNoMemory { .. } => fixed_line(alloc, HUB_NO_MEMORY),
+        SendAnswer::LastRun => fixed_line(alloc, LAST_NUMBER),
+        SendAnswer::NoMemory => fixed_line(alloc, NO_MEMORY),
     }
 }
 
@@ -71,7 +67,7 @@ pub fn entered_line(alloc: Global, number: u64) -> Result<String, NoMemory>
     number_line(alloc, "entered ", number)
 }
 
-/// The status of the process: 6, 16 or 17.
+/// The status of the process: each cause has its own.
 pub fn enter_status(error: EnterError) -> u8
     ensures value { result ≡ lines.enter_status error }
     ensures other { result ≢ 1 }
@@ -90,8 +86,8 @@ pub fn enter_line(alloc: Global, error: EnterError) -> Result<String, NoMemory>
 {
     match error {
         EnterError::KeeperFault => fixed_line(alloc, COPY_FAILED),
-        EnterError::LastNumber => fixed_line(alloc, "last number\n"),
-        EnterError::NoMemory => fixed_line(alloc, "no memory\n"),
+        EnterError::LastNumber => fixed_line(alloc, LAST_NUMBER),
+        EnterError::NoMemory => fixed_line(alloc, NO_MEMORY),
     }
 }
 

@@ -8,6 +8,7 @@ returns-clause-sent g c =
       copy = c.send.ensures.copy;
       last_run = c.send.ensures.last_run;
       cause = c.send.ensures.cause;
+      asks = c.send.ensures.asks;
       told = c.send.ensures.told;
       complete = c.send.ensures.complete;
     })
