@@ -1,7 +1,7 @@
 use Rattle.std.proofs.Common.{◌≡◌, rules, None, Some, string_bytes}
 use Rattle.hub_words.proofs.OptionWords.{options-command, options-missing, options-next, options-none}
 use Rattle.hub_words.specs.Words.{option_of}
-use Rattle.hub_words.proofs.words.+options_at.Goals as goal
+use Rattle.hub_words.proofs.options.+options_at.Goals as goal
 
 pub returns-in_default-clause-given : goal.returns-in_default-clause-given
 returns-in_default-clause-given t c = options-none _ _ c.args.words.now c.in_default.ensures.cases

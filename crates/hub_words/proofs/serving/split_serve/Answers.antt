@@ -1,7 +1,7 @@
 use Rattle.std.proofs.lemmas.Result.{err_from_is_err_and}
 use Rattle.hub_words.specs.Words.{serve_command, served_by}
 use Rattle.hub_words.proofs.SplitWords.{split-bad, split-read}
-use Rattle.hub_words.proofs.words.split_serve.Goals as goal
+use Rattle.hub_words.proofs.serving.split_serve.Goals as goal
 
 pub returns-in_err-task : goal.returns-in_err-task
 returns-in_err-task c =

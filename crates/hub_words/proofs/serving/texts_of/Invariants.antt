@@ -1,5 +1,5 @@
 use Rattle.std.proofs.Common.{◌≡◌, map, string_bytes, take}
-use Rattle.hub_words.proofs.words.texts_of.Given as goal
+use Rattle.hub_words.proofs.serving.texts_of.Given as goal
 
 abbrev pub invariant-loop-word : goal.invariant-loop-word
 invariant-loop-word l = l.texts.items ≡ map string_bytes (take l.word-index l.words)
