@@ -10,7 +10,7 @@ ghost use Rattle.hub_words.specs.declared.words.ServeWords.{ServeWords as ServeW
 
 use hub_commands::lines::NO_MEMORY;
 use hub_commands::publish::{end_of, end_of_error, told_line};
-use hub_server::{Ending, Notices, Served, serve_task};
+use hub_server::{Doors, Ending, Notices, Ports, Served, serve_task};
 use hub_shared::FeedEnd;
 use hub_words::{ServeWords, split_serve};
 use keeper_memory::HubKeeper;
@@ -25,8 +25,7 @@ use std::thread::Threads;
 pub struct ServeEnd<H, A: Drop, F: Drop> {
     pub status: u8,
     pub hub: H,
-    pub acceptors: Vec<A>,
-    pub folders: Vec<F>,
+    pub doors: Doors<A, F>,
 }
 
 // The status that an ending brings.
@@ -79,37 +78,27 @@ pub fn serve_hub<
     K: Clock + Sync,
     G: Gate + Sync,
     T: Notices + Sync,
->(
-    rt: &R,
-    alloc: Global,
-    words: &[String],
-    acceptors: Vec<A>,
-    folders: Vec<F>,
-    hub: H,
-    clock: &K,
-    gate: &G,
-    notices: &T,
-) -> ServeEnd<H, A, F>
+>(ports: &Ports<'_, R, K, G, T>, words: &[String], doors: Doors<A, F>, hub: H) -> ServeEnd<H, A, F>
 where
     A::Input: Send,
     A::Output: Send,
     // There are as many acceptors and folders as the words name.
-    requires { (w : ServeWordsValue) → split_serve (map string_bytes words.now) ≡ Ok w → (length acceptors.items ≡ length w.task.addresses) × (length folders.items ≡ length w.task.feeds) }
+    requires { (w : ServeWordsValue) → split_serve (map string_bytes words.now) ≡ Ok w → (length doors.acceptors.items ≡ length w.task.addresses) × (length doors.folders.items ≡ length w.task.feeds) }
     ensures words_are_bad { result.status ≡ 2 → IsErr (split_serve (map string_bytes words.now)) }
     ensures bad_words { IsErr (split_serve (map string_bytes words.now)) → result.status ≢ 17 → result.status ≡ 2 }
     ensures done { result.status ≡ 0 → (w : ServeWordsValue) × (split_serve (map string_bytes words.now) ≡ Ok w)
-        × AllServed A.given_count w.task.connections acceptors.items result.acceptors.items × AllMean F.files w.task.feeds folders.items }
-    ensures folder_failed { result.status ≡ 3 → SomeRose F.faults folders.items result.folders.items }
+        × AllServed A.given_count w.task.connections doors.acceptors.items result.doors.acceptors.items × AllMean F.files w.task.feeds doors.folders.items }
+    ensures folder_failed { result.status ≡ 3 → SomeRose F.faults doors.folders.items result.doors.folders.items }
     ensures refused { result.status ≡ 4 → (w : ServeWordsValue) × (split_serve (map string_bytes words.now) ≡ Ok w)
-        × (opening : KeptState) × IsKept opening × SomeRefused F.files opening w.task.feeds folders.items }
+        × (opening : KeptState) × IsKept opening × SomeRefused F.files opening w.task.feeds doors.folders.items }
     ensures keeper_failed { result.status ≡ 5 → Rose (H.fault_count hub) (H.fault_count result.hub) }
-    ensures acceptor_failed { result.status ≡ 18 → SomeRose A.fault_count acceptors.items result.acceptors.items }
+    ensures acceptor_failed { result.status ≡ 18 → SomeRose A.fault_count doors.acceptors.items result.doors.acceptors.items }
     // 1 is the status of an output that couldn't be written, and there is none.
     ensures other { result.status ≢ 1 }
     // Whatever the status is, the keeper stands for a state at entry with a history applied.
     ensures kept { (now : KeptState) → H.stands_for result.hub now → (stood : KeptState) × H.stands_for hub stood × ComesBy stood now }
 {
-    let task = match split_serve(alloc, words) {
+    let task = match split_serve(ports.alloc, words) {
         Ok(ServeWords { options, task }) => {
             drop(options);
             task
@@ -121,23 +110,18 @@ where
                     Refusal::NoMemory => 17,
                 },
                 hub,
-                acceptors,
-                folders,
+                doors,
             };
         }
     };
     let Served {
         ending,
         keeper,
-        acceptors,
-        folders,
-    } = serve_task(
-        rt, alloc, task, acceptors, folders, hub, clock, gate, notices,
-    );
+        doors,
+    } = serve_task(ports, task, doors, hub);
     ServeEnd {
         status: status_of(ending),
         hub: keeper,
-        acceptors,
-        folders,
+        doors,
     }
 }

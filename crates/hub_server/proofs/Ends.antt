@@ -116,8 +116,8 @@ module _ {A F : Type 0} (given : A → ℕ) (acceptor_faults : A → ℕ) (files
   -- and what was gathered of them
   pub ended_all : (jobs : List (Job A F)) (ends : List (JobEnd A F)) → length ends ≡ length jobs
       → ((i : ℕ) (d : Job A F) (e : JobEnd A F) → i < length jobs → Does given acceptor_faults files folder_faults opening connections (slice_index_or jobs i d) (slice_index_or ends i e))
-      → {E : Type 0} (result : Result (Results A F) E) → IfOk result (λ r. r.ending ≡ ending_of_all ends) → IfOk result (λ r. r.acceptors.items ≡ acceptors_of ends) → IfOk result (λ r. r.folders.items ≡ folders_of ends)
-      → IfOk result (λ r. Ended given acceptor_faults files folder_faults opening connections (feeds_in jobs) (folders_in jobs) r.folders.items (acceptors_in jobs) r.acceptors.items r.ending)
+      → {E : Type 0} (result : Result (Results A F) E) → IfOk result (λ r. r.ending ≡ ending_of_all ends) → IfOk result (λ r. r.doors.acceptors.items ≡ acceptors_of ends) → IfOk result (λ r. r.doors.folders.items ≡ folders_of ends)
+      → IfOk result (λ r. Ended given acceptor_faults files folder_faults opening connections (feeds_in jobs) (folders_in jobs) r.doors.folders.items (acceptors_in jobs) r.doors.acceptors.items r.ending)
   ended_all jobs ends long each (Ok r) e a f = rw (e, a, f) (ended jobs ends (all_zip (Does given acceptor_faults files folder_faults opening connections) jobs ends long each))
   ended_all jobs ends long each (Err w) e a f = tt
 

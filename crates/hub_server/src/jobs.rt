@@ -6,6 +6,7 @@ ghost use Rattle.hub_server.specs.Jobs as jobs;
 
 use crate::ending::Ending;
 use crate::notices::Notices;
+use crate::ports::Ports;
 use csv_sets::SetFault;
 use hub_core::HubError;
 use hub_history::Naming;
@@ -15,7 +16,6 @@ use keeper_memory::HubKeeper;
 use outside_ports::{Acceptor, Clock, Folder, Gate, IoError};
 use rest_paths::PathRouter;
 use roster_base::Refusal;
-use std::alloc::Global;
 use std::sync::{Mutex, Wait};
 
 /// A feed, whose set is published once.
@@ -63,13 +63,9 @@ pub type Seats<N> = Mutex<Vec<ReadSeat<N>>>;
 /// What the jobs of a server work with, beside the hub and the seats that are free.
 #[derive(Drop)]
 pub struct Outside<'a, R: Wait, K: Clock, G: Gate, T: Notices> {
-    pub rt: &'a R,
-    pub alloc: Global,
+    pub ports: &'a Ports<'a, R, K, G, T>,
     /// How many connections each acceptor serves.
     pub connections: u32,
-    pub clock: &'a K,
-    pub gate: &'a G,
-    pub notices: &'a T,
 }
 
 // The ending that the end of a feed brings.
@@ -182,7 +178,7 @@ impl<
     ) -> JobEnd<A, F>
         ensures { Does A.given_count A.fault_count F.files F.faults N.opening outside.now.connections job result }
     {
-        let Ok(router) = PathRouter::new(outside.alloc) else {
+        let Ok(router) = PathRouter::new(outside.ports.alloc) else {
             return undone(job);
         };
         let end = run_at(shared, seats, outside, &router, job);
@@ -235,13 +231,14 @@ fn run_at<
 ) -> JobEnd<A, F>
     ensures { Does A.given_count A.fault_count F.files F.faults N.opening outside.now.connections job result }
 {
+    let ports = outside.ports;
     let desk = Desk {
-        rt: outside.rt,
-        alloc: outside.alloc,
+        rt: ports.rt,
+        alloc: ports.alloc,
         router,
         shared,
-        clock: outside.clock,
-        gate: outside.gate,
+        clock: ports.clock,
+        gate: ports.gate,
         job: job.number(),
     };
     match job {
@@ -252,7 +249,7 @@ fn run_at<
                 folder,
             },
         ) => {
-            let (folder, ending) = feed(&desk, &of, folder, outside.notices);
+            let (folder, ending) = feed(&desk, &of, folder, ports.notices);
             JobEnd::Feed(folder, ending)
         }
         Job::Acceptor(

@@ -4,8 +4,10 @@
 pub mod ending;
 mod jobs;
 pub mod notices;
+pub mod ports;
 pub mod server;
 
 pub use ending::Ending;
 pub use notices::{NoNotices, Notices};
+pub use ports::{Doors, Ports};
 pub use server::{Served, serve_task};

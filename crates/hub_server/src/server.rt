@@ -14,6 +14,7 @@ ghost use Rattle.roster_base.specs.Faults.{Rose};
 use crate::ending::Ending;
 use crate::jobs::{AcceptorJob, Clerk, FeedJob, Job, JobEnd, Outside, Seats, Worker};
 use crate::notices::Notices;
+use crate::ports::{Doors, Ports};
 use hub_core::{Hub, HubError};
 use hub_history::{Naming, Opened};
 use hub_shared::{ReadSeat, SharedHub};
@@ -30,8 +31,7 @@ use std::thread::{Threads, map_vec};
 pub struct Served<H, A: Drop, F: Drop> {
     pub ending: Ending,
     pub keeper: H,
-    pub acceptors: Vec<A>,
-    pub folders: Vec<F>,
+    pub doors: Doors<A, F>,
 }
 
 // The jobs of the feeds, each with its folder, numbered from 0.
@@ -85,14 +85,14 @@ fn add_acceptors<A: Drop, F: Drop>(
 fn jobs_of<A: Drop, F: Drop>(
     alloc: Global,
     feeds: Vec<Feed>,
-    folders: Vec<F>,
-    acceptors: Vec<A>,
+    doors: Doors<A, F>,
 ) -> Result<Vec<Job<A, F>>, NoMemory>
-    requires { length feeds.items ≡ length folders.items }
+    requires { length feeds.items ≡ length doors.folders.items }
     ensures feeds { IfOk result (λ jobs. feeds_in jobs.items ≡ feeds.items) }
-    ensures folders { IfOk result (λ jobs. folders_in jobs.items ≡ folders.items) }
-    ensures acceptors { IfOk result (λ jobs. acceptors_in jobs.items ≡ acceptors.items) }
+    ensures folders { IfOk result (λ jobs. folders_in jobs.items ≡ doors.folders.items) }
+    ensures acceptors { IfOk result (λ jobs. acceptors_in jobs.items ≡ doors.acceptors.items) }
 {
+    let Doors { acceptors, folders } = doors;
     let mut jobs = feed_jobs(alloc, feeds, folders)?;
     add_acceptors(&mut jobs, acceptors)?;
     Ok(jobs)
@@ -140,8 +140,7 @@ fn run_all<
 #[derive(Drop)]
 struct Results<A: Drop, F: Drop> {
     ending: Ending,
-    acceptors: Vec<A>,
-    folders: Vec<F>,
+    doors: Doors<A, F>,
 }
 
 // Puts what a job gave back behind what others gave.
@@ -150,16 +149,16 @@ fn put_back<A: Drop, F: Drop>(
     end: JobEnd<A, F>,
 ) -> Result<(), NoMemory>
     ensures ending { OnOk result (results.new.ending ≡ or_else results.old.ending (ending_in end)) }
-    ensures acceptors { OnOk result (results.new.acceptors.items ≡ results.old.acceptors.items ++ acceptors_of (end ∷ [])) }
-    ensures folders { OnOk result (results.new.folders.items ≡ results.old.folders.items ++ folders_of (end ∷ [])) }
+    ensures acceptors { OnOk result (results.new.doors.acceptors.items ≡ results.old.doors.acceptors.items ++ acceptors_of (end ∷ [])) }
+    ensures folders { OnOk result (results.new.doors.folders.items ≡ results.old.doors.folders.items ++ folders_of (end ∷ [])) }
 {
     let ending = match end {
         JobEnd::Feed(folder, ending) => {
-            results.folders.push(folder)?;
+            results.doors.folders.push(folder)?;
             ending
         }
         JobEnd::Acceptor(acceptor, ending) => {
-            results.acceptors.push(acceptor)?;
+            results.doors.acceptors.push(acceptor)?;
             ending
         }
     };
@@ -173,13 +172,12 @@ fn results_of<A: Drop, F: Drop>(
     ends: Vec<JobEnd<A, F>>,
 ) -> Result<Results<A, F>, NoMemory>
     ensures ending { IfOk result (λ r. r.ending ≡ ending_of_all ends.items) }
-    ensures acceptors { IfOk result (λ r. r.acceptors.items ≡ acceptors_of ends.items) }
-    ensures folders { IfOk result (λ r. r.folders.items ≡ folders_of ends.items) }
+    ensures acceptors { IfOk result (λ r. r.doors.acceptors.items ≡ acceptors_of ends.items) }
+    ensures folders { IfOk result (λ r. r.doors.folders.items ≡ folders_of ends.items) }
 {
     let mut results = Results {
         ending: Ending::Done,
-        acceptors: Vec::new(alloc),
-        folders: Vec::new(alloc),
+        doors: Doors::none(alloc),
     };
     for end in ends {
         put_back(&mut results, end)?;
@@ -206,10 +204,10 @@ fn do_all<
 where
     A::Input: Send,
     A::Output: Send,
-    ensures { IfOk result (λ r. Ended A.given_count A.fault_count F.files F.faults N.opening outside.now.connections (feeds_in jobs.items) (folders_in jobs.items) r.folders.items (acceptors_in jobs.items) r.acceptors.items r.ending) }
+    ensures { IfOk result (λ r. Ended A.given_count A.fault_count F.files F.faults N.opening outside.now.connections (feeds_in jobs.items) (folders_in jobs.items) r.doors.folders.items (acceptors_in jobs.items) r.doors.acceptors.items r.ending) }
 {
-    let ends = run_all(outside.rt, &Clerk, shared, seats, outside, jobs)?;
-    results_of(outside.alloc, ends)
+    let ends = run_all(outside.ports.rt, &Clerk, shared, seats, outside, jobs)?;
+    results_of(outside.ports.alloc, ends)
 }
 
 // Feeds and serves over a hub that threads share.
@@ -224,21 +222,16 @@ fn serve_shared_hub<
     G: Gate + Sync,
     T: Notices + Sync,
 >(
-    rt: &'x R,
-    alloc: Global,
+    ports: &'x Ports<'x, R, K, G, T>,
     shared: &mut SharedHub<H, N>,
     task: ServeTask,
-    acceptors: Vec<A>,
-    folders: Vec<F>,
-    clock: &'x K,
-    gate: &'x G,
-    notices: &'x T,
+    doors: Doors<A, F>,
 ) -> Result<Results<A, F>, NoMemory>
 where
     A::Input: Send,
     A::Output: Send,
-    requires { length task.feeds ≡ length folders.items }
-    ensures { IfOk result (λ r. Ended A.given_count A.fault_count F.files F.faults N.opening task.connections task.feeds folders.items r.folders.items acceptors.items r.acceptors.items r.ending) }
+    requires { length task.feeds ≡ length doors.folders.items }
+    ensures { IfOk result (λ r. Ended A.given_count A.fault_count F.files F.faults N.opening task.connections task.feeds doors.folders.items r.doors.folders.items doors.acceptors.items r.doors.acceptors.items r.ending) }
 {
     let ServeTask {
         connections,
@@ -246,16 +239,9 @@ where
         feeds,
     } = task;
     drop(addresses);
-    let seats = Mutex::new(seats_of(alloc, shared, acceptors.len())?);
-    let jobs = jobs_of(alloc, feeds.into_vec(), folders, acceptors)?;
-    let outside = Outside {
-        rt,
-        alloc,
-        connections,
-        clock,
-        gate,
-        notices,
-    };
+    let seats = Mutex::new(seats_of(ports.alloc, shared, doors.acceptors.len())?);
+    let jobs = jobs_of(ports.alloc, feeds.into_vec(), doors)?;
+    let outside = Outside { ports, connections };
     do_all(shared, &seats, &outside, jobs)
 }
 
@@ -281,17 +267,12 @@ fn serve_opened<
     G: Gate + Sync,
     T: Notices + Sync,
 >(
-    rt: &R,
-    alloc: Global,
+    ports: &Ports<'_, R, K, G, T>,
     opened: Opened,
     hub: Hub,
     keeper: H,
     task: ServeTask,
-    acceptors: Vec<A>,
-    folders: Vec<F>,
-    clock: &K,
-    gate: &G,
-    notices: &T,
+    doors: Doors<A, F>,
 ) -> Served<H, A, F>
 where
     A::Input: Send,
@@ -300,54 +281,38 @@ where
     requires settled { hub.is_open ≡ false }
     requires named { (opened.seen.book ≡ N.book) × (hub.kept ≡ N.opening) × (H.fault_count keeper ≡ N.count) }
     requires stood { (kept : KeptState) → H.stands_for keeper kept → N.stood kept }
-    requires feeds { length task.feeds ≡ length folders.items }
-    ensures ended { Ended A.given_count A.fault_count F.files F.faults N.opening task.connections task.feeds folders.items result.folders.items acceptors.items result.acceptors.items result.ending }
+    requires feeds { length task.feeds ≡ length doors.folders.items }
+    ensures ended { Ended A.given_count A.fault_count F.files F.faults N.opening task.connections task.feeds doors.folders.items result.doors.folders.items doors.acceptors.items result.doors.acceptors.items result.ending }
     ensures keeper_failed { result.ending ≡ endings.KeeperFailed → Rose N.count (H.fault_count result.keeper) }
     ensures kept { (now : KeptState) → H.stands_for result.keeper now → N.stood N.opening × ComesBy N.opening now }
 {
     let before = keeper.faults();
-    let places = u32::try_from(acceptors.len()).unwrap_or(u32::MAX).max(1);
+    let alloc = ports.alloc;
+    let places = u32::try_from(doors.acceptors.len())
+        .unwrap_or(u32::MAX)
+        .max(1);
     let mut shared: SharedHub<H, N> = match SharedHub::open(alloc, opened, hub, keeper, places) {
         Ok(shared) => shared,
         Err((NoMemory, keeper)) => {
             return Served {
                 ending: Ending::NoMemory,
                 keeper,
-                acceptors,
-                folders,
+                doors,
             };
         }
     };
-    let results = serve_shared_hub(
-        rt,
-        alloc,
-        &mut shared,
-        task,
-        acceptors,
-        folders,
-        clock,
-        gate,
-        notices,
-    );
-    let keeper = shared.close(rt);
+    let results = serve_shared_hub(ports, &mut shared, task, doors);
+    let keeper = shared.close(ports.rt);
     match results {
-        Ok(
-            Results {
-                ending,
-                acceptors,
-                folders,
-            },
-        ) => Served {
+        Ok(Results { ending, doors }) => Served {
             ending: told(ending, before, keeper.faults()),
             keeper,
-            acceptors,
-            folders,
+            doors,
         },
         Err(NoMemory) => Served {
             ending: Ending::NoMemory,
             keeper,
-            acceptors: Vec::new(alloc),
-            folders: Vec::new(alloc),
+            doors: Doors::none(alloc),
         },
     }
 }
@@ -373,49 +338,33 @@ pub fn serve_task<
     K: Clock + Sync,
     G: Gate + Sync,
     T: Notices + Sync,
->(
-    rt: &R,
-    alloc: Global,
-    task: ServeTask,
-    acceptors: Vec<A>,
-    folders: Vec<F>,
-    keeper: H,
-    clock: &K,
-    gate: &G,
-    notices: &T,
-) -> Served<H, A, F>
+>(ports: &Ports<'_, R, K, G, T>, task: ServeTask, doors: Doors<A, F>, keeper: H) -> Served<H, A, F>
 where
     A::Input: Send,
     A::Output: Send,
-    requires { length task.feeds ≡ length folders.items }
+    requires { length task.feeds ≡ length doors.folders.items }
     // What the ending says, of a hub that was opened at some state.
-    ensures ended { (opening : KeptState) × IsKept opening × Ended A.given_count A.fault_count F.files F.faults opening task.connections task.feeds folders.items result.folders.items acceptors.items result.acceptors.items result.ending }
+    ensures ended { (opening : KeptState) × IsKept opening × Ended A.given_count A.fault_count F.files F.faults opening task.connections task.feeds doors.folders.items result.doors.folders.items doors.acceptors.items result.doors.acceptors.items result.ending }
     ensures keeper_failed { result.ending ≡ endings.KeeperFailed → Rose (H.fault_count keeper) (H.fault_count result.keeper) }
     // Whatever the ending is, the keeper stands for a state at entry with a history applied.
     ensures kept { (now : KeptState) → H.stands_for result.keeper now → (stood : KeptState) × H.stands_for keeper stood × ComesBy stood now }
 {
     let mut keeper = keeper;
-    match Hub::open(alloc, &mut keeper) {
+    match Hub::open(ports.alloc, &mut keeper) {
         Ok(hub) => serve_opened::<Brand, R, A, F, H, K, G, T>(
-            rt,
-            alloc,
+            ports,
             Opened::new(),
             hub,
             keeper,
             task,
-            acceptors,
-            folders,
-            clock,
-            gate,
-            notices,
+            doors,
         ),
         Err(error) => {
             drop(task);
             Served {
                 ending: ending_of(error),
                 keeper,
-                acceptors,
-                folders,
+                doors,
             }
         }
     }

@@ -10,7 +10,7 @@ use Rattle.consumer_deltas.specs.DeltaFilling.{Halts}
 use Rattle.consumer_deltas.specs.DeltaFilling.Halts.{Broke, Merging, Stopped, Wants as WantsBeside}
 use Rattle.consumer_deltas.specs.DeltaJudging.{Sofar}
 use Rattle.consumer_deltas.specs.DeltaMerging.{Unmerged}
-use Rattle.consumer_deltas.specs.DeltaMerging.Unmerged.{Broke as Broken, TooMany as OverLimit, Unfit as Misfit, Wants as Wanting}
+use Rattle.consumer_deltas.specs.DeltaMerging.Unmerged.{Broke as Broken, TooMany as OverLimit, Wants as Wanting}
 use Rattle.consumer_deltas.specs.declared.answer.DeltaAnswer.{DeltaAnswer}
 use Rattle.consumer_deltas.specs.declared.judging.Place.{Place}
 use Rattle.hub_cascade.specs.Answers.{MakesCascade}
@@ -32,6 +32,7 @@ use Rattle.hub_commands.specs.ConsumerAnswers.{CopyRun, IsDeltaOf, IsSyncOf, Lin
 use Rattle.hub_commands.specs.OutboxAnswers.{IsEnterOf, IsSendOf, Sending}
 use Rattle.keeper_memory.specs.copy.Copies.{Copy, IsCopy}
 use Rattle.keeper_memory.specs.copy.HeldCopy.{HeldCopy, empty_copy}
+use Rattle.exchange_link.specs.Asked.{AsksPages}
 use Rattle.exchange_link.specs.Causes.{Caused}
 use Rattle.exchange_link.specs.Exchanges.{Told}
 use Rattle.exchange_link.specs.SendCauses.{SendCaused}
@@ -125,11 +126,25 @@ module _ (stood stands stood_more stands_more : Copy → Type 0) (before now : �
     on = λ asks. let o = is.on asks in (o.0, λ b s. o.1 b (on b s));
   }
 
+  asks_pages-more : (token : List ℕ) (limit tries : ℕ) (a : SyncAnswer) (before after : List Request)
+      → AsksPages token limit tries stands asked asked_now a before after → AsksPages token limit tries stands_more asked asked_now a before after
+  asks_pages-more token limit tries a before after is = record {
+    run = is.run;
+    count = is.count;
+    runs = λ some b s. is.runs some b (on b s);
+    counts = is.counts;
+    pages = is.pages;
+    tried = is.tried;
+  }
+
   sync-more : (task : Task) (a : SyncAnswer) → IsSyncOf task a copy_old link_old → IsSyncOf task a copy_new link_new
   sync-more task a is = record {
     copy = λ b s. stood-before _ b s (is.copy b (on b s));
+    faulted = λ failing b s. stood-before _ b s (is.faulted failing b (on b s));
     last_run = λ b s. stood-before _ b s (is.last_run b (on b s));
+    later = is.later;
     cause = caused-more task.token task.limit asked _ _ a is.cause;
+    asks = λ t tell. let (x, told, asks) = is.asks t tell in (x, told, asks_pages-more task.token task.limit task.tries a x.sent t.sent asks);
     told = λ agreed b t s tell. let (x, y, z, w, v) = is.told (met _ b s agreed) b t (on b s) tell in (x, y, down b s x z, w, v);
     bound = λ agreed b t s tell. let (x, z, n, few, bound) = is.bound (met _ b s agreed) b t (on b s) tell in (x, down b s x z, n, few, bound);
     cause_told = λ agreed b t s tell. is.cause_told (met _ b s agreed) b t (on b s) tell;
@@ -153,12 +168,11 @@ module _ (stood stands stood_more stands_more : Copy → Type 0) (before now : �
   unmerged-more : (broke : Type 0) (kind : Kind) (entries : Sofar) (a : SyncAnswer) → Unmerged broke stands kind entries a → Unmerged broke stands_more kind entries a
   unmerged-more broke kind entries a (Broken failed is) = Broken failed is
   unmerged-more broke kind entries a (Wanting is) = Wanting is
-  unmerged-more broke kind entries a (Misfit unfit is) = Misfit (λ b s. unfit b (on b s)) is
   unmerged-more broke kind entries a (OverLimit n large all is) = OverLimit n large (λ b s. all b (on b s)) is
 
   halts-more : (run count : ℕ) (how broke : Type 0) (place : Place) (a : DeltaAnswer) → Halts kept run count how broke stands place a → Halts kept run count how broke stands_more place a
-  halts-more run count how broke place a (Stopped stops) = Stopped stops
-  halts-more run count how broke place a (Merging entries are s why is) = Merging entries are s (unmerged-more broke place.kind entries s why) is
+  halts-more run count how broke place a (Stopped held shown stops) = Stopped held (λ b s. shown b (on b s)) stops
+  halts-more run count how broke place a (Merging entries are shown s why is) = Merging entries are (λ b s. shown b (on b s)) s (unmerged-more broke place.kind entries s why) is
   halts-more run count how broke place a (Broke failed is) = Broke failed is
   halts-more run count how broke place a (WantsBeside is) = WantsBeside is
 
@@ -191,6 +205,8 @@ module _ (stood stands stood_more stands_more : Copy → Type 0) (before now : �
     faulted = λ b s. stood-before _ b s (is.faulted b (on b s));
     last_run = λ b s. stood-before _ b s (is.last_run b (on b s));
     cause = delta_caused-more task.token task.limit _ _ a is.cause;
+    later = is.later;
+    link_later = is.link_later;
     asks = λ t tell. let (x, told, asks) = is.asks t tell in (x, told, asks_deltas-more task.token task.limit task.tries _ _ a x.sent t.sent asks);
     told = λ agreed b t s tell. let (x, y, z, w, v) = is.told (met _ b s agreed) b t (on b s) tell in (x, y, down b s x z, w, v);
     bound = λ agreed b t s tell. let (x, y, z, w, n, few, bound) = is.bound (met _ b s agreed) b t (on b s) tell in (x, y, down b s x z, w, n, few, bound);
@@ -223,6 +239,7 @@ module _ (stood stands stood_more stands_more : Copy → Type 0) (before now : �
     copy = λ b s. let (x, z, left, few) = is.copy b (on b s) in (x, down b s x z, left, few);
     last_run = λ b s. stood-before _ b s (is.last_run b (on b s));
     cause = sent-more task.token _ _ a is.cause;
+    asks = λ b t s tell. let (x, y, z, w, v) = is.asks b t (on b s) tell in (x, y, down b s x z, w, v);
     told = λ agreed b t s tell. let (x, y, z, w, v) = is.told (met _ b s agreed) b t (on b s) tell in (x, y, down b s x z, w, v);
     complete = λ agreed link copy b t s tell. let (x, y, z, w, v) = is.complete (met _ b s agreed) link copy b t (on b s) tell in (x, y, down b s x z, w, v);
   }

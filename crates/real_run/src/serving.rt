@@ -10,7 +10,7 @@ ghost use Rattle.roster_base.specs.Faults.{Rose};
 
 use hub_cli::lines::{NO_MEMORY, bad_word_line};
 use hub_cli::{Options, ServeEnd, ServeWords, feed_lines, print, serve_hub, split_serve};
-use hub_server::Notices;
+use hub_server::{Doors, Notices, Ports};
 use hub_shared::FeedEnd;
 use hub_words::Feed;
 use hub_words::words::USUAL_KEEP;
@@ -41,12 +41,8 @@ impl Notices for ErrorLines {
     }
 }
 
-// What a server serves and feeds from: an acceptor for each address of its words, and a folder for each feed.
-#[derive(Drop)]
-struct Sides {
-    acceptors: Vec<TcpAcceptor<HostRuntime>>,
-    folders: Vec<DirFolder<HostRuntime>>,
-}
+// The doors of a server over the system's sockets and folders.
+type RealDoors = Doors<TcpAcceptor<HostRuntime>, DirFolder<HostRuntime>>;
 
 // Listens at an address, and tells so, or why it can't be.
 fn listen(rt: HostRuntime, address: &str) -> TcpAcceptor<HostRuntime> {
@@ -113,10 +109,10 @@ fn root_in(options: &Options) -> &str {
     }
 }
 
-// The sides of a server with these words.
-fn sides_of(rt: HostRuntime, alloc: Global, serve: &ServeWords) -> Result<Sides, NoMemory>
-    ensures acceptors { IfOk result (λ sides. length sides.acceptors.items ≡ length serve.now.task.addresses) }
-    ensures folders { IfOk result (λ sides. length sides.folders.items ≡ length serve.now.task.feeds) }
+// The doors of a server with these words.
+fn doors_of(rt: HostRuntime, alloc: Global, serve: &ServeWords) -> Result<RealDoors, NoMemory>
+    ensures acceptors { IfOk result (λ doors. length doors.acceptors.items ≡ length serve.now.task.addresses) }
+    ensures folders { IfOk result (λ doors. length doors.folders.items ≡ length serve.now.task.feeds) }
 {
     let folders = folders_of(
         rt,
@@ -125,7 +121,7 @@ fn sides_of(rt: HostRuntime, alloc: Global, serve: &ServeWords) -> Result<Sides,
         serve.task.feeds.as_slice(),
     )?;
     let acceptors = acceptors_of(rt, alloc, serve.task.addresses.as_slice())?;
-    Ok(Sides { acceptors, folders })
+    Ok(Doors { acceptors, folders })
 }
 
 // Serves what words say over a keeper, and gives the status and the keeper.
@@ -134,45 +130,41 @@ fn serve_over<R: Threads + Wait + Sync, H: HubKeeper + Send>(
     rt: HostRuntime,
     alloc: Global,
     words: &[String],
-    sides: Sides,
+    doors: RealDoors,
     keeper: H,
 ) -> (u8, H)
-    requires { FitWords sides.acceptors.items sides.folders.items (map string_bytes words.now) }
+    requires { FitWords doors.acceptors.items doors.folders.items (map string_bytes words.now) }
     ensures words_are_bad { result.0 ≡ 2 → IsErr (split_serve (map string_bytes words.now)) }
     ensures other { result.0 ≢ 1 }
 {
-    let Sides { acceptors, folders } = sides;
     let clock = SystemClock::new(rt);
     let notices = ErrorLines { rt, alloc };
-    let ServeEnd {
-        status,
-        hub,
-        acceptors,
-        folders,
-    } = serve_hub(
-        threads, alloc, words, acceptors, folders, keeper, &clock, &OpenGate, &notices,
-    );
-    drop(acceptors);
-    drop(folders);
+    let ports = Ports {
+        rt: threads,
+        alloc,
+        clock: &clock,
+        gate: &OpenGate,
+        notices: &notices,
+    };
+    let ServeEnd { status, hub, doors } = serve_hub(&ports, words, doors, keeper);
+    drop(doors);
     (status, hub)
 }
 
-// Serves what words say over what an open store keeps, and closes the store.
+// Serves what words say over the hub in an open store, and closes the store.
 fn serve_items<R: Threads + Wait + Sync, S: OpenStore + Send>(
     threads: &R,
     rt: HostRuntime,
     alloc: Global,
     words: &[String],
-    sides: Sides,
-    items: S,
-    keep: u32,
+    doors: RealDoors,
+    keeper: ItemHub<S>,
 ) -> u8
-    requires { FitWords sides.acceptors.items sides.folders.items (map string_bytes words.now) }
+    requires { FitWords doors.acceptors.items doors.folders.items (map string_bytes words.now) }
     ensures words_are_bad { result ≡ 2 → IsErr (split_serve (map string_bytes words.now)) }
     ensures other { result ≢ 1 }
 {
-    let keeper = ItemHub::adopt(items, keep);
-    let (status, keeper) = serve_over(threads, rt, alloc, words, sides, keeper);
+    let (status, keeper) = serve_over(threads, rt, alloc, words, doors, keeper);
     keeper.release().close();
     status
 }
@@ -183,14 +175,14 @@ fn serve_in_memory<R: Threads + Wait + Sync>(
     rt: HostRuntime,
     alloc: Global,
     words: &[String],
-    sides: Sides,
+    doors: RealDoors,
     keep: u32,
 ) -> u8
-    requires { FitWords sides.acceptors.items sides.folders.items (map string_bytes words.now) }
+    requires { FitWords doors.acceptors.items doors.folders.items (map string_bytes words.now) }
     ensures words_are_bad { result ≡ 2 → IsErr (split_serve (map string_bytes words.now)) }
     ensures other { result ≢ 1 }
 {
-    let (status, keeper) = serve_over(threads, rt, alloc, words, sides, MemHub::new(alloc, keep));
+    let (status, keeper) = serve_over(threads, rt, alloc, words, doors, MemHub::new(alloc, keep));
     drop(keeper);
     status
 }
@@ -201,39 +193,42 @@ fn serve_closed<R: Threads + Wait + Sync>(
     rt: HostRuntime,
     alloc: Global,
     words: &[String],
-    sides: Sides,
+    doors: RealDoors,
 ) -> u8
-    requires { FitWords sides.acceptors.items sides.folders.items (map string_bytes words.now) }
+    requires { FitWords doors.acceptors.items doors.folders.items (map string_bytes words.now) }
     ensures words_are_bad { result ≡ 2 → IsErr (split_serve (map string_bytes words.now)) }
     ensures other { result ≢ 1 }
 {
-    let (status, keeper) = serve_over(threads, rt, alloc, words, sides, ClosedStore::new());
+    let (status, keeper) = serve_over(threads, rt, alloc, words, doors, ClosedStore::new());
     drop(keeper);
     status
 }
 
 // Serves what words say over the store that the options name, or over a hub in memory where they name none.
-fn serve_sides<R: Threads + Wait + Sync>(
+fn serve_doors<R: Threads + Wait + Sync>(
     threads: &R,
     rt: HostRuntime,
     alloc: Global,
     words: &[String],
-    sides: Sides,
+    doors: RealDoors,
     options: &Options,
 ) -> u8
-    requires { FitWords sides.acceptors.items sides.folders.items (map string_bytes words.now) }
+    requires { FitWords doors.acceptors.items doors.folders.items (map string_bytes words.now) }
     ensures words_are_bad { result ≡ 2 → IsErr (split_serve (map string_bytes words.now)) }
     ensures other { result ≢ 1 }
 {
     let keep = options.keep.unwrap_or(USUAL_KEEP);
     let Some(folder) = &options.store else {
-        return serve_in_memory(threads, rt, alloc, words, sides, keep);
+        return serve_in_memory(threads, rt, alloc, words, doors, keep);
     };
     match open_store(rt, alloc, folder.as_str(), HUB_FILE) {
-        Ok(Some(items)) => serve_items(threads, rt, alloc, words, sides, items, keep),
-        Ok(None) => serve_closed(threads, rt, alloc, words, sides),
+        Ok(Some(items)) => {
+            let keeper = ItemHub::adopt(items, keep);
+            serve_items(threads, rt, alloc, words, doors, keeper)
+        }
+        Ok(None) => serve_closed(threads, rt, alloc, words, doors),
         Err(NoMemory) => {
-            drop(sides);
+            drop(doors);
             17
         }
     }
@@ -251,8 +246,8 @@ fn serve_words<R: Threads + Wait + Sync>(
     ensures good { result ≢ 2 }
     ensures other { result ≢ 1 }
 {
-    match sides_of(rt, alloc, serve) {
-        Ok(sides) => serve_sides(threads, rt, alloc, words, sides, &serve.options),
+    match doors_of(rt, alloc, serve) {
+        Ok(doors) => serve_doors(threads, rt, alloc, words, doors, &serve.options),
         Err(NoMemory) => 17,
     }
 }

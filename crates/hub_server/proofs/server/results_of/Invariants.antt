@@ -8,6 +8,6 @@ invariant-loop-end g l = record {
   whole : l.yielded ++ into_iter_items l.end-iterator ≡ l.fn.ends.items;
   left : into_iter_len l.end-iterator ≡ length (into_iter_items l.end-iterator);
   ending : l.results.ending ≡ ending_of_all l.yielded;
-  acceptors : l.results.acceptors.items ≡ acceptors_of l.yielded;
-  folders : l.results.folders.items ≡ folders_of l.yielded;
+  acceptors : l.results.doors.acceptors.items ≡ acceptors_of l.yielded;
+  folders : l.results.doors.folders.items ≡ folders_of l.yielded;
 }

@@ -1,5 +1,5 @@
 use denote.Param.Send.{arg_send, param_send}
-use Rattle.real_run.proofs.serving.serve_sides.Goals as goal
+use Rattle.real_run.proofs.serving.serve_doors.Goals as goal
 use Rattle.store_files.proofs.Sent.{file_items}
 
 pub serve_items-requires-send-S : goal.serve_items-requires-send-S
