@@ -52,15 +52,15 @@ use Rattle.hub_commands.specs.Steps.{end_of_error}
 -- ---- the synchronisation in it
 
 -- a base that is gone is so by a reply
-gone_given : (kept : List ℕ) (run count : ℕ) (missed broke : Type 0) (copies : Copy → Type 0) (place : Place) (held oldest : ℕ) → Halts kept run count missed broke copies place (delta.BaseGone held oldest)
-    → IsUnbased kept run count (delta.BaseGone held oldest)
-gone_given kept run count missed broke copies place held oldest (Stopped (Given given)) = (place, given)
-gone_given kept run count missed broke copies place held oldest (Stopped (NoneCame offset tried none is)) = cc is
-gone_given kept run count missed broke copies place held oldest (Stopped (NoReply offset none is)) = cc is
-gone_given kept run count missed broke copies place held oldest (Stopped (WantsFirst is)) = cc is
-gone_given kept run count missed broke copies place held oldest (Merging entries are s why is) = cc is
-gone_given kept run count missed broke copies place held oldest (Broke failed is) = cc is
-gone_given kept run count missed broke copies place held oldest (WantsBeside is) = cc is
+gone_given : (kept : List ℕ) (run count : ℕ) (missed broke : Type 0) (copies : Copy → Type 0) (place : Place) (version oldest : ℕ) → Halts kept run count missed broke copies place (delta.BaseGone version oldest)
+    → IsUnbased kept run count (delta.BaseGone version oldest)
+gone_given kept run count missed broke copies place version oldest (Stopped held shown (Given given)) = (place, held, given)
+gone_given kept run count missed broke copies place version oldest (Stopped held shown (NoneCame offset tried none is)) = cc is
+gone_given kept run count missed broke copies place version oldest (Stopped held shown (NoReply offset none is)) = cc is
+gone_given kept run count missed broke copies place version oldest (Stopped held shown (WantsFirst is)) = cc is
+gone_given kept run count missed broke copies place version oldest (Merging entries are shown s why is) = cc is
+gone_given kept run count missed broke copies place version oldest (Broke failed is) = cc is
+gone_given kept run count missed broke copies place version oldest (WantsBeside is) = cc is
 
 unbased_by : (kept : List ℕ) (run count : ℕ) (missed broke : Type 0) (copies : Copy → Type 0) (place : Place) (a : DeltaAnswer) → lacks_base a ≡ true → DeltaCause kept run count missed broke copies place a → IsUnbased kept run count a
 unbased_by kept run count missed broke copies place (delta.Ended a) lacks cause = cc lacks

@@ -27,6 +27,7 @@ use Rattle.keeper_memory.specs.Kept.{KeptState}
 use Rattle.keeper_memory.specs.copy.Copies.{Copy}
 use Rattle.keeper_memory.specs.declared.copy.state.TheConstants.{LAST}
 use Rattle.roster_base.specs.Faults.{Rose}
+use Rattle.roster_types.specs.Records.{Record}
 use Rattle.hub_commands.specs.Cascades.{TellsCascade, or_ended}
 use Rattle.hub_commands.specs.Outside.{Faults, HaveRisen, HaveStood}
 use Rattle.hub_commands.specs.Publishes.{IsTold}
@@ -38,7 +39,7 @@ use Rattle.hub_commands.specs.declared.answer.End.TheVariants.{DeltaSynced, HubF
 abbrev pub IsUnbased : List ℕ → ℕ → ℕ → DeltaAnswer → Type 0
 IsUnbased kept run count (delta.Ended a) = ⊥
 IsUnbased kept run count delta.NoBase = count ≡ 0
-IsUnbased kept run count (delta.BaseGone held oldest) = (place : Place) × IsGiven kept run count place (delta.BaseGone held oldest)
+IsUnbased kept run count (delta.BaseGone version oldest) = (place : Place) × (held : List Record) × IsGiven kept run count place held (delta.BaseGone version oldest)
 
 -- an incremental synchronisation that had no base: its run, its exchanges and its answer, and the counts between it and the whole one behind it
 pub record Behind (copies : CopyRun) (link : LinkRun) : Type 0 where

@@ -1,6 +1,5 @@
 //! The command `delta`.
 
-ghost use Rattle.std.specs.Prelude.{◌≡◌};
 ghost use Rattle.consumer_commands.specs.Consumers.{copy_between, link_between};
 ghost use Rattle.hub_commands.specs.ConsumerAnswers.{IsDeltaAnswer};
 

@@ -22,7 +22,7 @@ use row_json::read_put;
 use std::alloc::Global;
 use version_core::mark::Write;
 
-/// The most bytes of a body.
+// The most bytes of a body.
 const LARGEST_BODY: u64 = 131_072;
 
 fn put_write(alloc: Global, object: &GradebookObject, body: Bytes) -> Result<Write, NoMemory>

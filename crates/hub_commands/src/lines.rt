@@ -19,16 +19,16 @@ use roster_values::Kind;
 use std::alloc::Global;
 use version_changes::PublishFault;
 
-/// Status 3.
+/// The line of status 3.
 pub const FOLDER_FAILED: &str = "folder failed\n";
 
-/// Status 5.
+/// The line of status 5.
 pub const HUB_FAILED: &str = "hub store failed\n";
 
-/// Status 21.
+/// The line of status 21.
 pub const NOTHING_HELD: &str = "nothing held\n";
 
-/// Status 17.
+/// The line of status 17.
 pub const NO_MEMORY: &str = "no memory\n";
 
 fn column_word(fault: ColumnFault) -> &'static str
@@ -58,7 +58,7 @@ fn value_word(fault: ValueFault) -> &'static str
     }
 }
 
-// `refused: ` and a file's name.
+// The beginning of a line: `refused: ` and a file's name.
 fn refused(alloc: Global, file: SetFile) -> Result<String, NoMemory>
     ensures { IfOk result (λ s. string_bytes s ≡ codes "refused: " ++ name_of file) }
 {
@@ -67,7 +67,7 @@ fn refused(alloc: Global, file: SetFile) -> Result<String, NoMemory>
     Ok(line)
 }
 
-// The same, with what is wrong with the whole file.
+// The line of a file that is refused, and what is wrong with the whole of it.
 fn file_line(alloc: Global, file: SetFile, why: &str) -> Result<String, NoMemory>
     ensures { IfOk result (λ s. string_bytes s ≡ codes "refused: " ++ name_of file ++ why.now) }
 {
@@ -76,7 +76,7 @@ fn file_line(alloc: Global, file: SetFile, why: &str) -> Result<String, NoMemory
     Ok(line)
 }
 
-// The same, with a record's number.
+// The beginning of a line: the file that is refused, and a record's number.
 fn record_line(alloc: Global, file: SetFile, number: u64) -> Result<String, NoMemory>
     ensures { IfOk result (λ s. string_bytes s ≡ codes "refused: " ++ name_of file ++ codes " record " ++ decimal number) }
 {
@@ -228,7 +228,7 @@ pub fn unchanged_line(alloc: Global, name: &str, version: u64) -> Result<String,
     Ok(line)
 }
 
-// `refused: `, a kind, and what follows it.
+// The beginning of a line: `refused: `, a kind, and what follows it.
 fn kind_line(alloc: Global, kind: Kind, rest: &str) -> Result<String, NoMemory>
     ensures { IfOk result (λ s. string_bytes s ≡ codes "refused: " ++ plural_of kind ++ rest.now) }
 {
@@ -238,7 +238,7 @@ fn kind_line(alloc: Global, kind: Kind, rest: &str) -> Result<String, NoMemory>
     Ok(line)
 }
 
-// The same, with an id behind the kind.
+// The beginning of a line: `refused: `, a kind and an id.
 fn id_line(alloc: Global, kind: Kind, id: &Id) -> Result<String, NoMemory>
     ensures { IfOk result (λ s. string_bytes s ≡ codes "refused: " ++ plural_of kind ++ codes " " ++ id.now) }
 {

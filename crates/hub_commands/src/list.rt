@@ -1,6 +1,5 @@
 //! The command `list`.
 
-ghost use Rattle.std.specs.Prelude.{◌≡◌};
 ghost use Rattle.consumer_commands.specs.Consumers.{copy_between};
 ghost use Rattle.hub_commands.specs.ConsumerAnswers.{IsListAnswer};
 

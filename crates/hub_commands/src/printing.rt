@@ -14,7 +14,7 @@ use outside_ports::Sink;
 use roster_base::{Bytes, NoMemory};
 use std::alloc::Global;
 
-/// Writes bytes, and gives their status, or 1 where the sink failed and a front of the bytes was written.
+/// Writes bytes, and gives their status, or 1 where the sink failed and a prefix of the bytes was written.
 pub fn print_bytes<O: Sink>(out: &mut O, status: u8, bytes: &[u8]) -> u8
     requires { status ≢ 1 }
     ensures done { result ≢ 1 → (result ≡ status) × Appends (O.written out.old) (O.written out.new) bytes.now × (O.faults out.new ≡ O.faults out.old) }
@@ -26,7 +26,7 @@ pub fn print_bytes<O: Sink>(out: &mut O, status: u8, bytes: &[u8]) -> u8
     }
 }
 
-/// Writes a text in the same way.
+/// Writes a text as `print_bytes` writes bytes.
 pub fn print<O: Sink>(out: &mut O, status: u8, text: &str) -> u8
     requires { status ≢ 1 }
     ensures done { result ≢ 1 → (result ≡ status) × Appends (O.written out.old) (O.written out.new) text.now × (O.faults out.new ≡ O.faults out.old) }

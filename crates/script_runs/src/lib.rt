@@ -1,4 +1,4 @@
-//! Runs of scripts: a hub, a copy and the link between them, line by line.
+//! Runs of scripts: a hub, a copy and the link between them, line by line; a rehearsal, and a district that is made.
 #![tactic(auto)]
 
 pub mod make;

@@ -1,10 +1,8 @@
 //! The command `make`.
 
-ghost use Rattle.std.specs.Prelude.{◌≡◌, ◌++◌, ◌≤◌, ℕ, IfOk, List, OnOk, Some, decimal, length, string_bytes};
-ghost use Rattle.keeper_memory.specs.copy.Copies.{held_list};
+ghost use Rattle.std.specs.Prelude.{◌≡◌, ◌++◌, ◌≤◌, ℕ, IfOk, List, OnOk, Some, string_bytes};
 ghost use Rattle.script_runs.specs.Makings as makings;
-ghost use Rattle.script_runs.specs.Plays.{HubStep, Sound, Synchronises, exchanges_text};
-ghost use Rattle.script_runs.specs.Runs.{Opens};
+ghost use Rattle.script_runs.specs.Plays.{HubStep, Sound};
 
 use crate::play::{Play, Told, exchanges_line, with_line};
 use exchange_link::SyncAnswer;
@@ -19,7 +17,7 @@ use roster_values::Kind;
 use std::alloc::Global;
 use world_scripts::HubLine;
 
-/// The token of the caller that copies the district.
+// The token of the caller that copies the district.
 const TOKEN: &str = "make";
 
 // The line that publishes the district's set.

@@ -17,7 +17,7 @@ use world_scripts::{Line, Script};
 /// How the run of a script ended.
 #[derive(Clone, Copy, Debug, PartialEq, Eq)]
 pub enum ScriptEnd {
-    /// Its last line was run.
+    /// The last line was run.
     Done,
     /// The sink failed, and its count of faults rose.
     Sink,
