@@ -1,7 +1,5 @@
 //! Lists of grants of two callers.
 
-ghost use Rattle.std.specs.Prelude.{IfOk};
-
 use grant_scopes::{GrantEntry, GrantList, SchoolList, Schools, Scopes};
 use roster_base::Items;
 use roster_texts::{Id, Name, Token};

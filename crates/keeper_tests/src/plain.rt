@@ -144,7 +144,7 @@ impl Plain {
         Ok(Answer::New(newest(&self.hub)))
     }
 
-    // Adds a version that isn't the newest.
+    // Adds a version, unless it equals the newest one.
     fn add(&mut self, version: PlainVersion) -> Result<Answer, Fail> {
         if version == newest_version(&self.hub) {
             return Ok(Answer::Same(newest(&self.hub)));

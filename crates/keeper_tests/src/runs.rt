@@ -162,7 +162,7 @@ pub fn run<H: HubKeeper>(
     }
 }
 
-/// The same over a keeper in memory.
+/// Opens a hub over a keeper in memory that fails by a plan, takes all turns, and tells what both have in the end.
 pub fn run_over(
     rt: &impl Abort,
     alloc: Global,

@@ -1,14 +1,12 @@
 //! Replies to requests that write nothing, from the wire to the wire.
 
-ghost use Rattle.std.specs.Prelude.{◌≡◌};
-ghost use Rattle.hub_spec.specs.rules.Wanted.{is_write};
-
 use crate::tables::table;
 use http_wire::{WireReader, write_reply};
 use outside_ports::{MemSink, MemSource};
 use rest_paths::PathRouter;
 use rest_provider::answer_read;
-use status_info::{Reply, Request, Verb};
+use rest_provider::answering::is_write;
+use status_info::{Reply, Request};
 use std::alloc::Global;
 use std::process::Abort;
 use std::test::Fail;
@@ -24,16 +22,6 @@ pub fn request(rt: &impl Abort, alloc: Global, text: &str) -> Result<Request, Fa
     }
 }
 
-// Whether the request writes something.
-fn writes(verb: Verb) -> bool
-    ensures { result ≡ is_write verb }
-{
-    match verb {
-        Verb::Put | Verb::Delete => true,
-        _ => false,
-    }
-}
-
 fn reply_to(
     rt: &impl Abort,
     alloc: Global,
@@ -42,7 +30,7 @@ fn reply_to(
     text: &str,
 ) -> Result<Reply, Fail> {
     let request = request(rt, alloc, text)?;
-    assert!(rt; !writes(request.verb));
+    assert!(rt; !is_write(request.verb));
     let reply = answer_read(alloc, router, table, &request);
     drop(request);
     Ok(reply)

@@ -1,6 +1,5 @@
 //! Streams of requests, cut at each place, and failing there.
 
-ghost use Rattle.std.specs.Prelude.{◌≡◌};
 ghost use Rattle.hub_core.specs.Standing.{KeeperFits};
 
 use crate::tables::{SECOND, opened};

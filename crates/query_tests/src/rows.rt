@@ -90,9 +90,8 @@ fn rows_of(alloc: Global, kind: Kind, text: &str) -> Result<Vec<SetRow>, Fail> {
 
 fn ids_passing(alloc: Global, kind: Kind, rows: &[SetRow], filter: &str) -> Result<String, Fail> {
     let text = format!(in alloc; "filter={filter}")?;
-    let query = match read_query(alloc, kind, text.as_str()) {
-        Ok(query) => query,
-        Err(_) => return Err(Fail::from("no query")),
+    let Ok(query) = read_query(alloc, kind, text.as_str()) else {
+        return Err(Fail::from("no query"));
     };
     let mut ids = String::new(alloc);
     for row in rows {

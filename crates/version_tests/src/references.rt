@@ -5,9 +5,9 @@ ghost use Rattle.std.specs.Ordering.{is_eq, is_lt};
 ghost use Rattle.roster_types.specs.Keys.{Ascends, is_after, key_cmp, row_key};
 ghost use Rattle.roster_values.specs.Kinds.{place_of_kind};
 
-use crate::samples::row_of;
 use reference_rules::order::compare;
 use reference_rules::{Fault, RefFault, faults};
+use roster_tests::samples::push_row;
 use roster_texts::Id;
 use roster_types::row::Row;
 use roster_types::rows::Rows;
@@ -91,17 +91,10 @@ fn ascend(rows: &[Row]) -> bool
 // A row's kind and the cells of its line.
 type Line = (Kind, &'static [&'static str]);
 
-// Adds the row of a line. Rows stand in a `Vec` at once, since a function that drops a lone row is long to prove.
-fn push_row(rt: &impl Abort, alloc: Global, rows: &mut Vec<Row>, line: Line) -> Result<(), Fail> {
-    let (kind, cells) = line;
-    rows.push(row_of(rt, alloc, kind, cells)?)?;
-    Ok(())
-}
-
 fn few_rows(rt: &impl Abort, alloc: Global, lines: &[Line]) -> Result<FewRows, Fail> {
     let mut rows = Vec::new(alloc);
-    for line in lines {
-        push_row(rt, alloc, &mut rows, *line)?;
+    for (kind, cells) in lines {
+        push_row(alloc, &mut rows, *kind, cells)?;
     }
     assert!(rt; ascend(&rows));
     Ok(FewRows { rows })

@@ -1,7 +1,7 @@
 //! What refers to what at each version that is kept, beside a plain scan of its rows.
 
 use crate::publications::{Dice, one_row, publish, set_of};
-use crate::samples::name_of;
+use crate::samples::{id_of, name_of};
 use roster_texts::Id;
 use roster_types::row::Row;
 use roster_types::rows::Rows;
@@ -59,6 +59,21 @@ fn publish_org(
     publish_row(rt, alloc, table, Kind::Orgs, cells)
 }
 
+// Publishes a user of these orgs with these agents.
+fn publish_student(
+    rt: &impl Abort,
+    alloc: Global,
+    table: &mut Table,
+    id: &str,
+    orgs: &str,
+    agents: &str,
+) -> Result<(), Fail> {
+    let cells: &[&str] = &[
+        id, "", "", "true", orgs, "student", id, "", "Ann", "Oak", "", "", "", "", "", agents, "",
+    ];
+    publish_row(rt, alloc, table, Kind::Users, cells)
+}
+
 fn publish_user(
     rt: &impl Abort,
     alloc: Global,
@@ -68,10 +83,7 @@ fn publish_user(
     let id = IDS[dice.draw(4) as usize];
     let orgs = ORGS[dice.draw(6) as usize];
     let agents = AGENTS[dice.draw(4) as usize];
-    let cells: &[&str] = &[
-        id, "", "", "true", orgs, "student", id, "", "Ann", "Oak", "", "", "", "", "", agents, "",
-    ];
-    publish_row(rt, alloc, table, Kind::Users, cells)
+    publish_student(rt, alloc, table, id, orgs, agents)
 }
 
 // Whether the field of that name names the target.
@@ -109,7 +121,7 @@ fn told_found(
     Ok(told)
 }
 
-// The same by a look at each row.
+// The ids of the rows that name the target, by a look at each row.
 fn told_scanned(
     alloc: Global,
     version: &VersionView,
@@ -165,9 +177,7 @@ fn compare_target(
     version: &VersionView,
     target: &str,
 ) -> Result<(), Fail> {
-    let Some(target) = Id::read(alloc, target)? else {
-        panic!(rt; "no id");
-    };
+    let target = id_of(rt, alloc, target)?;
     for kind in &Kind::ALL {
         compare_kind(rt, alloc, version, *kind, &target)?;
     }
@@ -239,10 +249,7 @@ fn publish_namer(
     let id = MANY[dice.draw(8) as usize];
     let org = MANY[dice.draw(8) as usize];
     let agent = MANY[dice.draw(8) as usize];
-    let cells: &[&str] = &[
-        id, "", "", "true", org, "student", id, "", "Ann", "Oak", "", "", "", "", "", agent, "",
-    ];
-    publish_row(rt, alloc, table, Kind::Users, cells)
+    publish_student(rt, alloc, table, id, org, agent)
 }
 
 // Compares what names the target among the users.
@@ -252,9 +259,7 @@ fn compare_users(
     version: &VersionView,
     target: &str,
 ) -> Result<(), Fail> {
-    let Some(target) = Id::read(alloc, target)? else {
-        panic!(rt; "no id");
-    };
+    let target = id_of(rt, alloc, target)?;
     compare_kind(rt, alloc, version, Kind::Users, &target)
 }
 

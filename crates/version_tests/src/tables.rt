@@ -1,13 +1,13 @@
 //! A keeper's tables, read back as a table and as marks.
 
-ghost use Rattle.std.specs.Prelude.{◌≡◌, ◌∷◌, [], IfOk, None, Some, codes};
+ghost use Rattle.std.specs.Prelude.{◌≡◌, [], IfOk, None, Some};
 ghost use Rattle.version_core.specs.Tables.{AreTables};
 ghost use Rattle.version_tests.specs.Samples.{AreFewRows, IsBase, IsChange, IsMark, first_grants, granted, later_grants};
 
-use crate::samples::{name_of, push_title, row_of};
+use crate::samples::{id_of, name_of, push_title, row_of};
 use grant_scopes::{Grant, Schools, Scopes};
 use roster_base::{Bytes, Items};
-use roster_texts::{Id, Moment, Name, Token};
+use roster_texts::{Moment, Name, Token};
 use roster_types::owner::Owner;
 use roster_types::rows::Rows;
 use roster_values::Kind;
@@ -149,9 +149,7 @@ fn mark(rt: &impl Abort, alloc: Global, caller: &str, number: u64) -> Result<Mar
     ensures { IfOk result (IsMark caller.now number) }
 {
     let caller = name_of(rt, alloc, caller)?;
-    let Some(id) = Id::read(alloc, "r")? else {
-        panic!(rt; "no id");
-    };
+    let id = id_of(rt, alloc, "r")?;
     let write = Write {
         delete: false,
         kind: Kind::Results,

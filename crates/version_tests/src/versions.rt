@@ -2,7 +2,7 @@
 
 ghost use Rattle.std.specs.Prelude.{◌≡◌, [], None};
 
-use crate::samples::{name_of, push_title, row_of};
+use crate::samples::{id_of, name_of, push_title, row_of};
 use roster_base::NoMemory;
 use roster_texts::{Id, Moment};
 use roster_types::owner::Owner;
@@ -99,9 +99,7 @@ fn orgs_of(version: &VersionView, id: &Id) -> (i64, u64, bool) {
 #[test]
 fn version_0_is_empty(rt: HostRuntime) -> Result<(), Fail> {
     let alloc = rt.alloc();
-    let Some(id) = Id::read(alloc, "a")? else {
-        panic!(rt; "no id");
-    };
+    let id = id_of(&rt, alloc, "a")?;
     let table = Table::new(alloc, 7);
     let orgs = orgs_of(&table.rows_at(0), &id);
     drop(table);

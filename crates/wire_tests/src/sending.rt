@@ -46,8 +46,9 @@ fn assert_bytes(rt: &impl Abort, alloc: Global, reply: &Reply) -> Result<(), Fai
     Ok(())
 }
 
-// How long a body is, the number of the call that fails, and whether the reply is sent, with how many bytes then: of a piece that fails the
-// first half is written. In front of a body of five digits stand 92 bytes.
+// The length of a body, the number of the call that fails, whether the reply is sent, and how many bytes are written then. The head has 92
+// bytes. A body of up to 65,536 bytes goes out in one piece with it, a longer one in a piece of its own; of a piece that fails the first half
+// is written.
 static PIECES: [(usize, u64, (bool, usize)); 5] = [
     (65_536, 1, (false, 32_814)),
     (65_536, 2, (true, 65_628)),
