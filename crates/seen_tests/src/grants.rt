@@ -1,10 +1,5 @@
 //! Grants for the tests.
 
-ghost use Rattle.std.specs.Prelude.{◌≡◌, true};
-ghost use Rattle.std.specs.Cmp.Lexicographic.{slice_cmp};
-ghost use Rattle.std.specs.Ordering.{is_lt, nat_cmp};
-ghost use Rattle.grant_scopes.specs.Schools.{AreSchools};
-
 use grant_scopes::{Grant, SchoolList, Schools, Scopes};
 use roster_base::Items;
 use roster_texts::{Id, Token};
@@ -19,31 +14,15 @@ pub fn id_of(rt: &impl Abort, alloc: Global, text: &str) -> Result<Id, Fail> {
     }
 }
 
-fn is_below(low: &Id, high: &Id) -> bool
-    ensures { result ≡ is_lt (slice_cmp nat_cmp low.now high.now) }
-{
-    low.as_str().cmp(high.as_str()).is_lt()
-}
-
-// Whether each id is below the next.
-fn rise(ids: &[Id]) -> bool
-    ensures { result ≡ true → AreSchools ids.now }
-{
-    for place in 1..ids.len() {
-        if !is_below(&ids[place - 1], &ids[place]) {
-            return false;
-        }
-    }
-    true
-}
-
 fn listed(rt: &impl Abort, alloc: Global, schools: &[&str]) -> Result<Schools, Fail> {
     let mut ids = Vec::new(alloc);
     for school in schools {
         ids.push(id_of(rt, alloc, school)?)?;
     }
-    assert!(rt; rise(&ids));
-    Ok(Schools::Listed(SchoolList::new(Items::from_vec(ids))))
+    match SchoolList::of_rising(Items::from_vec(ids)) {
+        Some(list) => Ok(Schools::Listed(list)),
+        None => panic!(rt; "no order"),
+    }
 }
 
 fn grant_at(rt: &impl Abort, alloc: Global, schools: Schools) -> Result<Grant, Fail> {

@@ -58,7 +58,7 @@ const CLASS_AT_EAST: Line = (
     ],
 );
 
-// Its course is East's.
+// A class of West whose course is East's.
 const CLASS_AT_WEST: Line = (
     Kind::Classes,
     &[
@@ -95,7 +95,7 @@ const USER_OF_WEST: Line = (
     ],
 );
 
-// Of the user of West.
+// An enrollment at East of the user of West.
 const ENROLLMENT_AT_EAST: Line = (
     Kind::Enrollments,
     &["e1", "", "", "k1", "s1", "u2", "student", "", "", ""],
@@ -488,7 +488,7 @@ fn seen(
     Ok(told)
 }
 
-// The same, by the code for many rows.
+// The ids of the lines that a grant sees among the rows, by the code for many rows at once.
 fn seen_at_once(
     rt: &impl Abort,
     alloc: Global,
