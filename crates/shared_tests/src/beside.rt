@@ -4,6 +4,7 @@ use crate::lake::{lake_keeper, newest_of};
 use crate::meeting::{Meeting, MeetingHub};
 use crate::requests::GET_ORGS;
 use crate::server::{acceptor, serve};
+use hub_server::Doors;
 use outside_ports::MemFolder;
 use std::alloc::Global;
 use std::test::Fail;
@@ -27,8 +28,10 @@ fn folder(alloc: Global) -> Result<MemFolder, Fail> {
 fn feed_beside_reader(rt: HostRuntime) -> Result<(), Fail> {
     let alloc = rt.alloc();
     let meeting = Meeting::new();
-    let acceptors = vec![in alloc; acceptor(alloc, GET_ORGS, &[])?]?;
-    let folders = vec![in alloc; folder(alloc)?]?;
+    let doors = Doors {
+        acceptors: vec![in alloc; acceptor(alloc, GET_ORGS, &[])?]?,
+        folders: vec![in alloc; folder(alloc)?]?,
+    };
     let keeper = MeetingHub {
         hub: lake_keeper(&rt, alloc)?,
         meeting: &meeting,
@@ -37,8 +40,7 @@ fn feed_beside_reader(rt: HostRuntime) -> Result<(), Fail> {
         &rt,
         alloc,
         "serve 1 hub:1 sis=lake2",
-        acceptors,
-        folders,
+        doors,
         keeper,
         &meeting,
     );

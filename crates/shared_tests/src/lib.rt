@@ -1,4 +1,5 @@
-//! Tests of one hub that threads share, of its seats, and of the server over it.
+//! Tests of a hub that threads share, and of a server over it: seats and receipts, writers beside each other, a reader beside a feed,
+//! statuses.
 #![tactic(auto)]
 
 #[cfg(test)]

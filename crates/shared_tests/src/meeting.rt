@@ -1,7 +1,5 @@
 //! Where a commit and a read meet: each is held until the other is there.
 
-ghost use Rattle.keeper_memory.specs.Kept.{KeptState};
-
 use keeper_memory::{HubCommit, HubKeeper, MemHub};
 use outside_ports::Gate;
 use roster_base::KeeperError;

@@ -11,19 +11,19 @@ use std::alloc::Global;
 use std::process::Abort;
 use std::test::Fail;
 
-/// Puts the category c2.
+/// A request that puts the category c2.
 pub const PUT_C2: &str =
     "PUT /ims/oneroster/v1p1/categories/c2 HTTP/1.1\r\nHost: hub\r\nAuthorization: Bearer tok-e\r\nContent-Length: 29\r\n\r\n{\"category\":{\"title\":\"Quiz\"}}";
 
-/// Reads the category c2.
+/// A request that reads the category c2.
 pub const GET_C2: &str =
     "GET /ims/oneroster/v1p1/categories/c2 HTTP/1.1\r\nHost: hub\r\nAuthorization: Bearer tok-e\r\n\r\n";
 
-/// Reads one org.
+/// A request that reads one org.
 pub const GET_ORGS: &str =
     "GET /ims/oneroster/v1p1/orgs?limit=1 HTTP/1.1\r\nHost: hub\r\nAuthorization: Bearer tok-e\r\n\r\n";
 
-/// The request of these bytes.
+/// The request that a text is.
 pub fn request(rt: &impl Abort, alloc: Global, text: &str) -> Result<Request, Fail> {
     let bytes = text.as_bytes().to_vec(alloc)?;
     let mut source = MemSource::new(bytes, Vec::new(alloc), Vec::new(alloc));
@@ -33,7 +33,7 @@ pub fn request(rt: &impl Abort, alloc: Global, text: &str) -> Result<Request, Fa
     }
 }
 
-/// The request of these bytes, which writes nothing.
+/// The request that a text is, which writes nothing.
 pub fn read_request(rt: &impl Abort, alloc: Global, text: &str) -> Result<Request, Fail>
     ensures { IfOk result (λ request. is_write request.verb ≡ false) }
 {

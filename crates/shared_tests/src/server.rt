@@ -6,7 +6,7 @@ ghost use Rattle.hub_words.specs.declared.words.ServeWords.{ServeWords as ServeW
 
 use crate::lake::NOON;
 use hub_cli::{ServeEnd, serve_hub};
-use hub_server::NoNotices;
+use hub_server::{Doors, NoNotices, Ports};
 use keeper_memory::HubKeeper;
 use outside_ports::{FixedClock, Gate, MemAcceptor, MemFolder, MemSink, MemSource};
 use roster_base::Refusal;
@@ -44,15 +44,14 @@ fn assert_enough(
     rt: &impl Abort,
     alloc: Global,
     words: &[String],
-    acceptors: &[MemAcceptor],
-    folders: &[MemFolder],
+    doors: &Doors<MemAcceptor, MemFolder>,
 )
-    ensures { (w : ServeWordsValue) → split_serve (map string_bytes words.now) ≡ Ok w → (length acceptors.now ≡ length w.task.addresses) × (length folders.now ≡ length w.task.feeds) }
+    ensures { (w : ServeWordsValue) → split_serve (map string_bytes words.now) ≡ Ok w → (length doors.now.acceptors.items ≡ length w.task.addresses) × (length doors.now.folders.items ≡ length w.task.feeds) }
 {
     match hub_cli::split_serve(alloc, words) {
         Ok(spelled) => {
-            assert!(rt; acceptors.len() == spelled.task.addresses.as_slice().len());
-            assert!(rt; folders.len() == spelled.task.feeds.as_slice().len());
+            assert!(rt; doors.acceptors.len() == spelled.task.addresses.as_slice().len());
+            assert!(rt; doors.folders.len() == spelled.task.feeds.as_slice().len());
         }
         Err(Refusal::Fault(_)) => (),
         Err(Refusal::NoMemory) => panic!(rt; "no memory"),
@@ -64,8 +63,7 @@ pub fn serve<R: Threads + Wait + Abort + Sync, H: HubKeeper + Send, G: Gate + Sy
     rt: &R,
     alloc: Global,
     line: &str,
-    acceptors: Vec<MemAcceptor>,
-    folders: Vec<MemFolder>,
+    doors: Doors<MemAcceptor, MemFolder>,
     keeper: H,
     gate: &G,
 ) -> (u8, H) {
@@ -73,31 +71,16 @@ pub fn serve<R: Threads + Wait + Abort + Sync, H: HubKeeper + Send, G: Gate + Sy
         Ok(words) => words,
         Err(_fail) => panic!(rt; "no words"),
     };
-    assert_enough(
-        rt,
-        alloc,
-        words.as_slice(),
-        acceptors.as_slice(),
-        folders.as_slice(),
-    );
+    assert_enough(rt, alloc, words.as_slice(), &doors);
     let clock = FixedClock::at(NOON);
-    let ServeEnd {
-        status,
-        hub,
-        acceptors,
-        folders,
-    } = serve_hub(
+    let ports = Ports {
         rt,
         alloc,
-        words.as_slice(),
-        acceptors,
-        folders,
-        keeper,
-        &clock,
+        clock: &clock,
         gate,
-        &NoNotices,
-    );
-    drop(acceptors);
-    drop(folders);
+        notices: &NoNotices,
+    };
+    let ServeEnd { status, hub, doors } = serve_hub(&ports, words.as_slice(), doors, keeper);
+    drop(doors);
     (status, hub)
 }

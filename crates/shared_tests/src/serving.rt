@@ -3,6 +3,7 @@
 use crate::lake::{lake_keeper, newest_of};
 use crate::requests::PUT_C2;
 use crate::server::{acceptor, serve};
+use hub_server::Doors;
 use keeper_memory::MemHub;
 use outside_ports::{MemAcceptor, MemFolder, OpenGate};
 use std::alloc::Global;
@@ -169,6 +170,12 @@ fn acceptors_of(alloc: Global, case: &Case) -> Result<Vec<MemAcceptor>, Fail> {
     Ok(acceptors)
 }
 
+fn doors_of(alloc: Global, case: &Case) -> Result<Doors<MemAcceptor, MemFolder>, Fail> {
+    let acceptors = acceptors_of(alloc, case)?;
+    let folders = folders_of(alloc, case)?;
+    Ok(Doors { acceptors, folders })
+}
+
 fn keeper_of(rt: &impl Abort, alloc: Global, case: &Case) -> Result<MemHub, Fail> {
     if case.filled {
         lake_keeper(rt, alloc)
@@ -182,10 +189,9 @@ fn assert_case<R: Threads + Wait + Abort + Sync>(
     alloc: Global,
     case: &Case,
 ) -> Result<(), Fail> {
-    let acceptors = acceptors_of(alloc, case)?;
-    let folders = folders_of(alloc, case)?;
+    let doors = doors_of(alloc, case)?;
     let keeper = keeper_of(rt, alloc, case)?;
-    let (status, mut keeper) = serve(rt, alloc, case.line, acceptors, folders, keeper, &OpenGate);
+    let (status, mut keeper) = serve(rt, alloc, case.line, doors, keeper, &OpenGate);
     let newest = newest_of(rt, alloc, &mut keeper);
     drop(keeper);
     assert_eq!(rt;

@@ -2,6 +2,7 @@
 
 use crate::lake::{lake_keeper, newest_of, tables_of};
 use crate::server::{acceptor, serve};
+use hub_server::Doors;
 use outside_ports::{MemAcceptor, OpenGate};
 use std::alloc::Global;
 use std::ops::Range;
@@ -35,15 +36,12 @@ fn count_of(marks: &[MarkRow], number: u64) -> usize {
 #[test]
 fn each_write_of_two_threads_stands_once(rt: HostRuntime) -> Result<(), Fail> {
     let alloc = rt.alloc();
-    let (status, mut keeper) = serve(
-        &rt,
-        alloc,
-        "serve 1 hub:1 hub:2",
-        acceptors(alloc)?,
-        Vec::new(alloc),
-        lake_keeper(&rt, alloc)?,
-        &OpenGate,
-    );
+    let doors = Doors {
+        acceptors: acceptors(alloc)?,
+        folders: Vec::new(alloc),
+    };
+    let keeper = lake_keeper(&rt, alloc)?;
+    let (status, mut keeper) = serve(&rt, alloc, "serve 1 hub:1 hub:2", doors, keeper, &OpenGate);
     let newest = newest_of(&rt, alloc, &mut keeper);
     let tables = tables_of(&rt, alloc, &mut keeper);
     let marks = tables.marks.as_slice();
