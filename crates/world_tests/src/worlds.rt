@@ -53,7 +53,8 @@ fn fill_whole(
     Ok(())
 }
 
-fn filled(
+/// The keeper of a hub of what these words publish, and of the district's grants.
+pub fn filled(
     rt: &impl Abort,
     alloc: Global,
     publish: &str,
@@ -68,6 +69,15 @@ fn filled(
             drop(keeper);
             Err(fail)
         }
+    }
+}
+
+fn over(rt: &impl Abort, alloc: Global, keeper: MemHub) -> Result<WorldLink, Fail>
+    requires { (oldest_kept keeper.kept.versions).number ≡ 0 }
+{
+    match WorldLink::over(alloc, keeper, noon(rt)) {
+        Ok(link) => Ok(link),
+        Err(_) => panic!(rt; "no world"),
     }
 }
 
@@ -96,6 +106,17 @@ fn with_losses(
     }
 }
 
+/// A world of what a keeper keeps, from version 0 on.
+pub fn opened(rt: &impl Abort, alloc: Global, mut keeper: MemHub) -> Result<WorldLink, Fail> {
+    match keeps_all(alloc, &mut keeper) {
+        Ok(true) => over(rt, alloc, keeper),
+        _ => {
+            drop(keeper);
+            Err(Fail::new("not from version 0 on"))
+        }
+    }
+}
+
 /// A world of what these words publish of a folder's files, and of its grants.
 pub fn world_of(
     rt: &impl Abort,
@@ -103,10 +124,7 @@ pub fn world_of(
     publish: &str,
     folder: &mut MemFolder,
 ) -> Result<WorldLink, Fail> {
-    match WorldLink::over(alloc, filled(rt, alloc, publish, folder)?, noon(rt)) {
-        Ok(link) => Ok(link),
-        Err(_) => panic!(rt; "no world"),
-    }
+    over(rt, alloc, filled(rt, alloc, publish, folder)?)
 }
 
 /// A world of the district, of whose exchanges these are lost.
