@@ -1,7 +1,7 @@
 //! Streams of requests in a file: the bytes that each gets, and how it ends.
 
 use crate::keeping::all_files;
-use crate::outside::{Files, push_file, run_over};
+use crate::outside::{Files, ROOM, push_file, run_over};
 use keeper_memory::MemHub;
 use outside_ports::{MemFolder, MemSink};
 use std::alloc::Global;
@@ -134,7 +134,7 @@ fn run_with(
 }
 
 fn empty_sink(alloc: Global) -> Result<MemSink, Fail> {
-    Ok(MemSink::new(alloc, 8192, Vec::new(alloc))?)
+    Ok(MemSink::new(alloc, ROOM, Vec::new(alloc))?)
 }
 
 // Publishes the example district, and its grants.
@@ -157,7 +157,7 @@ fn lake_keeper(alloc: Global) -> Result<MemHub, Fail> {
     }
 }
 
-// Runs `ask` over a file of these bytes, and tells the status and the bytes that are wanted from others.
+// Asserts that `ask` over a file of the case's bytes ends with its status and writes its text.
 fn assert_stream(
     rt: &impl Abort,
     alloc: Global,

@@ -1,6 +1,6 @@
 //! Synchronisations over replies that are given beforehand, and what the copy holds then.
 
-use crate::outside::{run_between, run_with_copy};
+use crate::outside::{ROOM, run_between, run_with_copy};
 use exchange_link::PeerLink;
 use keeper_memory::{CopyChange, CopyKeeper, LAST, MemCopy, MemHub};
 use outside_ports::MemSink;
@@ -220,7 +220,7 @@ fn assert_turn(
     turn: &(&str, u8, &str),
 ) -> Result<(), Fail> {
     let (line, status, want) = turn;
-    let mut sink = MemSink::new(alloc, 8192, Vec::new(alloc))?;
+    let mut sink = MemSink::new(alloc, ROOM, Vec::new(alloc))?;
     let answered = run_between(alloc, line, keeper, copy, link, &mut sink)?;
     assert_eq!(rt;
         (answered, str::from_utf8(sink.written())),

@@ -2,7 +2,7 @@
 
 use crate::consuming::pages;
 use crate::keeping::all_files;
-use crate::outside::{Files, push_file, run_among};
+use crate::outside::{Files, ROOM, push_file, run_among};
 use crate::ports::{
     Calls, Failing, Keepers, NOTHING, Port, copy_calls, hub_calls, numbers, with_failures,
 };
@@ -108,7 +108,7 @@ static CASES: [Case; 11] = [
             ),
         ],
     },
-    // So it does where what follows is no request.
+    // A write stands also where what follows it is no request.
     Case {
         before: &["publish sis=lake", "grant g.csv"],
         line: "ask broken.http",
@@ -382,7 +382,7 @@ fn run(
     keepers: &mut Keepers,
 ) -> Result<Ran, Fail> {
     let mut folder = MemFolder::new(files(alloc)?, numbers(alloc, failing, Port::Folder)?);
-    let mut sink = MemSink::new(alloc, 8192, numbers(alloc, failing, Port::Sink)?)?;
+    let mut sink = MemSink::new(alloc, ROOM, numbers(alloc, failing, Port::Sink)?)?;
     let mut link = PeerLink::new(alloc, replies_of(alloc, reply)?);
     let status = run_among(
         alloc,

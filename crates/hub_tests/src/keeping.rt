@@ -1,6 +1,6 @@
 //! Several runs of the program over one keeper: what one run publishes stands in the next, and a keeper that fails is found out.
 
-use crate::outside::{Files, push_file, run_over};
+use crate::outside::{Files, ROOM, push_file, run_over};
 use crate::publishing::push_lake;
 use keeper_memory::MemHub;
 use outside_ports::{MemFolder, MemSink};
@@ -71,7 +71,7 @@ fn push_org(alloc: Global, files: &mut Files, dir: &str, name: &str) -> Result<(
     push_file(alloc, files, dir, "orgs.csv", row.as_str())
 }
 
-/// The words of a run, its status, and what it prints.
+// The words of a run, its status, and what it prints.
 type Run = (&'static str, u8, &'static str);
 
 // The commits that fail before and after they acted and the loads that fail, by their numbers from 1, and runs over one keeper.
@@ -241,11 +241,11 @@ static RUNS: [(&[u64], &[u64], &[u64], &[Run]); 10] = [
     ),
 ];
 
-// Runs the words over the keeper, and tells the status and the text that are wanted from others.
+// Asserts that a run of the words over the keeper ends with its status and prints its text.
 fn assert_next(rt: &impl Abort, alloc: Global, keeper: &mut MemHub, run: &Run) -> Result<(), Fail> {
     let (line, status, want) = run;
     let mut folder = MemFolder::new(all_files(alloc)?, Vec::new(alloc));
-    let mut sink = MemSink::new(alloc, 8192, Vec::new(alloc))?;
+    let mut sink = MemSink::new(alloc, ROOM, Vec::new(alloc))?;
     let answered = run_over(alloc, line, &mut folder, keeper, &mut sink)?;
     assert_eq!(rt;
         (answered, str::from_utf8(sink.written())),

@@ -1,6 +1,6 @@
 //! The rows of each kind of the example district `lake`, against texts that were made outside the program.
 
-// The kinds of `examples/lake`, and the collection of each that is shown at noon of 2024-08-01.
+/// The kinds of `examples/lake`, and the collection of each that is shown at noon of 2024-08-01.
 pub static SHOWN: [(&str, &str); 10] = [
     (
         "orgs",

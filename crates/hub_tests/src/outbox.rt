@@ -1,6 +1,6 @@
 //! Writes that are entered, listed and sent, over replies that are given beforehand.
 
-use crate::outside::{Files, push_file, run_among, run_with_copy};
+use crate::outside::{Files, ROOM, push_file, run_among, run_with_copy};
 use exchange_link::PeerLink;
 use keeper_memory::{CopyTables, LAST, MemCopy, MemHub};
 use outside_ports::{MemFolder, MemSink};
@@ -136,7 +136,7 @@ fn assert_turn(
 ) -> Result<(), Fail> {
     let (line, reply, status, want) = turn;
     let mut link = PeerLink::new(alloc, replies(alloc, reply)?);
-    let mut sink = MemSink::new(alloc, 8192, Vec::new(alloc))?;
+    let mut sink = MemSink::new(alloc, ROOM, Vec::new(alloc))?;
     let answered = run_turn(alloc, line, folder, copy, &mut link, &mut sink)?;
     assert_eq!(rt;
         (answered, str::from_utf8(sink.written())),

@@ -8,6 +8,9 @@ use std::alloc::Global;
 use std::process::Abort;
 use std::test::Fail;
 
+/// The bytes that a sink has room for: more than a run writes.
+pub const ROOM: u64 = 8_192;
+
 // 2024-08-01T12:00:00.000Z
 const NOON: i64 = 1_722_513_600_000;
 
@@ -87,7 +90,7 @@ pub fn run_among(
     ))
 }
 
-/// The same, with no files.
+/// Runs the words between spaces over a keeper, a copy, a link and a sink, in a folder without files.
 pub fn run_between(
     alloc: Global,
     line: &str,
@@ -108,7 +111,7 @@ fn told_between(
     copy: &mut MemCopy,
     link: &mut PeerLink,
 ) -> Result<(u8, String), Fail> {
-    let mut sink = MemSink::new(alloc, 8192, Vec::new(alloc))?;
+    let mut sink = MemSink::new(alloc, ROOM, Vec::new(alloc))?;
     let status = run_between(alloc, line, keeper, copy, link, &mut sink)?;
     let text = String::from_str(alloc, str::from_utf8(sink.written())?)?;
     Ok((status, text))
@@ -128,7 +131,7 @@ pub fn run_with_copy(
     told
 }
 
-/// The same, over a new keeper.
+/// Runs the words between spaces over a folder, a new keeper and a sink.
 pub fn run_line<F: Folder>(
     alloc: Global,
     line: &str,
@@ -141,7 +144,7 @@ pub fn run_line<F: Folder>(
     status
 }
 
-/// Runs the words over the files, and tells the status and the text that are wanted from others.
+/// Asserts that a run of the words over the files ends with the status and prints the text that are wanted.
 pub fn assert_run(
     rt: &impl Abort,
     alloc: Global,
@@ -150,7 +153,7 @@ pub fn assert_run(
     want: (u8, &str),
 ) -> Result<(), Fail> {
     let mut folder = MemFolder::new(files, Vec::new(alloc));
-    let mut sink = MemSink::new(alloc, 8192, Vec::new(alloc))?;
+    let mut sink = MemSink::new(alloc, ROOM, Vec::new(alloc))?;
     let status = run_line(alloc, line, &mut folder, &mut sink)?;
     assert_eq!(rt;
         (status, str::from_utf8(sink.written())),

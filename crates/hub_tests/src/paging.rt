@@ -89,7 +89,7 @@ const MIDDLE_LINKS: &str =
 const LAST_LINKS: &str =
     "</ims/oneroster/v1p1/users?limit=100&offset=100&hubVersion=3>; rel=\"prev\", </ims/oneroster/v1p1/users?limit=100&offset=0&hubVersion=3>; rel=\"first\", </ims/oneroster/v1p1/users?limit=100&offset=200&hubVersion=3>; rel=\"last\"";
 
-/// A run of the program: a line that it prints, or the offset of a page, the numbers of its users, and its links.
+// A run of the program: a line that it prints, or the offset of a page, the numbers of its users, and its links.
 enum Run {
     Prints(&'static str, &'static str),
     Page(u32, u32, &'static str),

@@ -76,7 +76,7 @@ pub fn copy_calls(alloc: Global, failing: Failing) -> Result<FailingCalls, Fail>
     })
 }
 
-/// None.
+/// No call of a keeper fails.
 pub fn no_calls(alloc: Global) -> FailingCalls {
     FailingCalls {
         before: Vec::new(alloc),
@@ -103,7 +103,7 @@ fn failing_copy(copy: MemCopy, calls: FailingCalls) -> MemCopy {
     copy.with_failures(before, after, reads)
 }
 
-/// The same keepers, of which these calls fail from now on.
+/// The keepers with the calls that fail from now on.
 pub fn with_failures(keepers: Keepers, of_hub: FailingCalls, of_copy: FailingCalls) -> Keepers {
     let Keepers { hub, copy } = keepers;
     Keepers {

@@ -1,7 +1,7 @@
 //! The set `lake3` over the example district: its rows, who sees them, and a reference that is missing.
 
 use crate::keeping::all_files;
-use crate::outside::{Files, push_file, run_over};
+use crate::outside::{Files, ROOM, push_file, run_over};
 use keeper_memory::MemHub;
 use outside_ports::{MemFolder, MemSink};
 use std::alloc::Global;
@@ -107,7 +107,7 @@ fn assert_case(
 ) -> Result<(), Fail> {
     let (line, path, token, status, want) = case;
     let mut folder = MemFolder::new(files_with(alloc, path, token)?, Vec::new(alloc));
-    let mut sink = MemSink::new(alloc, 8192, Vec::new(alloc))?;
+    let mut sink = MemSink::new(alloc, ROOM, Vec::new(alloc))?;
     let told = run_over(alloc, line, &mut folder, keeper, &mut sink)?;
     assert_eq!(rt;
         (told, str::from_utf8(sink.written())),
