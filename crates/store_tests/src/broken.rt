@@ -147,7 +147,7 @@ fn broken_over<S: Alter + Drop>(
     Ok((told, ran && stays))
 }
 
-// The same over a new connection.
+// What a step tells over a new connection that is filled and broken so.
 fn broken(
     alloc: Global,
     steps: &[Step],

@@ -58,11 +58,52 @@ pub const LATER_ROWS: &[Reply] = &[
     LATER_SHUT, LATER_SHUT, LATER_SHUT, LATER_SHUT, LATER_SHUT,
 ];
 
+// In version 6 it has made place for another one.
+const CHANGED_ORG: Reply = (
+    "HTTP/1.1 200 OK\r\nX-Total-Count: 2\r\nX-Hub-Version: 6",
+    "{\"hubGone\":[\"s2\"],\"orgs\":[{\"dateLastModified\":\"2024-09-02T00:00:00.000Z\",\"name\":\"North\",\"sourcedId\":\"s3\",\"status\":\"active\",\"type\":\"school\"}]}",
+);
+
+const CHANGED_SHUT: Reply = ("HTTP/1.1 403 Forbidden\r\nX-Hub-Version: 6", "");
+
+// The replies behind the first.
+const CHANGES_LEFT: &[Reply] = &[
+    CHANGED_SHUT,
+    CHANGED_SHUT,
+    CHANGED_SHUT,
+    CHANGED_SHUT,
+    CHANGED_SHUT,
+    CHANGED_SHUT,
+    CHANGED_SHUT,
+    CHANGED_SHUT,
+    CHANGED_SHUT,
+    CHANGED_SHUT,
+    CHANGED_SHUT,
+    CHANGED_SHUT,
+];
+
+/// The replies to the requests for what differs between versions 5 and 6.
+pub const CHANGES: &[Reply] = &[
+    CHANGED_ORG,
+    CHANGED_SHUT,
+    CHANGED_SHUT,
+    CHANGED_SHUT,
+    CHANGED_SHUT,
+    CHANGED_SHUT,
+    CHANGED_SHUT,
+    CHANGED_SHUT,
+    CHANGED_SHUT,
+    CHANGED_SHUT,
+    CHANGED_SHUT,
+    CHANGED_SHUT,
+    CHANGED_SHUT,
+];
+
 const GONE: Reply = ("HTTP/1.1 404 Not Found\r\nX-Hub-Oldest: 7", "");
 
 // Turns one behind another, and what each tells. A stage outlasts its run; one under another token is let go. Each whole copy stands on
 // the other side, which has no rows of before.
-static TURNS: [(Turn, &str); 22] = [
+static TURNS: [(Turn, &str); 26] = [
     (
         Turn("enter put categories c2 c2.json", 0, &[]),
         "0 entered 1\n",
@@ -107,6 +148,19 @@ static TURNS: [(Turn, &str); 22] = [
     (
         Turn("list orgs", 0, &[]),
         "0 {\"orgs\":[{\"dateLastModified\":\"2024-09-01T00:00:00.000Z\",\"name\":\"West\",\"sourcedId\":\"s2\",\"status\":\"active\",\"type\":\"school\"}]}\n",
+    ),
+    (Turn("delta tok-e 100 1", 10, &[]), "19 no base\n"),
+    (
+        Turn("delta tok-a 100 1", 10, &[CHANGED_ORG]),
+        "7 interrupted academicSessions 0\n",
+    ),
+    (
+        Turn("delta tok-a 100 1", 11, CHANGES_LEFT),
+        "0 complete 6\n",
+    ),
+    (
+        Turn("list orgs", 0, &[]),
+        "0 {\"orgs\":[{\"dateLastModified\":\"2024-09-02T00:00:00.000Z\",\"name\":\"North\",\"sourcedId\":\"s3\",\"status\":\"active\",\"type\":\"school\"}]}\n",
     ),
     (Turn("outbox", 0, &[]), "0 1 201 3\n2 204 4\n"),
 ];

@@ -49,9 +49,14 @@ fn assert_line(
 }
 
 // The words one after another over files, which are closed in between, and over a keeper in memory.
-fn assert_lines(rt: &impl Abort, alloc: Global, keep: u32, plain: &mut MemHub) -> Result<(), Fail> {
+fn assert_lines(
+    rt: &impl Abort,
+    alloc: Global,
+    (keep, lines): (u32, &'static [&'static str]),
+    plain: &mut MemHub,
+) -> Result<(), Fail> {
     let mut files = empty(alloc);
-    for (place, line) in LINES.iter().enumerate() {
+    for (place, line) in lines.iter().enumerate() {
         let (stored, left) = step_in(alloc, files, asked(keep, place), &Step::Hub(*line));
         files = left;
         assert_line(rt, alloc, (keep, *line), stored, plain)?;
@@ -60,9 +65,14 @@ fn assert_lines(rt: &impl Abort, alloc: Global, keep: u32, plain: &mut MemHub) -
     Ok(())
 }
 
-fn assert_kept(rt: &impl Abort, alloc: Global, keep: u32) -> Result<(), Fail> {
+fn assert_kept(
+    rt: &impl Abort,
+    alloc: Global,
+    keep: u32,
+    lines: &'static [&'static str],
+) -> Result<(), Fail> {
     let mut plain = MemHub::new(alloc, keep);
-    let asserted = assert_lines(rt, alloc, keep, &mut plain);
+    let asserted = assert_lines(rt, alloc, (keep, lines), &mut plain);
     drop(plain);
     asserted
 }
@@ -72,7 +82,15 @@ static KEEPS: [u32; 3] = [0, 1, 2];
 #[test]
 fn what_is_committed_is_loaded(rt: HostRuntime) -> Result<(), Fail> {
     for keep in &KEEPS {
-        assert_kept(&rt, rt.alloc(), *keep)?;
+        assert_kept(&rt, rt.alloc(), *keep, &LINES)?;
     }
     Ok(())
+}
+
+// A district's rows, and a version behind them that changes none of these.
+static MANY_LINES: [&str; 2] = ["publish sis=gen", "publish lake=new"];
+
+#[test]
+fn more_rows_than_are_read_at_once_are_loaded(rt: HostRuntime) -> Result<(), Fail> {
+    assert_kept(&rt, rt.alloc(), 1, &MANY_LINES)
 }

@@ -45,7 +45,7 @@ static HUBS: [(&str, &str, &str); 4] = [
     ("lake/orgs.csv", "publish sis=lake", "5 hub store failed\n"),
 ];
 
-// The same of copies, beside a hub. No hub is named that could take an entry.
+// Folders of stores, words one after another and what they tell, of a copy beside a hub. No peer is named, so no entry is sent.
 static COPIES: [(&str, &str, &str); 7] = [
     ("st", "publish sis=lake", "0 sis version 1\n"),
     ("st", "enter delete categories c9", "0 entered 1\n"),

@@ -6,7 +6,7 @@ use crate::ten_kinds_items::Kept;
 use crate::words::{printed, run_line, told};
 use exchange_link::PeerLink;
 use item_tests::opened;
-use keeper_memory::{CopyKeeper, HubKeeper, MemHub};
+use keeper_memory::{CopyKeeper, HubKeeper, MemCopy, MemHub};
 use keeper_sqlite::{ItemCopy, ItemHub, SqlItems, StoredItems};
 use roster_base::NoMemory;
 use sqlite::{Connection, FileStore, Files, Options};
@@ -21,12 +21,13 @@ pub type Reply = (&'static str, &'static str);
 pub struct Turn(pub &'static str, pub u64, pub &'static [Reply]);
 
 /// Words over a hub, the same once more over the same keeper where they fail, words over a hub of which only what is printed is told, a turn
-/// of a copy, a look at the copy's store or at its format, or at a hub's areas, a copy's store made one of format 1, or items put into a store.
+/// of a hub that follows another one with a new copy, a turn of a copy, a look at the copy's store or at its format, or at a hub's areas, a copy's store made one of format 1, or items put into a store.
 #[derive(Clone, Copy)]
 pub enum Step {
     Hub(&'static str),
     HubAgain(&'static str),
     Printed(&'static str),
+    Follow(Turn),
     Copy(Turn),
     Store,
     Format,
@@ -58,18 +59,42 @@ fn replies_to(
     Ok(texts)
 }
 
+// Runs a turn over a hub and a copy, and tells the status and what is printed.
+fn turn_printed<H: HubKeeper, C: CopyKeeper>(
+    alloc: Global,
+    turn: &Turn,
+    keeper: &mut H,
+    copy: &mut C,
+) -> Result<String, NoMemory> {
+    let Turn(line, run, replies) = turn;
+    let mut link = PeerLink::new(alloc, replies_to(alloc, *run, replies)?);
+    printed(alloc, line, keeper, copy, &mut link)
+}
+
 /// Runs a turn over a copy, and tells the status and what is printed.
 pub fn turn_told<C: CopyKeeper>(
     alloc: Global,
     turn: &Turn,
     copy: &mut C,
 ) -> Result<String, NoMemory> {
-    let Turn(line, run, replies) = turn;
-    let mut link = PeerLink::new(alloc, replies_to(alloc, *run, replies)?);
     let mut keeper = MemHub::new(alloc, 0);
-    let told = printed(alloc, line, &mut keeper, copy, &mut link);
+    let told = turn_printed(alloc, turn, &mut keeper, copy);
     drop(keeper);
     told
+}
+
+// Runs a turn over a hub that these items keep, with a new copy, and gives them back.
+fn follow_over<I: StoredItems>(
+    alloc: Global,
+    items: I,
+    keep: u32,
+    turn: &Turn,
+) -> (Result<String, NoMemory>, I) {
+    let mut keeper = ItemHub::adopt(items, keep);
+    let mut copy = MemCopy::new(alloc);
+    let told = turn_printed(alloc, turn, &mut keeper, &mut copy);
+    drop(copy);
+    (told, keeper.release())
 }
 
 // Runs the words over a hub that these items keep, and gives them back.
@@ -140,6 +165,7 @@ pub fn step_over<I: StoredItems>(
         Step::Hub(line) => hub_over(alloc, items, keep, line),
         Step::HubAgain(line) => hub_again(alloc, items, keep, line),
         Step::Printed(line) => hub_printed(alloc, items, keep, line),
+        Step::Follow(turn) => follow_over(alloc, items, keep, turn),
         Step::Copy(turn) => copy_over(alloc, items, turn),
         Step::Store => stored_in(alloc, items),
         Step::Format => format_in(alloc, items),

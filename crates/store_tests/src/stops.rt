@@ -1,6 +1,6 @@
 //! Commits and first loads over disks that stop.
 
-use crate::copies::{CREATED, LATER_ORG, LATER_ROWS, LATER_SHUT};
+use crate::copies::{CHANGES, CREATED, LATER_ORG, LATER_ROWS, LATER_SHUT};
 use crate::kept::empty;
 use crate::steps::{Reply, Step, Turn, step_in};
 use crate::ten_kinds_items::HUB;
@@ -20,8 +20,8 @@ struct Case {
     shown: &'static [Step],
 }
 
-// A first load, and a change that lets a version go.
-static HUBS: [Case; 2] = [
+// A first load, a change that lets a version go, and what a hub makes of another one that it follows.
+static HUBS: [Case; 3] = [
     Case {
         before: &[],
         step: Step::Hub("publish sis=lake"),
@@ -31,6 +31,12 @@ static HUBS: [Case; 2] = [
     Case {
         before: &[Step::Hub("publish sis=lake"), Step::Hub("grant g.csv")],
         step: Step::Hub("publish sis=new"),
+        between: &[],
+        shown: &[Step::Hub("show orgs")],
+    },
+    Case {
+        before: &[Step::Hub("grant g.csv")],
+        step: Step::Follow(Turn("follow tok-a 100 1 up", 1, LATER_ROWS)),
         between: &[],
         shown: &[Step::Hub("show orgs")],
     },
@@ -48,8 +54,8 @@ const MOST_ROWS: &[Reply] = &[
     LATER_SHUT, LATER_SHUT, LATER_SHUT, LATER_SHUT,
 ];
 
-// A first entry, an entry that is settled, and the last page of a version, each one change of what is shown.
-static COPIES: [Case; 3] = [
+// A first entry, an entry that is settled, the last page of a version, and what differs of the next one: each is one change of what is shown.
+static COPIES: [Case; 4] = [
     Case {
         before: &[],
         step: ENTER,
@@ -65,6 +71,12 @@ static COPIES: [Case; 3] = [
     Case {
         before: &[Step::Copy(Turn("sync tok-e 100 1", 1, MOST_ROWS))],
         step: Step::Copy(Turn("sync tok-e 100 1", 2, &[LATER_SHUT])),
+        between: &[],
+        shown: &[OUTBOX, ORGS],
+    },
+    Case {
+        before: &[Step::Copy(Turn("sync tok-a 100 1", 1, LATER_ROWS))],
+        step: Step::Copy(Turn("delta tok-a 100 1", 2, CHANGES)),
         between: &[],
         shown: &[OUTBOX, ORGS],
     },

@@ -3,6 +3,7 @@
 use crate::tables::push_keeper;
 use exchange_link::PeerLink;
 use keeper_memory::{CopyKeeper, HubKeeper, MemCopy};
+use made_districts::files::made_folder;
 use outside_ports::{FixedClock, MemFolder, MemSink};
 use real_run::run_hub;
 use roster_base::NoMemory;
@@ -109,6 +110,9 @@ fn push_file(
     Ok(())
 }
 
+// Enough schools that their rows are more than a keeper reads at once.
+const MANY: u16 = 90;
+
 fn folder(alloc: Global) -> Result<MemFolder, NoMemory> {
     let mut files = Vec::new(alloc);
     for (name, text) in &LAKE {
@@ -118,6 +122,15 @@ fn folder(alloc: Global) -> Result<MemFolder, NoMemory> {
         push_file(alloc, &mut files, dir, name, text)?;
     }
     Ok(MemFolder::new(files, Vec::new(alloc)))
+}
+
+// The folder that the words are about: that of a made district where they name its set.
+fn folder_for(alloc: Global, line: &str) -> Result<MemFolder, NoMemory> {
+    if line.ends_with("=gen") {
+        made_folder(alloc, MANY)
+    } else {
+        folder(alloc)
+    }
 }
 
 /// The words between spaces.
@@ -138,7 +151,7 @@ pub fn printed<H: HubKeeper, C: CopyKeeper>(
     link: &mut PeerLink,
 ) -> Result<String, NoMemory> {
     let words = words_of(alloc, line)?;
-    let mut folder = folder(alloc)?;
+    let mut folder = folder_for(alloc, line)?;
     let mut sink = MemSink::new(alloc, 1024, Vec::new(alloc))?;
     let clock = FixedClock::at(NOON);
     let status = run_hub(

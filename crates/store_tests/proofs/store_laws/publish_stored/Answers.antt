@@ -1,4 +1,4 @@
-use Rattle.std.proofs.Common.{◌≡◌, sym, subst}
+use Rattle.std.proofs.Common.{sym, subst}
 use Rattle.sqlite.specs.Held.{state}
 use Rattle.item_store.specs.Stands.{StandsFor}
 use Rattle.keeper_sqlite.proofs.HoldingLemmas.{stored_tells, trusted_still}

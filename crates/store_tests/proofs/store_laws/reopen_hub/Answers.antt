@@ -1,6 +1,4 @@
 use Rattle.std.proofs.Common.{sym, subst}
-use Rattle.keeper_memory.specs.Kept.{KeptState}
-use Rattle.item_maps.specs.Items.{Items}
 use Rattle.keeper_sqlite.specs.hub.Keeping.{KeepOrNew}
 use Rattle.store_tests.proofs.store_laws.reopen_hub.Goals as goal
 
