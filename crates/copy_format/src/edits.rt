@@ -12,7 +12,7 @@ use crate::area::CopyArea;
 use crate::root::CopyRoot;
 use crate::staging::{new_stage, staged_more};
 use crate::writing::{push_clear_stage, put_out, put_root, put_rows, put_stage, put_token};
-use hub_format::put_format;
+use hub_format::{WRITTEN_FORMAT, put_format};
 use item_maps::Edit;
 use keeper_memory::{OutEntry, Settled, StageState};
 use roster_base::{Items, NoMemory};
@@ -27,7 +27,7 @@ pub fn first_edits(alloc: Global) -> Result<Vec<Edit>, NoMemory>
     ensures { IfOk result (λ edits. edits.items ≡ first_edits) }
 {
     let mut edits = Vec::new(alloc);
-    edits.push(put_format(alloc, 2)?)?;
+    edits.push(put_format(alloc, WRITTEN_FORMAT)?)?;
     edits.push(put_root(
         alloc,
         CopyRoot {
@@ -45,7 +45,7 @@ pub fn turn_edits(alloc: Global) -> Result<Vec<Edit>, NoMemory>
     ensures { IfOk result (λ edits. edits.items ≡ turn_edits) }
 {
     let mut edits = Vec::new(alloc);
-    edits.push(put_format(alloc, 2)?)?;
+    edits.push(put_format(alloc, WRITTEN_FORMAT)?)?;
     Ok(edits)
 }
 

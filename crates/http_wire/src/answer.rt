@@ -14,10 +14,10 @@ use crate::fault::WireFault;
 use crate::front::{MAX_FIELDS, head_fault};
 use crate::head::{copy_of, echo_in, length_of_body, value};
 use crate::reader::fault_at_end;
-use crate::text::{LAST, count, number};
+use crate::text::{count, number};
 use httparse::Status;
 use httparse::spans::{EMPTY_HEADER_SPAN, HeaderSpan, ResponseSpans, parse_response};
-use roster_base::Bytes;
+use roster_base::{Bytes, LAST_NUMBER};
 use status_info::Echo;
 use std::alloc::Global;
 
@@ -44,13 +44,13 @@ pub struct WireReply {
 fn count_in(value: Option<&[u8]>) -> Option<u64>
     ensures { result ≡ count_at (option_map (λ v. v.now) value.entry) }
 {
-    count(value?, LAST)
+    count(value?, LAST_NUMBER)
 }
 
 fn number_in(value: Option<&[u8]>) -> Option<u64>
     ensures { result ≡ number_at (option_map (λ v. v.now) value.entry) }
 {
-    number(value?, LAST)
+    number(value?, LAST_NUMBER)
 }
 
 // The length of the body where none is stated.

@@ -5,13 +5,10 @@ ghost use Rattle.std.specs.List.{before_first, after_first, position_or_len};
 ghost use Rattle.roster_texts.specs.Texts.{is_token};
 ghost use Rattle.http_wire.specs.Texts.{count_of, digits_of, echo_of, is_dot, last_number, mark_of, number_of, path_of, query_of, skip_spaces, token_of, verb_of};
 
-use roster_base::NoMemory;
+use roster_base::{LAST_NUMBER, NoMemory};
 use roster_texts::Token;
 use status_info::{Echo, MarkField, Verb};
 use std::alloc::Global;
-
-/// The greatest version, run or mark.
-pub const LAST: u64 = 1_000_000_000_000_000;
 
 // The number that 1 to 18 digits write.
 #[tactic(auto, unfolding(crate::specs::Texts::digits_of))]
@@ -68,7 +65,7 @@ pub(crate) fn mark(value: Option<&[u8]>) -> MarkField
     let Some(bytes) = value else {
         return MarkField::Nothing;
     };
-    match number(bytes, LAST) {
+    match number(bytes, LAST_NUMBER) {
         Some(mark) => MarkField::Number(mark),
         None => MarkField::Bad,
     }
@@ -104,8 +101,8 @@ pub(crate) fn echo(bytes: &[u8]) -> Option<Echo>
     ensures { result ≡ echo_of bytes.now }
 {
     let (run, count) = split_at_dot(bytes);
-    let run = number(run, LAST)?;
-    let count = number(count, 100 * LAST)?;
+    let run = number(run, LAST_NUMBER)?;
+    let count = number(count, 100 * LAST_NUMBER)?;
     Some(Echo { run, count })
 }
 

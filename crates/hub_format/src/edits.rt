@@ -26,6 +26,9 @@ pub fn number_bytes(alloc: Global, n: u64) -> Result<Vec<u8>, NoMemory>
     Ok(bytes)
 }
 
+/// The format in which stores are written: `Format::Two`.
+pub const WRITTEN_FORMAT: u64 = 2;
+
 /// The edit that stores the number of a format.
 pub fn put_format(alloc: Global, format: u64) -> Result<Edit, NoMemory>
     ensures { IfOk result (λ edit. edit ≡ put_at 0 (format_entry format)) }

@@ -15,7 +15,9 @@ mod reading;
 mod writing;
 
 pub use area::HubArea;
-pub use edits::{clear_version, number_bytes, push_mark, put_format, put_some_grants, put_state};
+pub use edits::{
+    WRITTEN_FORMAT, clear_version, number_bytes, push_mark, put_format, put_some_grants, put_state,
+};
 pub use fold::{change_parts, push_grants};
 pub use pieces::{kind_byte, push_number, push_sized};
 pub use plan::lets_go;

@@ -5,7 +5,7 @@ ghost use Rattle.version_core.specs.Tables.{AreTables};
 use crate::runs::{Given, Turn, run};
 use crate::sets::moment_of;
 use keeper_memory::MemHub;
-use roster_base::Items;
+use roster_base::{Items, LAST_NUMBER};
 use std::alloc::Global;
 use std::process::Abort;
 use std::test::Fail;
@@ -18,7 +18,7 @@ fn last_version(rt: &impl Abort, alloc: Global) -> HubTables
     ensures { AreTables result }
 {
     let base = BaseVersion {
-        number: 1_000_000_000_000_000,
+        number: LAST_NUMBER,
         moment: moment_of(rt),
         rows: SortedRows::new(alloc),
         grants: Items::new(alloc),

@@ -6,12 +6,12 @@ use Rattle.std.specs.List.{list_all, prefix_len}
 use Rattle.roster_texts.specs.Digits.{decimal_value, digits_value, is_digit}
 use Rattle.roster_texts.specs.Numbers.{first_digits}
 
--- one more digit still leaves at most 12
-pub room_for_digit : (v i n : ℕ) → v < 10 ^ i → i < n → n ≤ 12 → v + 1 ≤ 10 ^ 11
+-- one more digit still leaves at most 16
+pub room_for_digit : (v i n : ℕ) → v < 10 ^ i → i < n → n ≤ 16 → v + 1 ≤ 10 ^ 15
 room_for_digit v i n small before most =
-    let i_le : i ≤ 11 = omega arith in
+    let i_le : i ≤ 15 = omega arith in
     let ten : 0 < 10 = omega arith in
-    let power : 10 ^ i ≤ 10 ^ 11 = pow-le-pow_right ten i_le in
+    let power : 10 ^ i ≤ 10 ^ 15 = pow-le-pow_right ten i_le in
     omega arith
 
 -- a number of at most 12 digits

@@ -13,10 +13,10 @@ pub fn all_digits(text: &[u8]) -> bool
     text.iter().all(|b| b.is_ascii_digit())
 }
 
-/// The number that at most 12 digits write, if the text is digits alone.
+/// The number that at most 16 digits write, if the text is digits alone.
 #[tactic(auto, unfolding(crate::specs::Digits::digits_value))]
 pub fn number(digits: &[u8]) -> Option<u64>
-    requires { length digits.now ≤ 12 }
+    requires { length digits.now ≤ 16 }
     ensures value { result ≡ digits_value digits.now }
     ensures bound { IfSome result (λ n. n < 10 ^ length digits.now) }
 {

@@ -9,7 +9,7 @@ ghost use Rattle.span_format.specs.Edits.{added, brought, turn_edits};
 ghost use Rattle.span_format.specs.Format.{FitSpans, HasPlainIds, own_names, own_spans};
 
 use crate::writing::{move_spans, put_names, put_spans};
-use hub_format::{HubArea, put_format, put_some_grants, put_version};
+use hub_format::{HubArea, WRITTEN_FORMAT, put_format, put_some_grants, put_version};
 use item_maps::Edit;
 use roster_base::{Bytes, Items, NoMemory};
 use std::alloc::Global;
@@ -69,7 +69,7 @@ fn format_edits(alloc: Global) -> Result<Vec<Edit>, NoMemory>
     ensures { IfOk result (λ edits. edits.items ≡ put_at 0 (format_entry 2) ∷ Clear 2 [] (255 ∷ []) ∷ Clear 4 [] (255 ∷ []) ∷ []) }
 {
     let mut edits = Vec::new(alloc);
-    edits.push(put_format(alloc, 2)?)?;
+    edits.push(put_format(alloc, WRITTEN_FORMAT)?)?;
     edits.push(clear_rows(alloc, HubArea::BaseRows.number())?)?;
     edits.push(clear_rows(alloc, HubArea::ChangeRows.number())?)?;
     Ok(edits)

@@ -8,7 +8,7 @@ ghost use Rattle.span_format.specs.Edits.{first_edits};
 ghost use Rattle.span_format.specs.Format.{HasPlainId, name_entry, row_span, span_entry, spans_from};
 
 use crate::keys::{name_label, span_label};
-use hub_format::{HubArea, put_format, put_state, row_body};
+use hub_format::{HubArea, WRITTEN_FORMAT, put_format, put_state, row_body};
 use item_maps::Edit;
 use roster_base::{Bytes, NoMemory};
 use std::alloc::Global;
@@ -20,7 +20,7 @@ pub fn first_edits(alloc: Global, keep: u32) -> Result<Vec<Edit>, NoMemory>
     ensures { IfOk result (λ edits. edits.items ≡ first_edits keep) }
 {
     let mut edits = Vec::new(alloc);
-    edits.push(put_format(alloc, 2)?)?;
+    edits.push(put_format(alloc, WRITTEN_FORMAT)?)?;
     edits.push(put_state(alloc, u64::from(keep), 0, &[0; 8])?)?;
     Ok(edits)
 }

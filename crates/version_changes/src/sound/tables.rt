@@ -7,6 +7,7 @@ ghost use Rattle.version_core.specs.Table.{LeadOn};
 ghost use Rattle.version_core.specs.Tables.{AreTables};
 ghost use Rattle.version_core.specs.Version.{IsVersion, last_version, versions_from};
 
+use crate::limits::LAST_VERSION;
 use crate::sound::changes::{are_kept, is_first, leads_on};
 use crate::sound::counts::are_few;
 use crate::sound::grants::{are_grants, are_since};
@@ -15,9 +16,6 @@ use crate::sound::marks::are_marks;
 use version_core::change::{BaseVersion, Change};
 use version_core::hub_tables::HubTables;
 use version_core::mark::MarkRow;
-
-// The greatest number of a version.
-const LAST_VERSION: u64 = 1_000_000_000_000_000;
 
 // Whether so many versions may stand behind this one.
 fn fits(number: u64, count: usize) -> bool
