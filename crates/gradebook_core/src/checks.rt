@@ -11,7 +11,6 @@ use roster_types::row::Row;
 use roster_types::rows::Rows;
 use roster_values::{Kind, ValueRef};
 use version_changes::limits::ROW_LIMIT;
-use version_core::references::lent_field;
 use version_core::row_change::RowChange;
 use version_core::view::VersionView;
 
@@ -37,7 +36,7 @@ pub fn is_of_other(caller: &Name, stored: Option<&RowChange>) -> bool
 fn is_grading_period(session: &Row) -> bool
     ensures { result ≡ spec.is_grading_period session.now }
 {
-    match lent_field(session, "type") {
+    match session.named("type") {
         Some(ValueRef::Word(word)) => word == "gradingPeriod",
         _ => false,
     }

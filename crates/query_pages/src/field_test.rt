@@ -16,11 +16,10 @@ use filter_grammar::rows::filtering::{is_not_equal, number_in, numbers_pass, val
 use filter_grammar::subject::{Subject, subject_of};
 use filter_grammar::{Comparison, Predicate, number_of_text};
 use roster_base::NoMemory;
-use roster_types::row::Row;
+use roster_types::row::{Row, place_of};
 use roster_values::fields::fields;
 use roster_values::{FieldForm, Kind, ValueRef};
 use std::alloc::Global;
-use version_core::references::place_of;
 
 /// What a comparison asks of a value.
 #[derive(Clone, Copy)]

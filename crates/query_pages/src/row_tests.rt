@@ -11,13 +11,13 @@ use rest_paths::Collection;
 use roster_texts::Id;
 use roster_types::row::Row;
 use roster_values::ValueRef;
-use version_core::references::{lent_field, names};
+use version_core::references::names;
 
 // Whether the field is this word.
 fn has_word(row: &Row, field: &str, word: &str) -> bool
     ensures { result ≡ is_word (field_of row.now field.now) word.now }
 {
-    match lent_field(row, field) {
+    match row.named(field) {
         Some(ValueRef::Word(other)) => other == word,
         _ => false,
     }

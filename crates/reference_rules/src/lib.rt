@@ -23,6 +23,7 @@ mod walk;
 use crate::cycles::is_in_cycle;
 use crate::targets::add_value_faults;
 use crate::walk::{begun, is_in_cycle_along};
+pub use chains::parent;
 pub use has_row::HasRow;
 pub use ref_fault::{Fault, RefFault, has_cycle};
 use roster_base::NoMemory;

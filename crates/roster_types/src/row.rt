@@ -131,14 +131,20 @@ impl Row {
         self.parts.value_with(self.parts.status(), place)
     }
 
-    /// The value of the field with that JSON name; nothing where it is absent or no such field is.
+    /// The value of the field with that JSON name; nothing where it is absent or no such field is. No memory is taken.
+    pub fn named(&self, name: &str) -> Option<ValueRef<'_>>
+        ensures value { option_map shown result ≡ field_of self.now name.now }
+        ensures row { IsRow self.now }
+    {
+        let place = place_of(self.kind(), name)?;
+        self.value(place)
+    }
+
+    /// A copy of that value.
     pub fn field(&self, alloc: Global, name: &str) -> Result<Option<Value>, NoMemory>
         ensures { IfOk result (λ o. o ≡ field_of self.now name.now) }
     {
-        let Some(place) = place_of(self.kind(), name) else {
-            return Ok(None);
-        };
-        match self.value(place) {
+        match self.named(name) {
             Some(value) => Ok(Some(copy_value(alloc, value)?)),
             None => Ok(None),
         }
@@ -201,8 +207,8 @@ impl Keyed for Row {
     }
 }
 
-// The place of the field with that JSON name.
-fn place_of(kind: Kind, name: &str) -> Option<usize>
+/// The place of the field with that JSON name.
+pub fn place_of(kind: Kind, name: &str) -> Option<usize>
     ensures { result ≡ place_in (table kind) name.now }
 {
     place_among(fields(kind), name)

@@ -13,12 +13,12 @@ ghost use Rattle.version_core.specs.RefIndex as spec;
 use crate::histories::found;
 use crate::history::History;
 use crate::kept_refs::is_kept;
-use crate::references::{lent_field, names, place_of};
+use crate::references::names;
 use crate::row_change::RowChange;
 use crate::since::Since;
 use roster_base::NoMemory;
 use roster_texts::Id;
-use roster_types::row::Row;
+use roster_types::row::{Row, place_of};
 use roster_values::fields::fields;
 use roster_values::{Kind, ValueRef};
 use std::cmp::Ordering;
@@ -280,7 +280,7 @@ fn name_is_said(runs: &[RefRun], row: &Row, name: &str) -> bool
     let Some(place) = place_of(row.kind(), name) else {
         return true;
     };
-    match lent_field(row, name) {
+    match row.named(name) {
         Some(ValueRef::Ref(target)) => one_says(runs, row.kind(), place as u64, target, row.id()),
         Some(ValueRef::Refs(targets)) => {
             all_said(runs, row.kind(), place as u64, targets.as_slice(), row.id())

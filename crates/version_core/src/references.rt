@@ -1,17 +1,13 @@
 //! Rows that refer to others.
 
-ghost use Rattle.std.specs.Prelude.{◌≡◌, bytes_eq, option_copied, option_map, position};
+ghost use Rattle.std.specs.Prelude.{◌≡◌, option_copied};
 ghost use Rattle.roster_types.specs.Keys.{Ascends, row_key};
-ghost use Rattle.roster_types.specs.Records.{field_of, place_in};
-ghost use Rattle.roster_values.specs.Table.{info_of, table};
-ghost use Rattle.roster_values.specs.Value.{shown};
 ghost use Rattle.version_core.specs.References as spec;
 
 use roster_texts::Id;
 use roster_types::row::Row;
 use roster_types::rows::Rows;
-use roster_values::fields::fields;
-use roster_values::{FieldInfo, Kind, ValueRef};
+use roster_values::{Kind, ValueRef};
 
 /// Rows that are found by what they refer to. No call takes memory.
 pub trait Refs: Rows {
@@ -32,27 +28,6 @@ pub trait Refs: Rows {
         ensures few { (kind : Kinds) → count_of kind (Self.rows self.now) < 18446744073709551616 };
 }
 
-/// The value of the field with that JSON name; nothing where it is absent or no such field is. No memory is taken.
-pub fn lent_field<'r>(row: &'r Row, name: &str) -> Option<ValueRef<'r>>
-    ensures { option_map shown result ≡ field_of row.now name.now }
-{
-    let place = place_of(row.kind(), name)?;
-    row.value(place)
-}
-
-/// The place of the field with that JSON name.
-pub fn place_of(kind: Kind, name: &str) -> Option<usize>
-    ensures { result ≡ place_in (table kind) name.now }
-{
-    place_among(fields(kind), name)
-}
-
-fn place_among(infos: &[FieldInfo], name: &str) -> Option<usize>
-    ensures { result ≡ position (λ i. bytes_eq i.name.now name.now) infos.now }
-{
-    infos.iter().position(|info| info.name == name)
-}
-
 /// Whether an id is one of these.
 pub fn is_one_of(ids: &[Id], id: &Id) -> bool
     ensures { result ≡ spec.is_one_of ids.now id.now }
@@ -64,7 +39,7 @@ pub fn is_one_of(ids: &[Id], id: &Id) -> bool
 pub fn names(row: &Row, name: &str, id: &Id) -> bool
     ensures { result ≡ spec.names name.now id.now row.now }
 {
-    match lent_field(row, name) {
+    match row.named(name) {
         Some(ValueRef::Ref(other)) => other.as_str() == id.as_str(),
         Some(ValueRef::Refs(ids)) => is_one_of(ids.as_slice(), id),
         _ => false,

@@ -1,18 +1,15 @@
 //! What a row has in the fields that filters and orders name.
 
-ghost use Rattle.std.specs.Prelude.{◌≡◌, true, bytes_eq, find, option_map, position, IfSome};
+ghost use Rattle.std.specs.Prelude.{◌≡◌, true, bytes_eq, find, option_map, IfSome};
 ghost use Rattle.filter_grammar.specs.Subjects.{subject_shown};
-ghost use Rattle.roster_types.specs.Records.{field_of, place_in};
 ghost use Rattle.roster_values.specs.CellText.{has_short_year};
-ghost use Rattle.roster_values.specs.Table.{info_of, table};
 ghost use Rattle.roster_values.specs.Value.{shown};
 ghost use Rattle.filter_grammar.specs.rows.SubjectValues as spec;
 
 use crate::subject::Subject;
 use roster_types::metadata::Entry;
 use roster_types::row::Row;
-use roster_values::fields::fields;
-use roster_values::{FieldInfo, Kind, ValueRef};
+use roster_values::ValueRef;
 
 /// What a row has there; nothing where it has nothing.
 pub(crate) fn subject_value<'r>(row: &'r Row, subject: Subject<'_>) -> Option<ValueRef<'r>>
@@ -20,7 +17,7 @@ pub(crate) fn subject_value<'r>(row: &'r Row, subject: Subject<'_>) -> Option<Va
     ensures year { IfSome result (λ v. has_short_year (shown v) ≡ true) }
 {
     match subject {
-        Subject::OfTable(info) => lent_field(row, info.name),
+        Subject::OfTable(info) => row.named(info.name),
         Subject::OfMetadata(key) => lent_entry(row.metadata().entries(), key),
     }
 }
@@ -35,25 +32,4 @@ fn lent_entry<'e>(entries: &'e [Entry], key: &str) -> Option<ValueRef<'e>>
         }
     }
     None
-}
-
-fn lent_field<'r>(row: &'r Row, name: &str) -> Option<ValueRef<'r>>
-    ensures value { option_map shown result ≡ field_of row.now name.now }
-    ensures year { IfSome result (λ v. has_short_year (shown v) ≡ true) }
-{
-    let place = place_of(row.kind(), name)?;
-    row.value(place)
-}
-
-// The place of the field with that JSON name.
-fn place_of(kind: Kind, name: &str) -> Option<usize>
-    ensures { result ≡ place_in (table kind) name.now }
-{
-    place_among(fields(kind), name)
-}
-
-fn place_among(infos: &[FieldInfo], name: &str) -> Option<usize>
-    ensures { result ≡ position (λ i. bytes_eq i.name.now name.now) infos.now }
-{
-    infos.iter().position(|info| info.name == name)
 }

@@ -7,10 +7,11 @@ ghost use Rattle.query_pages.specs.Ancestors.{IsClosed, is_in};
 ghost use Rattle.roster_types.specs.Keys.{count_of};
 ghost use Rattle.roster_values.specs.declared.kind.Kind.TheVariants.{Orgs};
 
-use crate::seen::chains::parent;
+use reference_rules::parent;
 use roster_base::NoMemory;
 use roster_texts::Id;
 use roster_types::rows::Rows;
+use roster_values::Kind;
 use std::alloc::Global;
 use std::collections::HashSet;
 
@@ -35,7 +36,7 @@ fn add_chain<'a, R: Rows>(
         if !ids.insert(current.as_str())? {
             return Ok(());
         }
-        match parent(rows, current) {
+        match parent(rows, Kind::Orgs, current) {
             None => return Ok(()),
             Some(parent) => current = parent,
         }

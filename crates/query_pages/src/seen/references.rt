@@ -10,13 +10,13 @@ use roster_texts::Id;
 use roster_types::row::Row;
 use roster_types::rows::Rows;
 use roster_values::{Kind, ValueRef};
-use version_core::references::{Refs, is_one_of, lent_field};
+use version_core::references::{Refs, is_one_of};
 
 /// Whether the field of a row names one of these ids.
 pub fn names_one_of(row: &Row, name: &str, ids: &[Id]) -> bool
     ensures { result ≡ list_any (is_one_of ids.now) (named_in name.now row.now) }
 {
-    match lent_field(row, name) {
+    match row.named(name) {
         Some(ValueRef::Ref(id)) => is_one_of(ids, id),
         Some(ValueRef::Refs(named)) => have_common(named.as_slice(), ids),
         _ => false,
@@ -50,7 +50,7 @@ fn one_stands_where<R: Rows, T: RowTest>(rows: &R, test: &T, kind: Kind, ids: &[
 pub fn leads_to<R: Rows, T: RowTest>(rows: &R, test: &T, name: &str, kind: Kind, row: &Row) -> bool
     ensures { result ≡ spec.leads_to (T.passes test.now) (R.rows rows.now) name.now kind row.now }
 {
-    match lent_field(row, name) {
+    match row.named(name) {
         Some(ValueRef::Ref(id)) => stands_where(rows, test, kind, id),
         Some(ValueRef::Refs(ids)) => one_stands_where(rows, test, kind, ids.as_slice()),
         _ => false,

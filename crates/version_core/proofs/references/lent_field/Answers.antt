@@ -1,6 +1,0 @@
-use Rattle.std.proofs.Common.{sym}
-use Rattle.roster_types.proofs.Places.{named_within}
-use Rattle.version_core.proofs.references.lent_field.Goals as goal
-
-pub value-requires : goal.value-requires
-value-requires c = named_within c.args.row.now _ _ _ c.kind.ensures.row.fitting c.kind.ensures.kind (sym c.in_ok-place.ensures)
