@@ -84,9 +84,8 @@ pub fn page_edits(
         → IfOk result (λ o. IfSome o (λ edits. edits.items ≡ edits_of side c (Page kind rows total done))) }
     ensures fits { (c : Copy) (s : Stage) → c.stage ≡ Some s → stage ≡ state_of s → IfOk result (λ o. IfSome o (λ _. FitsChange (Page kind rows total done) c)) }
 {
-    let later = match staged_more(alloc, stage, rows.as_slice(), total, done)? {
-        Some(later) => later,
-        None => return Ok(None),
+    let Some(later) = staged_more(alloc, stage, rows.as_slice(), total, done)? else {
+        return Ok(None);
     };
     let mut edits = Vec::new(alloc);
     edits.push(put_stage(alloc, &later)?)?;

@@ -65,14 +65,12 @@ fn tested(number: u64, write: Write, settled: &[u8]) -> Option<OutEntry>
     if number > LAST || !is_out_write(&write) {
         return None;
     }
-    match only_optional_settled(settled) {
-        Some(settled) => Some(OutEntry {
-            number,
-            write,
-            settled,
-        }),
-        None => None,
-    }
+    let settled = only_optional_settled(settled)?;
+    Some(OutEntry {
+        number,
+        write,
+        settled,
+    })
 }
 
 /// The entry of an item. None where it is no entry's item.
@@ -82,13 +80,11 @@ pub fn out_of(alloc: Global, item: &Item) -> Result<Option<OutEntry>, NoMemory>
     ensures low { IfOk result (λ o. IfSome o (λ found. found.number ≤ last_number)) }
     ensures can { IfOk result (λ o. IfSome o (λ found. IsOutWrite found.write)) }
 {
-    let number = match only_number(item.label.as_slice()) {
-        Some(number) => number,
-        None => return Ok(None),
+    let Some(number) = only_number(item.label.as_slice()) else {
+        return Ok(None);
     };
-    let (delete, kind, id, text, settled) = match parts_of(item.body.as_slice()) {
-        Some(parts) => parts,
-        None => return Ok(None),
+    let Some((delete, kind, id, text, settled)) = parts_of(item.body.as_slice()) else {
+        return Ok(None);
     };
     match write_of(alloc, delete, kind, id, text)? {
         Some(write) => Ok(tested(number, write, settled)),

@@ -35,9 +35,8 @@ fn row_of_body(alloc: Global, kind: Kind, body: &[u8]) -> Result<Option<Row>, No
     ensures found { (row : Record) → IsRowOf kind row → body.now ≡ row_body row → IfOk result (λ o. IfSome o (λ found. found ≡ row)) }
     ensures kind { IfOk result (λ o. IfSome o (λ found. found.kind ≡ kind)) }
 {
-    let text = match only_text(body) {
-        Some(text) => text,
-        None => return Ok(None),
+    let Some(text) = only_text(body) else {
+        return Ok(None);
     };
     match read_row(alloc, kind, text) {
         Ok(row) => Ok(Some(row)),
@@ -106,10 +105,10 @@ pub fn rows_of(alloc: Global, kind: Kind, items: &[Item]) -> Result<Option<Vec<R
 {
     let mut found = Vec::new(alloc);
     for item in items {
-        match next_row(alloc, kind, found.as_slice(), item)? {
-            Some(row) => found.push(row)?,
-            None => return Ok(None),
-        }
+        let Some(row) = next_row(alloc, kind, found.as_slice(), item)? else {
+            return Ok(None);
+        };
+        found.push(row)?;
     }
     Ok(Some(found))
 }

@@ -36,13 +36,11 @@ fn stage_of_body(alloc: Global, body: &[u8]) -> Result<Option<StageState>, NoMem
     ensures body { IfOk result (λ o. IfSome o (λ s. body.now ≡ stage_body s)) }
     ensures fits { IfOk result (λ o. IfSome o FitsSmall) }
 {
-    let (pin, token, kinds_done, staged, total, rest) = match parts_of(body) {
-        Some(parts) => parts,
-        None => return Ok(None),
+    let Some((pin, token, kinds_done, staged, total, rest)) = parts_of(body) else {
+        return Ok(None);
     };
-    let token = match token_in(alloc, token)? {
-        Some(token) => token,
-        None => return Ok(None),
+    let Some(token) = token_in(alloc, token)? else {
+        return Ok(None);
     };
     match only_optional_id(alloc, rest)? {
         Some(last) => Ok(Some(StageState {
@@ -76,9 +74,8 @@ fn stage_of_item(alloc: Global, item: &Item) -> Result<Option<StageState>, NoMem
     ensures fits { IfOk result (λ o. IfSome o FitsSmall) }
     ensures can { IfOk result (λ o. IfSome o CanBeStage) }
 {
-    let body = match bare_body(item) {
-        Some(body) => body,
-        None => return Ok(None),
+    let Some(body) = bare_body(item) else {
+        return Ok(None);
     };
     match stage_of_body(alloc, body)? {
         Some(stage) if is_stage(&stage) => Ok(Some(stage)),

@@ -57,9 +57,8 @@ pub(crate) fn staged_more(
         total: _,
         last,
     } = stage;
-    let count = match staged.checked_add(rows.len() as u64) {
-        Some(count) => count,
-        None => return Ok(None),
+    let Some(count) = staged.checked_add(rows.len() as u64) else {
+        return Ok(None);
     };
     if done {
         return Ok(Some(StageState {

@@ -106,10 +106,7 @@ fn new_judged(
 fn held_mark<'a>(marks: &'a Marks, caller: &Name, mark: Option<u64>) -> Option<&'a MarkRow>
     ensures { option_copied result ≡ option_and_then (λ number. mark_at (caller.now, number) marks.now.marks) mark }
 {
-    match mark {
-        Some(number) => marks.get(caller, number),
-        None => None,
-    }
+    marks.get(caller, mark?)
 }
 
 /// What becomes of the write of a caller with a grant, under a mark if it has one, by the newest version of the table and the

@@ -30,9 +30,8 @@ pub fn id_at(alloc: Global, bytes: &[u8]) -> Result<Option<(Id, &[u8])>, NoMemor
     ensures id { IfOk result (λ o. IfSome o (λ p. bytes.now ≡ sized p.0 ++ p.1.now)) }
     ensures small { IfOk result (λ o. IfSome o (λ p. IsSized p.0)) }
 {
-    let (text, rest) = match sized_at(bytes) {
-        Some(parts) => parts,
-        None => return Ok(None),
+    let Some((text, rest)) = sized_at(bytes) else {
+        return Ok(None);
     };
     match id_of(alloc, text)? {
         Some(id) => Ok(Some((id, rest))),
@@ -51,9 +50,8 @@ fn ids_at(alloc: Global, count: u64, bytes: &[u8]) -> Result<Option<(Vec<Id>, &[
     let mut left = count;
     while left > 0 {
         left -= 1;
-        let (id, later) = match id_at(alloc, rest)? {
-            Some(parts) => parts,
-            None => return Ok(None),
+        let Some((id, later)) = id_at(alloc, rest)? else {
+            return Ok(None);
         };
         ids.push(id)?;
         rest = later;
@@ -66,13 +64,11 @@ fn listed_at(alloc: Global, bytes: &[u8]) -> Result<Option<(Schools, &[u8])>, No
     ensures schools { IfOk result (λ o. IfSome o (λ p. 1 ∷ bytes.now ≡ schools_bytes p.0 ++ p.1.now)) }
     ensures small { IfOk result (λ o. IfSome o (λ p. AreSized p.0)) }
 {
-    let (count, rest) = match number_at(bytes) {
-        Some(parts) => parts,
-        None => return Ok(None),
+    let Some((count, rest)) = number_at(bytes) else {
+        return Ok(None);
     };
-    let (ids, rest) = match ids_at(alloc, count, rest)? {
-        Some(parts) => parts,
-        None => return Ok(None),
+    let Some((ids, rest)) = ids_at(alloc, count, rest)? else {
+        return Ok(None);
     };
     match SchoolList::of_rising(Items::from_vec(ids)) {
         Some(list) => Ok(Some((Schools::Listed(list), rest))),
@@ -85,9 +81,8 @@ fn schools_at(alloc: Global, bytes: &[u8]) -> Result<Option<(Schools, &[u8])>, N
     ensures schools { IfOk result (λ o. IfSome o (λ p. bytes.now ≡ schools_bytes p.0 ++ p.1.now)) }
     ensures small { IfOk result (λ o. IfSome o (λ p. AreSized p.0)) }
 {
-    let (byte, rest) = match bytes.split_first() {
-        Some(parts) => parts,
-        None => return Ok(None),
+    let Some((byte, rest)) = bytes.split_first() else {
+        return Ok(None);
     };
     match *byte {
         0 => Ok(Some((Schools::All, rest))),
@@ -111,17 +106,14 @@ fn token_at(alloc: Global, body: &[u8]) -> Result<Option<(Token, Scopes, &[u8])>
     ensures parts { IfOk result (λ o. IfSome o (λ p. body.now ≡ sized p.0 ++ (p.1 ∷ p.2.now))) }
     ensures small { IfOk result (λ o. IfSome o (λ p. IsSized p.0)) }
 {
-    let (text, rest) = match sized_at(body) {
-        Some(parts) => parts,
-        None => return Ok(None),
+    let Some((text, rest)) = sized_at(body) else {
+        return Ok(None);
     };
-    let (bits, rest) = match rest.split_first() {
-        Some(parts) => parts,
-        None => return Ok(None),
+    let Some((bits, rest)) = rest.split_first() else {
+        return Ok(None);
     };
-    let scopes = match Scopes::from_bits(*bits) {
-        Some(scopes) => scopes,
-        None => return Ok(None),
+    let Some(scopes) = Scopes::from_bits(*bits) else {
+        return Ok(None);
     };
     match token_of(alloc, text)? {
         Some(token) => Ok(Some((token, scopes, rest))),
@@ -136,13 +128,11 @@ fn grant_of_body(alloc: Global, body: &[u8]) -> Result<Option<Grant>, NoMemory>
     ensures schools { IfOk result (λ o. IfSome o (λ grant. AreSized grant.schools)) }
     ensures since { IfOk result (λ o. IfSome o (λ grant. grant.since < 2 ^ 64)) }
 {
-    let (token, scopes, rest) = match token_at(alloc, body)? {
-        Some(parts) => parts,
-        None => return Ok(None),
+    let Some((token, scopes, rest)) = token_at(alloc, body)? else {
+        return Ok(None);
     };
-    let (schools, rest) = match schools_at(alloc, rest)? {
-        Some(parts) => parts,
-        None => return Ok(None),
+    let Some((schools, rest)) = schools_at(alloc, rest)? else {
+        return Ok(None);
     };
     match only_number(rest) {
         Some(since) => Ok(Some(Grant {
@@ -160,13 +150,11 @@ fn grant_of(alloc: Global, item: &Item) -> Result<Option<GrantRow>, NoMemory>
     ensures found { (version : ℕ) (row : GrantValue) → FitsGrant row → entry_of item.now ≡ grant_entry version row → IfOk result (λ o. IfSome o (λ found. found ≡ row)) }
     ensures whole { IfOk result (λ o. IfSome o (λ found. entry_behind item.now ≡ own_entry found)) }
 {
-    let caller = match caller_in(behind(item.label.as_slice(), 8)) {
-        Some(caller) => caller,
-        None => return Ok(None),
+    let Some(caller) = caller_in(behind(item.label.as_slice(), 8)) else {
+        return Ok(None);
     };
-    let caller = match name_of(alloc, caller)? {
-        Some(caller) => caller,
-        None => return Ok(None),
+    let Some(caller) = name_of(alloc, caller)? else {
+        return Ok(None);
     };
     match grant_of_body(alloc, item.body.as_slice())? {
         Some(grant) => Ok(Some(GrantRow { caller, grant })),
@@ -182,10 +170,10 @@ pub fn grants_of(alloc: Global, items: &[Item]) -> Result<Option<Vec<GrantRow>>,
 {
     let mut found = Vec::new(alloc);
     for item in items {
-        match grant_of(alloc, item)? {
-            Some(grant) => found.push(grant)?,
-            None => return Ok(None),
-        }
+        let Some(grant) = grant_of(alloc, item)? else {
+            return Ok(None);
+        };
+        found.push(grant)?;
     }
     Ok(Some(found))
 }

@@ -71,9 +71,8 @@ pub fn write_of(
         (Some(delete), Some(kind)) => (delete, kind),
         _ => return Ok(None),
     };
-    let id = match id_of(alloc, id)? {
-        Some(id) => id,
-        None => return Ok(None),
+    let Some(id) = id_of(alloc, id)? else {
+        return Ok(None);
     };
     let body = Bytes::from_vec(Vec::from_slice(alloc, text)?);
     Ok(Some(Write {
@@ -104,17 +103,14 @@ fn mark_of(alloc: Global, item: &Item) -> Result<Option<MarkRow>, NoMemory>
     ensures found { (mark : MarkValue) → FitsMark mark → entry_of item.now ≡ mark_entry mark → IfOk result (λ o. IfSome o (λ found. found ≡ mark)) }
     ensures whole { IfOk result (λ o. IfSome o (λ found. entry_of item.now ≡ mark_entry found)) }
 {
-    let (caller, number) = match label_parts(item.label.as_slice()) {
-        Some(parts) => parts,
-        None => return Ok(None),
+    let Some((caller, number)) = label_parts(item.label.as_slice()) else {
+        return Ok(None);
     };
-    let (delete, kind, id, text, kept) = match body_parts(item.body.as_slice()) {
-        Some(parts) => parts,
-        None => return Ok(None),
+    let Some((delete, kind, id, text, kept)) = body_parts(item.body.as_slice()) else {
+        return Ok(None);
     };
-    let caller = match name_of(alloc, caller)? {
-        Some(caller) => caller,
-        None => return Ok(None),
+    let Some(caller) = name_of(alloc, caller)? else {
+        return Ok(None);
     };
     match write_of(alloc, delete, kind, id, text)? {
         Some(write) => Ok(Some(MarkRow {
@@ -135,10 +131,10 @@ pub fn marks_of(alloc: Global, items: &[Item]) -> Result<Option<Vec<MarkRow>>, N
 {
     let mut found = Vec::new(alloc);
     for item in items {
-        match mark_of(alloc, item)? {
-            Some(mark) => found.push(mark)?,
-            None => return Ok(None),
-        }
+        let Some(mark) = mark_of(alloc, item)? else {
+            return Ok(None);
+        };
+        found.push(mark)?;
     }
     Ok(Some(found))
 }

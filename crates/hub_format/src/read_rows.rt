@@ -53,17 +53,14 @@ pub fn row_of_body(alloc: Global, kind: Kind, body: &[u8]) -> Result<Option<RowC
     ensures row { (change : RowValue) → IsReadBack change → change.row.kind ≡ kind → body.now ≡ row_body change → IfOk result (λ o. IfSome o (λ found. found ≡ change)) }
     ensures kind { IfOk result (λ o. IfSome o (λ found. found.row.kind ≡ kind)) }
 {
-    let (byte, name, text) = match parts_of(body) {
-        Some(parts) => parts,
-        None => return Ok(None),
+    let Some((byte, name, text)) = parts_of(body) else {
+        return Ok(None);
     };
-    let name = match name_of(alloc, name)? {
-        Some(name) => name,
-        None => return Ok(None),
+    let Some(name) = name_of(alloc, name)? else {
+        return Ok(None);
     };
-    let owner = match owner_of(byte, name) {
-        Some(owner) => owner,
-        None => return Ok(None),
+    let Some(owner) = owner_of(byte, name) else {
+        return Ok(None);
     };
     match read_row(alloc, kind, text) {
         Ok(row) => Ok(Some(RowChange { row, owner })),
@@ -97,9 +94,8 @@ fn row_of(alloc: Global, skip: usize, item: &Item) -> Result<Option<RowChange>, 
     ensures found { (prefix : List ℕ) (row : RowValue) → length prefix ≡ skip → IsReadBack row → entry_of item.now ≡ row_entry prefix row → IfOk result (λ o. IfSome o (λ found. found ≡ row)) }
     ensures key { IfOk result (λ o. IfSome o (λ found. drop skip item.now.label ≡ key_label (change_key found))) }
 {
-    let (kind, id) = match key_of(behind(item.label.as_slice(), skip)) {
-        Some(key) => key,
-        None => return Ok(None),
+    let Some((kind, id)) = key_of(behind(item.label.as_slice(), skip)) else {
+        return Ok(None);
     };
     match row_of_body(alloc, kind, item.body.as_slice())? {
         Some(row) => Ok(with_id(row, id)),
@@ -119,10 +115,10 @@ pub fn rows_of(
 {
     let mut found = Vec::new(alloc);
     for item in items {
-        match row_of(alloc, skip, item)? {
-            Some(row) => found.push(row)?,
-            None => return Ok(None),
-        }
+        let Some(row) = row_of(alloc, skip, item)? else {
+            return Ok(None);
+        };
+        found.push(row)?;
     }
     Ok(Some(found))
 }

@@ -13,10 +13,7 @@ use roster_values::Kind;
 pub fn parent<'a, R: Rows>(rows: &'a R, kind: Kind, id: &Id) -> Option<&'a Id>
     ensures { option_copied result ≡ parent_of (R.rows rows.now) kind id.now }
 {
-    match rows.row(kind, id) {
-        Some(row) => parent_in(row),
-        None => None,
-    }
+    parent_in(rows.row(kind, id)?)
 }
 
 /// Whether the chain of parents comes back to the id within so many turns. It is followed so far, or to its end.

@@ -70,10 +70,10 @@ fn read_ids(alloc: Global, text: &str, places: &[usize]) -> Result<Option<Items<
 {
     let mut ids = Items::new(alloc);
     for place in places {
-        match read_id(alloc, segment(text, *place))? {
-            Some(id) => ids.push(id)?,
-            None => return Ok(None),
-        }
+        let Some(id) = read_id(alloc, segment(text, *place))? else {
+            return Ok(None);
+        };
+        ids.push(id)?;
     }
     Ok(Some(ids))
 }

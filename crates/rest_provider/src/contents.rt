@@ -30,10 +30,7 @@ pub struct Contents {
 fn chosen(query: &Query) -> Option<&[Text]>
     ensures { option_map (λ names. names.now) result ≡ query.now.only }
 {
-    match &query.only {
-        Some(names) => Some(names.as_slice()),
-        None => None,
-    }
+    Some(query.only.as_ref()?.as_slice())
 }
 
 /// One object.

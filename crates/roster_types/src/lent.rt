@@ -10,8 +10,5 @@ use roster_values::{ValueRef, Word};
 pub fn lent_word(word: &Option<Word>) -> Option<ValueRef<'_>>
     ensures { option_map shown result ≡ option_map (λ w. FieldValue.Word w) word.now }
 {
-    match word {
-        Some(word) => Some(ValueRef::Word(word.as_str())),
-        None => None,
-    }
+    Some(ValueRef::Word(word.as_ref()?.as_str()))
 }

@@ -401,10 +401,10 @@ fn next_rows(
     }
     let mut rows = Vec::new(alloc);
     'rows: while !reader.take_end_array() {
-        match next_row(alloc, reader, kind)? {
-            Some(row) => rows.push(row)?,
-            None => return Ok(None),
-        }
+        let Some(row) = next_row(alloc, reader, kind)? else {
+            return Ok(None);
+        };
+        rows.push(row)?;
     }
     Ok(Some(rows))
 }

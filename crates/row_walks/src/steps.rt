@@ -20,9 +20,6 @@ pub trait Steps: Refs {
 impl<'a> Steps for VersionView<'a> {
     #[tactic(auto, using(version_core::proofs::RowsOf::rows_of_look_ups))]
     fn next_near(&self, kind: Kind, after: Option<&Id>, near: &mut usize) -> Option<&Row> {
-        match self.next_change_near(kind, after, near) {
-            Some(change) => Some(&change.row),
-            None => None,
-        }
+        Some(&self.next_change_near(kind, after, near)?.row)
     }
 }

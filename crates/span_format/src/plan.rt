@@ -140,9 +140,8 @@ pub fn commit_edits(
         → IfOk result (λ o. IfSome o (λ edits. edits.items ≡ edits_of t commit.now)) }
     ensures fits { IfOk result (λ o. IfSome o (λ _. FitsSpanCommit commit.now)) }
 {
-    let mut edits = match some_change_edits(alloc, keep, base, oldest, &commit.change)? {
-        Some(edits) => edits,
-        None => return Ok(None),
+    let Some(mut edits) = some_change_edits(alloc, keep, base, oldest, &commit.change)? else {
+        return Ok(None);
     };
     push_mark(alloc, &mut edits, &commit.mark)?;
     Ok(Some(edits))

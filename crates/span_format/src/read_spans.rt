@@ -34,9 +34,8 @@ fn label_parts(label: &[u8]) -> Option<(&[u8], u64)>
 fn row_at(alloc: Global, key: &[u8], body: &[u8]) -> Result<Option<RowChange>, NoMemory>
     ensures { (row : RowValue) → IsReadBack row → key.now ≡ key_label (change_key row) → body.now ≡ row_body row → IfOk result (λ o. IfSome o (λ found. found ≡ row)) }
 {
-    let (kind, id) = match key_of(key) {
-        Some(parts) => parts,
-        None => return Ok(None),
+    let Some((kind, id)) = key_of(key) else {
+        return Ok(None);
     };
     match row_of_body(alloc, kind, body)? {
         Some(row) => Ok(with_id(row, id)),
@@ -62,9 +61,8 @@ fn push_span(
     ensures taken { (s : Span) → FitsSpan s → entry_of item.now ≡ span_entry s → came_within low high item.now.label ≡ true
         → IfOk result (λ done. IsTrue done → found.new.items ≡ found.old.items ++ s.change ∷ []) }
 {
-    let (key, first) = match label_parts(item.label.as_slice()) {
-        Some(parts) => parts,
-        None => return Ok(false),
+    let Some((key, first)) = label_parts(item.label.as_slice()) else {
+        return Ok(false);
     };
     if !is_within(low, high, first) {
         return Ok(true);

@@ -36,10 +36,7 @@ pub fn reply_at(past: &[Past], exchange: u64) -> Option<&[u8]>
 {
     for made in past {
         if made.exchange == exchange {
-            return match &made.reply {
-                Some(reply) => Some(reply.as_slice()),
-                None => None,
-            };
+            return Some(made.reply.as_ref()?.as_slice());
         }
     }
     None

@@ -108,10 +108,10 @@ fn next_event(events: &mut Vec<Event>, exchange: u64) -> Option<Event>
     ensures taken { IsTakenOut exchange events.old.items events.new.items result }
     ensures fewer { IfSome result (λ _. length events.new.items + 1 ≡ length events.old.items) }
 {
-    match place_of(events.as_slice(), exchange) {
-        None => None,
-        Some(place) => Some(events.remove(place)),
-    }
+    let Some(place) = place_of(events.as_slice(), exchange) else {
+        return None;
+    };
+    Some(events.remove(place))
 }
 
 /// Has the events of an exchange come to pass, in the order in which they were planned, and adds the lines that tell them.

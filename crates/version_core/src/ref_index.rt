@@ -85,15 +85,13 @@ fn naming_at<'a>(
     requires { ArePasts (pasts_of histories.now) }
     ensures { option_copied result ≡ spec.passing (names name.now target.now) (look_up row_key (place_of_kind kind, id.now) (rows_of (rows_at version (pasts_of histories.now)))) }
 {
-    match found(histories, version, kind, id) {
-        None => None,
-        Some(change) => {
-            if names(&change.row, name, target) {
-                Some(&change.row)
-            } else {
-                None
-            }
-        }
+    let Some(change) = found(histories, version, kind, id) else {
+        return None;
+    };
+    if names(&change.row, name, target) {
+        Some(&change.row)
+    } else {
+        None
     }
 }
 
@@ -217,21 +215,19 @@ pub fn indexed<'a>(
     requires indexed { spec.AreIndexed runs.now (rows_of (rows_at version (pasts_of histories.now))) }
     ensures { option_copied result ≡ next_referring kind name.now target.now (option_copied after.entry) (rows_of (rows_at version (pasts_of histories.now))) }
 {
-    match place_of(kind, name) {
-        Some(place) => {
-            first_of_runs(
-                histories,
-                version,
-                runs,
-                kind,
-                place as u64,
-                name,
-                target,
-                after,
-            )
-        }
-        None => None,
-    }
+    let Some(place) = place_of(kind, name) else {
+        return None;
+    };
+    first_of_runs(
+        histories,
+        version,
+        runs,
+        kind,
+        place as u64,
+        name,
+        target,
+        after,
+    )
 }
 
 impl RefRun {

@@ -114,10 +114,7 @@ fn count_standing(histories: &[History], version: u64) -> u64
 fn standing_row(history: &History, version: u64) -> Option<&Row>
     ensures { option_copied result ≡ option_map (λ change. change.row) (standing version (past_of history.now)) }
 {
-    match history.at(version) {
-        Some(change) => Some(&change.row),
-        None => None,
-    }
+    Some(&history.at(version)?.row)
 }
 
 // The row before which so many stand at a version, where each history has one that stands.
@@ -203,20 +200,15 @@ impl<'a> VersionView<'a> {
     pub fn grant(&self, caller: &Name) -> Option<&Grant>
         ensures { option_copied result ≡ option_map (λ row. row.grant) (grant_row_of caller.now self.now.grants) }
     {
-        match row_of_caller(self.grants(), caller) {
-            Some(row) => Some(&row.grant),
-            None => None,
-        }
+        Some(&row_of_caller(self.grants(), caller)?.grant)
     }
 
     /// The caller that has this token, with its grant.
     pub fn caller_of(&self, token: &str) -> Option<(&Name, &Grant)>
         ensures { option_map (λ found. record { caller = found.0.now; grant = found.1.now }) result ≡ grant_of token.now self.now.grants }
     {
-        match row_of_token(self.grants(), token) {
-            Some(row) => Some((&row.caller, &row.grant)),
-            None => None,
-        }
+        let row = row_of_token(self.grants(), token)?;
+        Some((&row.caller, &row.grant))
     }
 
     /// The row of this kind and id, with its owner.
@@ -271,10 +263,7 @@ impl<'a> VersionView<'a> {
     pub fn owner(&self, kind: Kind, id: &Id) -> Option<&Owner>
         ensures { option_copied result ≡ option_map (λ change. change.owner) (look_up change_key (place_of_kind kind, id.now) self.now.rows) }
     {
-        match found(self.histories, self.version, kind, id) {
-            Some(change) => Some(&change.owner),
-            None => None,
-        }
+        Some(&found(self.histories, self.version, kind, id)?.owner)
     }
 }
 
@@ -283,18 +272,12 @@ impl<'a> Rows for VersionView<'a> {
 
     #[tactic(auto, using(crate::proofs::RowsOf::rows_of_look_ups))]
     fn row(&self, kind: Kind, id: &Id) -> Option<&Row> {
-        match found(self.histories, self.version, kind, id) {
-            Some(change) => Some(&change.row),
-            None => None,
-        }
+        Some(&found(self.histories, self.version, kind, id)?.row)
     }
 
     #[tactic(auto, using(crate::proofs::RowsOf::rows_of_look_ups))]
     fn next(&self, kind: Kind, after: Option<&Id>) -> Option<&Row> {
-        match following(self.histories, self.version, kind, after) {
-            Some(change) => Some(&change.row),
-            None => None,
-        }
+        Some(&following(self.histories, self.version, kind, after)?.row)
     }
 
     fn count(&self, kind: Kind) -> u64 {

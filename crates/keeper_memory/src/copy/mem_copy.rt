@@ -14,7 +14,7 @@ ghost use Rattle.keeper_memory.specs.copy.States.{CanBe, CanBeEntry, CanBeList, 
 use crate::copy::change::CopyChange;
 use crate::copy::entry::OutEntry;
 use crate::copy::keeper::CopyKeeper;
-use crate::copy::mem_tables::MemTables;
+use crate::copy::mem_tables::MemCopyTables;
 use crate::copy::state::CopyState;
 use crate::copy::tables::CopyTables;
 use crate::failures::Failures;
@@ -27,7 +27,7 @@ use std::marker::Model;
 /// A copy in memory, which it tells, and the calls that are to fail.
 #[derive(Drop)]
 pub struct MemCopy {
-    tables: MemTables,
+    tables: MemCopyTables,
     failures: Failures,
 }
 
@@ -50,7 +50,7 @@ impl MemCopy {
         ensures plan { result.plan ≡ planned [] [] [] }
     {
         MemCopy {
-            tables: MemTables::new(alloc),
+            tables: MemCopyTables::new(alloc),
             failures: Failures::new(Vec::new(alloc), Vec::new(alloc), Vec::new(alloc)),
         }
     }
@@ -62,7 +62,7 @@ impl MemCopy {
         ensures plan { result.plan ≡ planned [] [] [] }
     {
         MemCopy {
-            tables: MemTables::holding(alloc, tables),
+            tables: MemCopyTables::holding(alloc, tables),
             failures: Failures::new(Vec::new(alloc), Vec::new(alloc), Vec::new(alloc)),
         }
     }

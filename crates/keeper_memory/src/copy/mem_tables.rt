@@ -23,9 +23,9 @@ use std::alloc::Global;
 use std::marker::Model;
 use version_core::mark::Write;
 
-// A copy. A clause sees it.
+// What a copy in memory holds; contracts see it as a `Copy`.
 #[derive(Drop)]
-pub(crate) struct MemTables {
+pub(crate) struct MemCopyTables {
     run: u64,
     held: Option<MemHeld>,
     stage: Option<MemStage>,
@@ -33,7 +33,7 @@ pub(crate) struct MemTables {
     last_number: u64,
 }
 
-impl Model for MemTables {
+impl Model for MemCopyTables {
     ghost use Rattle.keeper_memory.specs.copy.Copies.{Copy};
 
     ghost Value = { Copy };
@@ -45,13 +45,10 @@ impl Model for MemTables {
 fn version_of(held: &Option<MemHeld>) -> Option<u64>
     ensures { result ≡ option_map (λ h. h.version) held.now }
 {
-    match held {
-        None => None,
-        Some(held) => Some(held.version()),
-    }
+    Some(held.as_ref()?.version())
 }
 
-// The token under which it was copied, where that is known.
+// The token of what is held, where it is known.
 fn token_of(alloc: Global, held: &Option<MemHeld>) -> Result<Option<Token>, NoMemory>
     ensures { IfOk result (λ token. token ≡ option_map_or (λ h. h.token) held.now None) }
 {
@@ -74,19 +71,13 @@ fn state_of(alloc: Global, stage: &Option<MemStage>) -> Result<Option<StageState
 fn held_of(held: Option<HeldRows>, token: Option<Token>) -> Option<MemHeld>
     ensures { result ≡ option_map (held_in token) held }
 {
-    match held {
-        None => None,
-        Some(held) => Some(MemHeld::holding(held, token)),
-    }
+    Some(MemHeld::holding(held?, token))
 }
 
 fn stage_of(alloc: Global, stage: Option<StagedRows>) -> Option<MemStage>
     ensures { result ≡ option_map stage_in stage }
 {
-    match stage {
-        None => None,
-        Some(stage) => Some(MemStage::holding(alloc, stage)),
-    }
+    Some(MemStage::holding(alloc, stage?))
 }
 
 // The first entry with a number above `after`.
@@ -108,11 +99,11 @@ fn settle(entries: &mut [OutEntry], settled: Settled)
     }
 }
 
-impl MemTables {
-    pub(crate) fn new(alloc: Global) -> MemTables
+impl MemCopyTables {
+    pub(crate) fn new(alloc: Global) -> MemCopyTables
         ensures { result ≡ empty_copy }
     {
-        MemTables {
+        MemCopyTables {
             run: 0,
             held: None,
             stage: None,
@@ -122,7 +113,7 @@ impl MemTables {
     }
 
     // The copy of these tables; no memory is taken.
-    pub(crate) fn holding(alloc: Global, tables: CopyTables) -> MemTables
+    pub(crate) fn holding(alloc: Global, tables: CopyTables) -> MemCopyTables
         ensures { result ≡ copy_in tables }
     {
         let CopyTables {
@@ -133,7 +124,7 @@ impl MemTables {
             entries,
             last_number,
         } = tables;
-        MemTables {
+        MemCopyTables {
             run,
             held: held_of(held, held_token),
             stage: stage_of(alloc, stage),

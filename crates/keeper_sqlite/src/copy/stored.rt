@@ -165,9 +165,8 @@ fn entry_above<S: StoredItems>(
     ensures signs { Stay (S.shows store.new) (S.shows store.old) }
     ensures live { S.shows store.new Clean → OnOk result (S.is_trusted store.new) }
 {
-    let item = match item_above(alloc, store, after)? {
-        Some(item) => item,
-        None => return Ok(None),
+    let Some(item) = item_above(alloc, store, after)? else {
+        return Ok(None);
     };
     match entry_in(alloc, after, &item)? {
         Some(entry) => Ok(Some(entry)),

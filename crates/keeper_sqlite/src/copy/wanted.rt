@@ -54,9 +54,8 @@ fn page_wanted<S: StoredItems>(
     ensures signs { Stay (S.shows store.new) (S.shows store.old) }
 {
     let root = stored_root(alloc, store)?;
-    let stage = match stored_stage(alloc, store)? {
-        Some(stage) => stage,
-        None => return Err(store.refuse()),
+    let Some(stage) = stored_stage(alloc, store)? else {
+        return Err(store.refuse());
     };
     match page_edits(alloc, root.side, stage, kind, rows, total, done)? {
         Some(edits) => Ok(edits),

@@ -109,9 +109,8 @@ fn change_of<S: StoredItems>(
     ensures held { Stay (S.may_hold store.new) (S.may_hold store.old) }
     ensures signs { Stay (S.shows store.new) (S.shows store.old) }
 {
-    let (moment, flag) = match version_of(items) {
-        Some(parts) => parts,
-        None => return Err(store.refuse()),
+    let Some((moment, flag)) = version_of(items) else {
+        return Err(store.refuse());
     };
     let rows = change_rows(alloc, store, laid, version)?;
     let grants = own_grants_at(alloc, store, version, flag)?;
@@ -186,9 +185,8 @@ pub(crate) fn changes_in<S: StoredItems>(
 {
     let mut found = Vec::new(alloc);
     for place in 0..keep {
-        let change = match change_at(alloc, store, laid, base + 1 + place as u64)? {
-            Some(change) => change,
-            None => return Ok(Items::from_vec(found)),
+        let Some(change) = change_at(alloc, store, laid, base + 1 + place as u64)? else {
+            return Ok(Items::from_vec(found));
         };
         push_change(&mut found, change)?;
     }

@@ -42,9 +42,8 @@ fn push_item(alloc: Global, version: u64, item: Item, laid: &mut ByVersion) -> R
 fn lay_item(alloc: Global, base: u64, item: Item, laid: &mut ByVersion) -> Result<bool, NoMemory>
     ensures { (seen : List Entry) → AreLaid base seen laid.old → IfOk result (λ done. IsTrue done → AreLaid base (seen ++ entry_of item ∷ []) laid.new) }
 {
-    let version = match came_in(item.label.as_slice()) {
-        Some(version) => version,
-        None => return Ok(false),
+    let Some(version) = came_in(item.label.as_slice()) else {
+        return Ok(false);
     };
     if version <= base {
         return Ok(true);

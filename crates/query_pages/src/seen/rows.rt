@@ -115,15 +115,13 @@ impl<'a, R: Refs> Rows for SeenRows<'a, R> {
     ghost rows = { λ s. s };
 
     fn row(&self, kind: Kind, id: &Id) -> Option<&Row> {
-        match self.known.rows.row(kind, id) {
-            None => None,
-            Some(row) => {
-                if sees_row(&self.known, row) {
-                    Some(row)
-                } else {
-                    None
-                }
-            }
+        let Some(row) = self.known.rows.row(kind, id) else {
+            return None;
+        };
+        if sees_row(&self.known, row) {
+            Some(row)
+        } else {
+            None
         }
     }
 

@@ -80,18 +80,12 @@ impl<'a> Rows for Draft<'a> {
 
     #[tactic(auto, using(version_core::proofs::RowsOf::rows_of_look_ups))]
     fn row(&self, kind: Kind, id: &Id) -> Option<&Row> {
-        match drafted(self.view, self.changes, kind, id) {
-            Some(change) => Some(&change.row),
-            None => None,
-        }
+        Some(&drafted(self.view, self.changes, kind, id)?.row)
     }
 
     #[tactic(auto, using(version_core::proofs::RowsOf::rows_of_look_ups))]
     fn next(&self, kind: Kind, after: Option<&Id>) -> Option<&Row> {
-        match next_drafted(self.view, self.changes, kind, after) {
-            Some(change) => Some(&change.row),
-            None => None,
-        }
+        Some(&next_drafted(self.view, self.changes, kind, after)?.row)
     }
 
     fn count(&self, kind: Kind) -> u64 {

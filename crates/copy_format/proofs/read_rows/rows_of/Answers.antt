@@ -10,7 +10,7 @@ pub loop-item-preserved : goal.loop-item-preserved
 loop-item-preserved c =
     let kind = c.args.kind in
     let so_far = c.loop-item.found.items in
-    let pushed = c.in_ok-push-in-Some.ensures.items in
+    let pushed = c.in_ok-push.ensures.items in
     let same = rw c.in-Some.is at c.in_ok-row.ensures.kind in
     let behind = subst (λ rs. is_after (last_from None rs) c.in-Some.row.id ≡ true) c.as_slice.ensures.value (rw c.in-Some.is at c.in_ok-row.ensures.behind) in (
       (λ rows all told.

@@ -12,8 +12,8 @@ loop-item-preserved c =
           let there = value_at (grant_entry version) FitsGrant c.args.items.now grants c.loop-item.item-index c.item-item.result same all c.loop-item-test.true c.item-item.is in
           let grant : c.in-Some.grant ≡ there.0 = rw c.in-Some.is at (c.in_ok-grant.ensures.found version there.0 there.1 there.2) in
           let so_far = c.loop-item.invariant.0 version grants all same in
-          c.in_ok-push-in-Some.ensures.items ∙ (λ i. so_far i ++ grant i ∷ []) ∙ sym there.3),
-      entries ∙ ap (map own_entry) (sym c.in_ok-push-in-Some.ensures.items),
+          c.in_ok-push.ensures.items ∙ (λ i. so_far i ++ grant i ∷ []) ∙ sym there.3),
+      entries ∙ ap (map own_entry) (sym c.in_ok-push.ensures.items),
     )
 
 pub returns-clause-found : goal.returns-clause-found

@@ -8,10 +8,10 @@ use Rattle.hub_format.proofs.read_grants.ids_at.Goals as goal
 pub loop-left-preserved : goal.loop-left-preserved
 loop-left-preserved c =
     let ids = c.loop-left.ids.items in
-    let id = c.in-Some.parts.0 in
-    let later = c.in-Some.parts.1.now in
-    let next = rw c.in-Some.is at c.in_ok-parts.ensures.id in
-    let small = rw c.in-Some.is at c.in_ok-parts.ensures.small in
+    let id = c.in-Some.id in
+    let later = c.in-Some.later.now in
+    let next = rw c.in-Some.is at c.in_ok-id.ensures.id in
+    let small = rw c.in-Some.is at c.in_ok-id.ensures.small in
     let is = c.in_ok-push.ensures.items in
     let long = ap length is ∙ length-append ids (id ∷ []) in
     record {

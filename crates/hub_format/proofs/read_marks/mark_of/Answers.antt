@@ -7,11 +7,11 @@ use Rattle.hub_format.proofs.read_marks.mark_of.Goals as goal
 pub returns-in-Some-3-clause-found : goal.returns-in-Some-3-clause-found
 returns-in-Some-3-clause-found c mark fits same =
     let caller = c.in-Some-2.caller in
-    let n = c.in-Some.parts.1 in
+    let n = c.in-Some.number in
     let body = c.in-Some-body_parts in
-    let kept = body.parts.4 in
+    let kept = body.kept in
     let write = c.in-Some-3.write in
-    let name : caller ≡ c.in-Some.parts.0.now = rw c.in-Some-2.is at c.in_ok-caller.ensures in
+    let name : caller ≡ c.in-Some.caller.now = rw c.in-Some-2.is at c.in_ok-caller.ensures in
     let parts = rw c.in-Some-3.is at c.in_ok-write.ensures in
     let small : n < 2 ^ 64 = search rules in
     mark_read (record { caller = caller; number = n; write = write; kept = kept }) mark (entry_of c.args.item.now) fits same
@@ -21,10 +21,10 @@ returns-in-Some-3-clause-found c mark fits same =
 
 pub returns-in-Some-3-clause-whole : goal.returns-in-Some-3-clause-whole
 returns-in-Some-3-clause-whole c =
-    let n = c.in-Some.parts.1 in
+    let n = c.in-Some.number in
     let body = c.in-Some-body_parts in
-    let kept = body.parts.4 in
-    let name : c.in-Some-2.caller ≡ c.in-Some.parts.0.now = rw c.in-Some-2.is at c.in_ok-caller.ensures in
+    let kept = body.kept in
+    let name : c.in-Some-2.caller ≡ c.in-Some.caller.now = rw c.in-Some-2.is at c.in_ok-caller.ensures in
     let parts = rw c.in-Some-3.is at c.in_ok-write.ensures in
     let label = ap (λ bytes. mark_label (bytes, n)) name ∙ sym c.in-Some.ensures ∙ c.as_slice.ensures in
     let bodies = (λ i. parts.0 i ∷ parts.1 i ∷ (sized (parts.2 i) ++ (sized (parts.3 i) ++ (kept.outcome ∷ number kept.version)))) ∙ sym body.ensures.parts ∙ c.as_slice-2.ensures in

@@ -12,8 +12,8 @@ loop-item-preserved c =
           let there = value_at mark_entry FitsMark c.args.items.now marks c.loop-item.item-index c.item-item.result same all c.loop-item-test.true c.item-item.is in
           let mark : c.in-Some.mark ≡ there.0 = rw c.in-Some.is at (c.in_ok-mark.ensures.found there.0 there.1 there.2) in
           let so_far = c.loop-item.invariant.0 marks all same in
-          c.in_ok-push-in-Some.ensures.items ∙ (λ i. so_far i ++ mark i ∷ []) ∙ sym there.3),
-      entries ∙ ap (map mark_entry) (sym c.in_ok-push-in-Some.ensures.items),
+          c.in_ok-push.ensures.items ∙ (λ i. so_far i ++ mark i ∷ []) ∙ sym there.3),
+      entries ∙ ap (map mark_entry) (sym c.in_ok-push.ensures.items),
     )
 
 pub returns-clause-found : goal.returns-clause-found

@@ -21,8 +21,8 @@ loop-item-preserved c =
           let there = value_at (row_entry prefix) IsReadBack c.args.items.now rows c.loop-item.item-index c.item-item.result same all c.loop-item-test.true c.item-item.is in
           let row : c.in-Some.row ≡ there.0 = rw c.in-Some.is at (c.in_ok-row.ensures.found prefix there.0 long there.1 there.2) in
           let so_far = c.loop-item.invariant.0 prefix rows long all same in
-          c.in_ok-push-in-Some.ensures.items ∙ (λ i. so_far i ++ row i ∷ []) ∙ sym there.3),
-      keys ∙ ap (map label_of) (sym c.in_ok-push-in-Some.ensures.items),
+          c.in_ok-push.ensures.items ∙ (λ i. so_far i ++ row i ∷ []) ∙ sym there.3),
+      keys ∙ ap (map label_of) (sym c.in_ok-push.ensures.items),
     )
 
 pub returns-clause-found : goal.returns-clause-found

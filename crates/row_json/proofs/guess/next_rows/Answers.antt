@@ -6,4 +6,4 @@ use Rattle.row_json.proofs.guess.next_rows.Goals as goal
 pub rows-preserved : goal.rows-preserved
 rows-preserved c =
     let kind : c.in-Some.row.kind ≡ c.args.kind = rw c.in-Some.is at c.in_ok-row.ensures.kind in
-    rw c.in_ok-push-in-Some.ensures.items (All-push (λ (r : Record). r.kind ≡ c.args.kind) _ c.in-Some.row c.rows.invariant kind)
+    rw c.in_ok-push.ensures.items (All-push (λ (r : Record). r.kind ≡ c.args.kind) _ c.in-Some.row c.rows.invariant kind)

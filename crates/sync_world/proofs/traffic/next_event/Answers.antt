@@ -5,12 +5,12 @@ use Rattle.sync_world.specs.Planned.{events_aside, is_at}
 use Rattle.sync_world.proofs.ListLemmas.{first_out, none_out, others_stay}
 use Rattle.sync_world.proofs.traffic.next_event.Goals as goal
 
-pub returns-in-None-clause-taken : goal.returns-in-None-clause-taken
-returns-in-None-clause-taken c =
-    (none_out (is_at c.args.exchange) c.args.events.now.items (ap (position (is_at c.args.exchange)) (sym c.as_slice.ensures.value) ∙ sym c.place_of.ensures ∙ c.in-None.is), refl)
+pub returns-in_default-clause-taken : goal.returns-in_default-clause-taken
+returns-in_default-clause-taken c =
+    (none_out (is_at c.args.exchange) c.args.events.now.items (ap (position (is_at c.args.exchange)) (sym c.as_slice.ensures.value) ∙ sym c.place_of.ensures ∙ c.in_default.is), refl)
 
-pub returns-in-Some-clause-taken : goal.returns-in-Some-clause-taken
-returns-in-Some-clause-taken c =
+pub returns-clause-taken : goal.returns-clause-taken
+returns-clause-taken c =
     let first = position-Some (is_at c.args.exchange) c.args.events.now.items c.in-Some.place c.remove.result
     (ap (position (is_at c.args.exchange)) (sym c.as_slice.ensures.value) ∙ sym c.place_of.ensures ∙ c.in-Some.is) in (
       first_out (is_at c.args.exchange) c.remove.result c.args.events.now.items c.in-Some.place first.0 first.1 first.2

@@ -8,11 +8,11 @@ use Rattle.version_core.specs.declared.row_change.RowChange.{RowChange}
 use Rattle.version_core.proofs.RowsOf.{look_up-rows_of}
 use Rattle.version_core.proofs.ref_index.naming_at.Goals as goal
 
-pub returns-in-None : goal.returns-in-None
-returns-in-None c =
+pub returns-in_default : goal.returns-in_default
+returns-in_default c =
     let changes = rows_at c.args.version (pasts_of c.args.histories.now) in
     let k : Key = (place_of_kind c.args.kind, c.args.id.now) in
-    sym (ap (passing (names c.args.name.now c.args.target.now)) (look_up-rows_of k changes ∙ ap (option_map (λ (r : RowChange). r.row)) (sym c.in-None.ensures)))
+    sym (ap (passing (names c.args.name.now c.args.target.now)) (look_up-rows_of k changes ∙ ap (option_map (λ (r : RowChange). r.row)) (sym c.in_default.ensures)))
 
 pub returns-then-names : goal.returns-then-names
 returns-then-names c =
