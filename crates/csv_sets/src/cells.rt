@@ -18,7 +18,7 @@ pub fn cell_at(cells: &ByteRecord, place: Option<usize>) -> &str
     let Some(bytes) = cells.get(place) else {
         return "";
     };
-    // Text by the clause above, so it isn't read again.
+    // SAFETY: the clause above says that each cell is UTF-8, so it isn't read again.
     unsafe { str::from_utf8_unchecked(bytes) }
 }
 

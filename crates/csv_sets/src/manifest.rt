@@ -5,7 +5,7 @@ ghost use Rattle.csv.specs.Reading.{default_config, records, strip_bom};
 ghost use Rattle.csv.specs.Records.{AllText, fields_of};
 ghost use Rattle.roster_base.specs.Reading.{Gives};
 ghost use Rattle.csv_sets.specs.Left.{AllRowsText};
-ghost use Rattle.csv_sets.specs.Manifests.{RisingFiles, files_said, is_header, is_of, is_said, listed, manifest_below, manifest_of, mode_of, mode_of_word, mode_said, said_after, said_by, said_with, version_checked, versions_checked};
+ghost use Rattle.csv_sets.specs.Manifests as spec;
 ghost use Rattle.roster_values.specs.Kinds.{all_kinds};
 
 use crate::cells::text_at;
@@ -39,7 +39,7 @@ pub struct Said {
 
 fn is_header(cells: &ByteRecord) -> bool
     requires { AllText (fields_of cells.now) }
-    ensures { result ≡ is_header (fields_of cells.now) }
+    ensures { result ≡ spec.is_header (fields_of cells.now) }
 {
     cells.len() == 2 && text_at(cells, 0) == "propertyName" && text_at(cells, 1) == "value"
 }
@@ -50,7 +50,7 @@ fn check_version(
     version: &str,
     value: &str,
 ) -> Result<Option<Mode>, ManifestError>
-    ensures { Gives (λ m. m) result (version_checked property version.now value.now) }
+    ensures { Gives (λ m. m) result (spec.version_checked property version.now value.now) }
 {
     if value != version {
         return Err(Refusal::Fault(ManifestFault::Version { property }));
@@ -61,7 +61,7 @@ fn check_version(
 // What a file's property says.
 #[tactic(auto, unfolding(crate::specs::Manifests::mode_of_word))]
 fn read_mode(property: Property, word: &str) -> Result<Option<Mode>, ManifestError>
-    ensures { Gives (λ m. m) result (mode_of_word property word.now) }
+    ensures { Gives (λ m. m) result (spec.mode_of_word property word.now) }
 {
     match word {
         "bulk" => Ok(Some(Mode::Bulk)),
@@ -74,7 +74,7 @@ fn read_mode(property: Property, word: &str) -> Result<Option<Mode>, ManifestErr
 // What a property says by its value.
 #[tactic(auto, unfolding(crate::specs::Manifests::mode_said))]
 fn mode_said(property: Property, value: &str) -> Result<Option<Mode>, ManifestError>
-    ensures { Gives (λ m. m) result (mode_said property value.now) }
+    ensures { Gives (λ m. m) result (spec.mode_said property value.now) }
 {
     match property {
         Property::ManifestVersion => check_version(property, "1.0", value),
@@ -84,13 +84,13 @@ fn mode_said(property: Property, value: &str) -> Result<Option<Mode>, ManifestEr
 }
 
 fn is_of(said: &Said, property: Property) -> bool
-    ensures { result ≡ is_of property said.now }
+    ensures { result ≡ spec.is_of property said.now }
 {
     said.property.name() == property.name()
 }
 
 fn is_said(said: &[Said], property: Property) -> bool
-    ensures { result ≡ is_said property said.now }
+    ensures { result ≡ spec.is_said property said.now }
 {
     said.iter().any(|s| is_of(s, property))
 }
@@ -102,7 +102,7 @@ fn note_property(
     property: Option<Property>,
     value: &str,
 ) -> Result<(), ManifestError>
-    ensures { Gives (λ _. said.new.items) result (said_with said.old.items property value.now) }
+    ensures { Gives (λ _. said.new.items) result (spec.said_with said.old.items property value.now) }
 {
     let Some(property) = property else {
         return Ok(());
@@ -119,7 +119,7 @@ fn note_property(
 #[tactic(auto, unfolding(crate::specs::Manifests::said_by))]
 fn note_record(said: &mut Vec<Said>, number: u64, cells: &ByteRecord) -> Result<(), ManifestError>
     requires { AllText (fields_of cells.now) }
-    ensures { Gives (λ _. said.new.items) result (said_by said.old.items number (fields_of cells.now)) }
+    ensures { Gives (λ _. said.new.items) result (spec.said_by said.old.items number (fields_of cells.now)) }
 {
     if cells.len() != 2 {
         return Err(Refusal::Fault(ManifestFault::Width { record_no: number }));
@@ -133,7 +133,7 @@ fn note_record(said: &mut Vec<Said>, number: u64, cells: &ByteRecord) -> Result<
 fn read_said(alloc: Global, reader: &mut RecordReader<'_>) -> Result<Vec<Said>, ManifestError>
     requires text { AllRowsText reader.old }
     requires few { length reader.old < 2 ^ 63 }
-    ensures { Gives (λ v. v.items) result (said_after [] 2 reader.old) }
+    ensures { Gives (λ v. v.items) result (spec.said_after [] 2 reader.old) }
 {
     let mut said = Vec::new(alloc);
     let mut cells = ByteRecord::new(alloc);
@@ -148,7 +148,7 @@ fn read_said(alloc: Global, reader: &mut RecordReader<'_>) -> Result<Vec<Said>, 
 // Both versions must be said.
 #[tactic(auto, unfolding(crate::specs::Manifests::versions_checked))]
 fn check_versions(said: &[Said]) -> Result<(), ManifestError>
-    ensures { Gives (λ _. true) result (versions_checked said.now) }
+    ensures { Gives (λ _. true) result (spec.versions_checked said.now) }
 {
     if !is_said(said, Property::ManifestVersion) {
         return Err(Refusal::Fault(ManifestFault::Missing {
@@ -164,7 +164,7 @@ fn check_versions(said: &[Said]) -> Result<(), ManifestError>
 }
 
 fn find_said(said: &[Said], property: Property) -> Option<Said>
-    ensures { result ≡ find (is_of property) said.now }
+    ensures { result ≡ find (spec.is_of property) said.now }
 {
     said.iter().copied().find(|s| is_of(s, property))
 }
@@ -172,14 +172,14 @@ fn find_said(said: &[Said], property: Property) -> Option<Said>
 // How a kind's file is to be read, if there is to be one.
 #[tactic(auto, unfolding(crate::specs::Manifests::mode_of))]
 fn mode_of(said: &[Said], kind: Kind) -> Option<Mode>
-    ensures { result ≡ mode_of said.now kind }
+    ensures { result ≡ spec.mode_of said.now kind }
 {
     find_said(said, Property::FileOf(kind))?.mode
 }
 
 // Adds a kind's file, if there is to be one.
 fn push_listed(files: &mut Vec<ListedFile>, kind: Kind, mode: Option<Mode>) -> Result<(), NoMemory>
-    ensures { OnOk result (files.new.items ≡ files.old.items ++ listed kind mode) }
+    ensures { OnOk result (files.new.items ≡ files.old.items ++ spec.listed kind mode) }
 {
     if let Some(mode) = mode {
         files.push(ListedFile { kind, mode })?;
@@ -189,7 +189,7 @@ fn push_listed(files: &mut Vec<ListedFile>, kind: Kind, mode: Option<Mode>) -> R
 
 // The files of these kinds that there are to be.
 fn files_said(alloc: Global, said: &[Said], kinds: &[Kind]) -> Result<Vec<ListedFile>, NoMemory>
-    ensures { IfOk result (λ v. v.items ≡ files_said said.now kinds.now) }
+    ensures { IfOk result (λ v. v.items ≡ spec.files_said said.now kinds.now) }
 {
     let mut files = Vec::new(alloc);
     for kind in kinds {
@@ -203,8 +203,8 @@ fn files_said(alloc: Global, said: &[Said], kinds: &[Kind]) -> Result<Vec<Listed
 fn read_below(alloc: Global, reader: &mut RecordReader<'_>) -> Result<Manifest, ManifestError>
     requires text { AllRowsText reader.old }
     requires few { length reader.old < 2 ^ 63 }
-    ensures files { Gives (λ m. m.files) result (manifest_below reader.old) }
-    ensures rise { IfOk result (λ m. RisingFiles m.files) }
+    ensures files { Gives (λ m. m.files) result (spec.manifest_below reader.old) }
+    ensures rise { IfOk result (λ m. spec.RisingFiles m.files) }
 {
     let said = read_said(alloc, reader)?;
     check_versions(said.as_slice())?;
@@ -218,8 +218,8 @@ fn read_below(alloc: Global, reader: &mut RecordReader<'_>) -> Result<Manifest, 
 /// must stand in it; a file that it doesn't name is absent, and other properties are passed over.
 #[tactic(auto, unfolding(crate::specs::Manifests::manifest_of))]
 pub fn read_manifest(alloc: Global, text: &str) -> Result<Manifest, ManifestError>
-    ensures files { Gives (λ m. m.files) result (manifest_of (records default_config (strip_bom text.now))) }
-    ensures rise { IfOk result (λ m. RisingFiles m.files) }
+    ensures files { Gives (λ m. m.files) result (spec.manifest_of (records default_config (strip_bom text.now))) }
+    ensures rise { IfOk result (λ m. spec.RisingFiles m.files) }
 {
     let mut reader = RecordReader::new(alloc, text);
     let mut cells = ByteRecord::new(alloc);

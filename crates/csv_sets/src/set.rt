@@ -9,7 +9,7 @@ ghost use Rattle.roster_base.specs.Reading.{Gives};
 ghost use Rattle.roster_types.specs.Sets.{AreParts, IsPart};
 ghost use Rattle.roster_values.specs.Kinds.{all_kinds, place_of_kind};
 ghost use Rattle.csv_sets.specs.Folders.{ReadsFolder};
-ghost use Rattle.csv_sets.specs.Sets.{AreListed, AreSpelled, IsSpelled, all_stand, bytes_at, bytes_of, in_manifest, is_listed, listed_as, listed_in, manifest_at, part_at, parts_at, set_among, set_of, stands, stands_at};
+ghost use Rattle.csv_sets.specs.Sets as spec;
 
 use crate::fault::{SetError, SetFault, SetFile};
 use crate::file::{LARGEST, read_file};
@@ -29,7 +29,7 @@ fn read_bytes<F: Folder>(
     dir: &str,
     file: SetFile,
 ) -> Result<Bytes, SetError>
-    ensures bytes { ReadsFolder (λ b. b) (F.files folder.old) (F.faults folder.old) (F.faults folder.new) result (λ fs. bytes_of file (bytes_at fs dir.now file)) }
+    ensures bytes { ReadsFolder (λ b. b) (F.files folder.old) (F.faults folder.old) (F.faults folder.new) result (λ fs. spec.bytes_of file (spec.bytes_at fs dir.now file)) }
     ensures files { F.files folder.new ≡ F.files folder.old }
 {
     match folder.read(alloc, dir, file.name(), LARGEST as u64) {
@@ -43,7 +43,7 @@ fn read_bytes<F: Folder>(
 
 // The files that a manifest's text lists.
 fn listed_by(alloc: Global, text: &str) -> Result<Manifest, SetError>
-    ensures listed { Gives (λ m. m.files) result (in_manifest (manifest_of (records default_config (strip_bom text.now)))) }
+    ensures listed { Gives (λ m. m.files) result (spec.in_manifest (manifest_of (records default_config (strip_bom text.now)))) }
     ensures rise { IfOk result (λ m. RisingFiles m.files) }
 {
     match read_manifest(alloc, text) {
@@ -55,7 +55,7 @@ fn listed_by(alloc: Global, text: &str) -> Result<Manifest, SetError>
 
 // The files that a manifest's bytes list.
 fn listed_in(alloc: Global, bytes: &[u8]) -> Result<Manifest, SetError>
-    ensures listed { Gives (λ m. m.files) result (listed_in bytes.now) }
+    ensures listed { Gives (λ m. m.files) result (spec.listed_in bytes.now) }
     ensures rise { IfOk result (λ m. RisingFiles m.files) }
 {
     match str::from_utf8(bytes) {
@@ -69,24 +69,24 @@ fn listed_in(alloc: Global, bytes: &[u8]) -> Result<Manifest, SetError>
 // What the manifest of a folder says.
 #[tactic(auto, unfolding(crate::specs::Sets::manifest_at))]
 fn manifest_at<F: Folder>(alloc: Global, folder: &mut F, dir: &str) -> Result<Manifest, SetError>
-    ensures listed { ReadsFolder (λ m. m.files) (F.files folder.old) (F.faults folder.old) (F.faults folder.new) result (manifest_at dir.now) }
+    ensures listed { ReadsFolder (λ m. m.files) (F.files folder.old) (F.faults folder.old) (F.faults folder.new) result (spec.manifest_at dir.now) }
     ensures files { F.files folder.new ≡ F.files folder.old }
     ensures rise { IfOk result (λ m. RisingFiles m.files) }
-    ensures some { IfOk result (λ m. AreListed m.files) }
+    ensures some { IfOk result (λ m. spec.AreListed m.files) }
 {
     let bytes = read_bytes(alloc, folder, dir, SetFile::Manifest)?;
     listed_in(alloc, bytes.as_slice())
 }
 
 fn is_listed(kind: Kind, listed: &[ListedFile]) -> bool
-    ensures { result ≡ is_listed kind listed.now }
+    ensures { result ≡ spec.is_listed kind listed.now }
 {
     listed.iter().any(|f| f.kind.place() == kind.place())
 }
 
 // Whether a kind's file is there exactly where the manifest lists it.
 fn check_stands(kind: Kind, listed: bool, there: bool) -> Result<(), SetError>
-    ensures { Gives (λ _. true) result (stands kind listed there) }
+    ensures { Gives (λ _. true) result (spec.stands kind listed there) }
 {
     let file = SetFile::RowsOf(kind);
     match (listed, there) {
@@ -103,7 +103,7 @@ fn is_there<F: Folder>(
     dir: &str,
     kind: Kind,
 ) -> Result<bool, SetError>
-    ensures there { ReadsFolder (λ b. b) (F.files folder.old) (F.faults folder.old) (F.faults folder.new) result (λ fs. Ok (is_some (bytes_at fs dir.now (RowsOf kind)))) }
+    ensures there { ReadsFolder (λ b. b) (F.files folder.old) (F.faults folder.old) (F.faults folder.new) result (λ fs. Ok (is_some (spec.bytes_at fs dir.now (RowsOf kind)))) }
     ensures files { F.files folder.new ≡ F.files folder.old }
 {
     match folder.read(alloc, dir, kind.file_name(), 0) {
@@ -122,7 +122,7 @@ fn check_file<F: Folder>(
     listed: &[ListedFile],
     kind: Kind,
 ) -> Result<(), SetError>
-    ensures stands { ReadsFolder (λ _. true) (F.files folder.old) (F.faults folder.old) (F.faults folder.new) result (stands_at dir.now listed.now kind) }
+    ensures stands { ReadsFolder (λ _. true) (F.files folder.old) (F.faults folder.old) (F.faults folder.new) result (spec.stands_at dir.now listed.now kind) }
     ensures files { F.files folder.new ≡ F.files folder.old }
 {
     let there = is_there(alloc, folder, dir, kind)?;
@@ -137,7 +137,7 @@ fn check_files<F: Folder>(
     listed: &[ListedFile],
     kinds: &[Kind],
 ) -> Result<(), SetError>
-    ensures stand { ReadsFolder (λ _. true) (F.files folder.old) (F.faults folder.old) (F.faults folder.new) result (all_stand dir.now listed.now kinds.now) }
+    ensures stand { ReadsFolder (λ _. true) (F.files folder.old) (F.faults folder.old) (F.faults folder.new) result (spec.all_stand dir.now listed.now kinds.now) }
     ensures files { F.files folder.new ≡ F.files folder.old }
 {
     for kind in kinds {
@@ -154,11 +154,11 @@ fn read_part<F: Folder>(
     dir: &str,
     listed: &ListedFile,
 ) -> Result<SetPart, SetError>
-    ensures part { ReadsFolder (λ p. p) (F.files folder.old) (F.faults folder.old) (F.faults folder.new) result (part_at dir.now listed.now) }
+    ensures part { ReadsFolder (λ p. p) (F.files folder.old) (F.faults folder.old) (F.faults folder.new) result (spec.part_at dir.now listed.now) }
     ensures files { F.files folder.new ≡ F.files folder.old }
-    ensures listed { IfOk result (λ p. listed_as p ≡ listed.now) }
+    ensures listed { IfOk result (λ p. spec.listed_as p ≡ listed.now) }
     ensures good { IfOk result IsPart }
-    ensures some { IfOk result IsSpelled }
+    ensures some { IfOk result spec.IsSpelled }
 {
     let kind = listed.kind;
     let mode = listed.mode;
@@ -178,11 +178,11 @@ fn read_parts<F: Folder>(
     dir: &str,
     listed: &[ListedFile],
 ) -> Result<Vec<SetPart>, SetError>
-    ensures parts { ReadsFolder (λ v. v.items) (F.files folder.old) (F.faults folder.old) (F.faults folder.new) result (parts_at dir.now listed.now) }
+    ensures parts { ReadsFolder (λ v. v.items) (F.files folder.old) (F.faults folder.old) (F.faults folder.new) result (spec.parts_at dir.now listed.now) }
     ensures files { F.files folder.new ≡ F.files folder.old }
-    ensures listed { IfOk result (λ v. map listed_as v.items ≡ listed.now) }
+    ensures listed { IfOk result (λ v. map spec.listed_as v.items ≡ listed.now) }
     ensures good { IfOk result (λ v. All IsPart v.items) }
-    ensures some { IfOk result (λ v. All IsSpelled v.items) }
+    ensures some { IfOk result (λ v. All spec.IsSpelled v.items) }
 {
     let mut parts = Vec::new(alloc);
     for file in listed {
@@ -200,10 +200,10 @@ fn set_among<F: Folder>(
     feed: &Name,
     kinds: &[Kind],
 ) -> Result<RosterSet, SetError>
-    ensures set { ReadsFolder (λ s. s) (F.files folder.old) (F.faults folder.old) (F.faults folder.new) result (set_among kinds.now dir.now feed.now) }
+    ensures set { ReadsFolder (λ s. s) (F.files folder.old) (F.faults folder.old) (F.faults folder.new) result (spec.set_among kinds.now dir.now feed.now) }
     ensures files { F.files folder.new ≡ F.files folder.old }
     ensures feed { IfOk result (λ s. s.feed ≡ feed.now) }
-    ensures some { IfOk result (λ s. AreSpelled s.parts) }
+    ensures some { IfOk result (λ s. spec.AreSpelled s.parts) }
 {
     let manifest = manifest_at(alloc, folder, dir)?;
     let listed = manifest.files.as_slice();
@@ -223,11 +223,11 @@ pub fn read_set<F: Folder>(
     dir: &str,
     feed: &Name,
 ) -> Result<RosterSet, SetError>
-    ensures set { ReadsFolder (λ s. s) (F.files folder.old) (F.faults folder.old) (F.faults folder.new) result (set_of dir.now feed.now) }
+    ensures set { ReadsFolder (λ s. s) (F.files folder.old) (F.faults folder.old) (F.faults folder.new) result (spec.set_of dir.now feed.now) }
     ensures files { F.files folder.new ≡ F.files folder.old }
     // Whatever the folder tells.
     ensures feed { IfOk result (λ s. s.feed ≡ feed.now) }
-    ensures some { IfOk result (λ s. AreSpelled s.parts) }
+    ensures some { IfOk result (λ s. spec.AreSpelled s.parts) }
 {
     set_among(alloc, folder, dir, feed, &Kind::ALL)
 }

@@ -5,7 +5,7 @@ ghost use Rattle.http.specs.StatusCode.{IsStatusCode};
 ghost use Rattle.roster_base.specs.Faults.{HasCause};
 ghost use Rattle.outside_ports.specs.Written.{Writes};
 ghost use Rattle.status_info.specs.Bodies.{status_body};
-ghost use Rattle.http_wire.specs.Replies.{allow_line, body_text, challenge_line, close_line, end_text, front_text, further_link, head_text, length_line, length_of_body, link_text, links_line, more_links, phrase_of, rel_word, reply_text, some_links, start_text, target_text, type_line, versions_text, warning_line};
+ghost use Rattle.http_wire.specs.Replies as spec;
 
 use crate::pieces::{write_echo_line, write_number_line, write_pieces};
 use http::StatusCode;
@@ -17,7 +17,7 @@ use status_info::{Cause, LinkItem, Rel, Reply, Warnings};
 #[tactic(auto, unfolding(crate::specs::Replies::phrase_of))]
 fn phrase(status: u16) -> &'static str
     requires { IsStatusCode status }
-    ensures { result.now ≡ phrase_of status }
+    ensures { result.now ≡ spec.phrase_of status }
 {
     match StatusCode::from_u16(status) {
         Ok(status) => status.canonical_reason().unwrap_or(""),
@@ -27,7 +27,7 @@ fn phrase(status: u16) -> &'static str
 
 #[tactic(auto, unfolding(crate::specs::Replies::type_line))]
 fn type_field(cause: Cause) -> &'static str
-    ensures { result.now ≡ type_line cause }
+    ensures { result.now ≡ spec.type_line cause }
 {
     if cause.status() == 204 {
         ""
@@ -38,7 +38,7 @@ fn type_field(cause: Cause) -> &'static str
 
 #[tactic(auto, unfolding(crate::specs::Replies::challenge_line))]
 fn challenge_field(cause: Cause) -> &'static str
-    ensures { result.now ≡ challenge_line cause }
+    ensures { result.now ≡ spec.challenge_line cause }
 {
     if cause.status() == 401 {
         "WWW-Authenticate: Bearer\r\n"
@@ -49,7 +49,7 @@ fn challenge_field(cause: Cause) -> &'static str
 
 #[tactic(auto, unfolding(crate::specs::Replies::allow_line))]
 fn allow_field(cause: Cause, allow_write: bool) -> &'static str
-    ensures { result.now ≡ allow_line cause allow_write }
+    ensures { result.now ≡ spec.allow_line cause allow_write }
 {
     if cause.status() != 405 {
         ""
@@ -62,7 +62,7 @@ fn allow_field(cause: Cause, allow_write: bool) -> &'static str
 
 #[tactic(auto, unfolding(crate::specs::Replies::warning_line))]
 fn warning_field(warnings: Warnings) -> &'static str
-    ensures { result.now ≡ warning_line warnings }
+    ensures { result.now ≡ spec.warning_line warnings }
 {
     match (warnings.sort, warnings.selection) {
         (true, true) => "X-Hub-Warning: invalid_sort_field, invalid_selection_field\r\n",
@@ -74,13 +74,13 @@ fn warning_field(warnings: Warnings) -> &'static str
 
 #[tactic(auto, unfolding(crate::specs::Replies::close_line))]
 fn close_field(close: bool) -> &'static str
-    ensures { result.now ≡ close_line close }
+    ensures { result.now ≡ spec.close_line close }
 {
     if close { "Connection: close\r\n" } else { "" }
 }
 
 fn word_of_rel<'a>(rel: Rel) -> &'a str
-    ensures { result.now ≡ rel_word rel }
+    ensures { result.now ≡ spec.rel_word rel }
 {
     match rel {
         Rel::Next => "next",
@@ -93,7 +93,7 @@ fn word_of_rel<'a>(rel: Rel) -> &'a str
 // The status line, and the fields that the cause brings.
 #[tactic(auto, unfolding(crate::specs::Replies::start_text))]
 fn write_start<W: Sink>(sink: &mut W, cause: Cause, allow_write: bool) -> Result<(), Failed>
-    ensures bytes { Writes (W.written sink.old) (W.written sink.new) (start_text cause allow_write) result }
+    ensures bytes { Writes (W.written sink.old) (W.written sink.new) (spec.start_text cause allow_write) result }
     ensures cause { HasCause (W.faults sink.old) (W.faults sink.new) result }
 {
     let mut digits = Buffer::new();
@@ -116,14 +116,14 @@ fn write_start<W: Sink>(sink: &mut W, cause: Cause, allow_write: bool) -> Result
 // A target and what it is.
 #[tactic(auto, unfolding(crate::specs::Replies::target_text))]
 fn write_target<W: Sink>(sink: &mut W, target: &str, rel: Rel) -> Result<(), Failed>
-    ensures bytes { Writes (W.written sink.old) (W.written sink.new) (target_text target.now rel) result }
+    ensures bytes { Writes (W.written sink.old) (W.written sink.new) (spec.target_text target.now rel) result }
     ensures cause { HasCause (W.faults sink.old) (W.faults sink.new) result }
 {
     write_pieces(sink, &[target, ">; rel=\"", word_of_rel(rel), "\""])
 }
 
 fn write_link<W: Sink>(sink: &mut W, link: &LinkItem) -> Result<(), Failed>
-    ensures bytes { Writes (W.written sink.old) (W.written sink.new) (link_text link.now) result }
+    ensures bytes { Writes (W.written sink.old) (W.written sink.new) (spec.link_text link.now) result }
     ensures cause { HasCause (W.faults sink.old) (W.faults sink.new) result }
 {
     write_target(sink, link.target.as_str(), link.rel)
@@ -131,7 +131,7 @@ fn write_link<W: Sink>(sink: &mut W, link: &LinkItem) -> Result<(), Failed>
 
 // A further link.
 fn write_next_link<W: Sink>(sink: &mut W, link: &LinkItem) -> Result<(), Failed>
-    ensures bytes { Writes (W.written sink.old) (W.written sink.new) (further_link link.now) result }
+    ensures bytes { Writes (W.written sink.old) (W.written sink.new) (spec.further_link link.now) result }
     ensures cause { HasCause (W.faults sink.old) (W.faults sink.new) result }
 {
     sink.write_all(b", <")?;
@@ -139,7 +139,7 @@ fn write_next_link<W: Sink>(sink: &mut W, link: &LinkItem) -> Result<(), Failed>
 }
 
 fn write_more_links<W: Sink>(sink: &mut W, links: &[LinkItem]) -> Result<(), Failed>
-    ensures bytes { Writes (W.written sink.old) (W.written sink.new) (more_links links.now) result }
+    ensures bytes { Writes (W.written sink.old) (W.written sink.new) (spec.more_links links.now) result }
     ensures cause { HasCause (W.faults sink.old) (W.faults sink.new) result }
 {
     for link in links {
@@ -154,7 +154,7 @@ fn write_some_links<W: Sink>(
     first: &LinkItem,
     rest: &[LinkItem],
 ) -> Result<(), Failed>
-    ensures bytes { Writes (W.written sink.old) (W.written sink.new) (some_links first.now rest.now) result }
+    ensures bytes { Writes (W.written sink.old) (W.written sink.new) (spec.some_links first.now rest.now) result }
     ensures cause { HasCause (W.faults sink.old) (W.faults sink.new) result }
 {
     sink.write_all(b"Link: <")?;
@@ -164,7 +164,7 @@ fn write_some_links<W: Sink>(
 }
 
 fn write_links<W: Sink>(sink: &mut W, links: &[LinkItem]) -> Result<(), Failed>
-    ensures bytes { Writes (W.written sink.old) (W.written sink.new) (links_line links.now) result }
+    ensures bytes { Writes (W.written sink.old) (W.written sink.new) (spec.links_line links.now) result }
     ensures cause { HasCause (W.faults sink.old) (W.faults sink.new) result }
 {
     match links {
@@ -176,7 +176,7 @@ fn write_links<W: Sink>(sink: &mut W, links: &[LinkItem]) -> Result<(), Failed>
 // The status line, and the fields in front of the links.
 #[tactic(auto, unfolding(crate::specs::Replies::front_text))]
 fn write_front<W: Sink>(sink: &mut W, reply: &Reply) -> Result<(), Failed>
-    ensures bytes { Writes (W.written sink.old) (W.written sink.new) (front_text reply.now) result }
+    ensures bytes { Writes (W.written sink.old) (W.written sink.new) (spec.front_text reply.now) result }
     ensures cause { HasCause (W.faults sink.old) (W.faults sink.new) result }
 {
     write_start(sink, reply.cause, reply.allow_write)?;
@@ -186,7 +186,7 @@ fn write_front<W: Sink>(sink: &mut W, reply: &Reply) -> Result<(), Failed>
 // The fields that name a version and a mark.
 #[tactic(auto, unfolding(crate::specs::Replies::versions_text))]
 fn write_versions<W: Sink>(sink: &mut W, reply: &Reply) -> Result<(), Failed>
-    ensures bytes { Writes (W.written sink.old) (W.written sink.new) (versions_text reply.now) result }
+    ensures bytes { Writes (W.written sink.old) (W.written sink.new) (spec.versions_text reply.now) result }
     ensures cause { HasCause (W.faults sink.old) (W.faults sink.new) result }
 {
     write_number_line(sink, "X-Hub-Version: ", reply.version)?;
@@ -195,21 +195,21 @@ fn write_versions<W: Sink>(sink: &mut W, reply: &Reply) -> Result<(), Failed>
 }
 
 fn write_close_line<W: Sink>(sink: &mut W, close: bool) -> Result<(), Failed>
-    ensures bytes { Writes (W.written sink.old) (W.written sink.new) (close_line close) result }
+    ensures bytes { Writes (W.written sink.old) (W.written sink.new) (spec.close_line close) result }
     ensures cause { HasCause (W.faults sink.old) (W.faults sink.new) result }
 {
     sink.write_all(close_field(close).as_bytes())
 }
 
 fn write_warning_line<W: Sink>(sink: &mut W, warnings: Warnings) -> Result<(), Failed>
-    ensures bytes { Writes (W.written sink.old) (W.written sink.new) (warning_line warnings) result }
+    ensures bytes { Writes (W.written sink.old) (W.written sink.new) (spec.warning_line warnings) result }
     ensures cause { HasCause (W.faults sink.old) (W.faults sink.new) result }
 {
     sink.write_all(warning_field(warnings).as_bytes())
 }
 
 fn write_length_line<W: Sink>(sink: &mut W, reply: &Reply) -> Result<(), Failed>
-    ensures bytes { Writes (W.written sink.old) (W.written sink.new) (length_line reply.now) result }
+    ensures bytes { Writes (W.written sink.old) (W.written sink.new) (spec.length_line reply.now) result }
     ensures cause { HasCause (W.faults sink.old) (W.faults sink.new) result }
 {
     write_number_line(sink, "Content-Length: ", stated_length(reply))
@@ -218,7 +218,7 @@ fn write_length_line<W: Sink>(sink: &mut W, reply: &Reply) -> Result<(), Failed>
 // The fields at the end of the head, and the empty line.
 #[tactic(auto, unfolding(crate::specs::Replies::end_text))]
 fn write_end<W: Sink>(sink: &mut W, reply: &Reply) -> Result<(), Failed>
-    ensures bytes { Writes (W.written sink.old) (W.written sink.new) (end_text reply.now) result }
+    ensures bytes { Writes (W.written sink.old) (W.written sink.new) (spec.end_text reply.now) result }
     ensures cause { HasCause (W.faults sink.old) (W.faults sink.new) result }
 {
     write_echo_line(sink, reply.echo)?;
@@ -230,7 +230,7 @@ fn write_end<W: Sink>(sink: &mut W, reply: &Reply) -> Result<(), Failed>
 // The length of the body, where the head says it.
 #[tactic(auto, unfolding(crate::specs::Replies::length_of_body))]
 fn stated_length(reply: &Reply) -> Option<u64>
-    ensures { result ≡ length_of_body reply.now }
+    ensures { result ≡ spec.length_of_body reply.now }
 {
     if reply.cause.status() == 204 {
         None
@@ -241,7 +241,7 @@ fn stated_length(reply: &Reply) -> Option<u64>
 
 #[tactic(auto, unfolding(crate::specs::Replies::body_text))]
 fn body_length(reply: &Reply) -> usize
-    ensures { result ≡ length (body_text reply.now) }
+    ensures { result ≡ length (spec.body_text reply.now) }
 {
     if reply.headless {
         return 0;
@@ -262,7 +262,7 @@ fn write_status_body<W: Sink>(sink: &mut W, cause: Cause) -> Result<(), Failed>
 
 #[tactic(auto, unfolding(crate::specs::Replies::body_text))]
 pub(crate) fn write_body<W: Sink>(sink: &mut W, reply: &Reply) -> Result<(), Failed>
-    ensures bytes { Writes (W.written sink.old) (W.written sink.new) (body_text reply.now) result }
+    ensures bytes { Writes (W.written sink.old) (W.written sink.new) (spec.body_text reply.now) result }
     ensures cause { HasCause (W.faults sink.old) (W.faults sink.new) result }
 {
     if reply.headless {
@@ -277,7 +277,7 @@ pub(crate) fn write_body<W: Sink>(sink: &mut W, reply: &Reply) -> Result<(), Fai
 
 // Writes all that stands in front of the body.
 pub(crate) fn write_head<W: Sink>(sink: &mut W, reply: &Reply) -> Result<(), Failed>
-    ensures bytes { Writes (W.written sink.old) (W.written sink.new) (head_text reply.now) result }
+    ensures bytes { Writes (W.written sink.old) (W.written sink.new) (spec.head_text reply.now) result }
     ensures cause { HasCause (W.faults sink.old) (W.faults sink.new) result }
 {
     write_front(sink, reply)?;
@@ -289,7 +289,7 @@ pub(crate) fn write_head<W: Sink>(sink: &mut W, reply: &Reply) -> Result<(), Fai
 
 /// Writes the text of a reply, and takes no memory.
 pub fn write_reply<W: Sink>(sink: &mut W, reply: &Reply) -> Result<(), Failed>
-    ensures bytes { Writes (W.written sink.old) (W.written sink.new) (reply_text reply.now) result }
+    ensures bytes { Writes (W.written sink.old) (W.written sink.new) (spec.reply_text reply.now) result }
     ensures cause { HasCause (W.faults sink.old) (W.faults sink.new) result }
 {
     write_head(sink, reply)?;

@@ -1,4 +1,4 @@
-//! One hub, many threads: readers that never wait beside one writer, over one history.
+//! One hub, many threads: readers that never wait beside one writer, over one history; connections and feeds over it.
 #![tactic(auto)]
 
 mod desk;

@@ -20,7 +20,7 @@ use std::marker::Model;
 use version_core::hub_tables::HubTables;
 use version_core::marks::Marks;
 
-// A hub's state in memory. A clause sees what is kept.
+// A hub's state in memory; contracts see what is kept.
 #[derive(Drop)]
 struct MemTables {
     versions: MemVersions,

@@ -13,6 +13,7 @@ ghost use Rattle.row_json.specs.Tokens.{data_tokens};
 use crate::fault::{JsonError, JsonFault};
 use crate::members::write_row;
 use crate::read::read_data;
+use crate::text::written;
 use json::Writer;
 use roster_base::{NoMemory, Refusal};
 use roster_texts::Id;
@@ -123,7 +124,7 @@ pub fn delta_text(alloc: Global, kind: Kind, rows: &[Row], gone: &[Id]) -> Resul
     let mut out = Writer::new(Vec::new(alloc));
     let mut buffer = String::new(alloc);
     write_delta(&mut out, &mut buffer, kind, rows, gone)?;
-    Ok(unsafe { String::from_utf8_unchecked(out.into_inner()) })
+    Ok(written(out))
 }
 
 // The id that an item says.

@@ -28,12 +28,13 @@ fn writer_for(alloc: Global, rows: usize) -> Result<Writer, NoMemory>
     Ok(Writer::new(room))
 }
 
-// The text of what was written into an empty buffer.
-fn written(out: Writer) -> String
+/// The text of what was written into an empty buffer.
+pub(crate) fn written(out: Writer) -> String
     requires { out.before ≡ [] }
     ensures { string_bytes result ≡ print out.tokens }
 {
     let bytes = out.into_inner();
+    // SAFETY: a `Writer` prints UTF-8, and nothing stood in the buffer before.
     unsafe { String::from_utf8_unchecked(bytes) }
 }
 

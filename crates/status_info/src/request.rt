@@ -1,4 +1,4 @@
-//! Requests.
+//! What a request asks, apart from its bytes.
 
 use roster_base::{Bytes, Text};
 use roster_texts::Token;

@@ -27,9 +27,9 @@ pub(crate) fn set_passes(
         (map spec.folded (spec.members_in (option_map shown value.entry))) (map spec.folded (items_of given.now))) }
 {
     let items = folded_members(alloc, value)?;
-    let given = read_items(alloc, given)?;
-    let given = folded_texts(alloc, given.as_slice())?;
-    Ok(are_related(predicate, items.as_slice(), given.as_slice()))
+    let wanted = read_items(alloc, given)?;
+    let folded = folded_texts(alloc, wanted.as_slice())?;
+    Ok(are_related(predicate, items.as_slice(), folded.as_slice()))
 }
 
 fn are_related(predicate: Predicate, items: &[Text], given: &[Text]) -> bool
@@ -39,6 +39,7 @@ fn are_related(predicate: Predicate, items: &[Text], given: &[Text]) -> bool
         Predicate::Equal => are_among(items, given) && are_among(given, items),
         Predicate::NotEqual => !(are_among(items, given) && are_among(given, items)),
         Predicate::Contains => have_common(items, given),
+        // Sets have no order: such a comparison passes no row.
         _ => false,
     }
 }
