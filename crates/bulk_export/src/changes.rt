@@ -5,7 +5,7 @@ ghost use Rattle.std.specs.List.{All};
 ghost use Rattle.bulk_export.specs.Changes.{AreChanges, HasTooMany, IsChangesExport, is_told, rows_in};
 ghost use Rattle.bulk_export.specs.Exports.{CauseOf};
 ghost use Rattle.bulk_export.specs.Steps.{each_told, earlier_key, gone_row, lying, new_row};
-ghost use Rattle.keeper_memory.specs.copy.Copies.{Copy, held_list};
+ghost use Rattle.keeper_memory.specs.copy.Copies.{Copy};
 ghost use Rattle.keeper_memory.specs.copy.Lists.{IsList};
 ghost use Rattle.roster_base.specs.Faults.{Rose};
 ghost use Rattle.roster_types.specs.Keys.{Ascends, look_up, row_key};

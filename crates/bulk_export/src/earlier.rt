@@ -1,6 +1,6 @@
 //! The rows of an earlier set, found by id.
 
-ghost use Rattle.std.specs.Prelude.{◌≡◌, IfOk, List, map, option_copied, option_map};
+ghost use Rattle.std.specs.Prelude.{◌≡◌, IfOk, map, option_copied};
 ghost use Rattle.std.specs.List.{All, AllByRecursion};
 ghost use Rattle.bulk_export.specs.Changes.{rows_in};
 ghost use Rattle.bulk_export.specs.Steps.{earlier_at, earlier_key, lying};

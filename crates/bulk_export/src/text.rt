@@ -1,11 +1,10 @@
 //! What the copy holds, and the text of a file.
 
-ghost use Rattle.std.specs.Prelude.{◌≡◌, ◌≤◌, IfErr, IfOk, Ok, None, OnOk, Some, is_some, length, map};
-ghost use Rattle.std.specs.List.{All};
+ghost use Rattle.std.specs.Prelude.{◌≡◌, ◌≤◌, IfErr, IfOk, Ok, OnOk, is_some, map};
 ghost use Rattle.bulk_export.specs.Exports.{CauseOf, IsHeld, IsLong};
-ghost use Rattle.csv_sets.specs.Files.{file_of, largest};
+ghost use Rattle.csv_sets.specs.Files.{file_of};
 ghost use Rattle.csv_sets.specs.Written.{dated, written_text};
-ghost use Rattle.keeper_memory.specs.copy.Copies.{Copy, held_list};
+ghost use Rattle.keeper_memory.specs.copy.Copies.{Copy};
 ghost use Rattle.keeper_memory.specs.copy.Lists.{IsList};
 ghost use Rattle.roster_base.specs.Faults.{CountsFailure, Rose};
 ghost use Rattle.roster_values.specs.declared.mode.Mode.{Mode};

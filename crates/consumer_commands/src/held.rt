@@ -1,6 +1,6 @@
 //! The rows that a copy holds, as text.
 
-ghost use Rattle.std.specs.Prelude.{◌≡◌, ◌≤◌, Err, IfOk, string_bytes};
+ghost use Rattle.std.specs.Prelude.{◌≡◌, IfOk, string_bytes};
 ghost use Rattle.keeper_memory.specs.copy.Copies.{Copy};
 ghost use Rattle.roster_base.specs.Faults.{CountsFailure};
 ghost use Rattle.consumer_commands.specs.Held.{IsHeldText, listed_text};

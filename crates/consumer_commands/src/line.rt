@@ -1,7 +1,6 @@
 //! The line and the status of a synchronisation's answer, and of an incremental one's.
 
 ghost use Rattle.std.specs.Prelude.{◌≡◌, ◌≢◌, ◌++◌, IfOk, codes, decimal, string_bytes};
-ghost use Rattle.roster_values.specs.Kinds.{plural_of};
 ghost use Rattle.consumer_commands.specs.DeltaLines.{delta_status, delta_text};
 ghost use Rattle.consumer_commands.specs.SyncLines as lines;
 

@@ -1,6 +1,5 @@
 //! The outbox, with all that is promised of it in one word.
 
-ghost use Rattle.std.specs.Prelude.{◌≡◌};
 ghost use Rattle.keeper_memory.specs.copy.Copies.{IsOutWrite};
 ghost use Rattle.consumer_commands.specs.Consumers.{copy_between, link_between};
 ghost use Rattle.consumer_commands.specs.Sends.{IsEnterOf, IsSendOf};

@@ -1,12 +1,12 @@
 //! Entries, read back from their items.
 
 ghost use Rattle.std.specs.Prelude.{◌≡◌, ◌∷◌, ◌++◌, ◌≤◌, true, IfOk, IfSome};
-ghost use Rattle.keeper_memory.specs.copy.Copies.{IsGradebook, IsOutWrite, max_body};
+ghost use Rattle.keeper_memory.specs.copy.Copies.{IsGradebook, IsOutWrite};
 ghost use Rattle.keeper_memory.specs.declared.copy.entry.OutEntry.{OutEntry as EntryValue};
 ghost use Rattle.keeper_memory.specs.declared.copy.state.TheConstants.{LAST as last_number};
 ghost use Rattle.item_maps.specs.Edits.{entry_of};
 ghost use Rattle.hub_format.specs.Pieces.{IsSized, sized};
-ghost use Rattle.copy_format.specs.Bodies.{optional_settled, out_body, write_bytes};
+ghost use Rattle.copy_format.specs.Bodies.{optional_settled};
 ghost use Rattle.copy_format.specs.Format.{FitsSettled, IsOut, out_entry};
 
 use crate::reading::only_optional_settled;

@@ -1,11 +1,11 @@
 //! The small part of a stage, read back from its item.
 
-ghost use Rattle.std.specs.Prelude.{true, ◌≡◌, ◌∷◌, ◌++◌, ◌≤◌, [], List, IfOk, IfSome, Option, map, option_map};
+ghost use Rattle.std.specs.Prelude.{true, ◌≡◌, ◌∷◌, ◌++◌, [], IfOk, IfSome, Option, map, option_map};
 ghost use Rattle.keeper_memory.specs.copy.Copies.{IsStage, Stage};
 ghost use Rattle.keeper_memory.specs.copy.States.{CanBeStage, state_of};
 ghost use Rattle.item_maps.specs.Edits.{entry_of};
 ghost use Rattle.hub_format.specs.Pieces.{IsSized, number, sized};
-ghost use Rattle.copy_format.specs.Bodies.{optional_number, optional_sized, stage_body};
+ghost use Rattle.copy_format.specs.Bodies.{optional_number, stage_body};
 ghost use Rattle.copy_format.specs.Format.{FitsSmall, FitsStage, IsSmall, stage_entries};
 
 use crate::reading::{bare_body, only_optional_id, optional_number_at, token_in};

@@ -1,8 +1,7 @@
 //! What bodies say, read back.
 
-ghost use Rattle.std.specs.Prelude.{◌≡◌, ◌∷◌, ◌++◌, [], ◌<◌, ◌^◌, List, IfOk, IfSome, map};
+ghost use Rattle.std.specs.Prelude.{◌≡◌, ◌∷◌, ◌++◌, [], ◌<◌, IfOk, IfSome};
 ghost use Rattle.item_maps.specs.Edits.{entry_of};
-ghost use Rattle.hub_format.specs.Format.{Entry};
 ghost use Rattle.hub_format.specs.Pieces.{IsSized};
 ghost use Rattle.copy_format.specs.Bodies.{optional_number, optional_settled, optional_sized};
 ghost use Rattle.copy_format.specs.Format.{FitsSettled, IsSmall};

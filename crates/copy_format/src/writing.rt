@@ -4,9 +4,9 @@ ghost use Rattle.std.specs.Prelude.{◌≡◌, ◌++◌, [], IfOk, None, Ok, OnO
 ghost use Rattle.hub_format.specs.Edits.{put_at, puts};
 ghost use Rattle.hub_format.specs.Pieces.{IsSized, number as number_bytes};
 ghost use Rattle.copy_format.specs.Areas.{area_number};
-ghost use Rattle.copy_format.specs.Bodies.{out_body, row_body, stage_body, state_body};
+ghost use Rattle.copy_format.specs.Bodies.{out_body, row_body, stage_body};
 ghost use Rattle.copy_format.specs.Edits.{clear_rows as cleared_rows, clear_side, clear_stage};
-ghost use Rattle.copy_format.specs.Format.{FitRows, FitsOut, FitsRow, out_entry, row_entry, rows_under};
+ghost use Rattle.copy_format.specs.Format.{FitRows, FitsRow, out_entry, row_entry, rows_under};
 ghost use Rattle.row_json.specs.Json.{single_text as text_of};
 ghost use Rattle.row_json.specs.Reading.{row_of};
 ghost use Rattle.copy_format.specs.Roots.{root_entry};

@@ -1,6 +1,6 @@
 //! The header of a file.
 
-ghost use Rattle.std.specs.Prelude.{◌≡◌, bytes_eq, map, Some, None, Ok, true, IfOk, OnOk, option_map, if◌then◌else◌};
+ghost use Rattle.std.specs.Prelude.{◌≡◌, bytes_eq, Some, None, Ok, true, IfOk, OnOk, option_map, if◌then◌else◌};
 ghost use Rattle.std.specs.BTreeSet.{contains_text};
 ghost use Rattle.std.specs.List.{list_any};
 ghost use Rattle.csv.specs.Records.{AllText, fields_of};

@@ -1,9 +1,7 @@
 //! The keys of metadata that rows have.
 
-ghost use Rattle.std.specs.Prelude.{◌≡◌, ◌++◌, map, true, IfOk, OnOk};
-ghost use Rattle.std.specs.List.{All};
+ghost use Rattle.std.specs.Prelude.{◌≡◌, ◌++◌, map, IfOk, OnOk};
 ghost use Rattle.roster_base.specs.Order.{RiseBy};
-ghost use Rattle.roster_texts.specs.Texts.{is_id};
 ghost use Rattle.csv_sets.specs.Written.{all_keys, entry_key, key_in, keys_of};
 
 use roster_base::{Keyed, NoMemory, TryCopy, sorted};

@@ -1,12 +1,11 @@
 //! Manifests of sets.
 
-ghost use Rattle.std.specs.Prelude.{◌≡◌, ◌≤◌, ◌<◌, ◌^◌, ◌++◌, [], bytes_eq, find, length, true, IfOk, OnOk};
+ghost use Rattle.std.specs.Prelude.{◌≡◌, ◌<◌, ◌^◌, ◌++◌, [], find, length, true, IfOk, OnOk};
 ghost use Rattle.csv.specs.Reading.{default_config, records, strip_bom};
 ghost use Rattle.csv.specs.Records.{AllText, fields_of};
 ghost use Rattle.roster_base.specs.Reading.{Gives};
 ghost use Rattle.csv_sets.specs.Left.{AllRowsText};
 ghost use Rattle.csv_sets.specs.Manifests as spec;
-ghost use Rattle.roster_values.specs.Kinds.{all_kinds};
 
 use crate::cells::text_at;
 use crate::fault::{ManifestError, ManifestFault};

@@ -1,13 +1,12 @@
 //! Whole sets.
 
-ghost use Rattle.std.specs.Prelude.{◌≡◌, ◌==◌, Ok, bytes_eq, is_some, map, true, IfOk};
+ghost use Rattle.std.specs.Prelude.{◌≡◌, ◌==◌, Ok, is_some, map, true, IfOk};
 ghost use Rattle.std.specs.List.{All};
 ghost use Rattle.csv.specs.Reading.{default_config, records, strip_bom};
 ghost use Rattle.csv_sets.specs.declared.fault.SetFile.TheVariants.{RowsOf};
 ghost use Rattle.csv_sets.specs.Manifests.{RisingFiles, manifest_of};
 ghost use Rattle.roster_base.specs.Reading.{Gives};
-ghost use Rattle.roster_types.specs.Sets.{AreParts, IsPart};
-ghost use Rattle.roster_values.specs.Kinds.{all_kinds, place_of_kind};
+ghost use Rattle.roster_types.specs.Sets.{IsPart};
 ghost use Rattle.csv_sets.specs.Folders.{ReadsFolder};
 ghost use Rattle.csv_sets.specs.Sets as spec;
 

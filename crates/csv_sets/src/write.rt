@@ -1,10 +1,9 @@
 //! Files that are written.
 
-ghost use Rattle.std.specs.Prelude.{◌≡◌, ◌≤◌, ◌++◌, ◌∷◌, [], Ok, Some, bytes_eq, codes, length, map, slice_get, slice_index_or, string_bytes, true, IfOk, OnOk, IsUtf8};
+ghost use Rattle.std.specs.Prelude.{◌≡◌, ◌≤◌, ◌++◌, [], Ok, Some, bytes_eq, codes, length, map, slice_get, slice_index_or, string_bytes, true, IfOk, OnOk};
 ghost use Rattle.std.specs.List.{All, IsDistinct};
 ghost use Rattle.csv.specs.Records.{AllText};
 ghost use Rattle.csv.specs.Writing.{default_writer, row_text};
-ghost use Rattle.roster_base.specs.Order.{RiseBy};
 ghost use Rattle.roster_texts.specs.Texts.{is_id};
 ghost use Rattle.roster_types.specs.Records.{all_values};
 ghost use Rattle.roster_types.specs.Rows.{IsRow};
@@ -13,7 +12,7 @@ ghost use Rattle.csv_sets.specs.Files.{file_of, largest};
 ghost use Rattle.roster_values.specs.declared.mode.Mode.{Mode};
 ghost use Rattle.csv_sets.specs.Left.{AllRowsText};
 ghost use Rattle.csv_sets.specs.Lines.{IsFresh, text_in};
-ghost use Rattle.csv_sets.specs.Written.{dated, field_cell, key_in, keys_of, lines_text, metadata_cell, written_cells, written_header, written_text};
+ghost use Rattle.csv_sets.specs.Written.{dated, field_cell, keys_of, lines_text, metadata_cell, written_cells, written_header, written_text};
 
 use crate::keys::{MetadataKey, keys_of};
 use csv::{Writer, WriterBuilder};

@@ -1,8 +1,8 @@
 -- A copy that fits a state of a hub: at each later state, and with its stage let go.
-use Rattle.std.proofs.Common.{◌<◌, ◌≤◌, Option, None, Some, sym, subst, arith}
+use Rattle.std.proofs.Common.{Option, None, Some, sym, subst, arith}
 use Rattle.std.specs.Prelude.{IfSome}
 use Rattle.keeper_memory.specs.copy.Copies.{Copy, Held, Stage}
-use Rattle.exchange_link.specs.Agreement.{AreSeen, CopyFits, FitsVersion, HeldFits, HeldFitsIf, StageFits, StageFitsIf}
+use Rattle.exchange_link.specs.Agreement.{AreSeen, CopyFits, FitsVersion, HeldFitsIf, StageFits, StageFitsIf}
 use Rattle.hub_spec.specs.rules.Growth.{Grew}
 use Rattle.version_core.specs.HubStates.{HubState}
 use Rattle.version_core.specs.declared.change.BaseVersion.{BaseVersion}

@@ -1,6 +1,6 @@
 //! A link to no hub.
 
-ghost use Rattle.std.specs.Prelude.{◌≡◌, ◌⊎◌, ◌≤◌, ℕ, ◌+◌, ◌-◌, ◌^◌, min, Err};
+ghost use Rattle.std.specs.Prelude.{◌≡◌, ◌≤◌, ◌+◌, ◌-◌, ◌^◌, min, Err};
 ghost use Rattle.exchange_link.specs.Exchanges.{IsSentText, Misses};
 ghost use Rattle.outside_ports.specs.declared.failed.IoError.TheVariants as io_error;
 ghost use Rattle.roster_base.specs.Faults.{Rose};

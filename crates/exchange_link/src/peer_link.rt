@@ -1,7 +1,5 @@
 //! A link whose replies are given beforehand.
 
-ghost use Rattle.std.specs.Prelude.{◌≡◌};
-
 use crate::came::Came;
 use crate::inbox::Inbox;
 use crate::link::Link;

@@ -1,7 +1,5 @@
 //! A link over sockets.
 
-ghost use Rattle.std.specs.Prelude.{◌≡◌};
-
 use crate::came::Came;
 use crate::inbox::Inbox;
 use crate::link::Link;

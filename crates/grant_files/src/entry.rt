@@ -1,6 +1,5 @@
 //! The grant of a record.
 
-ghost use Rattle.std.specs.Prelude.{◌≡◌};
 ghost use Rattle.csv.specs.Records.{AllText, fields_of};
 ghost use Rattle.roster_base.specs.Reading.{Gives};
 ghost use Rattle.roster_texts.specs.Results.{found_or};

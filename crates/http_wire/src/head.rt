@@ -1,6 +1,6 @@
 //! What a request's head says.
 
-ghost use Rattle.std.specs.Prelude.{◌≡◌, ◌==◌, ◌||◌, ◌≤◌, All, IfOk, IsUtf8, length, map, option_map};
+ghost use Rattle.std.specs.Prelude.{◌≡◌, ◌==◌, ◌||◌, All, IfOk, IsUtf8, length, map, option_map};
 ghost use Rattle.httparse.specs.Spans.{IsHeaderWithin, IsWithin, header_bytes, span_bytes};
 ghost use Rattle.http_wire.specs.Texts.{echo_at, token_at};
 ghost use Rattle.http_wire.specs.Heads.{allows_length, asked, has_name, is_close, length_of, lengths_are, one_length, said_at, value_of};

@@ -1,6 +1,5 @@
 //! Texts written piece by piece, and the fields that requests and replies share.
 
-ghost use Rattle.std.specs.Prelude.{◌≡◌};
 ghost use Rattle.std.specs.List.{flat_map};
 ghost use Rattle.roster_base.specs.Faults.{HasCause};
 ghost use Rattle.outside_ports.specs.Written.{Writes};

@@ -1,6 +1,6 @@
 //! The text of a reply, written piece by piece.
 
-ghost use Rattle.std.specs.Prelude.{◌≡◌, length, codes};
+ghost use Rattle.std.specs.Prelude.{◌≡◌, length};
 ghost use Rattle.http.specs.StatusCode.{IsStatusCode};
 ghost use Rattle.roster_base.specs.Faults.{HasCause};
 ghost use Rattle.outside_ports.specs.Written.{Writes};

@@ -1,6 +1,6 @@
 //! Parts of the edits by which the oldest change goes into the base.
 
-ghost use Rattle.std.specs.Prelude.{◌≡◌, ◌++◌, ◌∷◌, [], drop, length, IfOk, IfSome, OnOk, map};
+ghost use Rattle.std.specs.Prelude.{◌≡◌, ◌++◌, ◌∷◌, [], length, IfOk, IfSome, OnOk, map};
 ghost use Rattle.item_maps.specs.Edits.{entry_of};
 ghost use Rattle.hub_format.specs.Areas.{area_number};
 ghost use Rattle.hub_format.specs.Edits.{put_at, puts};

@@ -1,6 +1,6 @@
 //! What labels and bodies are made of, written at the end of bytes.
 
-ghost use Rattle.std.specs.Prelude.{◌≡◌, ◌++◌, ◌∷◌, ◌<◌, [], OnOk};
+ghost use Rattle.std.specs.Prelude.{◌≡◌, ◌++◌, ◌<◌, [], OnOk};
 ghost use Rattle.hub_format.specs.Pieces.{AreSized, IsSized, all_sized, caller_label, moment, number, owner_bytes, owner_name, schools_bytes, sized, HasNoZero};
 ghost use Rattle.std.specs.Int.{w64};
 ghost use Rattle.std.specs.Int.RustNames.{FitsSigned};

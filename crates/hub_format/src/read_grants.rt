@@ -1,11 +1,11 @@
 //! Grants, read back from their items.
 
-ghost use Rattle.std.specs.Prelude.{◌≡◌, ◌∷◌, ◌++◌, ◌<◌, ◌^◌, ℕ, List, IfOk, IfSome, drop, length, map};
+ghost use Rattle.std.specs.Prelude.{◌≡◌, ◌∷◌, ◌++◌, ◌<◌, ◌^◌, ℕ, List, IfOk, IfSome, length, map};
 ghost use Rattle.std.specs.List.{AllByRecursion};
 ghost use Rattle.item_maps.specs.Edits.{entry_of};
 ghost use Rattle.version_core.specs.declared.grant_row.GrantRow.{GrantRow as GrantValue};
 ghost use Rattle.hub_format.specs.Format.{FitsGrant, grant_entry, grants_under};
-ghost use Rattle.hub_format.specs.Pieces.{AreSized, IsSized, all_sized, caller_label, grant_body, number, schools_bytes, sized};
+ghost use Rattle.hub_format.specs.Pieces.{AreSized, IsSized, all_sized, caller_label, grant_body, schools_bytes, sized};
 ghost use Rattle.hub_format.specs.Behind.{entry_behind, own_entry};
 
 use crate::reading::{behind, id_of, name_of, number_at, only_number, sized_at};

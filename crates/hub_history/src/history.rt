@@ -1,5 +1,5 @@
 //! The one history, which exists in the proofs alone: beginnings of it that were seen, and the word that says how long it is.
-ghost use Rattle.std.specs.Prelude.{◌≡◌, ◌+◌, ◌==◌, ◌<◌, ◌≤◌, ◌^◌, ◌++◌, ◌∷◌, ◌⊎◌, [], length, MatchBool, true};
+ghost use Rattle.std.specs.Prelude.{◌≡◌, ◌+◌, ◌==◌, ◌<◌, ◌^◌, ◌++◌, ◌∷◌, ◌⊎◌, [], length, MatchBool, true};
 ghost use mathlib.Core.List.{IsPrefix};
 ghost use Rattle.hub_history.specs.Rules.{head_of};
 

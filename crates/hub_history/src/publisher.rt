@@ -1,6 +1,6 @@
 //! The writer's side: what is published, and the entry that waits.
 
-ghost use Rattle.std.specs.Prelude.{◌≡◌, ◌∷◌, ◌++◌, ◌<◌, [], drop, IfOk, MatchBool, None, Some, true};
+ghost use Rattle.std.specs.Prelude.{◌≡◌, ◌++◌, ◌<◌, [], drop, IfOk, MatchBool, None, Some, true};
 ghost use Rattle.left_right.specs.Sides.{view};
 ghost use Rattle.hub_history.specs.Histories.{CanEnter, EndsLegally, IsLegal, IsTableOf, state_after, waiting_list};
 ghost use Rattle.hub_history.specs.Published.{Appends, IsStage, NotedAs, history, none_waits, waiting_of};

@@ -1,6 +1,6 @@
 //! A place for the publisher under the lock.
 
-ghost use Rattle.std.specs.Prelude.{◌≡◌, Some, None, IsSome, IfOk, [], IfSome};
+ghost use Rattle.std.specs.Prelude.{◌≡◌, Some, None, IsSome, IfOk, []};
 ghost use Rattle.left_right.specs.Sides.{view};
 
 use crate::entry::Entry;

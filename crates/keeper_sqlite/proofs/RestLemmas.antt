@@ -1,5 +1,5 @@
 -- What is listed of an area behind the first items of a range.
-use Rattle.std.proofs.Common.{◌≡◌, ◌-◌, ◌<◌, ℕ, zero, suc, List, [], ◌∷◌, ◌++◌, Bool, true, false, ◌&&◌, cond, T, Some, None, Ordering, Less, Equal, Greater, append-nil, append_assoc, drop, length, map, refl, sym, take, ap, subst, ◌∙◌, arith}
+use Rattle.std.proofs.Common.{◌≡◌, ◌-◌, ◌<◌, ℕ, zero, suc, List, [], ◌∷◌, ◌++◌, Bool, true, false, ◌&&◌, cond, Some, Ordering, Less, Equal, Greater, append-nil, append_assoc, drop, length, map, refl, sym, take, ap, subst, ◌∙◌, arith}
 use Rattle.std.specs.Prelude.{slice_get}
 use Rattle.std.specs.FinMap.{entries, entries_sorted, is_sorted, retain_keys}
 use Rattle.std.specs.FinMap.Entries.{below_all}
@@ -14,7 +14,7 @@ use Rattle.item_maps.specs.Items.{Items, bytes_cmp, is_between, listed}
 use Rattle.item_maps.specs.declared.item.Item.{Item}
 use Rattle.version_core.proofs.OrderLemmas.{passed as holds}
 use Rattle.hub_format.specs.Format.{Entry}
-use Rattle.hub_format.proofs.Finds.{where-append, where_all, where_label}
+use Rattle.hub_format.proofs.Finds.{where_all, where_label}
 use Rattle.hub_format.proofs.Orders.{greater_is}
 use Rattle.span_format.proofs.Told.{passed}
 use Rattle.keeper_sqlite.proofs.RangeLemmas.{whole_range}

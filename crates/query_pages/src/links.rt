@@ -1,6 +1,6 @@
 //! The links of a page.
 
-ghost use Rattle.std.specs.Prelude.{◌≡◌, ◌≤◌, ◌<◌, ◌+◌, ◌-◌, ◌*◌, ◌/◌, ◌++◌, ◌∷◌, [], IfOk, OnOk, Some, None, if◌then◌else◌, nat_lt};
+ghost use Rattle.std.specs.Prelude.{◌≡◌, ◌≤◌, ◌<◌, ◌+◌, ◌-◌, ◌*◌, ◌/◌, ◌++◌, [], IfOk, OnOk, Some, None, if◌then◌else◌, nat_lt};
 ghost use Rattle.hub_spec.specs.views.Links as spec;
 ghost use Rattle.query_pages.specs.Targets.{link_if};
 

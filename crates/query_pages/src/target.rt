@@ -1,6 +1,6 @@
 //! Where a link leads: path and query of a page.
 
-ghost use Rattle.std.specs.Prelude.{◌≡◌, ◌++◌, List, ℕ, IfOk, OnOk, codes, decimal, if◌then◌else◌, option_map, string_bytes};
+ghost use Rattle.std.specs.Prelude.{◌≡◌, ◌++◌, IfOk, OnOk, codes, decimal, if◌then◌else◌, option_map, string_bytes};
 ghost use Rattle.std.specs.List.{flat_map};
 ghost use Rattle.form_urlencoded.specs.Form as form;
 ghost use Rattle.hub_spec.specs.views.Links as spec;

@@ -1,5 +1,5 @@
 -- Answers over the real folder and clock, from answers over a keeper.
-use Rattle.std.proofs.Common.{◌≡◌, ◌≢◌, ◌⊎◌, ℕ, ℤ, List, [], ◌∷◌, Option, None, Some, Result, Ok, Err, IfNone, IsErr, IsSome, refl, sym, ◌∙◌, ap, subst, inl, inr, arith}
+use Rattle.std.proofs.Common.{◌≡◌, ◌≢◌, ℕ, ℤ, List, [], ◌∷◌, Option, None, Some, Result, Ok, Err, IfNone, IsErr, IsSome, refl, sym, ◌∙◌, ap, subst, inl, inr, arith}
 use Rattle.std.specs.Io.KnownBytes.{Appends}
 use Rattle.std.specs.Bool.{⊤}
 use Rattle.consumer_deltas.specs.DeltaAnswers.{HasBase}

@@ -2,13 +2,12 @@
 //! that come back, and days in the wrong order.
 #![tactic(auto)]
 
-ghost use Rattle.std.specs.Prelude.{◌≡◌, ◌++◌, ◌↔◌, IfOk, IsTrue, List, None, OnOk, Some, map, option_copied, slice_get, slice_index_or, ℕ};
+ghost use Rattle.std.specs.Prelude.{◌≡◌, ◌++◌, IfOk, IsTrue, List, None, OnOk, Some, map, slice_get, slice_index_or, ℕ};
 ghost use Rattle.std.specs.List.{flat_map};
 ghost use Rattle.reference_rules.specs.Faults.{AreAmong, faults_of, field_faults, kind_faults, row_faults};
 ghost use Rattle.reference_rules.specs.Parents.{IsInCycle, is_in_cycle};
-ghost use Rattle.roster_types.specs.Keys.{Ascends, count_of, row_key};
 ghost use Rattle.roster_types.specs.Records.{Record, all_values};
-ghost use Rattle.roster_values.specs.Table.{Info, info_of, table};
+ghost use Rattle.roster_values.specs.Table.{info_of, table};
 ghost use Rattle.roster_values.specs.declared.kind.Kind.{Kind as Kinds};
 
 mod chains;

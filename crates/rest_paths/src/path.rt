@@ -1,6 +1,6 @@
 //! Paths: a route, and the ids of the objects that it names.
 
-ghost use Rattle.std.specs.Prelude.{◌≡◌, IfOk, length};
+ghost use Rattle.std.specs.Prelude.{◌≡◌, IfOk};
 ghost use Rattle.rest_paths.specs.Paths as spec;
 ghost use Rattle.std.specs.List.{after_first, before_first};
 ghost use Rattle.rest_paths.specs.Segments.{is_slash, segment_at};

@@ -1,6 +1,6 @@
 //! The routes of OneRoster 1.1.
 
-ghost use Rattle.std.specs.Prelude.{◌≡◌, ◌∷◌, [], length};
+ghost use Rattle.std.specs.Prelude.{◌≡◌, ◌∷◌, []};
 ghost use Rattle.rest_paths.specs.Routed.{pattern_of};
 ghost use Rattle.rest_paths.specs.Routes as spec;
 ghost use Rattle.rest_paths.specs.Segments.{places_of};

@@ -1,5 +1,5 @@
 -- Runs of a hub, one behind another.
-use Rattle.std.proofs.Common.{◌≡◌, ℕ, ◌+◌, ◌-◌, ◌^◌, ◌≤◌, min, inl, inr, List, [], ◌∷◌, ◌++◌, refl, arith}
+use Rattle.std.proofs.Common.{◌≡◌, ℕ, ◌+◌, ◌≤◌, inl, inr, List, [], ◌∷◌, ◌++◌, refl, arith}
 use Rattle.hub_spec.specs.rules.Runs.{Runs, Step, end_of}
 use Rattle.rest_provider.specs.Exchanges.{CountsFailures}
 use Rattle.rest_provider.specs.Steps.{CountsFailed}

@@ -1,6 +1,6 @@
 //! Answers to writes.
 
-ghost use Rattle.std.specs.Prelude.{◌≡◌, ◌≤◌, ◌⊎◌, ℕ, IfOk, Result, Some, false, true};
+ghost use Rattle.std.specs.Prelude.{◌≡◌, ◌≤◌, ℕ, IfOk, Result, Some, false, true};
 ghost use Rattle.std.specs.Option.{ForSome};
 ghost use Rattle.gradebook_core.specs.Outcomes.{check_number, outcome_number};
 ghost use Rattle.hub_core.specs.Standing.{IsStanding, KeeperFits};

@@ -1,6 +1,6 @@
 //! Copies that may want memory.
 
-ghost use Rattle.std.specs.Prelude.{◌≡◌, IfOk, map, take};
+ghost use Rattle.std.specs.Prelude.{◌≡◌, IfOk};
 
 use crate::items::Items;
 use crate::memory::NoMemory;

@@ -1,8 +1,8 @@
 //! Numbers written in digits.
 
-ghost use Rattle.std.specs.Prelude.{◌≡◌, ◌≤◌, ◌<◌, ◌^◌, ℕ, length, IfSome, OnOk, string_bytes, ◌+◌, ◌++◌, ◌∷◌, []};
+ghost use Rattle.std.specs.Prelude.{◌≡◌, ◌≤◌, ◌<◌, ◌^◌, length, IfSome, OnOk, string_bytes, ◌+◌, ◌++◌, ◌∷◌, []};
 ghost use Rattle.std.specs.List.{list_all};
-ghost use Rattle.roster_texts.specs.Digits.{digits_value, decimal_value, four, is_digit, three, two};
+ghost use Rattle.roster_texts.specs.Digits.{digits_value, four, is_digit, three, two};
 
 use roster_base::NoMemory;
 

@@ -1,6 +1,6 @@
 //! How long a row is. A length is counted up to a cap that no row may reach, so that no sum is too large.
 
-ghost use Rattle.std.specs.Prelude.{◌≡◌, ◌+◌, ◌-◌, ◌≤◌, ℕ, true, IfOk, map, min, sum_by};
+ghost use Rattle.std.specs.Prelude.{◌≡◌, ◌+◌, ◌-◌, ◌≤◌, ℕ, true, IfOk, min, sum_by};
 ghost use Rattle.roster_types.specs.Lengths as lengths;
 ghost use Rattle.roster_values.specs.Fit.{fits_form};
 ghost use Rattle.roster_values.specs.Table.{form_of};

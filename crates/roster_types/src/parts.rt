@@ -1,6 +1,6 @@
 //! The parts of a row, before its length is tested.
 
-ghost use Rattle.std.specs.Prelude.{◌≡◌, ◌+◌, ◌-◌, ◌<◌, ◌≤◌, true, pos, None, Some, IfOk, length, min, option_map, slice_get, slice_index_or, sum_by, take};
+ghost use Rattle.std.specs.Prelude.{◌≡◌, ◌-◌, ◌<◌, ◌≤◌, true, pos, None, Some, IfOk, length, min, option_map, slice_get, slice_index_or, take};
 ghost use Rattle.std.specs.Bool.{Decides};
 ghost use Rattle.roster_types.specs.Bounds.{IsBound};
 ghost use Rattle.roster_types.specs.Lengths.{field_length, fields_length, metadata_length, row_length};

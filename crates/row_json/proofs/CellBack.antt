@@ -6,7 +6,6 @@ use Rattle.std.proofs.lemmas.List.{map-id}
 use Rattle.std.specs.List.{list_all}
 use Rattle.serde_json.specs.Data.{Data, string}
 use Rattle.serde_json.specs.View.{items_of}
-use Rattle.roster_texts.specs.declared.fault.ValueFault.{ValueFault}
 use Rattle.roster_texts.specs.Texts.{has_plain_ends, is_id}
 use Rattle.roster_texts.specs.Trim.{trimmed}
 use Rattle.roster_values.specs.declared.kind.Kind.{Kind}

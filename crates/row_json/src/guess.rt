@@ -10,7 +10,7 @@ ghost use Rattle.roster_types.specs.declared.metadata.Entry.{Entry as MetadataEn
 ghost use Rattle.roster_types.specs.Records.{key_of};
 ghost use Rattle.roster_types.specs.Shapes.{fits_all};
 ghost use Rattle.roster_values.specs.Fit.{is_plain_text};
-ghost use Rattle.roster_values.specs.Table.{info_of, table};
+ghost use Rattle.roster_values.specs.Table.{info_of};
 
 use crate::order::name_order;
 use json::{Reader, Scratch, Token};

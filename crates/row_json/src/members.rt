@@ -1,6 +1,6 @@
 //! The members of a row's object, written as tokens in the order of their names.
 
-ghost use Rattle.std.specs.Prelude.{◌≡◌, ◌++◌, Some, None, OnOk, flat_map, map, option_map, slice_get, slice_index_or};
+ghost use Rattle.std.specs.Prelude.{◌≡◌, ◌++◌, Some, None, OnOk, flat_map, option_map, slice_get, slice_index_or};
 ghost use Rattle.roster_types.specs.Records.{all_values};
 ghost use Rattle.roster_values.specs.Table.{info_of, table};
 ghost use Rattle.row_json.specs.Json.{is_named, row_data};

@@ -1,6 +1,6 @@
 //! Reading rows from JSON texts.
 
-ghost use Rattle.std.specs.Prelude.{◌≡◌, true, IfOk, codes, drop, map, option_map};
+ghost use Rattle.std.specs.Prelude.{◌≡◌, true, IfOk, codes, drop, option_map};
 ghost use Rattle.std.specs.List.{All};
 ghost use Rattle.serde_json.specs.Find.{as_str, get};
 ghost use Rattle.serde_json.specs.View.{items_view, members_view, view};

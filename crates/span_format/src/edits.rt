@@ -1,6 +1,6 @@
 //! The edits that add a change, and those by which a store of format 1 becomes one of format 2.
 
-ghost use Rattle.std.specs.Prelude.{◌≡◌, ◌++◌, ◌∷◌, [], IfOk, OnOk, map};
+ghost use Rattle.std.specs.Prelude.{◌≡◌, ◌++◌, ◌∷◌, [], IfOk, OnOk};
 ghost use Rattle.std.specs.List.{AllByRecursion};
 ghost use Rattle.item_maps.specs.declared.item.Edit.TheVariants.{Clear};
 ghost use Rattle.hub_format.specs.Edits.{put_at, puts};

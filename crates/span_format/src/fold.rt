@@ -2,15 +2,14 @@
 
 ghost use Rattle.std.specs.Prelude.{◌≡◌, ◌++◌, ◌∷◌, [], ◌+◌, ◌<◌, ◌^◌, IfOk, IsTrue, OnOk, drop, map};
 ghost use Rattle.item_maps.specs.Edits.{entry_of};
-ghost use Rattle.version_core.specs.Changes.{change_key};
 ghost use Rattle.version_core.specs.declared.change.BaseVersion.{BaseVersion};
 ghost use Rattle.version_core.specs.declared.change.Change.{Change as ChangeValue};
 ghost use Rattle.hub_format.specs.Edits.{clear_version, put_at};
 ghost use Rattle.hub_format.specs.Format.{grants_under};
 ghost use Rattle.hub_format.specs.Moves.{grants_moved};
-ghost use Rattle.hub_format.specs.Pieces.{change_body, key_label, number};
+ghost use Rattle.hub_format.specs.Pieces.{change_body, number};
 ghost use Rattle.span_format.specs.Edits.{folded, hidden_by, hidden_names, hidden_under};
-ghost use Rattle.span_format.specs.Format.{name_entry, own_names};
+ghost use Rattle.span_format.specs.Format.{own_names};
 
 use crate::keys::{label_from, name_label};
 use hub_format::{

@@ -1,6 +1,6 @@
 -- What a file's items own may go to another thread.
 use denote.RattleType.{RattleType}
-use denote.Param.Send.{IsSend, sendable, recorded_send, enum_send, plain_send, such_send, view_send}
+use denote.Param.Send.{IsSend, sendable, plain_send, such_send, view_send}
 use denote.Param.SendFields.{declared_send, variants_send, as_row_send}
 use Rattle.std.proofs.Crossing.{crosses}
 use Rattle.sqlite_trees.specs.declared.store.Store as Store

@@ -1,6 +1,6 @@
 //! A request on its way to a world, and the reply on its way back.
 
-ghost use Rattle.std.specs.Prelude.{◌≡◌, ◌⊎◌, ◌≤◌, ◌<◌, ◌++◌, ◌∷◌, [], ℕ, List, None, Option, Some, IfOk, IsErr, IsOkAnd, Err, false, true, vec_capacity, vec_len};
+ghost use Rattle.std.specs.Prelude.{◌≡◌, ◌⊎◌, ◌<◌, ◌++◌, ◌∷◌, [], ℕ, List, None, Option, Some, IfOk, IsErr, IsOkAnd, Err, false, true, vec_capacity, vec_len};
 ghost use Rattle.exchange_link.specs.Exchanges.{IsLate, IsOwn, IsSentText, IsTextOf};
 ghost use Rattle.http_wire.specs.Sending.{CanSend};
 ghost use Rattle.outside_ports.specs.declared.failed.IoError.TheVariants as io_error;

@@ -1,6 +1,6 @@
 //! A link to a world.
 
-ghost use Rattle.std.specs.Prelude.{◌≡◌, ◌⊎◌, ◌≤◌, ◌∷◌, ℕ, ◌+◌, ◌-◌, ◌^◌, [], List, min, IfOk, IsErr, OnErr, OnOk, Err, false, true};
+ghost use Rattle.std.specs.Prelude.{◌≡◌, ◌⊎◌, ◌≤◌, ◌∷◌, ◌+◌, ◌-◌, ◌^◌, [], List, min, IfOk, IsErr, OnErr, OnOk, Err, false, true};
 ghost use Rattle.exchange_link.specs.Exchanges.{Carries, Exchanged, IsLate, IsOwn, IsSentText, IsTextOf, Misses, Told};
 ghost use Rattle.hub_spec.specs.rules.States.{IsHub};
 ghost use Rattle.keeper_memory.specs.Calls.{CallsLead};

@@ -1,6 +1,6 @@
 //! Room for the rows of a change.
 
-ghost use Rattle.std.specs.Prelude.{◌≡◌, ◌<◌, ◌≤◌, [], ◌+◌, IfOk, OnOk, OnErr, length, map, vec_capacity, vec_len};
+ghost use Rattle.std.specs.Prelude.{◌≡◌, ◌<◌, ◌≤◌, [], ◌+◌, IfOk, OnOk, length, map, vec_capacity, vec_len};
 ghost use Rattle.version_core.specs.Changes.{change_key};
 ghost use Rattle.version_core.specs.History.{AllHaveRoom, AreFresh, ArePasts, HaveRoom, pasts_of};
 ghost use Rattle.version_core.specs.RefIndex.{Keeps};

@@ -5,7 +5,7 @@ ghost use Rattle.roster_types.specs.Keys.{count_of, look_up};
 ghost use Rattle.roster_values.specs.Kinds.{place_of_kind};
 ghost use Rattle.roster_values.specs.declared.kind.Kind.{Kind as Kinds};
 ghost use Rattle.version_changes.specs.sets.Steps.{added, is_added};
-ghost use Rattle.version_core.specs.Changes.{AreChanges, change_key, is_next, rows_of};
+ghost use Rattle.version_core.specs.Changes.{change_key, is_next, rows_of};
 ghost use Rattle.version_core.specs.Order.{overlaid};
 ghost use Rattle.version_core.specs.Version.{row_limit};
 

@@ -1,6 +1,6 @@
 //! Sets applied to the newest version.
 
-ghost use Rattle.std.specs.Prelude.{IfOk, ◌≡◌, ◌≤◌, None, true};
+ghost use Rattle.std.specs.Prelude.{IfOk, ◌≡◌, None, true};
 ghost use Rattle.std.specs.Option.{ForSome};
 ghost use Rattle.roster_types.specs.Keys.{Ascends, Key, look_up};
 ghost use Rattle.version_changes.specs.sets.Applying.{Answers, LeadsOn, rows_in, set_key};

@@ -1,4 +1,4 @@
-use Rattle.std.proofs.Common.{arith, rules, ap, ◌∙◌, refl}
+use Rattle.std.proofs.Common.{arith, rules, ap, ◌∙◌}
 use Rattle.std.proofs.lemmas.List.{take_rest}
 use Rattle.filter_grammar.proofs.FormBytes.{after_percent_or, at_end, at_other, at_percent, at_plus}
 use Rattle.form_urlencoded.specs.Form.{decode}

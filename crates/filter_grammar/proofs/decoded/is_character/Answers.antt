@@ -1,4 +1,4 @@
-use Rattle.std.proofs.Common.{◌≡◌, ◌∙◌, sym, Bool, true, false}
+use Rattle.std.proofs.Common.{◌∙◌}
 use Rattle.filter_grammar.proofs.FirstCharacter.{is_ok_text}
 use Rattle.filter_grammar.proofs.decoded.is_character.Goals as goal
 

@@ -1,4 +1,4 @@
-use Rattle.std.proofs.Common.{◌≡◌, ap, ◌∙◌, sym, refl, arith, length, IsUtf8}
+use Rattle.std.proofs.Common.{ap, ◌∙◌, sym, arith, IsUtf8}
 use Rattle.std.specs.Str.{is_utf8}
 use Rattle.std.proofs.lemmas.Str.{IsUtf8-nil, is_utf8-from_IsUtf8}
 use Rattle.filter_grammar.proofs.decoded.Decoded.is_text.Goals as goal

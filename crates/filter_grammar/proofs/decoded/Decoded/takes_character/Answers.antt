@@ -1,5 +1,3 @@
-use Rattle.std.proofs.Common.{◌≡◌, ◌∷◌, ◌&&◌, ap, ◌∙◌, sym, rules}
-use Rattle.std.specs.Str.{is_utf8}
 use Rattle.filter_grammar.specs.Decoded.{decoded_left}
 use Rattle.filter_grammar.proofs.FirstCharacter.{utf8_four, utf8_no_fourth, utf8_no_second, utf8_no_third, utf8_one, utf8_three, utf8_two}
 use Rattle.filter_grammar.proofs.decoded.Decoded.takes_character.Goals as goal
