@@ -4,7 +4,7 @@ use Rattle.std.specs.Prelude.{IfSome}
 use Rattle.keeper_memory.specs.copy.Changes.{copy_after}
 use Rattle.keeper_memory.specs.copy.Copies.{Copy, Stage, held_list}
 use Rattle.keeper_memory.specs.declared.copy.change.CopyChange.TheVariants.{Drop}
-use Rattle.http_wire.specs.declared.answer.WireReply.{WireReply}
+use Rattle.http_wire.specs.declared.reply_reading.WireReply.{WireReply}
 use Rattle.roster_base.specs.Faults.{CountsError, Rose}
 use Rattle.roster_base.specs.declared.keeper.KeeperError.{KeeperError}
 use Rattle.roster_base.specs.declared.keeper.KeeperError.TheVariants as fault

@@ -15,7 +15,7 @@ use Rattle.exchange_link.specs.Requests.{Moved}
 use Rattle.exchange_link.specs.Sayings.{knows, list_of}
 use Rattle.exchange_link.specs.declared.answer.SyncAnswer.{SyncAnswer}
 use Rattle.exchange_link.specs.declared.answer.SyncAnswer.TheVariants as answer
-use Rattle.http_wire.specs.declared.answer.WireReply.{WireReply}
+use Rattle.http_wire.specs.declared.reply_reading.WireReply.{WireReply}
 use Rattle.hub_spec.proofs.CutDeltas.{list_ascends, list_is_of}
 use Rattle.hub_spec.proofs.Versions.{number_at, version_is}
 use Rattle.hub_spec.specs.requests.PageRequests.{CanAsk}

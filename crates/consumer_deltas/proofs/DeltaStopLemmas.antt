@@ -12,7 +12,7 @@ use Rattle.exchange_link.specs.Causes.{IsOwnReply, IsPageStatus}
 use Rattle.exchange_link.specs.declared.answer.SyncAnswer.{SyncAnswer}
 use Rattle.exchange_link.specs.declared.answer.SyncAnswer.TheVariants as answer
 use Rattle.http_wire.proofs.AnswerLemmas.{one_answer}
-use Rattle.http_wire.specs.declared.answer.WireReply.{WireReply}
+use Rattle.http_wire.specs.declared.reply_reading.WireReply.{WireReply}
 use Rattle.roster_types.specs.Records.{Record}
 use Rattle.roster_values.specs.declared.kind.Kind.{Kind}
 use Rattle.status_info.specs.declared.request.Request.{Request}

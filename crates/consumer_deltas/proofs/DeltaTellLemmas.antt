@@ -9,7 +9,7 @@ use Rattle.grant_scopes.specs.Opens.{opens}
 use Rattle.grant_scopes.specs.declared.access.Access.TheVariants.{Read}
 use Rattle.http_wire.specs.Replies.{body_text}
 use Rattle.http_wire.specs.Seen.{seen_of}
-use Rattle.http_wire.specs.declared.answer.WireReply.{WireReply}
+use Rattle.http_wire.specs.declared.reply_reading.WireReply.{WireReply}
 use Rattle.hub_spec.proofs.DeltaRequestLemmas.{delta_says}
 use Rattle.hub_spec.proofs.Versions.{all_at}
 use Rattle.hub_spec.specs.requests.PageRequests.{CanAsk}

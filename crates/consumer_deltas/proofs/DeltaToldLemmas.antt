@@ -4,7 +4,7 @@ use Rattle.std.proofs.Math.Seq.{drop-append_seam}
 use Rattle.std.proofs.lemmas.List.{take-append-drop}
 use Rattle.exchange_link.specs.DeltaSayings.{BaseGone, Differs, NotKnown, NotOpened, PinGone, TellsFrom}
 use Rattle.exchange_link.specs.Sayings.{knows}
-use Rattle.http_wire.specs.declared.answer.WireReply.{WireReply}
+use Rattle.http_wire.specs.declared.reply_reading.WireReply.{WireReply}
 use Rattle.hub_spec.specs.rules.Checks.{version_at}
 use Rattle.hub_spec.specs.rules.Growth.{Grew}
 use Rattle.hub_spec.proofs.CutDeltas.{cut_to_cut}

@@ -8,7 +8,7 @@ use Rattle.consumer_deltas.specs.declared.answer.DeltaAnswer.TheVariants.{Ended,
 use Rattle.consumer_deltas.specs.declared.judging.Place.{Place}
 use Rattle.exchange_link.specs.Causes.{IsMore, IsOwnReply, IsPageStatus}
 use Rattle.exchange_link.specs.declared.answer.SyncAnswer.TheVariants as answer
-use Rattle.http_wire.specs.declared.answer.WireReply.{WireReply}
+use Rattle.http_wire.specs.declared.reply_reading.WireReply.{WireReply}
 use Rattle.keeper_memory.specs.copy.Copies.{Copy}
 
 -- no base or no run, and so nothing asked for; every kind staged and swapped in, keeper or memory gave up, or the cause of a kind that ended the call

@@ -13,7 +13,7 @@ use Rattle.consumer_deltas.specs.declared.judging.Place.{Place}
 use Rattle.exchange_link.specs.Causes.{IsOwnReply}
 use Rattle.exchange_link.specs.declared.answer.SyncAnswer.TheVariants as answer
 use Rattle.http_wire.specs.Answers.{IsNoReply}
-use Rattle.http_wire.specs.declared.answer.WireReply.{WireReply}
+use Rattle.http_wire.specs.declared.reply_reading.WireReply.{WireReply}
 use Rattle.exchange_link.specs.Sayings.{knows, list_of}
 use Rattle.hub_spec.specs.rules.Checks.{version_at}
 use Rattle.hub_spec.specs.views.Deltas.{delta as what_differs}

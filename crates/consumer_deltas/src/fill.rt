@@ -19,7 +19,7 @@ ghost use Rattle.exchange_link.specs.Exchanges.{Told};
 ghost use Rattle.exchange_link.specs.Places.{kind_at, kinds_of};
 ghost use Rattle.exchange_link.specs.Requests.{Asks, IsReady};
 ghost use Rattle.exchange_link.specs.Synchronised.{StageOn};
-ghost use Rattle.http_wire.specs.declared.answer.WireReply.{WireReply as Reply};
+ghost use Rattle.http_wire.specs.declared.reply_reading.WireReply.{WireReply as Reply};
 ghost use Rattle.keeper_memory.specs.copy.Copies.{Copy, held_list};
 ghost use Rattle.keeper_memory.specs.copy.Lists.{kind_count};
 ghost use Rattle.keeper_memory.specs.copy.States.{stage_of};

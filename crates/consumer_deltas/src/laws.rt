@@ -14,7 +14,7 @@ ghost use Rattle.exchange_link.specs.DeltaSayings.{TellsFrom};
 ghost use Rattle.exchange_link.specs.Pages.{Page, asked_by};
 ghost use Rattle.http_wire.specs.Replies.{body_text};
 ghost use Rattle.http_wire.specs.Seen.{seen_of};
-ghost use Rattle.http_wire.specs.declared.answer.WireReply.{WireReply};
+ghost use Rattle.http_wire.specs.declared.reply_reading.WireReply.{WireReply};
 ghost use Rattle.hub_spec.specs.requests.PageRequests.{CanAsk};
 ghost use Rattle.hub_spec.specs.requests.Requests.{AnswersRequest};
 ghost use Rattle.hub_spec.specs.rules.Growth.{Grew};

@@ -11,7 +11,7 @@ ghost use Rattle.exchange_link.specs.Owning.{IsOwnRead};
 ghost use Rattle.exchange_link.specs.Requests.{Asks, IfOwn, IsReady, number, numbered};
 ghost use Rattle.http_wire.specs.Answers.{IsNoReply, IsReplyText};
 ghost use Rattle.http_wire.specs.Sending.{CanSend, IsSentEcho};
-ghost use Rattle.http_wire.specs.declared.answer.WireReply.{WireReply as Reply};
+ghost use Rattle.http_wire.specs.declared.reply_reading.WireReply.{WireReply as Reply};
 ghost use Rattle.hub_spec.specs.requests.DeltaRequests.{delta_query};
 ghost use Rattle.keeper_memory.specs.declared.copy.state.TheConstants.{LAST};
 ghost use Rattle.status_info.specs.declared.request.Echo.{Echo as Number};

@@ -13,7 +13,7 @@ use Rattle.exchange_link.specs.SendCompleteness.{CanSendAll}
 use Rattle.exchange_link.specs.declared.send_answer.SendAnswer.{SendAnswer}
 use Rattle.exchange_link.specs.declared.send_answer.SendAnswer.TheVariants as answer
 use Rattle.http_wire.specs.Seen.{seen_of}
-use Rattle.http_wire.specs.declared.answer.WireReply.{WireReply}
+use Rattle.http_wire.specs.declared.reply_reading.WireReply.{WireReply}
 use Rattle.hub_spec.proofs.Growing.{Grew-trans}
 use Rattle.hub_spec.specs.rules.Growth.{Grew}
 use Rattle.hub_spec.specs.rules.States.{IsHub}

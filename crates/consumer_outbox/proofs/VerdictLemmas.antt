@@ -5,7 +5,7 @@ use Rattle.exchange_link.specs.Causes.{IsOwnReply}
 use Rattle.exchange_link.specs.SendCauses.{AnswersSend, IsBadAnswer, IsOther, IsSendAside, NoVersion, OtherMark, Unmarked}
 use Rattle.exchange_link.specs.declared.send_answer.SendAnswer.{SendAnswer}
 use Rattle.exchange_link.specs.declared.send_answer.SendAnswer.TheVariants as answer
-use Rattle.http_wire.specs.declared.answer.WireReply.{WireReply}
+use Rattle.http_wire.specs.declared.reply_reading.WireReply.{WireReply}
 use Rattle.consumer_outbox.specs.Sends.{CauseIf, ExactIf, IsBroken, answer_of}
 use Rattle.consumer_outbox.specs.Verdicts.{Settled, answered_verdict, does_settle, marked_verdict, verdict_of}
 use Rattle.consumer_outbox.specs.declared.verdict.Verdict.{Verdict}

@@ -12,7 +12,7 @@ use Rattle.exchange_link.specs.SendCompleteness.{IsFine}
 use Rattle.exchange_link.specs.Sent.{SettlesMore}
 use Rattle.exchange_link.specs.declared.send_answer.SendAnswer.{SendAnswer}
 use Rattle.exchange_link.specs.declared.send_answer.SendAnswer.TheVariants as answer
-use Rattle.http_wire.specs.declared.answer.WireReply.{WireReply}
+use Rattle.http_wire.specs.declared.reply_reading.WireReply.{WireReply}
 use Rattle.hub_spec.specs.marks.Marked.{mark_of, marked_by}
 use Rattle.hub_spec.specs.marks.Sending.{write_request}
 use Rattle.roster_base.specs.declared.keeper.KeeperError.{KeeperError}

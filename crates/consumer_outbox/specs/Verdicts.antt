@@ -1,6 +1,6 @@
 -- What the own reply means for the entry that was sent.
 use Rattle.std.specs.Prelude.{◌≡◌, ℕ, ◌==◌, Bool, true, false, if◌then◌else◌, Option, Some, None}
-use Rattle.http_wire.specs.declared.answer.WireReply.{WireReply}
+use Rattle.http_wire.specs.declared.reply_reading.WireReply.{WireReply}
 use Rattle.consumer_outbox.specs.declared.verdict.Verdict.{Verdict}
 use Rattle.consumer_outbox.specs.declared.verdict.Verdict.TheVariants as verdict
 

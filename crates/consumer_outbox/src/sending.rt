@@ -11,7 +11,7 @@ ghost use Rattle.exchange_link.specs.SendCauses.{CarriesFirst, EndsAtEntry, IsSe
 ghost use Rattle.exchange_link.specs.SendCompleteness.{CanSendAll, IsFine};
 ghost use Rattle.exchange_link.specs.Sent.{AllSettled, NamesFirst, number_in, unsettled};
 ghost use Rattle.http_wire.specs.Answers.{IsNoReply, IsReplyText};
-ghost use Rattle.http_wire.specs.declared.answer.WireReply.{WireReply as Reply};
+ghost use Rattle.http_wire.specs.declared.reply_reading.WireReply.{WireReply as Reply};
 ghost use Rattle.hub_spec.specs.marks.Marked.{mark_of, marked_by};
 ghost use Rattle.roster_base.specs.Faults.{Rose};
 ghost use Rattle.exchange_link.specs.Owning.{IsOwnRead};

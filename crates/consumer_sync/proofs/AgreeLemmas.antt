@@ -23,7 +23,7 @@ use Rattle.exchange_link.specs.declared.answer.SyncAnswer.{SyncAnswer}
 use Rattle.exchange_link.proofs.CutLemmas.{cut_whole}
 use Rattle.exchange_link.proofs.TellLemmas.{told_of}
 use Rattle.hub_spec.specs.requests.PageRequests.{CanAsk}
-use Rattle.http_wire.specs.declared.answer.WireReply.{WireReply}
+use Rattle.http_wire.specs.declared.reply_reading.WireReply.{WireReply}
 use Rattle.roster_base.specs.Faults.{Rose}
 use Rattle.roster_types.specs.Records.{Record}
 use Rattle.roster_values.specs.Kinds.{place_of_kind}

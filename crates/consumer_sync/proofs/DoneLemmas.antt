@@ -25,7 +25,7 @@ use Rattle.exchange_link.specs.declared.answer.SyncAnswer.TheVariants as answer
 use Rattle.exchange_link.proofs.FitLemmas.{stage_if_on}
 use Rattle.exchange_link.proofs.CutLemmas.{IsGood, begun as hub_begun, list_good}
 use Rattle.hub_spec.proofs.Cutting.{known_at}
-use Rattle.http_wire.specs.declared.answer.WireReply.{WireReply}
+use Rattle.http_wire.specs.declared.reply_reading.WireReply.{WireReply}
 use Rattle.roster_base.specs.Faults.{Rose}
 use Rattle.roster_types.specs.Records.{Record}
 use Rattle.roster_values.specs.Kinds.{place_of_kind}

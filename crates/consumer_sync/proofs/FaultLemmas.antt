@@ -25,7 +25,7 @@ use Rattle.exchange_link.specs.Places.{kind_at, kinds_of, staged_of}
 use Rattle.exchange_link.specs.Synchronised.{IsSwapped, StageOn, own_stage}
 use Rattle.exchange_link.specs.declared.answer.SyncAnswer.{SyncAnswer}
 use Rattle.exchange_link.specs.declared.answer.SyncAnswer.TheVariants as answer
-use Rattle.http_wire.specs.declared.answer.WireReply.{WireReply}
+use Rattle.http_wire.specs.declared.reply_reading.WireReply.{WireReply}
 
 gone_is : (a : Act) → IsGone a → (pin : ℕ) × (oldest : ℕ) × (a ≡ act.PinGone pin oldest)
 gone_is (act.PinGone pin oldest) is = (pin, oldest, refl)

@@ -16,7 +16,7 @@ use Rattle.hub_spec.specs.requests.PageRequests.{CanAsk}
 use Rattle.hub_spec.proofs.Versions.{number_at, version_is}
 use Rattle.hub_spec.specs.rules.Checks.{version_at}
 use Rattle.hub_spec.specs.rules.States.{IsHub}
-use Rattle.http_wire.specs.declared.answer.WireReply.{WireReply}
+use Rattle.http_wire.specs.declared.reply_reading.WireReply.{WireReply}
 use Rattle.keeper_memory.specs.copy.States.{state_of}
 use Rattle.keeper_memory.specs.declared.copy.state.TheConstants.{LAST}
 use Rattle.exchange_link.specs.Synchronised.{Grows, StageOn, own_state, staged_list}

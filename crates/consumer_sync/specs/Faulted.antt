@@ -3,7 +3,7 @@ use Rattle.std.specs.Prelude.{◌≡◌, ◌⊎◌, ℕ, true, List, None, is_so
 use Rattle.keeper_memory.specs.copy.Copies.{Copy, Stage}
 use Rattle.exchange_link.specs.Synchronised.{IsSwapped, StageOn, own_stage}
 use Rattle.http_wire.specs.Answers.{IsReplyText}
-use Rattle.http_wire.specs.declared.answer.WireReply.{WireReply}
+use Rattle.http_wire.specs.declared.reply_reading.WireReply.{WireReply}
 
 -- the bytes are a reply which says that a version isn't kept, and which is the oldest
 abbrev pub SaysGone : List ℕ → Type 0

@@ -15,7 +15,7 @@ use Rattle.exchange_link.specs.Places.{kinds_of, next_page, staged_of}
 use Rattle.exchange_link.specs.Synchronised.{StageOn}
 use Rattle.exchange_link.specs.declared.answer.SyncAnswer.{SyncAnswer}
 use Rattle.exchange_link.specs.declared.answer.SyncAnswer.TheVariants as answer
-use Rattle.http_wire.specs.declared.answer.WireReply.{WireReply}
+use Rattle.http_wire.specs.declared.reply_reading.WireReply.{WireReply}
 use Rattle.status_info.specs.declared.request.Request.{Request}
 use Rattle.version_core.specs.HubStates.{HubState, newest_number}
 use Rattle.version_core.specs.Version.{row_limit}

@@ -13,7 +13,7 @@ ghost use Rattle.exchange_link.specs.Causes.{IsLast, IsMore, IsOwnReply, RoseBy}
 ghost use Rattle.exchange_link.specs.Completeness.{StandsAt, first_pin};
 ghost use Rattle.exchange_link.specs.Exchanges.{Told};
 ghost use Rattle.exchange_link.specs.Places.{kinds_of, pin_of};
-ghost use Rattle.http_wire.specs.declared.answer.WireReply.{WireReply as Reply};
+ghost use Rattle.http_wire.specs.declared.reply_reading.WireReply.{WireReply as Reply};
 ghost use Rattle.roster_base.specs.Faults.{Rose};
 ghost use Rattle.consumer_sync.specs.Faulted.{SaysGone};
 ghost use Rattle.exchange_link.specs.Synchronised.{StageOn};

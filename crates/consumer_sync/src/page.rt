@@ -11,7 +11,7 @@ ghost use Rattle.exchange_link.specs.Places.{kinds_of, next_page};
 ghost use Rattle.hub_spec.specs.requests.PageRequests.{page_path, page_query, pin_text};
 ghost use Rattle.http_wire.specs.Answers.{IsNoReply, IsReplyText};
 ghost use Rattle.http_wire.specs.Sending.{CanSend, IsSentEcho};
-ghost use Rattle.http_wire.specs.declared.answer.WireReply.{WireReply as Reply};
+ghost use Rattle.http_wire.specs.declared.reply_reading.WireReply.{WireReply as Reply};
 ghost use Rattle.status_info.specs.declared.request.Echo.{Echo as Number};
 ghost use Rattle.exchange_link.specs.Owning.{IsOwnRead};
 ghost use Rattle.exchange_link.specs.Requests.{Asks, IfOwn, IsReady, number, numbered};

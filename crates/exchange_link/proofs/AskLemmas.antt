@@ -10,7 +10,7 @@ use Rattle.hub_spec.specs.rules.Growth.{Grew}
 use Rattle.hub_spec.specs.rules.Runs.{Acts, Fails, Replied, Steps, Take, WantsMemory}
 use Rattle.http_wire.specs.Answers.{IsNoReply, IsReplyText}
 use Rattle.http_wire.specs.Seen.{seen_of}
-use Rattle.http_wire.specs.declared.answer.WireReply.{WireReply}
+use Rattle.http_wire.specs.declared.reply_reading.WireReply.{WireReply}
 use Rattle.outside_ports.specs.declared.failed.IoError.{IoError}
 use Rattle.outside_ports.specs.declared.failed.IoError.TheVariants as io_error
 use Rattle.status_info.specs.declared.reply.Reply.{Reply}

@@ -7,7 +7,7 @@ use Rattle.http_wire.specs.Answers.{IsNoReply, IsReplyText, Refuses, answered, c
 use Rattle.http_wire.specs.Texts.{count_of, digits_of, has_leading_zero, last_number}
 use Rattle.http_wire.specs.Replies.{reply_text}
 use Rattle.http_wire.specs.Seen.{CanRead, seen_of}
-use Rattle.http_wire.specs.declared.answer.WireReply.{WireReply}
+use Rattle.http_wire.specs.declared.reply_reading.WireReply.{WireReply}
 use Rattle.http_wire.specs.declared.fault.WireFault.{WireFault}
 use Rattle.http_wire.specs.declared.fault.WireFault.TheVariants as fault
 use Rattle.http_wire.proofs.AnswerLemmas.{one_answer}

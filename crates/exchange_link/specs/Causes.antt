@@ -4,7 +4,7 @@ use Rattle.keeper_memory.specs.copy.Lists.{ascends}
 use Rattle.keeper_memory.specs.declared.copy.state.StageState.{StageState}
 use Rattle.keeper_memory.specs.declared.copy.state.TheConstants.{LAST}
 use Rattle.http_wire.specs.Answers.{IsNoReply, IsReplyText}
-use Rattle.http_wire.specs.declared.answer.WireReply.{WireReply}
+use Rattle.http_wire.specs.declared.reply_reading.WireReply.{WireReply}
 use Rattle.hub_spec.specs.rules.Growth.{Grew}
 use Rattle.hub_spec.specs.rules.Verdicts.{newest_in}
 use Rattle.version_core.specs.Grants.{grant_of}

@@ -5,7 +5,7 @@ use Rattle.http_wire.specs.Answers.{IsReplyText}
 use Rattle.http_wire.specs.Replies.{body_text, reply_text}
 use Rattle.http_wire.specs.Seen.{CanRead}
 use Rattle.http_wire.specs.Sending.{CanSend, request_text}
-use Rattle.http_wire.specs.declared.answer.WireReply.{WireReply}
+use Rattle.http_wire.specs.declared.reply_reading.WireReply.{WireReply}
 pub use Rattle.hub_spec.specs.requests.Requests.{AnswersRequest, wanted_by}
 use Rattle.hub_spec.specs.rules.Growth.{Grew}
 use Rattle.hub_spec.specs.rules.Runs.{Replied, Steps, Take}

@@ -7,7 +7,7 @@ use Rattle.hub_spec.specs.rules.States.{IsHub}
 use Rattle.http_wire.specs.Replies.{body_text}
 use Rattle.http_wire.specs.Seen.{seen_of}
 use Rattle.status_info.specs.Causes.{status_of}
-use Rattle.http_wire.specs.declared.answer.WireReply.{WireReply}
+use Rattle.http_wire.specs.declared.reply_reading.WireReply.{WireReply}
 use Rattle.roster_base.specs.Faults.{Rose}
 use Rattle.status_info.specs.declared.reply.Reply.{Reply}
 use Rattle.status_info.specs.declared.request.Echo.{Echo}

@@ -4,7 +4,7 @@ use Rattle.std.specs.List.{All}
 use Rattle.exchange_link.specs.Agreement.{Differ}
 use Rattle.exchange_link.specs.Exchanges.{Told}
 use Rattle.hub_spec.specs.rules.Growth.{Grew}
-use Rattle.http_wire.specs.declared.answer.WireReply.{WireReply}
+use Rattle.http_wire.specs.declared.reply_reading.WireReply.{WireReply}
 use Rattle.status_info.specs.declared.request.Echo.{Echo}
 use Rattle.status_info.specs.declared.request.Request.{Request}
 use Rattle.exchange_link.specs.declared.asking.Outcome.{Outcome}

@@ -4,7 +4,7 @@ ghost use Rattle.std.specs.Prelude.{◌≡◌, ◌≢◌, ◌+◌, ◌-◌, ◌*
 ghost use Rattle.exchange_link.specs.Exchanges.{IsTextOf, Misses, Told};
 ghost use Rattle.http_wire.specs.Answers.{IsNoReply, IsReplyText};
 ghost use Rattle.http_wire.specs.Sending.{CanSend, IsSentEcho};
-ghost use Rattle.http_wire.specs.declared.answer.WireReply.{WireReply as Reply};
+ghost use Rattle.http_wire.specs.declared.reply_reading.WireReply.{WireReply as Reply};
 ghost use Rattle.status_info.specs.declared.request.Echo.{Echo as Number};
 ghost use Rattle.status_info.specs.declared.request.Request.{Request as Asked};
 ghost use Rattle.roster_base.specs.Faults.{Rose};

@@ -14,7 +14,7 @@ use Rattle.httparse.specs.declared.spans.ResponseSpans.{ResponseSpans}
 use Rattle.httparse.proofs.GrammarLemmas.{response_prefix_free, response_unique}
 use Rattle.http_wire.specs.declared.fault.WireFault.{WireFault}
 use Rattle.http_wire.specs.declared.fault.WireFault.TheVariants as fault
-use Rattle.http_wire.specs.declared.answer.WireReply.{WireReply}
+use Rattle.http_wire.specs.declared.reply_reading.WireReply.{WireReply}
 use Rattle.http_wire.specs.Heads.{length_of, max_fields}
 use Rattle.http_wire.specs.Reading.{end_fault, refusal_of}
 use Rattle.http_wire.specs.Answers.{BeginsReply, FindsAnswer, HasAnswerHead, IsNoReply, IsReplyText, NeverReply, Refuses, StatesFault, Told, answered, max_reply_body, max_reply_head, missing_length, part_fault, told_at, told_by, told_length}

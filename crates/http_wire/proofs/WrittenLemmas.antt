@@ -23,7 +23,7 @@ use Rattle.status_info.specs.declared.reply.Rel.{Rel}
 use Rattle.status_info.specs.declared.reply.Rel.TheVariants as rel
 use Rattle.status_info.specs.declared.reply.Reply.{Reply}
 use Rattle.status_info.specs.declared.request.Echo.{Echo}
-use Rattle.http_wire.specs.declared.answer.WireReply.{WireReply}
+use Rattle.http_wire.specs.declared.reply_reading.WireReply.{WireReply}
 use Rattle.http_wire.specs.declared.fault.WireFault.{WireFault}
 use Rattle.http_wire.specs.declared.fault.WireFault.TheVariants as fault
 use Rattle.http_wire.specs.Answers.{HasAnswerHead, IsReplyText, ReadsReply, answered, count_at, max_reply_body, missing_length, number_at, told_by, told_length}

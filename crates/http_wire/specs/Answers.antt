@@ -10,7 +10,7 @@ use Rattle.http_wire.specs.Heads.{length_of, max_fields, value_of}
 use Rattle.http_wire.specs.declared.fault.WireFault.{WireFault}
 use Rattle.http_wire.specs.declared.fault.WireFault.TheVariants as fault
 use Rattle.http_wire.specs.Reading.{end_fault}
-use Rattle.http_wire.specs.declared.answer.WireReply.{WireReply}
+use Rattle.http_wire.specs.declared.reply_reading.WireReply.{WireReply}
 
 -- the most bytes of a reply's head, and of its body
 abbrev pub max_reply_head : ℕ

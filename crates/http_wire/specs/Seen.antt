@@ -7,7 +7,7 @@ use Rattle.http_wire.specs.Answers.{max_reply_body, max_reply_head}
 use Rattle.http_wire.specs.Replies.{body_text, reply_text}
 use Rattle.http_wire.specs.Sending.{IsSentEcho}
 use Rattle.http_wire.specs.Texts.{last_number}
-use Rattle.http_wire.specs.declared.answer.WireReply.{WireReply}
+use Rattle.http_wire.specs.declared.reply_reading.WireReply.{WireReply}
 
 -- the reply as the consumer sees it
 abbrev pub seen_of : Reply → WireReply

@@ -8,7 +8,7 @@ use Rattle.exchange_link.specs.Causes.{IsMore, IsOwnReply, IsPageStatus}
 use Rattle.exchange_link.specs.Exchanges.{Told}
 use Rattle.exchange_link.specs.Places.{kinds_of}
 use Rattle.exchange_link.specs.Requests.{Asks, IsReady}
-use Rattle.http_wire.specs.declared.answer.WireReply.{WireReply}
+use Rattle.http_wire.specs.declared.reply_reading.WireReply.{WireReply}
 use Rattle.consumer_sync.specs.Filling.{Fills, HasToken, PinLaw}
 use Rattle.consumer_sync.specs.Requests.{IsUnmarked}
 use Rattle.consumer_deltas.proofs.DeltaBoundLemmas.{SoFar}

@@ -5,7 +5,7 @@ use Rattle.exchange_link.proofs.AskedLemmas.{sends_refl}
 use Rattle.exchange_link.specs.Requests.{number}
 use Rattle.exchange_link.specs.Causes.{IsPageStatus}
 use Rattle.http_wire.proofs.AnswerLemmas.{one_answer}
-use Rattle.http_wire.specs.declared.answer.WireReply.{WireReply}
+use Rattle.http_wire.specs.declared.reply_reading.WireReply.{WireReply}
 use Rattle.consumer_sync.specs.Judging.{agrees}
 use Rattle.consumer_deltas.proofs.DeltaGatherLemmas.{AreOpen, IsPinOf, asked_on, entries_open, entries_whole, left_less, left_of, less_yet, low_version, open_first, open_left, open_small, pin_first, pin_is, same_next, sends_end, sends_page, small, stops_on}
 use Rattle.consumer_deltas.proofs.DeltaJudgeLemmas.{closed_taken, ends_not, not_both, part_taken}

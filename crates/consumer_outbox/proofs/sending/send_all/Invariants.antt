@@ -4,7 +4,7 @@ use Rattle.keeper_memory.specs.declared.copy.state.TheConstants.{LAST}
 use Rattle.exchange_link.specs.Asked.{IsWriteUnder, SendsOn}
 use Rattle.exchange_link.specs.Causes.{IsMore, IsOwnReply}
 use Rattle.exchange_link.specs.Exchanges.{Told}
-use Rattle.http_wire.specs.declared.answer.WireReply.{WireReply}
+use Rattle.http_wire.specs.declared.reply_reading.WireReply.{WireReply}
 use Rattle.exchange_link.specs.Requests.{Moved}
 use Rattle.consumer_outbox.specs.Sends.{Ready, SettledTo, SoFar}
 use Rattle.consumer_outbox.specs.Verdicts.{Settled}

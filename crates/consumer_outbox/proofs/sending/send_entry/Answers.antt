@@ -3,7 +3,7 @@ use Rattle.std.specs.Prelude.{is_none}
 use Rattle.keeper_memory.specs.declared.copy.entry.OutEntry.{OutEntry}
 use Rattle.hub_spec.proofs.Below.{found_passes}
 use Rattle.http_wire.proofs.AnswerLemmas.{one_answer}
-use Rattle.http_wire.specs.declared.answer.WireReply.{WireReply}
+use Rattle.http_wire.specs.declared.reply_reading.WireReply.{WireReply}
 use Rattle.hub_spec.specs.marks.Marked.{mark_of}
 use Rattle.status_info.specs.declared.request.Request.{Request}
 use Rattle.exchange_link.proofs.AskLemmas.{missed_other, none_other, own_other}

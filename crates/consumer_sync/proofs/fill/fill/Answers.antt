@@ -7,7 +7,7 @@ use Rattle.exchange_link.specs.Bounds.{HasPin}
 use Rattle.exchange_link.specs.Places.{kind_at, kinds_of, staged_of}
 use Rattle.exchange_link.specs.declared.answer.SyncAnswer.{SyncAnswer}
 use Rattle.exchange_link.specs.declared.answer.SyncAnswer.TheVariants as answer
-use Rattle.http_wire.specs.declared.answer.WireReply.{WireReply}
+use Rattle.http_wire.specs.declared.reply_reading.WireReply.{WireReply}
 use Rattle.http_wire.proofs.AnswerLemmas.{one_answer}
 use Rattle.consumer_sync.specs.Filling.{BoundSoFar, HasToken, IsCallPinIf, IsDoneIf, IsSmall, PinLaw, ToldIf, weight}
 use Rattle.consumer_sync.specs.Judging.{judged}

@@ -7,7 +7,7 @@ use Rattle.exchange_link.specs.Asked.{IsPageUnder, SendsOn}
 use Rattle.exchange_link.specs.Causes.{IsLast, IsMore, IsOwnReply, IsPageStatus}
 use Rattle.exchange_link.specs.Exchanges.{Told}
 use Rattle.exchange_link.specs.Places.{kinds_of}
-use Rattle.http_wire.specs.declared.answer.WireReply.{WireReply}
+use Rattle.http_wire.specs.declared.reply_reading.WireReply.{WireReply}
 use Rattle.keeper_memory.specs.declared.copy.state.StageState.{StageState}
 use Rattle.std.specs.Prelude.{Option}
 use Rattle.consumer_sync.specs.Filling.{BoundSoFar, Fills, HasToken, IsSmall, PinLaw, request_of, weight}

@@ -1,7 +1,7 @@
 use Rattle.std.proofs.Common.{◌≡◌, ◌+◌, ◌<◌, ◌≤◌}
 use Rattle.exchange_link.specs.Exchanges.{Told}
 use Rattle.http_wire.specs.Answers.{IsReplyText}
-use Rattle.http_wire.specs.declared.answer.WireReply.{WireReply}
+use Rattle.http_wire.specs.declared.reply_reading.WireReply.{WireReply}
 use Rattle.exchange_link.specs.Asked.{IsTry, SendsOn}
 use Rattle.exchange_link.specs.Requests.{Asks, IsNumbered, number, numbered}
 use Rattle.exchange_link.specs.Causes.{IsLast, IsMore, RoseBy}

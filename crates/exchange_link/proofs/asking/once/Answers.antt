@@ -1,7 +1,7 @@
 use Rattle.std.proofs.Common.{◌≡◌, ⊎_elim, Some, ◌∙◌, ap}
 use Rattle.exchange_link.specs.Exchanges.{Carries}
 use Rattle.http_wire.specs.Answers.{IsReplyText}
-use Rattle.http_wire.specs.declared.answer.WireReply.{WireReply}
+use Rattle.http_wire.specs.declared.reply_reading.WireReply.{WireReply}
 use Rattle.http_wire.proofs.AnswerLemmas.{one_answer}
 use Rattle.outside_ports.specs.declared.failed.IoError.{IoError}
 use Rattle.std.specs.Prelude.{Result, Err}

@@ -1,0 +1,14 @@
+use Rattle.std.proofs.lemmas.Result.{err_from_is_err_and}
+use Rattle.http_wire.specs.Replies.{body_text, head_text}
+use Rattle.outside_ports.proofs.Appending.{part_front, writes_then}
+use Rattle.http_wire.proofs.WriteLemmas.{whole_part, whole_written}
+use Rattle.http_wire.proofs.reply_sending.send_head_and_body.Goals as goal
+
+pub returns-in_err-write_all-clause-bytes : goal.returns-in_err-write_all-clause-bytes
+returns-in_err-write_all-clause-bytes g c =
+    let p = err_from_is_err_and c.from_residual.result c.from_residual.ensures.1 in rw p.1
+    (whole_part _ _ c.args.reply.now (part_front _ _ (head_text c.args.reply.now) (body_text c.args.reply.now) (rw (← c.requires) c.in_err-write_all.ensures.bytes)))
+
+pub returns-clause-bytes : goal.returns-clause-bytes
+returns-clause-bytes g c =
+    whole_written _ _ c.args.reply.now _ (writes_then _ _ _ (head_text c.args.reply.now) (body_text c.args.reply.now) _ (rw (← c.requires) c.in_ok-write_all.ensures.bytes) c.write_body.ensures.bytes)

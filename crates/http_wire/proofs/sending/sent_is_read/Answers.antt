@@ -1,5 +1,0 @@
-use Rattle.http_wire.proofs.SendLemmas.{sent_is_read}
-use Rattle.http_wire.proofs.sending.sent_is_read.Goals as goal
-
-pub returns : goal.returns
-returns c = sent_is_read
