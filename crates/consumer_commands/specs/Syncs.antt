@@ -1,6 +1,6 @@
 -- What is promised of a synchronisation between a copy and a link: the clauses of `consumer_sync::sync`, one by one.
 use Rattle.std.specs.Prelude.{◌≡◌, ◌≢◌, ℕ, ◌+◌, ◌≤◌}
-use Rattle.consumer_sync.specs.Faulted.{FaultLaw}
+use Rattle.consumer_deltas.specs.Below.Faulted.{FaultLaw}
 use Rattle.keeper_memory.specs.copy.Copies.{Copy}
 use Rattle.keeper_memory.specs.copy.States.{stage_of}
 use Rattle.keeper_memory.specs.declared.copy.state.TheConstants.{LAST}

@@ -8,6 +8,7 @@ pub mod outbox_lines;
 mod run;
 mod sending;
 
+pub use consumer_deltas as deltas;
 pub use held::held_text;
 pub use line::{COPY_FAILED, delta_line, delta_status, place_line, sync_line, sync_status};
 pub use outbox::outbox_text;

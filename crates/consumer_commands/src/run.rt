@@ -4,8 +4,8 @@ ghost use Rattle.consumer_commands.specs.Consumers.{copy_between, link_between};
 ghost use Rattle.consumer_commands.specs.Deltas.{IsDeltaOf};
 ghost use Rattle.consumer_commands.specs.Syncs.{IsSyncOf};
 
+use consumer_deltas::whole::sync;
 use consumer_deltas::{DeltaAnswer, delta_sync};
-use consumer_sync::sync;
 use exchange_link::{Link, SyncAnswer};
 use hub_words::SyncTask;
 use keeper_memory::CopyKeeper;

@@ -1,3 +1,4 @@
+pub mod Below
 pub mod DeltaAnswers
 pub mod DeltaCalls
 pub mod DeltaCauses

@@ -13,4 +13,5 @@ mod run;
 mod staged;
 
 pub use answer::DeltaAnswer;
+pub use consumer_sync as whole;
 pub use run::delta_sync;

@@ -8,7 +8,7 @@ use Rattle.row_walks.proofs.Parting.{Parts, part_end, part_start}
 use Rattle.delta_parts.proofs.Walking.{of_kind}
 use Rattle.delta_parts.specs.Parts.{count_on, part_of_delta, with_option}
 use Rattle.delta_parts.specs.declared.part.DeltaPart.{DeltaPart}
-use Rattle.hub_spec.specs.views.Pages.{slice}
+use Rattle.row_walks.specs.Below.Pages.{slice}
 use Rattle.reference_rules.proofs.KeyOrder.{found_key}
 use Rattle.roster_types.specs.Keys.{Ascends, Key, is_of_kind, look_up, row_key}
 use Rattle.roster_types.specs.Records.{Record}

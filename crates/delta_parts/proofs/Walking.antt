@@ -6,7 +6,7 @@ use Rattle.row_walks.proofs.Parting.{Parts, part_end, part_start}
 use Rattle.delta_parts.proofs.Resting.{kind_rows}
 use Rattle.delta_parts.proofs.Turning.{passed_of, passed_up, step_delta, step_fewer, turn_ends, turn_steps}
 use Rattle.delta_parts.specs.Parts.{count_on, part_of_delta, with_option}
-use Rattle.hub_spec.specs.views.Pages.{slice}
+use Rattle.row_walks.specs.Below.Pages.{slice}
 use Rattle.delta_parts.specs.Turns.{TurnParts, passed, turn_of}
 use Rattle.delta_parts.specs.declared.part.DeltaPart.{DeltaPart}
 use Rattle.reference_rules.proofs.Rest.{rest_start}

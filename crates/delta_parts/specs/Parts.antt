@@ -1,7 +1,7 @@
 -- Parts of a delta.
 use Rattle.std.specs.Prelude.{ℕ, ◌+◌, Option, None, Some, List, length}
 use Rattle.delta_parts.specs.declared.part.DeltaPart.{DeltaPart}
-use Rattle.hub_spec.specs.views.Pages.{slice}
+use Rattle.row_walks.specs.Below.Pages.{slice}
 use Rattle.row_deltas.specs.Deltas.{ids_gone, rows_put}
 use Rattle.row_deltas.specs.declared.entry.DeltaEntry.{DeltaEntry}
 use Rattle.row_walks.specs.Parts.{with_row}

@@ -17,7 +17,7 @@ use Rattle.hub_spec.proofs.Below.{and_first, and_second, ids_less, less_from_is_
 use Rattle.hub_spec.proofs.ListLemmas.{are_of_kept, ascends_kept, same_place}
 use Rattle.hub_spec.specs.views.Cuts.{cut, cut_of, kind_cut, no_rows}
 use Rattle.hub_spec.specs.views.Seen.{sees_row}
-use Rattle.row_deltas.specs.Deltas.{AreOf}
+use Rattle.hub_spec.specs.Below.Deltas.{AreOf}
 use Rattle.roster_types.specs.Keys.{Ascends, count_of, is_after, is_of_kind, key_cmp, keyed, row_key}
 use Rattle.roster_types.specs.Records.{Record}
 use Rattle.roster_values.specs.Kinds.{all_kinds}

@@ -10,8 +10,8 @@ use Rattle.hub_spec.specs.views.Deltas.{delta}
 use Rattle.hub_spec.specs.views.Pages.{slice}
 use Rattle.roster_values.specs.Kinds.{place_of_kind}
 use Rattle.roster_values.specs.declared.kind.Kind.{Kind}
-use Rattle.row_deltas.specs.Deltas.{ids_gone, rows_put}
-use Rattle.row_deltas.specs.declared.entry.DeltaEntry.{DeltaEntry}
+use Rattle.hub_spec.specs.Below.Deltas.{ids_gone, rows_put}
+use Rattle.hub_spec.specs.Below.DeltaEntry.{DeltaEntry}
 use Rattle.row_json.specs.Deltas.{gone_of}
 use Rattle.row_json.specs.Reading.{rows_of as rows_in_text}
 use Rattle.version_core.specs.Grants.{grant_of}

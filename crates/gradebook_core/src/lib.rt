@@ -15,5 +15,6 @@ mod written;
 pub use judgement::Judgement;
 pub use judging::judge;
 pub use outcome::{Check, Outcome};
+pub use query_pages as pages;
 pub use writing::write;
 pub use written::Written;

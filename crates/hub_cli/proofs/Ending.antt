@@ -1,16 +1,16 @@
 -- What an answer's status says, and answers for want of memory.
 use Rattle.std.proofs.Common.{◌≡◌, ◌≢◌, ◌⊎◌, ℕ, ℤ, List, [], ◌++◌, Option, Some, None, Result, Ok, Err, IsErr, append-nil, length, refl, sym, ap, subst, ◌∙◌, inl, inr}
-use Rattle.consumer_commands.specs.Consumers.{CopyRun, LinkRun}
-use Rattle.consumer_commands.specs.SyncLines.{sync_status, sync_text}
-use Rattle.consumer_commands.specs.Deltas.{IsDeltaOf}
-use Rattle.consumer_commands.specs.Syncs.{IsSyncOf}
-use Rattle.consumer_deltas.proofs.DeltaDoneLemmas.{cause_fails}
-use Rattle.consumer_deltas.specs.declared.answer.DeltaAnswer.{DeltaAnswer}
-use Rattle.consumer_deltas.specs.declared.answer.DeltaAnswer.TheVariants as delta
+use Rattle.script_runs.specs.Below.Consumers.{CopyRun, LinkRun}
+use Rattle.script_runs.specs.Below.SyncLines.{sync_status, sync_text}
+use Rattle.script_runs.specs.Below.Deltas.{IsDeltaOf}
+use Rattle.script_runs.specs.Below.Syncs.{IsSyncOf}
+use Rattle.script_runs.proofs.Below.DeltaDoneLemmas.{cause_fails}
+use Rattle.script_runs.specs.Below.DeltaAnswer.{DeltaAnswer}
+use Rattle.script_runs.specs.Below.DeltaAnswer.TheVariants as delta
 use Rattle.hub_words.specs.Tasks.{Object, Sending, Task}
-use Rattle.consumer_commands.specs.Held.{IsHeldText}
-use Rattle.consumer_commands.specs.Outbox.{IsOutboxText}
-use Rattle.consumer_commands.specs.Sends.{IsEnterOf, IsSendOf}
+use Rattle.script_runs.specs.Below.Held.{IsHeldText}
+use Rattle.script_runs.specs.Below.Outbox.{IsOutboxText}
+use Rattle.script_runs.specs.Below.Sends.{IsEnterOf, IsSendOf}
 use Rattle.csv_sets.specs.declared.fault.SetFault.{SetFault}
 use Rattle.csv_sets.specs.Files as files
 use Rattle.exchange_link.specs.declared.answer.SyncAnswer.{SyncAnswer}
@@ -36,33 +36,33 @@ use Rattle.roster_types.specs.declared.set_row.SetRow.{SetRow}
 use Rattle.roster_values.specs.declared.kind.Kind.{Kind}
 use Rattle.roster_values.specs.declared.mode.Mode.{Mode}
 use Rattle.roster_values.specs.declared.mode.Mode.TheVariants.{Bulk}
-use Rattle.hub_commands.specs.Answers.{IsPrinted, status_of, text_of}
-use Rattle.hub_commands.specs.Cascades.{IsCascadeAnswer}
-use Rattle.hub_commands.specs.ConsumerAnswers.{IsDeltaAnswer, IsListAnswer, IsSyncAnswer, ReadEnds}
-use Rattle.hub_commands.specs.Follows.{IsFollowAnswer}
-use Rattle.hub_commands.specs.ExportAnswers.{ExportEnds, HasTooMany, IsChangesExport, IsExport, IsExportAnswer, IsManifestAnswer, IsSinceAnswer, RefusesExport, earlier_feed, rows_in}
-use Rattle.hub_commands.specs.OutboxAnswers.{IsEnterAnswer, IsEntered, IsOutboxAnswer, IsSendAnswer, IsWriteOf, ReadsWrite, or_bad_row, put_in}
-use Rattle.hub_commands.specs.Outside.{HaveRisen, HaveStood, NothingFailed, Outside}
-use Rattle.hub_commands.specs.Runs.{IsShowAnswer, LeadsFrom, WantsMemory}
+use Rattle.script_runs.specs.Below.Answers.{IsPrinted, status_of, text_of}
+use Rattle.script_runs.specs.Below.Cascades.{IsCascadeAnswer}
+use Rattle.script_runs.specs.Below.ConsumerAnswers.{IsDeltaAnswer, IsListAnswer, IsSyncAnswer, ReadEnds}
+use Rattle.script_runs.specs.Below.Follows.{IsFollowAnswer}
+use Rattle.script_runs.specs.Below.ExportAnswers.{ExportEnds, HasTooMany, IsChangesExport, IsExport, IsExportAnswer, IsManifestAnswer, IsSinceAnswer, RefusesExport, earlier_feed, rows_in}
+use Rattle.script_runs.specs.Below.OutboxAnswers.{IsEnterAnswer, IsEntered, IsOutboxAnswer, IsSendAnswer, IsWriteOf, ReadsWrite, or_bad_row, put_in}
+use Rattle.script_runs.specs.Below.Outside.{HaveRisen, HaveStood, NothingFailed, Outside}
+use Rattle.script_runs.specs.Below.Runs.{IsShowAnswer, LeadsFrom, WantsMemory}
 use Rattle.hub_cli.specs.Runs.{ConsumerRests, IsAnswer, IsCommandAnswer}
-use Rattle.hub_commands.specs.Steps.{ReadsSet}
-use Rattle.hub_commands.specs.Shows.{IsShown, answer_of_file, answer_of_rows}
+use Rattle.script_runs.specs.Below.Steps.{ReadsSet}
+use Rattle.script_runs.specs.Below.Shows.{IsShown, answer_of_file, answer_of_rows}
 use Rattle.hub_words.specs.Words.{command_in}
-use Rattle.hub_commands.specs.declared.answer.Answer.{Answer}
-use Rattle.hub_commands.specs.declared.answer.End.{End}
-use Rattle.hub_commands.specs.declared.answer.End.TheVariants as ends
+use Rattle.script_runs.specs.Below.Answer.{Answer}
+use Rattle.script_runs.specs.Below.End.{End}
+use Rattle.script_runs.specs.Below.End.TheVariants as ends
 use Rattle.hub_words.specs.declared.task.Feed.{Feed}
 use Rattle.hub_words.specs.declared.words.Command.{Command}
 use Rattle.hub_words.specs.declared.words.Command.TheVariants.{Ask, Cascade, Enter, Export, ExportManifest, ExportSince, Follow, Grant, ListHeld, Make, Outbox, Publish, Rehearse, Send, Show, Sync, SyncDelta}
 use Rattle.hub_words.specs.declared.words.EnterTask.{EnterTask}
 use Rattle.hub_words.specs.declared.words.EnterTask.TheVariants.{Delete, Put}
 use Rattle.hub_words.specs.declared.words.Parsed.{Parsed}
-use Rattle.hub_commands.proofs.Asking.{ask-says, ask-wants}
-use Rattle.hub_commands.proofs.Cascading.{CascadeSays, cascade-says, cascade-wants}
-use Rattle.hub_commands.proofs.Following.{follow-says, follow-wants}
-use Rattle.hub_commands.proofs.Granting.{grant-says, grant-wants}
-use Rattle.hub_commands.proofs.Leading.{leads-nowhere, leads-on}
-use Rattle.hub_commands.proofs.Publishing.{Says, run-says, run-wants}
+use Rattle.script_runs.proofs.Below.Asking.{ask-says, ask-wants}
+use Rattle.script_runs.proofs.Below.Cascading.{CascadeSays, cascade-says, cascade-wants}
+use Rattle.script_runs.proofs.Below.Following.{follow-says, follow-wants}
+use Rattle.script_runs.proofs.Below.Granting.{grant-says, grant-wants}
+use Rattle.script_runs.proofs.Below.Leading.{leads-nowhere, leads-on}
+use Rattle.script_runs.proofs.Below.Publishing.{Says, run-says, run-wants}
 use Rattle.script_runs.proofs.Making.{make_done, make_wants}
 use Rattle.script_runs.proofs.Rehearsing.{rehearse_done, rehearse_says, rehearse_wants}
 use Rattle.script_runs.specs.Makings.{IsMakeAnswer, MakesDistrict}

@@ -1,17 +1,17 @@
 -- What a run of the program answers, and why.
 use Rattle.std.specs.Prelude.{◌≡◌, ◌⊎◌, ℕ, [], Result, Ok, Err}
-use Rattle.consumer_commands.specs.Consumers.{CopyRun, LinkRun}
-use Rattle.hub_commands.specs.AskAnswers.{IsAskAnswer}
-use Rattle.hub_commands.specs.Cascades.{IsCascadeAnswer}
-use Rattle.hub_commands.specs.ConsumerAnswers.{IsDeltaAnswer, IsListAnswer, IsSyncAnswer}
-use Rattle.hub_commands.specs.ExportAnswers.{IsExportAnswer, IsManifestAnswer, IsSinceAnswer}
-use Rattle.hub_commands.specs.Follows.{IsFollowAnswer}
-use Rattle.hub_commands.specs.GrantAnswers.{IsGrantAnswer}
-use Rattle.hub_commands.specs.OutboxAnswers.{IsEnterAnswer, IsOutboxAnswer, IsSendAnswer}
-use Rattle.hub_commands.specs.Outside.{HaveStood, NothingFailed, Outside}
-use Rattle.hub_commands.specs.Runs.{IsPublishAnswer, IsShowAnswer, WantsMemory}
-use Rattle.hub_commands.specs.declared.answer.Answer.{Answer}
-use Rattle.hub_commands.specs.declared.answer.End.TheVariants.{BadWord}
+use Rattle.script_runs.specs.Below.Consumers.{CopyRun, LinkRun}
+use Rattle.script_runs.specs.Below.AskAnswers.{IsAskAnswer}
+use Rattle.script_runs.specs.Below.Cascades.{IsCascadeAnswer}
+use Rattle.script_runs.specs.Below.ConsumerAnswers.{IsDeltaAnswer, IsListAnswer, IsSyncAnswer}
+use Rattle.script_runs.specs.Below.ExportAnswers.{IsExportAnswer, IsManifestAnswer, IsSinceAnswer}
+use Rattle.script_runs.specs.Below.Follows.{IsFollowAnswer}
+use Rattle.script_runs.specs.Below.GrantAnswers.{IsGrantAnswer}
+use Rattle.script_runs.specs.Below.OutboxAnswers.{IsEnterAnswer, IsOutboxAnswer, IsSendAnswer}
+use Rattle.script_runs.specs.Below.Outside.{HaveStood, NothingFailed, Outside}
+use Rattle.script_runs.specs.Below.Runs.{IsPublishAnswer, IsShowAnswer, WantsMemory}
+use Rattle.script_runs.specs.Below.Answer.{Answer}
+use Rattle.script_runs.specs.Below.End.TheVariants.{BadWord}
 use Rattle.hub_words.specs.declared.words.Command.{Command}
 use Rattle.hub_words.specs.declared.words.Command.TheVariants.{Ask, Cascade, Enter, Export, ExportManifest, ExportSince, Follow, Grant, ListHeld, Make, Outbox, Publish, Rehearse, Send, Show, Sync, SyncDelta}
 use Rattle.hub_words.specs.declared.words.Parsed.{Parsed}

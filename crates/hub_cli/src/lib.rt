@@ -5,10 +5,11 @@
 pub mod run;
 pub mod serve;
 
-pub use hub_commands::{Answer, End, lines, print};
+pub use hub_server as server;
 pub use hub_words::{
     Command, EnterTask, OptionWord, Options, Parsed, ServeWords, Spelled, WordError, keep_of,
     names_serve, peer_of, read_words, root_of, split_serve, split_words, store_of,
 };
 pub use run::{run_hub, run_spelled};
+pub use script_runs::commands::{Answer, End, lines, print};
 pub use serve::{ServeEnd, feed_lines, serve_hub};

@@ -8,15 +8,15 @@ ghost use Rattle.hub_cli.specs.Serves as serves;
 ghost use Rattle.hub_words.specs.Words.{split_serve};
 ghost use Rattle.hub_words.specs.declared.words.ServeWords.{ServeWords as ServeWordsValue};
 
-use hub_commands::lines::NO_MEMORY;
-use hub_commands::publish::{end_of, end_of_error, told_line};
+use hub_server::shared::FeedEnd;
 use hub_server::{Doors, Ending, Notices, Ports, Served, serve_task};
-use hub_shared::FeedEnd;
 use hub_words::{ServeWords, split_serve};
 use keeper_memory::HubKeeper;
 use outside_ports::{Acceptor, Clock, Folder, Gate};
 use roster_base::{NoMemory, Refusal};
 use roster_texts::Name;
+use script_runs::commands::lines::NO_MEMORY;
+use script_runs::commands::publish::{end_of, end_of_error, told_line};
 use std::alloc::Global;
 use std::sync::Wait;
 use std::thread::Threads;

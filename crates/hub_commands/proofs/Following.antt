@@ -2,16 +2,16 @@
 use Rattle.std.proofs.Common.{◌≡◌, ◌≢◌, ◌⊎◌, ◌+◌, ◌≤◌, ℕ, ℤ, List, [], Option, Result, Ok, Err, false, true, refl, sym, ap, subst, ◌∙◌, inl, inr, arith}
 use Rattle.std.specs.Prelude.{min, ◌-◌, ◌^◌, ⊤}
 use Rattle.consumer_commands.specs.Consumers.{CopyRun, LinkRun, copy_between, link_between}
-use Rattle.consumer_deltas.proofs.DeltaDoneLemmas.{cause_fails}
-use Rattle.consumer_deltas.proofs.DeltaStopLemmas.{halts_end}
-use Rattle.consumer_deltas.specs.DeltaCauses.{DeltaCause}
-use Rattle.consumer_deltas.specs.DeltaCauses.DeltaCause.{Broke as BrokeBeside, Halted, OutOfRuns, Swapped, Unbased, Wants as WantsAlone}
-use Rattle.consumer_deltas.specs.DeltaFilling.{Halts}
-use Rattle.consumer_deltas.specs.DeltaFilling.Halts.{Broke, Merging, Stopped, Wants as WantsBeside}
-use Rattle.consumer_deltas.specs.DeltaGathering.Stops.{Given, NoReply, NoneCame, Wants as WantsFirst}
-use Rattle.consumer_deltas.specs.declared.judging.Place.{Place}
-use Rattle.consumer_deltas.specs.declared.answer.DeltaAnswer.{DeltaAnswer}
-use Rattle.consumer_deltas.specs.declared.answer.DeltaAnswer.TheVariants as delta
+use Rattle.consumer_commands.proofs.Below.DeltaDoneLemmas.{cause_fails}
+use Rattle.consumer_commands.proofs.Below.DeltaStopLemmas.{halts_end}
+use Rattle.consumer_commands.specs.Below.DeltaCauses.{DeltaCause}
+use Rattle.consumer_commands.specs.Below.DeltaCauses.DeltaCause.{Broke as BrokeBeside, Halted, OutOfRuns, Swapped, Unbased, Wants as WantsAlone}
+use Rattle.consumer_commands.specs.Below.DeltaFilling.{Halts}
+use Rattle.consumer_commands.specs.Below.DeltaFilling.Halts.{Broke, Merging, Stopped, Wants as WantsBeside}
+use Rattle.consumer_commands.specs.Below.DeltaGathering.Stops.{Given, NoReply, NoneCame, Wants as WantsFirst}
+use Rattle.consumer_commands.specs.Below.Place.{Place}
+use Rattle.consumer_commands.specs.Below.DeltaAnswer.{DeltaAnswer}
+use Rattle.consumer_commands.specs.Below.DeltaAnswer.TheVariants as delta
 use Rattle.exchange_link.specs.Exchanges.{Told}
 use Rattle.exchange_link.specs.declared.answer.SyncAnswer.{SyncAnswer}
 use Rattle.exchange_link.specs.declared.answer.SyncAnswer.TheVariants as sync

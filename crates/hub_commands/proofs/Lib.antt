@@ -1,3 +1,4 @@
+pub mod Below
 pub mod Asking
 pub mod Cascading
 mod Entering

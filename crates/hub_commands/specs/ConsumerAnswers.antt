@@ -6,7 +6,7 @@ pub use Rattle.consumer_commands.specs.Deltas.{IsDeltaOf}
 pub use Rattle.consumer_commands.specs.Syncs.{IsSyncOf}
 pub use Rattle.hub_words.specs.Tasks.{Task}
 use Rattle.keeper_memory.specs.copy.Copies.{Copy}
-use Rattle.consumer_deltas.specs.declared.answer.DeltaAnswer.{DeltaAnswer}
+use Rattle.consumer_commands.specs.Below.DeltaAnswer.{DeltaAnswer}
 use Rattle.exchange_link.specs.declared.answer.SyncAnswer.{SyncAnswer}
 use Rattle.roster_base.specs.Faults.{Rose}
 use Rattle.roster_values.specs.declared.kind.Kind.{Kind}

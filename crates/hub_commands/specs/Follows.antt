@@ -3,12 +3,12 @@ use Rattle.std.specs.Prelude.{◌≡◌, ◌⊎◌, ℕ, ℤ, ◌+◌, ◌<◌, 
 use Rattle.consumer_commands.specs.Consumers.{CopyRun, LinkRun}
 use Rattle.consumer_commands.specs.SyncLines.{sync_text}
 use Rattle.consumer_commands.specs.Syncs.{Agreed}
-use Rattle.consumer_deltas.specs.DeltaAnswers.{DeltaTold, LacksBase}
-use Rattle.consumer_deltas.specs.DeltaCauses.{DeltaCaused}
-use Rattle.consumer_deltas.specs.DeltaGathering.{IsGiven}
-use Rattle.consumer_deltas.specs.declared.answer.DeltaAnswer.{DeltaAnswer}
-use Rattle.consumer_deltas.specs.declared.answer.DeltaAnswer.TheVariants as delta
-use Rattle.consumer_deltas.specs.declared.judging.Place.{Place}
+use Rattle.consumer_commands.specs.Below.DeltaAnswers.{DeltaTold, LacksBase}
+use Rattle.consumer_commands.specs.Below.DeltaCauses.{DeltaCaused}
+use Rattle.consumer_commands.specs.Below.DeltaGathering.{IsGiven}
+use Rattle.consumer_commands.specs.Below.DeltaAnswer.{DeltaAnswer}
+use Rattle.consumer_commands.specs.Below.DeltaAnswer.TheVariants as delta
+use Rattle.consumer_commands.specs.Below.Place.{Place}
 use Rattle.exchange_link.specs.Causes.{Caused, IsMore, RoseBy, ToldCause}
 use Rattle.exchange_link.specs.Completeness.{IsDone}
 use Rattle.exchange_link.specs.Exchanges.{Told}

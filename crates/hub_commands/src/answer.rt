@@ -8,11 +8,11 @@ use crate::lines::{
     FOLDER_FAILED, HUB_FAILED, NO_MEMORY, NOTHING_HELD, bad_word_line, fault_line,
     grants_fault_line, named_file_line, publish_fault_lines, request_line, script_line,
 };
+use consumer_commands::deltas::DeltaAnswer;
 use consumer_commands::{
     COPY_FAILED, delta_line, delta_status, enter_line, enter_status, place_line, send_line,
     send_status, sync_line, sync_status,
 };
-use consumer_deltas::DeltaAnswer;
 use csv_sets::SetFault;
 use exchange_link::{EnterError, SendAnswer, SyncAnswer};
 use grant_files::GrantFault;

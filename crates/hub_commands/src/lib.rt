@@ -19,4 +19,5 @@ pub mod show;
 pub mod sync;
 
 pub use answer::{Answer, End};
+pub use consumer_commands as consumer;
 pub use printing::print;

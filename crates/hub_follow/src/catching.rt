@@ -15,7 +15,7 @@ ghost use Rattle.roster_base.specs.Faults.{Rose};
 
 use crate::answer::{Missed, end_of_delta, end_of_sync, lacks_base};
 use consumer_deltas::delta_sync;
-use consumer_sync::sync;
+use consumer_deltas::whole::sync;
 use exchange_link::Link;
 use keeper_memory::CopyKeeper;
 use roster_texts::Token;

@@ -8,6 +8,7 @@ pub mod ports;
 pub mod server;
 
 pub use ending::Ending;
+pub use hub_shared as shared;
 pub use notices::{NoNotices, Notices};
 pub use ports::{Doors, Ports};
 pub use server::{Served, serve_task};

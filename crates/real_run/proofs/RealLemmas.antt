@@ -17,19 +17,19 @@ use Rattle.hub_cascade.specs.Answers.{MakesCascade}
 use Rattle.hub_cascade.specs.Held.{CascadesHeld, HoldSomething}
 use Rattle.hub_cascade.specs.declared.error.CascadeError.{CascadeError}
 use Rattle.hub_cascade.specs.declared.error.CascadeError.TheVariants as cascade_error
-use Rattle.hub_follow.specs.Catching.{AsksFromHeld, FirstIs, MayCatchUp}
-use Rattle.hub_follow.specs.declared.answer.Missed.{Missed}
-use Rattle.hub_follow.specs.declared.answer.Missed.TheVariants as miss
+use Rattle.hub_cli.specs.Below.Catching.{AsksFromHeld, FirstIs, MayCatchUp}
+use Rattle.hub_cli.specs.Below.Missed.{Missed}
+use Rattle.hub_cli.specs.Below.Missed.TheVariants as miss
 use Rattle.hub_core.specs.Steps.{MakesNext}
 use Rattle.hub_core.specs.declared.hub_error.HubError.{HubError}
 use Rattle.hub_core.specs.declared.hub_error.HubError.TheVariants as hub_error
 use Rattle.hub_core.specs.declared.published.Published.{Published}
 use Rattle.hub_core.specs.declared.published.Published.TheVariants as published
-use Rattle.hub_commands.specs.Cascades.{CascadesCopy, IsCascadeAnswer, TellsCascade}
+use Rattle.hub_cli.specs.Below.Cascades.{CascadesCopy, IsCascadeAnswer, TellsCascade}
 use Rattle.version_changes.specs.sets.Applying.{Outcome}
 use Rattle.version_core.specs.declared.change.BaseVersion.{BaseVersion}
-use Rattle.hub_commands.specs.ConsumerAnswers.{CopyRun, IsDeltaOf, IsSyncOf, LinkRun, Task, copy_run, link_run}
-use Rattle.hub_commands.specs.OutboxAnswers.{IsEnterOf, IsSendOf, Sending}
+use Rattle.hub_cli.specs.Below.ConsumerAnswers.{CopyRun, IsDeltaOf, IsSyncOf, LinkRun, Task, copy_run, link_run}
+use Rattle.hub_cli.specs.Below.OutboxAnswers.{IsEnterOf, IsSendOf, Sending}
 use Rattle.keeper_memory.specs.copy.Copies.{Copy, IsCopy}
 use Rattle.keeper_memory.specs.copy.HeldCopy.{HeldCopy, empty_copy}
 use Rattle.exchange_link.specs.Asked.{AsksPages}
@@ -48,19 +48,19 @@ use Rattle.outside_ports.specs.Written.{AppendsPart}
 use Rattle.status_info.specs.declared.request.Request.{Request}
 use Rattle.roster_base.specs.Faults.{Rose}
 use Rattle.roster_values.specs.declared.kind.Kind.{Kind}
-use Rattle.hub_commands.proofs.Telling.{told_count, told_done, told_part}
-use Rattle.hub_commands.specs.Answers.{status_of, text_of}
-use Rattle.hub_commands.specs.ConsumerAnswers.{CopyStays, IsListAnswer}
-use Rattle.hub_commands.specs.ExportAnswers.{ExportEnds, HasTooMany, IsChangesExport, IsExport, IsSinceAnswer, RefusesExport, rows_in}
-use Rattle.hub_commands.specs.Follows.{IsCaughtUp, IsFollowAnswer, MissCause, MissTold, TellsFollow}
-use Rattle.hub_commands.specs.OutboxAnswers.{IsOutboxAnswer}
-use Rattle.hub_commands.specs.Outside.{Faults, Outside, faults_of, outside_of}
-use Rattle.hub_commands.specs.Runs.{LeadsFrom, Writes}
+use Rattle.hub_cli.proofs.Below.Telling.{told_count, told_done, told_part}
+use Rattle.hub_cli.specs.Below.Answers.{status_of, text_of}
+use Rattle.hub_cli.specs.Below.ConsumerAnswers.{CopyStays, IsListAnswer}
+use Rattle.hub_cli.specs.Below.ExportAnswers.{ExportEnds, HasTooMany, IsChangesExport, IsExport, IsSinceAnswer, RefusesExport, rows_in}
+use Rattle.hub_cli.specs.Below.Follows.{IsCaughtUp, IsFollowAnswer, MissCause, MissTold, TellsFollow}
+use Rattle.hub_cli.specs.Below.OutboxAnswers.{IsOutboxAnswer}
+use Rattle.hub_cli.specs.Below.Outside.{Faults, Outside, faults_of, outside_of}
+use Rattle.hub_cli.specs.Below.Runs.{LeadsFrom, Writes}
 use Rattle.hub_cli.specs.Runs.{ConsumerRests, IsAnswer, IsCommandAnswer}
 use Rattle.hub_words.specs.Words.{keep_in, store_in}
-use Rattle.hub_commands.specs.declared.answer.Answer.{Answer}
-use Rattle.hub_commands.specs.declared.answer.End.{End}
-use Rattle.hub_commands.specs.declared.answer.End.TheVariants as ends
+use Rattle.hub_cli.specs.Below.Answer.{Answer}
+use Rattle.hub_cli.specs.Below.End.{End}
+use Rattle.hub_cli.specs.Below.End.TheVariants as ends
 use Rattle.hub_words.specs.declared.words.Command.{Command}
 use Rattle.hub_words.specs.declared.words.Command.TheVariants.{Ask, Cascade, Enter, Export, ExportManifest, ExportSince, Follow, Grant, ListHeld, Make, Outbox, Publish, Rehearse, Send, Show, Sync, SyncDelta}
 use Rattle.hub_words.specs.declared.words.Parsed.{Parsed}

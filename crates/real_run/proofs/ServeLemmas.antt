@@ -1,7 +1,7 @@
 -- What is written where memory runs out.
 use Rattle.std.proofs.Common.{◌≡◌, ◌≢◌, ℕ, List, Option, Result, Ok, Err, refl, sym, subst}
 use Rattle.std.specs.Io.KnownBytes.{Appends}
-use Rattle.hub_commands.specs.Lines.{no_memory}
+use Rattle.hub_cli.specs.Below.Lines.{no_memory}
 use Rattle.hub_words.specs.declared.words.ServeWords.{ServeWords}
 use Rattle.outside_ports.specs.Written.{AppendsPart}
 use Rattle.real_run.specs.RealServes.{Serves, serve_text}

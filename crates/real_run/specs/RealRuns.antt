@@ -1,19 +1,19 @@
 -- What a run over the real folder, clock and stores answers, which tell nothing of files, moments and copies.
 use Rattle.std.specs.Prelude.{◌≡◌, ◌≢◌, ⊤, ℕ, List, [], ◌∷◌, Option, None, Some, Result, IsErr, IfNone}
 use Rattle.std.specs.Io.KnownBytes.{Appends}
-use Rattle.hub_commands.specs.ConsumerAnswers.{CopyRun, LinkRun, copy_run, link_run}
+use Rattle.hub_cli.specs.Below.ConsumerAnswers.{CopyRun, LinkRun, copy_run, link_run}
 use Rattle.keeper_memory.specs.copy.Copies.{Copy, IsCopy}
 use Rattle.keeper_memory.specs.copy.HeldCopy.{empty_copy}
 use Rattle.outside_ports.specs.Written.{AppendsPart}
 use Rattle.roster_base.specs.Faults.{Rose}
 use Rattle.keeper_memory.specs.Kept.{IsKept, KeptState}
 use Rattle.version_core.specs.Version.{empty_version}
-use Rattle.hub_commands.specs.Answers.{status_of, text_of}
-use Rattle.hub_commands.specs.Outside.{Faults, outside_of}
-use Rattle.hub_commands.specs.Runs.{LeadsFrom}
+use Rattle.hub_cli.specs.Below.Answers.{status_of, text_of}
+use Rattle.hub_cli.specs.Below.Outside.{Faults, outside_of}
+use Rattle.hub_cli.specs.Below.Runs.{LeadsFrom}
 use Rattle.hub_cli.specs.Runs.{IsAnswer}
 use Rattle.hub_words.specs.Words.{keep_in, store_in}
-use Rattle.hub_commands.specs.declared.answer.Answer.{Answer}
+use Rattle.hub_cli.specs.Below.Answer.{Answer}
 use Rattle.hub_words.specs.declared.words.Parsed.{Parsed}
 
 -- version 0 alone, with so many versions to be kept beside the newest

@@ -1,7 +1,7 @@
 -- What a server over the real sockets writes with its status.
 use Rattle.std.specs.Prelude.{◌≡◌, ◌≢◌, ◌==◌, ℕ, List, [], Option, Result, Ok, Err, IsErr, if◌then◌else◌, length}
 use Rattle.std.specs.Io.KnownBytes.{Appends}
-use Rattle.hub_commands.specs.Lines.{bad_word_text, no_memory}
+use Rattle.hub_cli.specs.Below.Lines.{bad_word_text, no_memory}
 use Rattle.hub_words.specs.Words.{split_serve}
 use Rattle.hub_words.specs.declared.words.ServeWords.{ServeWords}
 use Rattle.outside_ports.specs.Written.{AppendsPart}

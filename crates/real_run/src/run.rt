@@ -1,7 +1,7 @@
 //! Runs over the real folder, clock and store.
 
 ghost use Rattle.std.specs.Prelude.{◌≡◌, ◌≢◌, IsErr, IsSome, None, map, string_bytes};
-ghost use Rattle.hub_commands.specs.ConsumerAnswers.{copy_between, link_between};
+ghost use Rattle.hub_cli.specs.Below.ConsumerAnswers.{copy_between, link_between};
 ghost use Rattle.hub_words.specs.Words.{split, store_in};
 ghost use Rattle.real_run.specs.RealRuns.{AnswersFrom, AnswersOver, IsRealAnswer, RunsBetween, Tells, TellsPart};
 ghost use Rattle.roster_base.specs.Faults.{Rose};

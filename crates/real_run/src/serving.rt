@@ -9,9 +9,9 @@ ghost use Rattle.real_run.specs.RealServes.{FitWords, ServesBetween, serve_text}
 ghost use Rattle.roster_base.specs.Faults.{Rose};
 
 use hub_cli::lines::{NO_MEMORY, bad_word_line};
+use hub_cli::server::shared::FeedEnd;
+use hub_cli::server::{Doors, Notices, Ports};
 use hub_cli::{Options, ServeEnd, ServeWords, feed_lines, print, serve_hub, split_serve};
-use hub_server::{Doors, Notices, Ports};
-use hub_shared::FeedEnd;
 use hub_words::Feed;
 use hub_words::words::USUAL_KEEP;
 use keeper_memory::{HubKeeper, MemHub};

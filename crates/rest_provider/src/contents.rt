@@ -7,8 +7,8 @@ ghost use Rattle.rest_provider.specs.Shown.{contents_shown};
 ghost use Rattle.roster_values.specs.declared.kind.Kind as kinds;
 
 use filter_grammar::Query;
+use gradebook_core::pages::one;
 use hub_spec::{DeltaPage, Page};
-use query_pages::one;
 use rest_paths::Path;
 use roster_base::{Items, NoMemory, Text};
 use roster_types::row::Row;

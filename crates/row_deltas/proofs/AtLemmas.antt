@@ -5,7 +5,7 @@ use Rattle.std.specs.Prelude.{option_and_then}
 use Rattle.std.specs.FinMap.Entries as entries
 use Rattle.std.specs.Option.{option_to_list}
 use Rattle.std.specs.Ordering.{is_eq, is_lt}
-use Rattle.reference_rules.proofs.KeyOrder.{and_first, and_second, equal_from_is_eq, found_key, key_exact}
+use Rattle.version_core.proofs.Below.KeyOrder.{and_first, and_second, equal_from_is_eq, found_key, key_exact}
 use Rattle.roster_types.specs.Keys.{Ascends, Key, key_cmp, keyed, look_up, row_key}
 use Rattle.roster_types.specs.Records.{Record}
 use Rattle.roster_values.specs.Kinds.{place_of_kind}

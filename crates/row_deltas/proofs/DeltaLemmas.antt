@@ -7,7 +7,7 @@ use Rattle.std.specs.Option.{option_map_or, option_or}
 use Rattle.std.specs.Ordering.{is_eq}
 use Rattle.std.specs.declared.cmp.Ordering.TheVariants.{Equal, Greater, Less}
 use Rattle.std.proofs.lemmas.Slice.Eq.{bytes_eq-Decides}
-use Rattle.reference_rules.proofs.KeyOrder.{equal_from_is_eq, found_key, key_exact}
+use Rattle.version_core.proofs.Below.KeyOrder.{equal_from_is_eq, found_key, key_exact}
 use Rattle.roster_types.specs.Keys.{Ascends, Key, is_of_kind, key_cmp, look_up, row_key}
 use Rattle.roster_types.specs.Records.{Record}
 use Rattle.roster_values.specs.Kinds.{place_of_kind}

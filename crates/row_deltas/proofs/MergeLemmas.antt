@@ -6,7 +6,7 @@ use Rattle.std.specs.FinMap.Entries as entries
 use Rattle.std.specs.List.{list_any}
 use Rattle.std.specs.Option.{option_or}
 use Rattle.std.specs.Ordering.{is_eq, is_lt}
-use Rattle.reference_rules.proofs.KeyOrder.{and_first, and_second, equal_from_is_eq, found_key, key_exact, less_from_is_lt}
+use Rattle.version_core.proofs.Below.KeyOrder.{and_first, and_second, equal_from_is_eq, found_key, key_exact, less_from_is_lt}
 use Rattle.roster_types.specs.Keys.{Ascends, Key, is_of_kind, key_cmp, keyed, look_up, row_key}
 use Rattle.roster_types.specs.Records.{Record}
 use Rattle.roster_values.specs.Kinds.{place_of_kind}

@@ -4,7 +4,7 @@ use Rattle.std.proofs.lemmas.Bool.{and_from}
 use Rattle.std.specs.FinMap.Entries as entries
 use Rattle.std.specs.Ordering.{is_eq, is_lt}
 use Rattle.std.specs.declared.cmp.Ordering.TheVariants.{Equal, Greater, Less}
-use Rattle.reference_rules.proofs.KeyOrder.{and_first, and_second, equal_from_is_eq, key_exact}
+use Rattle.version_core.proofs.Below.KeyOrder.{and_first, and_second, equal_from_is_eq, key_exact}
 use Rattle.roster_types.specs.Keys.{Ascends, Key, key_cmp, keyed, look_up, row_key}
 use Rattle.roster_types.specs.Records.{Record}
 use Rattle.roster_values.specs.declared.kind.Kind.{Kind}

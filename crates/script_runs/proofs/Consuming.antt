@@ -1,10 +1,10 @@
 -- The consumer's lines.
 use Rattle.std.proofs.Common.{◌≡◌, ◌≢◌, ◌++◌, ℕ, List, Result, Ok, Err, String, Global, ap, false, refl, string_bytes, subst, sym, ◌∙◌}
 use Rattle.std.specs.Prelude.{IfOk}
-use Rattle.consumer_commands.specs.SendLines.{send_text}
-use Rattle.consumer_commands.specs.Sends.{IsEnterOf, IsSendOf}
-use Rattle.consumer_commands.specs.SyncLines.{sync_text}
-use Rattle.consumer_commands.specs.Syncs.{IsSyncOf}
+use Rattle.hub_commands.specs.Below.SendLines.{send_text}
+use Rattle.hub_commands.specs.Below.Sends.{IsEnterOf, IsSendOf}
+use Rattle.hub_commands.specs.Below.SyncLines.{sync_text}
+use Rattle.hub_commands.specs.Below.Syncs.{IsSyncOf}
 use Rattle.exchange_link.specs.declared.answer.SyncAnswer.{SyncAnswer}
 use Rattle.exchange_link.specs.declared.answer.SyncAnswer.TheVariants as sync
 use Rattle.exchange_link.specs.declared.send_answer.EnterError.{EnterError}

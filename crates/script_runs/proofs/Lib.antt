@@ -1,3 +1,4 @@
+pub mod Below
 mod Consuming
 pub mod Making
 mod Refusals

@@ -7,8 +7,8 @@ use Rattle.exchange_link.specs.Synchronised.{HeldTold}
 use Rattle.exchange_link.specs.declared.answer.SyncAnswer.{SyncAnswer}
 use Rattle.exchange_link.specs.declared.answer.SyncAnswer.TheVariants as sync
 use Rattle.exchange_link.specs.declared.send_answer.SendAnswer.{SendAnswer}
-use Rattle.consumer_commands.specs.Sends.{AgreedAll}
-use Rattle.consumer_commands.specs.Syncs.{IsSyncOf}
+use Rattle.hub_commands.specs.Below.Sends.{AgreedAll}
+use Rattle.hub_commands.specs.Below.Syncs.{IsSyncOf}
 use Rattle.hub_spec.specs.rules.States.{IsHub}
 use Rattle.hub_words.specs.Tasks.{Sending, Task}
 use Rattle.keeper_memory.specs.copy.Copies.{Copy, IsCopy}

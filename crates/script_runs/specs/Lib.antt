@@ -1,3 +1,4 @@
+pub mod Below
 pub mod Acting
 pub mod Makings
 pub mod Plays

@@ -2,12 +2,12 @@
 use Rattle.std.specs.Prelude.{◌≡◌, ◌≢◌, ◌⊎◌, ⊤, ℕ, List, [], ◌++◌, Option, Some, Result, Ok, Err, String, codes, decimal, string_bytes}
 use Rattle.std.specs.Global.{Global}
 use Rattle.std.specs.List.{flat_map}
-use Rattle.consumer_commands.specs.Consumers.{CopyRun, LinkRun, copy_run, link_run}
-use Rattle.consumer_commands.specs.Held.{listed_text}
-use Rattle.consumer_commands.specs.SendLines.{enter_text, entered_text, entry_text, send_text}
-use Rattle.consumer_commands.specs.Sends.{AgreedAll, IsEnterOf, IsSendOf}
-use Rattle.consumer_commands.specs.SyncLines.{sync_text}
-use Rattle.consumer_commands.specs.Syncs.{IsSyncOf}
+use Rattle.hub_commands.specs.Below.Consumers.{CopyRun, LinkRun, copy_run, link_run}
+use Rattle.hub_commands.specs.Below.Held.{listed_text}
+use Rattle.hub_commands.specs.Below.SendLines.{enter_text, entered_text, entry_text, send_text}
+use Rattle.hub_commands.specs.Below.Sends.{AgreedAll, IsEnterOf, IsSendOf}
+use Rattle.hub_commands.specs.Below.SyncLines.{sync_text}
+use Rattle.hub_commands.specs.Below.Syncs.{IsSyncOf}
 use Rattle.exchange_link.specs.Marks.{Agree}
 use Rattle.exchange_link.specs.Synchronised.{held_at}
 use Rattle.exchange_link.specs.declared.answer.SyncAnswer.{SyncAnswer}

@@ -7,7 +7,7 @@ use Rattle.hub_commands.specs.Publishes.{told_text}
 use Rattle.hub_commands.specs.Steps.{end_of_error}
 use Rattle.hub_core.specs.declared.hub_error.HubError.{HubError}
 use Rattle.hub_core.specs.declared.published.Published.{Published}
-use Rattle.rest_provider.specs.declared.request_fault.RequestFault.TheVariants.{AfterClose, Unreadable}
+use Rattle.sync_world.specs.Below.RequestFault.TheVariants.{AfterClose, Unreadable}
 use Rattle.sync_world.specs.declared.acts.Saying.{Saying}
 use Rattle.sync_world.specs.declared.acts.Saying.TheVariants as saying
 

@@ -8,6 +8,7 @@ mod run;
 mod sayings;
 mod sources;
 
+pub use hub_commands as commands;
 pub use play::Play;
 pub use run::{ScriptEnd, run_script};
 pub use sources::Stop;

@@ -2,9 +2,9 @@
 
 ghost use Rattle.std.specs.Prelude.{◌≡◌, ◌≢◌, ◌++◌, [], Err, IfOk, Ok, length, not, string_bytes};
 ghost use Rattle.std.specs.List.{flat_map};
-ghost use Rattle.consumer_commands.specs.Held.{listed_text};
-ghost use Rattle.consumer_commands.specs.SendLines.{entry_text};
-ghost use Rattle.consumer_commands.specs.SyncLines.{sync_text};
+ghost use Rattle.hub_commands.specs.Below.Held.{listed_text};
+ghost use Rattle.hub_commands.specs.Below.SendLines.{entry_text};
+ghost use Rattle.hub_commands.specs.Below.SyncLines.{sync_text};
 ghost use Rattle.exchange_link.specs.declared.send_answer.EnterError.TheVariants as enter_error;
 ghost use Rattle.hub_commands.specs.Lines.{copy_failed};
 ghost use Rattle.keeper_memory.specs.Failures.{with_listed};
@@ -19,11 +19,11 @@ ghost use Rattle.sync_world.specs.Links.{with_event, with_failure, with_fate};
 
 use crate::sayings::said_lines;
 use crate::sources::{Stop, act_of, end_lines};
-use consumer_commands::{
+use exchange_link::{EnterError, Link, SendAnswer, SyncAnswer};
+use hub_commands::consumer::{
     COPY_FAILED, enter_line, enter_write, entered_line, held_text, outbox_text, send_line,
     send_writes, sync_line, synchronise,
 };
-use exchange_link::{EnterError, Link, SendAnswer, SyncAnswer};
 use hub_commands::enter::write_of;
 use hub_core::HubError;
 use hub_words::{EnterTask, SendTask, SyncTask};

@@ -8,10 +8,10 @@ use hub_commands::End;
 use hub_commands::lines::request_line;
 use hub_commands::publish::{end_of_error, told_line};
 use hub_core::{HubError, Published};
-use rest_provider::RequestFault;
 use roster_base::NoMemory;
 use std::alloc::Global;
 use sync_world::Saying;
+use sync_world::provider::RequestFault;
 
 fn end_lines(alloc: Global, end: End) -> Result<String, NoMemory>
     ensures { IfOk result (λ s. string_bytes s ≡ end_text end) }

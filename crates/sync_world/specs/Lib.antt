@@ -1,3 +1,4 @@
+pub mod Below
 pub mod Acts
 pub mod Asking
 pub mod Deliveries

@@ -16,6 +16,7 @@ pub mod world;
 pub mod world_link;
 
 pub use acts::{HubAct, Saying};
+pub use rest_provider as provider;
 pub use sending::send_over;
 pub use syncing::{nothing_sent_agrees, sync_over};
 pub use traffic::{Fate, Happening};

@@ -1,3 +1,4 @@
+pub mod Below
 pub mod AddLemmas
 pub mod CallerLemmas
 pub mod Filled

@@ -1,9 +1,9 @@
 use Rattle.std.proofs.Common.{refl}
-use Rattle.consumer_commands.specs.Consumers.{copy_between, link_between}
+use Rattle.script_runs.specs.Below.Consumers.{copy_between, link_between}
 use Rattle.hub_cli.proofs.Ending.{leads-cascaded, leads-command, leads-delta, leads-entered, leads-exported, leads-exported-since, leads-followed, leads-listed, leads-made-answer, leads-manifest, leads-outbox, leads-rehearsed-answer, leads-resting, leads-sent, leads-shown, leads-synchronised, leads-told}
-use Rattle.hub_commands.proofs.Telling.{writes_as}
-use Rattle.hub_commands.specs.ExportAnswers.{file_answer}
-use Rattle.hub_commands.specs.Outside.{faults_between, outside_between}
+use Rattle.script_runs.proofs.Below.Telling.{writes_as}
+use Rattle.script_runs.specs.Below.ExportAnswers.{file_answer}
+use Rattle.script_runs.specs.Below.Outside.{faults_between, outside_between}
 use Rattle.hub_words.specs.declared.words.Command.TheVariants.{Ask, Grant, Publish}
 use Rattle.hub_cli.proofs.run.run_command.Goals as goal
 

@@ -1,8 +1,8 @@
 use Rattle.std.proofs.Common.{map, refl, string_bytes}
-use Rattle.consumer_commands.specs.Consumers.{copy_between, link_between}
+use Rattle.script_runs.specs.Below.Consumers.{copy_between, link_between}
 use Rattle.hub_cli.proofs.Ending.{leads-no-memory}
-use Rattle.hub_commands.proofs.Telling.{writes_as}
-use Rattle.hub_commands.specs.Outside.{faults_between, outside_between}
+use Rattle.script_runs.proofs.Below.Telling.{writes_as}
+use Rattle.script_runs.specs.Below.Outside.{faults_between, outside_between}
 use Rattle.hub_words.specs.Words.{split}
 use Rattle.hub_cli.proofs.run.run_words.Goals as goal
 

@@ -1,0 +1,26 @@
+-- What crates above cite of the crates below this one, which they then needn't list.
+pub use Rattle.hub_commands.specs.Answers
+pub use Rattle.hub_commands.specs.AskAnswers
+pub use Rattle.hub_commands.specs.Below.Catching
+pub use Rattle.hub_commands.specs.Below.Consumers
+pub use Rattle.hub_commands.specs.Below.DeltaAnswer
+pub use Rattle.hub_commands.specs.Below.Deltas
+pub use Rattle.hub_commands.specs.Below.Held
+pub use Rattle.hub_commands.specs.Below.Missed
+pub use Rattle.hub_commands.specs.Below.Outbox
+pub use Rattle.hub_commands.specs.Below.Sends
+pub use Rattle.hub_commands.specs.Below.SyncLines
+pub use Rattle.hub_commands.specs.Below.Syncs
+pub use Rattle.hub_commands.specs.Cascades
+pub use Rattle.hub_commands.specs.ConsumerAnswers
+pub use Rattle.hub_commands.specs.ExportAnswers
+pub use Rattle.hub_commands.specs.Follows
+pub use Rattle.hub_commands.specs.GrantAnswers
+pub use Rattle.hub_commands.specs.Lines
+pub use Rattle.hub_commands.specs.OutboxAnswers
+pub use Rattle.hub_commands.specs.Outside
+pub use Rattle.hub_commands.specs.Runs
+pub use Rattle.hub_commands.specs.Shows
+pub use Rattle.hub_commands.specs.Steps
+pub use Rattle.hub_commands.specs.declared.answer.Answer
+pub use Rattle.hub_commands.specs.declared.answer.End
