@@ -1,7 +1,8 @@
 //! Files of the system that are no text, or have more bytes than are read.
 
-use crate::outside::run_line;
 use crate::publishing::ORGS;
+use crate::runs::{ROOM, new_keepers, run_words, words_of};
+use exchange_link::PeerLink;
 use outside_ports::{DirFolder, MemSink};
 use std::io::Write;
 use std::path::PathBuf;
@@ -18,7 +19,7 @@ struct Case {
     want: &'static str,
 }
 
-static CASES: [Case; 4] = [
+static CASES: [Case; 5] = [
     Case {
         line: "show orgs",
         file: "orgs.csv",
@@ -36,16 +37,23 @@ static CASES: [Case; 4] = [
     Case {
         line: "publish a=one",
         file: "one/orgs.csv",
-        bytes: b"\xff",
-        length: 1,
-        want: "refused: orgs.csv: not UTF-8\n",
-    },
-    Case {
-        line: "publish a=one",
-        file: "one/orgs.csv",
         bytes: b"sourcedId",
         length: 67_108_865,
         want: "refused: orgs.csv: too large\n",
+    },
+    Case {
+        line: "enter put categories c2 c2.json",
+        file: "c2.json",
+        bytes: b"{\xff}",
+        length: 3,
+        want: "refused: c2.json: not UTF-8\n",
+    },
+    Case {
+        line: "enter put categories c2 c2.json",
+        file: "c2.json",
+        bytes: b"{",
+        length: 131_073,
+        want: "refused: c2.json: too large\n",
     },
 ];
 
@@ -68,19 +76,36 @@ fn make_file(rt: HostRuntime, folder: &PathBuf, case: &Case) -> Result<(), Fail>
     Ok(())
 }
 
+// The status and the text of the words of a case over the files of a folder.
+fn told_of(rt: HostRuntime, folder: &PathBuf, line: &str) -> Result<(u8, MemSink), Fail> {
+    let alloc = rt.alloc();
+    let words = words_of(alloc, line)?;
+    let mut files = DirFolder::new(rt, String::from_str(alloc, folder.as_str())?);
+    let mut link = PeerLink::new(alloc, Vec::new(alloc));
+    let mut sink = MemSink::new(alloc, ROOM, Vec::new(alloc))?;
+    let mut keepers = new_keepers(alloc);
+    let told = run_words(
+        alloc,
+        words.as_slice(),
+        &mut files,
+        &mut keepers,
+        &mut link,
+        &mut sink,
+    );
+    drop(keepers);
+    Ok((told, sink))
+}
+
 fn assert_refused(
     abort: &impl Abort,
     rt: HostRuntime,
     folder: &PathBuf,
     case: &Case,
 ) -> Result<(), Fail> {
-    let alloc = rt.alloc();
     make_file(rt, folder, case)?;
-    let mut files = DirFolder::new(rt, String::from_str(alloc, folder.as_str())?);
-    let mut sink = MemSink::new(alloc, 1024, Vec::new(alloc))?;
-    let status = run_line(alloc, case.line, &mut files, &mut sink)?;
+    let (told, sink) = told_of(rt, folder, case.line)?;
     assert_eq!(abort;
-        (status, str::from_utf8(sink.written())),
+        (told, str::from_utf8(sink.written())),
         (4, Ok(case.want)),
         "{}",
         case.line

@@ -1,10 +1,10 @@
 //! What differs from a version on, asked for by a caller of the example district.
 
-use crate::asking::assert_streams;
+use crate::asking::{Stream, assert_streams};
 use std::test::Fail;
 
-// Requests one after another, the status of `ask`, and what it writes. The first makes version 3.
-static DIFFERENCES: [(&str, u8, &str); 9] = [
+// The first makes version 3.
+static DIFFERENCES: [Stream; 9] = [
     (
         "PUT /ims/oneroster/v1p1/categories/c2 HTTP/1.1\r\nHost: hub\r\nAuthorization: Bearer tok-e\r\nContent-Length: 29\r\n\r\n{\"category\":{\"title\":\"Quiz\"}}",
         0,

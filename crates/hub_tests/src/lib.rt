@@ -1,4 +1,4 @@
-//! Tests of the program's top call: words and files in, statuses and exact texts out.
+//! Tests of the program's top calls: words, files and replies in, statuses and exact texts out; and a server that threads run.
 #![tactic(auto)]
 
 #[cfg(test)]
@@ -12,27 +12,27 @@ mod differing;
 #[cfg(test)]
 mod failing;
 #[cfg(test)]
-mod keeping;
-#[cfg(test)]
-mod lake;
+mod granting;
 #[cfg(test)]
 mod lists;
 #[cfg(test)]
+mod meeting;
+#[cfg(test)]
 mod outbox;
-#[cfg(test)]
-mod outside;
-#[cfg(test)]
-mod paging;
-#[cfg(test)]
-mod ports;
 #[cfg(test)]
 mod publishing;
 #[cfg(test)]
+mod rehearsing;
+#[cfg(test)]
 mod resources;
 #[cfg(test)]
-mod showing;
+mod runs;
 #[cfg(test)]
-mod standing;
+mod server;
+#[cfg(test)]
+mod serving;
+#[cfg(test)]
+mod showing;
 #[cfg(test)]
 mod words;
 #[cfg(test)]

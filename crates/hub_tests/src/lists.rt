@@ -1,11 +1,11 @@
 //! The worked reads of lists: their requests, and the bytes of their replies, which were made outside the program.
 
-use crate::asking::assert_streams;
+use crate::asking::{Stream, assert_streams};
 use std::test::Fail;
 
-// The bytes of a file, the status of `ask`, and what it writes: a limit above the greatest, an offset at the end, two pages of a filtered
-// and sorted list, a field that isn't sorted by, and no fields.
-static PAGES: [(&str, u8, &str); 6] = [
+// A limit above the greatest, an offset at the end, a page between two others, two pages of a filtered and sorted list, a field that isn't
+// sorted by, and no fields.
+static PAGES: [Stream; 7] = [
     (
         "GET /ims/oneroster/v1p1/orgs?limit=5000 HTTP/1.1\r\nHost: hub\r\nAuthorization: Bearer tok-e\r\n\r\n",
         0,
@@ -15,6 +15,11 @@ static PAGES: [(&str, u8, &str); 6] = [
         "GET /ims/oneroster/v1p1/orgs?offset=2 HTTP/1.1\r\nHost: hub\r\nAuthorization: Bearer tok-e\r\n\r\n",
         0,
         "HTTP/1.1 200 OK\r\nContent-Type: application/json\r\nX-Total-Count: 2\r\nLink: </ims/oneroster/v1p1/orgs?limit=100&offset=0&hubVersion=2>; rel=\"prev\", </ims/oneroster/v1p1/orgs?limit=100&offset=0&hubVersion=2>; rel=\"first\", </ims/oneroster/v1p1/orgs?limit=100&offset=0&hubVersion=2>; rel=\"last\"\r\nX-Hub-Version: 2\r\nContent-Length: 11\r\n\r\n{\"orgs\":[]}",
+    ),
+    (
+        "GET /ims/oneroster/v1p1/orgs?limit=1&offset=1 HTTP/1.1\r\nHost: hub\r\nAuthorization: Bearer tok-a\r\n\r\n",
+        0,
+        "HTTP/1.1 200 OK\r\nContent-Type: application/json\r\nX-Total-Count: 3\r\nLink: </ims/oneroster/v1p1/orgs?limit=1&offset=2&hubVersion=2>; rel=\"next\", </ims/oneroster/v1p1/orgs?limit=1&offset=0&hubVersion=2>; rel=\"prev\", </ims/oneroster/v1p1/orgs?limit=1&offset=0&hubVersion=2>; rel=\"first\", </ims/oneroster/v1p1/orgs?limit=1&offset=2&hubVersion=2>; rel=\"last\"\r\nX-Hub-Version: 2\r\nContent-Length: 225\r\n\r\n{\"orgs\":[{\"dateLastModified\":\"2024-08-01T12:00:00.000Z\",\"identifier\":\"E-1\",\"name\":\"East High\",\"parent\":{\"href\":\"/ims/oneroster/v1p1/orgs/d1\",\"sourcedId\":\"d1\",\"type\":\"org\"},\"sourcedId\":\"s1\",\"status\":\"active\",\"type\":\"school\"}]}",
     ),
     (
         "GET /ims/oneroster/v1p1/users?filter=familyName~'o'%20AND%20status='active'&sort=familyName&orderBy=desc&limit=2 HTTP/1.1\r\nHost: hub\r\nAuthorization: Bearer tok-a\r\n\r\n",

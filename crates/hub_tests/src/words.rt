@@ -1,8 +1,6 @@
-//! Words that are no command, and the folder that words name.
+//! Words that are no command.
 
-use crate::outside::assert_run;
-use hub_cli::{keep_of, read_words, root_of};
-use std::alloc::Global;
+use crate::runs::{Given, assert_turn, new_keepers};
 use std::test::Fail;
 
 // Words, and the line that names the first bad one.
@@ -109,46 +107,11 @@ static BAD_WORDS: [(&str, &str); 95] = [
 
 #[test]
 fn words_that_are_no_command(rt: HostRuntime) -> Result<(), Fail> {
+    let mut keepers = new_keepers(rt.alloc());
     for (line, want) in &BAD_WORDS {
-        assert_run(&rt, rt.alloc(), line, Vec::new(rt.alloc()), (2, *want))?;
+        let turn = (*line, Given::Nothing, 2, *want);
+        assert_turn(&rt, rt.alloc(), &mut keepers, &turn)?;
     }
-    Ok(())
-}
-
-// Words, the folder that they name, and how many versions a new keeper keeps.
-static ROOTS: [(&[&str], &str, u32); 6] = [
-    (&["show", "orgs"], "", 10_000),
-    (&["--folder", "lake", "show", "orgs"], "lake", 10_000),
-    (&["--folder", "lake"], "", 10_000),
-    (&["--keep", "1", "show", "orgs"], "", 1),
-    (
-        &["--folder", "lake", "--keep", "100000", "show", "orgs"],
-        "lake",
-        100_000,
-    ),
-    (
-        &["--keep", "20", "--folder", "lake", "show", "orgs"],
-        "lake",
-        20,
-    ),
-];
-
-// The folder that words name, and how many versions a new keeper keeps.
-fn options_of(alloc: Global, words: &[&str]) -> Result<(String, u32), Fail> {
-    let mut owned = Vec::new(alloc);
-    for word in words {
-        owned.push(String::from_str(alloc, word)?)?;
-    }
-    let spelled = read_words(alloc, owned.as_slice())?;
-    let root = String::from_str(alloc, root_of(&spelled))?;
-    Ok((root, keep_of(&spelled)))
-}
-
-#[test]
-fn words_name_their_options(rt: HostRuntime) -> Result<(), Fail> {
-    for (words, root, keep) in &ROOTS {
-        let (named, kept) = options_of(rt.alloc(), words)?;
-        assert_eq!(rt; (named.as_str(), kept), (*root, *keep), "{root}");
-    }
+    drop(keepers);
     Ok(())
 }

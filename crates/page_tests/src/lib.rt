@@ -1,11 +1,7 @@
-//! Tests of the pages of a small district, of small rosters beside a slow plain program, and of filters beside what they say of each row.
+//! Tests of the pages of a small district: what paths list, what queries choose and order, what a grant sees, and the links of pages.
 #![tactic(auto)]
 
 #[cfg(test)]
 mod district;
 #[cfg(test)]
-mod filters;
-#[cfg(test)]
 mod pages;
-#[cfg(test)]
-mod plain;

@@ -1,326 +1,330 @@
-//! The pages of a small district, as paths and queries ask for them.
+//! The pages of a small district, as callers, paths and queries ask for them.
 
-ghost use Rattle.std.specs.Prelude.{◌≤◌, IfOk};
-
-use crate::district::district;
-use filter_grammar::{Query, read_query};
+use crate::district::table;
+use filter_grammar::read_query;
 use grant_scopes::{SchoolList, Schools};
 use hub_spec::Page;
-use query_pages::{one, page, seen_page};
+use query_pages::{one, version_page};
 use rest_paths::{Path, PathRouter, Route};
-use roster_base::{Items, NoMemory};
+use roster_base::Items;
 use roster_texts::Id;
-use roster_types::row::Row;
 use status_info::{LinkItem, Rel};
 use std::alloc::Global;
 use std::process::Abort;
 use std::test::Fail;
-use version_core::references::Refs;
+use version_core::table::Table;
+use version_core::view::VersionView;
 
-/// The version that is read.
-pub const VERSION: u64 = 7;
+// The version that is read.
+const VERSION: u64 = 7;
 
-/// The path behind the address of the hub's collections.
-pub fn path_of(
-    rt: &impl Abort,
-    alloc: Global,
-    router: &PathRouter,
-    text: &str,
-) -> Result<Path, Fail> {
+// A school that is granted, or `*` for all; a path behind the address of the hub's collections; a query; and what is told of the page.
+type Asked = (&'static str, &'static str, &'static str, &'static str);
+
+fn schools_of(alloc: Global, text: &str) -> Result<Schools, Fail> {
+    if text == "*" {
+        return Ok(Schools::All);
+    }
+    let mut ids = Items::new(alloc);
+    ids.push(Id::read(alloc, text)?.ok_or("an id")?)?;
+    let list = SchoolList::of_rising(ids).ok_or("an order")?;
+    Ok(Schools::Listed(list))
+}
+
+fn path_of(alloc: Global, router: &PathRouter, text: &str) -> Result<Path, Fail> {
     let whole = format!(in alloc; "/ims/oneroster/v1p1/{text}")?;
-    match Path::read(alloc, router, whole.as_str())? {
-        Some(path) => Ok(path),
-        None => panic!(rt; "no path"),
+    Ok(Path::read(alloc, router, whole.as_str())?.ok_or("a path")?)
+}
+
+// The page that is asked for.
+fn page_of(
+    alloc: Global,
+    view: &VersionView<'_>,
+    schools: &Schools,
+    path: &Path,
+    query: &str,
+) -> Result<Option<Page>, Fail> {
+    match read_query(alloc, path.route().lists().kind(), query) {
+        Ok(query) => Ok(version_page(alloc, view, schools, VERSION, path, &query)?),
+        Err(_) => Err(Fail::new("no query")),
     }
 }
 
-/// The query of a path.
-pub fn query_of(rt: &impl Abort, alloc: Global, path: &Path, text: &str) -> Result<Query, Fail>
-    ensures { IfOk result (λ q. 1 ≤ q.limit) }
-{
-    match read_query(alloc, path.route().lists().kind(), text) {
-        Ok(query) => Ok(query),
-        Err(_) => panic!(rt; "no query"),
-    }
-}
-
-/// Adds the ids of rows.
-pub fn push_ids(line: &mut String, rows: &[Row]) -> Result<(), Fail> {
-    for row in rows {
+// The length of the list and the ids of the page.
+fn ids_of(alloc: Global, page: &Page) -> Result<String, Fail> {
+    let total = page.total;
+    let mut line = format!(in alloc; "{total}:")?;
+    for row in page.rows.as_slice() {
         line.push(' ')?;
         line.push_str(row.id().as_str())?;
     }
-    Ok(())
-}
-
-// The length of a list and the ids of its page, in one line.
-fn line_of(alloc: Global, page: Option<Page>) -> Result<String, Fail> {
-    let Some(page) = page else {
-        return Ok(String::from_str(alloc, "no object")?);
-    };
-    let total = page.total;
-    let mut line = format!(in alloc; "{total}:")?;
-    push_ids(&mut line, page.rows.as_slice())?;
     Ok(line)
 }
 
-// The page that a path and a query ask for.
-fn page_of<R: Refs>(
-    rt: &impl Abort,
-    alloc: Global,
-    router: &PathRouter,
-    rows: &R,
-    path: &str,
-    query: &str,
-) -> Result<Option<Page>, Fail> {
-    let path = path_of(rt, alloc, router, path)?;
-    let query = query_of(rt, alloc, &path, query)?;
-    let page = page(alloc, rows, VERSION, &path, &query);
-    drop(query);
-    Ok(page?)
-}
-
-// What is shown of a path and a query is this.
-fn assert_shown<R: Refs>(
-    rt: &impl Abort,
-    alloc: Global,
-    router: &PathRouter,
-    rows: &R,
-    path: &str,
-    query: &str,
-    want: &str,
-) -> Result<(), Fail> {
-    let line = line_of(alloc, page_of(rt, alloc, router, rows, path, query)?)?;
-    assert_eq!(rt; line.as_str(), want);
-    Ok(())
-}
-
-// Paths, and the rows that they list.
-static LISTS: [(&str, &str); 42] = [
-    ("orgs", "3: d1 s1 s2"),
-    ("schools", "2: s1 s2"),
-    ("terms", "1: t1"),
-    ("gradingPeriods", "1: g1"),
-    ("students", "2: u1 u2"),
-    ("teachers", "1: u3"),
-    ("demographics", "1: u1"),
-    ("schools/s1/courses", "1: bio"),
-    ("schools/s1/classes", "1: k1"),
-    ("schools/s1/enrollments", "2: e1 e4"),
-    ("schools/s1/students", "2: u1 u2"),
-    // Enrolled at the school, though not of it.
-    ("schools/s1/teachers", "1: u3"),
-    ("schools/s2/students", "1: u2"),
-    ("schools/s2/teachers", "1: u3"),
-    ("schools/s2/terms", "1: t1"),
-    ("schools/s1/classes/k1/enrollments", "2: e1 e4"),
-    ("schools/s1/classes/k1/students", "1: u1"),
-    ("schools/s1/classes/k1/teachers", "1: u3"),
-    // A class of another school.
-    ("schools/s1/classes/k2/students", "0:"),
-    ("schools/s1/classes/k2/enrollments", "0:"),
-    ("classes/k2/students", "1: u2"),
-    ("classes/k2/teachers", "1: u3"),
-    ("terms/t1/classes", "2: k1 k2"),
-    ("terms/t1/gradingPeriods", "1: g1"),
-    ("courses/bio/classes", "1: k2"),
-    ("students/u1/classes", "1: k1"),
-    ("teachers/u3/classes", "2: k1 k2"),
-    ("users/u3/classes", "2: k1 k2"),
-    ("users/u4/classes", "0:"),
-    ("classes/k1/lineItems", "1: l1"),
-    ("classes/k1/results", "1: r1"),
-    ("classes/k1/lineItems/l1/results", "1: r1"),
-    ("classes/k2/lineItems/l1/results", "0:"),
-    ("classes/k1/students/u1/results", "1: r1"),
-    ("classes/k1/students/u2/results", "0:"),
-    ("schools/d1/classes", "no object"),
-    ("schools/x/classes", "no object"),
-    ("terms/g1/classes", "no object"),
-    ("students/u3/classes", "no object"),
-    ("teachers/u1/classes", "no object"),
-    ("schools/s1/classes/x/students", "no object"),
-    ("schools/x/classes/k1/students", "no object"),
-];
-
-fn assert_lists<R: Refs>(
-    rt: &impl Abort,
-    alloc: Global,
-    router: &PathRouter,
-    rows: &R,
-) -> Result<(), Fail> {
-    for (path, want) in &LISTS {
-        assert_shown(rt, alloc, router, rows, path, "", want)?;
-    }
-    Ok(())
-}
-
-#[test]
-fn paths_list_their_rows(rt: HostRuntime) -> Result<(), Fail> {
-    let alloc = rt.alloc();
-    let router = PathRouter::new(alloc)?;
-    let rows = district(&rt, alloc)?;
-    let asserted = assert_lists(&rt, alloc, &router, &rows);
-    drop(rows);
-    asserted
-}
-
-// Queries on users, and what is shown.
-static QUERIES: [(&str, &str); 14] = [
-    ("limit=2", "4: u1 u2"),
-    ("limit=2&offset=2", "4: u3 u4"),
-    ("limit=1&offset=3", "4: u4"),
-    ("offset=4", "4:"),
-    ("orderBy=desc", "4: u4 u3 u2 u1"),
-    ("orderBy=desc&limit=2&offset=1", "4: u3 u2"),
-    ("sort=familyName", "4: u4 u3 u1 u2"),
-    // Equal keys stand by ascending id in either direction.
-    ("sort=familyName&orderBy=desc", "4: u1 u2 u3 u4"),
-    ("sort=familyName&orderBy=desc&limit=2&offset=1", "4: u2 u3"),
-    // What is absent comes first.
-    ("sort=grades", "4: u3 u4 u1 u2"),
-    ("sort=shoe&orderBy=desc", "4: u1 u2 u3 u4"),
-    ("filter=role='student'", "2: u1 u2"),
-    ("filter=role='student'&limit=1&offset=1", "2: u2"),
-    (
-        "filter=familyName~'o'&sort=givenName&orderBy=desc",
-        "3: u3 u2 u1",
-    ),
-];
-
-fn assert_queries<R: Refs>(
-    rt: &impl Abort,
-    alloc: Global,
-    router: &PathRouter,
-    rows: &R,
-) -> Result<(), Fail> {
-    for (query, want) in &QUERIES {
-        assert_shown(rt, alloc, router, rows, "users", query, want)?;
-    }
-    Ok(())
-}
-
-#[test]
-fn queries_choose_and_order(rt: HostRuntime) -> Result<(), Fail> {
-    let alloc = rt.alloc();
-    let router = PathRouter::new(alloc)?;
-    let rows = district(&rt, alloc)?;
-    let asserted = assert_queries(&rt, alloc, &router, &rows);
-    drop(rows);
-    asserted
-}
-
-// The row that a path names.
-fn single_line<R: Refs>(alloc: Global, rows: &R, path: &Path) -> Result<String, NoMemory> {
-    let row = match path.route() {
-        Route::One(_) => one(rows, path),
-        _ => None,
-    };
-    match row {
-        Some(row) => Ok(String::from_str(alloc, row.id().as_str())?),
+fn told(alloc: Global, page: Option<Page>) -> Result<String, Fail> {
+    match page {
+        Some(page) => ids_of(alloc, &page),
         None => Ok(String::from_str(alloc, "no object")?),
     }
 }
 
-// Paths of one object, and what they name.
-static OBJECTS: [(&str, &str); 9] = [
-    ("orgs/d1", "d1"),
-    ("schools/s2", "s2"),
-    ("schools/d1", "no object"),
-    ("students/u1", "u1"),
-    ("teachers/u1", "no object"),
-    ("gradingPeriods/g1", "g1"),
-    ("terms/g1", "no object"),
-    ("results/r2", "r2"),
-    ("results/x", "no object"),
-];
-
-fn assert_objects<R: Refs>(
-    rt: &impl Abort,
+fn told_of(
     alloc: Global,
     router: &PathRouter,
-    rows: &R,
-) -> Result<(), Fail> {
+    view: &VersionView<'_>,
+    asked: &Asked,
+) -> Result<String, Fail> {
+    let schools = schools_of(alloc, asked.0)?;
+    let path = path_of(alloc, router, asked.1)?;
+    told(alloc, page_of(alloc, view, &schools, &path, asked.2)?)
+}
+
+fn assert_told(rt: &impl Abort, alloc: Global, table: &Table, asks: &[Asked]) -> Result<(), Fail> {
+    let router = PathRouter::new(alloc)?;
+    for asked in asks {
+        let told = told_of(alloc, &router, &table.newest_rows(), asked)?;
+        assert_eq!(rt;
+            told.as_str(),
+            asked.3,
+            "{} {} {}",
+            asked.0,
+            asked.1,
+            asked.2
+        );
+    }
+    Ok(())
+}
+
+fn assert_asks(rt: &impl Abort, alloc: Global, asks: &[Asked]) -> Result<(), Fail> {
+    let table = table(alloc)?;
+    let asserted = assert_told(rt, alloc, &table, asks);
+    drop(table);
+    asserted
+}
+
+const LISTS: &[Asked] = &[
+    ("*", "orgs", "", "3: d1 s1 s2"),
+    ("*", "schools", "", "2: s1 s2"),
+    ("*", "terms", "", "1: t1"),
+    ("*", "gradingPeriods", "", "1: g1"),
+    ("*", "students", "", "2: u1 u2"),
+    ("*", "teachers", "", "1: u3"),
+    ("*", "demographics", "", "1: u1"),
+    ("*", "schools/s1/courses", "", "1: bio"),
+    ("*", "schools/s1/classes", "", "1: k1"),
+    ("*", "schools/s1/enrollments", "", "2: e1 e4"),
+    ("*", "schools/s1/students", "", "2: u1 u2"),
+    // Enrolled at the school, though not of it.
+    ("*", "schools/s1/teachers", "", "1: u3"),
+    ("*", "schools/s2/students", "", "1: u2"),
+    ("*", "schools/s2/teachers", "", "1: u3"),
+    ("*", "schools/s2/terms", "", "1: t1"),
+    ("*", "schools/s1/classes/k1/enrollments", "", "2: e1 e4"),
+    ("*", "schools/s1/classes/k1/students", "", "1: u1"),
+    ("*", "schools/s1/classes/k1/teachers", "", "1: u3"),
+    // A class of another school.
+    ("*", "schools/s1/classes/k2/students", "", "0:"),
+    ("*", "schools/s1/classes/k2/enrollments", "", "0:"),
+    ("*", "classes/k2/students", "", "1: u2"),
+    ("*", "classes/k2/teachers", "", "1: u3"),
+    ("*", "terms/t1/classes", "", "2: k1 k2"),
+    ("*", "terms/t1/gradingPeriods", "", "1: g1"),
+    ("*", "courses/bio/classes", "", "1: k2"),
+    ("*", "students/u1/classes", "", "1: k1"),
+    ("*", "teachers/u3/classes", "", "2: k1 k2"),
+    ("*", "users/u3/classes", "", "2: k1 k2"),
+    ("*", "users/u4/classes", "", "0:"),
+    ("*", "classes/k1/lineItems", "", "1: l1"),
+    ("*", "classes/k1/results", "", "1: r1"),
+    ("*", "classes/k1/lineItems/l1/results", "", "1: r1"),
+    ("*", "classes/k2/lineItems/l1/results", "", "0:"),
+    ("*", "classes/k1/students/u1/results", "", "1: r1"),
+    ("*", "classes/k1/students/u2/results", "", "0:"),
+    ("*", "schools/d1/classes", "", "no object"),
+    ("*", "schools/x/classes", "", "no object"),
+    ("*", "terms/g1/classes", "", "no object"),
+    ("*", "students/u3/classes", "", "no object"),
+    ("*", "teachers/u1/classes", "", "no object"),
+    ("*", "schools/s1/classes/x/students", "", "no object"),
+    ("*", "schools/x/classes/k1/students", "", "no object"),
+    ("*", "classes/k2/resources", "", "1: x2"),
+    ("*", "courses/bio/resources", "", "1: x3"),
+];
+
+#[test]
+fn paths_list_their_rows(rt: HostRuntime) -> Result<(), Fail> {
+    assert_asks(&rt, rt.alloc(), LISTS)
+}
+
+const QUERIES: &[Asked] = &[
+    ("*", "users", "limit=2", "4: u1 u2"),
+    ("*", "users", "limit=2&offset=2", "4: u3 u4"),
+    ("*", "users", "limit=1&offset=3", "4: u4"),
+    ("*", "users", "offset=4", "4:"),
+    ("*", "users", "orderBy=desc", "4: u4 u3 u2 u1"),
+    ("*", "users", "orderBy=desc&limit=2&offset=1", "4: u3 u2"),
+    ("*", "users", "sort=familyName", "4: u4 u3 u1 u2"),
+    // Equal keys stand by ascending id in either direction.
+    (
+        "*",
+        "users",
+        "sort=familyName&orderBy=desc",
+        "4: u1 u2 u3 u4",
+    ),
+    (
+        "*",
+        "users",
+        "sort=familyName&orderBy=desc&limit=2&offset=1",
+        "4: u2 u3",
+    ),
+    // What is absent comes first.
+    ("*", "users", "sort=grades", "4: u3 u4 u1 u2"),
+    ("*", "users", "sort=shoe&orderBy=desc", "4: u1 u2 u3 u4"),
+    ("*", "users", "filter=role='student'", "2: u1 u2"),
+    (
+        "*",
+        "users",
+        "filter=role='student'&limit=1&offset=1",
+        "2: u2",
+    ),
+    (
+        "*",
+        "users",
+        "filter=familyName~'o'&sort=givenName&orderBy=desc",
+        "3: u3 u2 u1",
+    ),
+    ("*", "academicSessions", "sort=title", "3: t1 g1 y"),
+    (
+        "*",
+        "academicSessions",
+        "sort=endDate&orderBy=desc",
+        "3: y t1 g1",
+    ),
+    // What a filter compares: texts of any case, references, days, words, lists, numbers and metadata.
+    ("*", "academicSessions", "filter=title~'FALL'", "1: t1"),
+    ("*", "academicSessions", "filter=title != 'fall'", "2: g1 y"),
+    ("*", "academicSessions", "filter=parent='t1'", "1: g1"),
+    (
+        "*",
+        "academicSessions",
+        "filter=parent.sourcedId!='t1'",
+        "2: t1 y",
+    ),
+    (
+        "*",
+        "academicSessions",
+        "filter=endDate>'2024-12-20'",
+        "1: y",
+    ),
+    (
+        "*",
+        "academicSessions",
+        "filter=endDate<='2024-12-20'",
+        "2: g1 t1",
+    ),
+    (
+        "*",
+        "academicSessions",
+        "filter=startDate~'2024-08-01'",
+        "3: g1 t1 y",
+    ),
+    (
+        "*",
+        "academicSessions",
+        "filter=type='term' OR type='schoolYear'",
+        "2: t1 y",
+    ),
+    (
+        "*",
+        "academicSessions",
+        "filter=title~'a' AND parent='y'",
+        "1: t1",
+    ),
+    ("*", "classes", "filter=grades='10,09'", "1: k1"),
+    ("*", "classes", "filter=grades=''", "1: k2"),
+    ("*", "classes", "filter=terms~'t1'", "2: k1 k2"),
+    ("*", "classes", "filter=terms!='t1'", "0:"),
+    ("*", "results", "filter=score>'9'", "1: r1"),
+    ("*", "results", "filter=score!='78'", "1: r2"),
+    (
+        "*",
+        "orgs",
+        "filter=dateLastModified<='1970-01-01T00:00:01Z'",
+        "3: d1 s1 s2",
+    ),
+    ("*", "orgs", "filter=metadata.room>='B'", "1: s1"),
+    ("*", "orgs", "filter=metadata.room!='B'", "2: d1 s2"),
+];
+
+#[test]
+fn queries_choose_and_order(rt: HostRuntime) -> Result<(), Fail> {
+    assert_asks(&rt, rt.alloc(), QUERIES)
+}
+
+// What is of a school is seen, with what it names and what names it; sessions and categories are seen by all.
+const SEEN: &[Asked] = &[
+    ("s1", "orgs", "", "2: d1 s1"),
+    ("d1", "orgs", "", "1: d1"),
+    ("x", "orgs", "", "0:"),
+    ("x", "academicSessions", "", "3: g1 t1 y"),
+    ("s2", "courses", "", "2: alg bio"),
+    ("s1", "classes", "", "1: k1"),
+    ("s1", "users", "", "4: u1 u2 u3 u4"),
+    ("s2", "users", "", "2: u2 u3"),
+    ("s1", "enrollments", "", "2: e1 e4"),
+    ("s1", "demographics", "", "1: u1"),
+    ("s2", "demographics", "", "0:"),
+    ("x", "categories", "", "1: hw"),
+    ("s1", "lineItems", "", "1: l1"),
+    ("s1", "results", "", "1: r1"),
+    ("s1", "resources", "", "2: x1 x3"),
+    ("s1", "classResources", "", "1: a1"),
+    ("s1", "courseResources", "", "1: b1"),
+    ("s1", "schools/s1/students", "", "2: u1 u2"),
+    ("s1", "schools/s2/classes", "", "no object"),
+    ("s1", "classes/k2/results", "", "no object"),
+];
+
+#[test]
+fn seen_rows_are_listed(rt: HostRuntime) -> Result<(), Fail> {
+    assert_asks(&rt, rt.alloc(), SEEN)
+}
+
+// The id of the row that a path names.
+fn object_of<'a>(view: &'a VersionView<'_>, path: &Path) -> Option<&'a str> {
+    match path.route() {
+        Route::One(_) => Some(one(view, path)?.id().as_str()),
+        _ => None,
+    }
+}
+
+// Paths of one object, and what they name.
+static OBJECTS: [(&str, Option<&str>); 9] = [
+    ("orgs/d1", Some("d1")),
+    ("schools/s2", Some("s2")),
+    ("schools/d1", None),
+    ("students/u1", Some("u1")),
+    ("teachers/u1", None),
+    ("gradingPeriods/g1", Some("g1")),
+    ("terms/g1", None),
+    ("results/r2", Some("r2")),
+    ("results/x", None),
+];
+
+fn assert_objects(rt: &impl Abort, alloc: Global, table: &Table) -> Result<(), Fail> {
+    let router = PathRouter::new(alloc)?;
     for (text, want) in &OBJECTS {
-        let path = path_of(rt, alloc, router, text)?;
-        let line = single_line(alloc, rows, &path)?;
-        assert_eq!(rt; line.as_str(), *want);
+        let path = path_of(alloc, &router, text)?;
+        assert_eq!(rt; object_of(&table.newest_rows(), &path), *want, "{text}");
     }
     Ok(())
 }
 
 #[test]
 fn paths_name_their_objects(rt: HostRuntime) -> Result<(), Fail> {
-    let alloc = rt.alloc();
-    let router = PathRouter::new(alloc)?;
-    let rows = district(&rt, alloc)?;
-    let asserted = assert_objects(&rt, alloc, &router, &rows);
-    drop(rows);
-    asserted
-}
-
-// The one school of that id.
-fn only(alloc: Global, id: Id) -> Result<Schools, NoMemory> {
-    let mut ids = Vec::new(alloc);
-    ids.push(id)?;
-    Ok(Schools::Listed(SchoolList::new(Items::from_vec(ids))))
-}
-
-fn school(rt: &impl Abort, alloc: Global, text: &str) -> Result<Schools, Fail> {
-    match Id::read(alloc, text)? {
-        Some(id) => Ok(only(alloc, id)?),
-        None => panic!(rt; "no id"),
-    }
-}
-
-// Paths, and what they list of the rows that a grant at the school s1 sees.
-static SEEN: [(&str, &str); 6] = [
-    ("orgs", "2: d1 s1"),
-    ("users", "4: u1 u2 u3 u4"),
-    ("enrollments", "2: e1 e4"),
-    ("schools/s1/students", "2: u1 u2"),
-    ("schools/s2/classes", "no object"),
-    ("classes/k2/results", "no object"),
-];
-
-// The page that a path asks for of what a grant at the schools sees.
-fn seen_page_of<R: Refs>(
-    rt: &impl Abort,
-    alloc: Global,
-    router: &PathRouter,
-    rows: &R,
-    schools: &Schools,
-    path: &str,
-) -> Result<Option<Page>, Fail> {
-    let path = path_of(rt, alloc, router, path)?;
-    let query = query_of(rt, alloc, &path, "")?;
-    let page = seen_page(alloc, rows, schools, VERSION, &path, &query);
-    drop(query);
-    Ok(page?)
-}
-
-fn assert_seen<R: Refs>(
-    rt: &impl Abort,
-    alloc: Global,
-    router: &PathRouter,
-    rows: &R,
-) -> Result<(), Fail> {
-    let schools = school(rt, alloc, "s1")?;
-    for (path, want) in &SEEN {
-        let page = seen_page_of(rt, alloc, router, rows, &schools, path)?;
-        let line = line_of(alloc, page)?;
-        assert_eq!(rt; line.as_str(), *want);
-    }
-    Ok(())
-}
-
-#[test]
-fn seen_rows_are_listed(rt: HostRuntime) -> Result<(), Fail> {
-    let alloc = rt.alloc();
-    let router = PathRouter::new(alloc)?;
-    let rows = district(&rt, alloc)?;
-    let asserted = assert_seen(&rt, alloc, &router, &rows);
-    drop(rows);
+    let table = table(rt.alloc())?;
+    let asserted = assert_objects(&rt, rt.alloc(), &table);
+    drop(table);
     asserted
 }
 
@@ -333,99 +337,89 @@ fn word(rel: Rel) -> &'static str {
     }
 }
 
-// Adds links, each with what is behind the address of the hub's collections.
-fn push_links(line: &mut String, links: &[LinkItem]) -> Result<(), Fail> {
-    for link in links {
-        line.push_str(word(link.rel))?;
-        line.push(' ')?;
-        line.push_str(
-            link.target
-                .as_str()
-                .trim_start_matches("/ims/oneroster/v1p1/"),
-        )?;
-        line.push('\n')?;
-    }
-    Ok(())
-}
-
-// The links of a page.
-fn linked<R: Refs>(
-    rt: &impl Abort,
-    alloc: Global,
-    router: &PathRouter,
-    rows: &R,
-    path: &str,
-    query: &str,
-) -> Result<String, Fail> {
-    let page = page_of(rt, alloc, router, rows, path, query)?;
+// Links, each with its target.
+fn links_told(alloc: Global, links: &[LinkItem]) -> Result<String, Fail> {
     let mut lines = String::new(alloc);
-    if let Some(page) = page {
-        push_links(&mut lines, page.links.as_slice())?;
+    for link in links {
+        let (rel, target) = (word(link.rel), link.target.as_str());
+        write!(lines, "{rel} {target}\n")?;
     }
     Ok(lines)
 }
 
 // Paths and queries, and the links of their pages.
-static LINKS: [(&str, &str, &str); 6] = [
+const LINKS: &[Asked] = &[
     (
+        "*",
         "users",
         "limit=2",
-        "next users?limit=2&offset=2&hubVersion=7\n\
-first users?limit=2&offset=0&hubVersion=7\n\
-last users?limit=2&offset=2&hubVersion=7\n",
+        "next /ims/oneroster/v1p1/users?limit=2&offset=2&hubVersion=7\n\
+first /ims/oneroster/v1p1/users?limit=2&offset=0&hubVersion=7\n\
+last /ims/oneroster/v1p1/users?limit=2&offset=2&hubVersion=7\n",
     ),
     // The list ends with the page.
     (
+        "*",
         "users",
         "limit=2&offset=2",
-        "prev users?limit=2&offset=0&hubVersion=7\n\
-first users?limit=2&offset=0&hubVersion=7\n\
-last users?limit=2&offset=2&hubVersion=7\n",
+        "prev /ims/oneroster/v1p1/users?limit=2&offset=0&hubVersion=7\n\
+first /ims/oneroster/v1p1/users?limit=2&offset=0&hubVersion=7\n\
+last /ims/oneroster/v1p1/users?limit=2&offset=2&hubVersion=7\n",
     ),
     // Pages that aren't those from the front on.
     (
+        "*",
         "users",
         "limit=2&offset=1&sort=familyName&orderBy=desc",
-        "next users?limit=2&offset=3&sort=familyName&orderBy=desc&hubVersion=7\n\
-prev users?limit=2&offset=0&sort=familyName&orderBy=desc&hubVersion=7\n\
-first users?limit=2&offset=0&sort=familyName&orderBy=desc&hubVersion=7\n\
-last users?limit=2&offset=2&sort=familyName&orderBy=desc&hubVersion=7\n",
+        "next /ims/oneroster/v1p1/users?limit=2&offset=3&sort=familyName&orderBy=desc&hubVersion=7\n\
+prev /ims/oneroster/v1p1/users?limit=2&offset=0&sort=familyName&orderBy=desc&hubVersion=7\n\
+first /ims/oneroster/v1p1/users?limit=2&offset=0&sort=familyName&orderBy=desc&hubVersion=7\n\
+last /ims/oneroster/v1p1/users?limit=2&offset=2&sort=familyName&orderBy=desc&hubVersion=7\n",
     ),
     // An empty list.
     (
+        "*",
         "users/u4/classes",
         "",
-        "first users/u4/classes?limit=100&offset=0&hubVersion=7\n\
-last users/u4/classes?limit=100&offset=0&hubVersion=7\n",
+        "first /ims/oneroster/v1p1/users/u4/classes?limit=100&offset=0&hubVersion=7\n\
+last /ims/oneroster/v1p1/users/u4/classes?limit=100&offset=0&hubVersion=7\n",
     ),
     (
+        "*",
         "schools/s1/classes/k1/enrollments",
         "limit=2000&filter=role%3d'student'&fields=role",
-        "first schools/s1/classes/k1/enrollments?limit=1000&offset=0&filter=role%3D%27student%27&fields=role&hubVersion=7\n\
-last schools/s1/classes/k1/enrollments?limit=1000&offset=0&filter=role%3D%27student%27&fields=role&hubVersion=7\n",
+        "first /ims/oneroster/v1p1/schools/s1/classes/k1/enrollments?limit=1000&offset=0&filter=role%3D%27student%27&fields=role&hubVersion=7\n\
+last /ims/oneroster/v1p1/schools/s1/classes/k1/enrollments?limit=1000&offset=0&filter=role%3D%27student%27&fields=role&hubVersion=7\n",
     ),
-    ("schools/x/classes", "", ""),
+    ("*", "schools/x/classes", "", ""),
 ];
 
-fn assert_links<R: Refs>(
-    rt: &impl Abort,
+fn links_of(
     alloc: Global,
     router: &PathRouter,
-    rows: &R,
-) -> Result<(), Fail> {
-    for (path, query, want) in &LINKS {
-        let lines = linked(rt, alloc, router, rows, path, query)?;
-        assert_eq!(rt; lines.as_str(), *want);
+    view: &VersionView<'_>,
+    asked: &Asked,
+) -> Result<String, Fail> {
+    let path = path_of(alloc, router, asked.1)?;
+    match page_of(alloc, view, &Schools::All, &path, asked.2)? {
+        Some(page) => links_told(alloc, page.links.as_slice()),
+        None => Ok(String::new(alloc)),
+    }
+}
+
+fn assert_links(rt: &impl Abort, alloc: Global, table: &Table, asks: &[Asked]) -> Result<(), Fail> {
+    let router = PathRouter::new(alloc)?;
+    for asked in asks {
+        let lines = links_of(alloc, &router, &table.newest_rows(), asked)?;
+        assert_eq!(rt; lines.as_str(), asked.3, "{} {}", asked.1, asked.2);
     }
     Ok(())
 }
 
 #[test]
 fn pages_name_the_others(rt: HostRuntime) -> Result<(), Fail> {
-    let alloc = rt.alloc();
-    let router = PathRouter::new(alloc)?;
-    let rows = district(&rt, alloc)?;
-    let asserted = assert_links(&rt, alloc, &router, &rows);
-    drop(rows);
+    let table = table(rt.alloc())?;
+    let asserted = assert_links(&rt, rt.alloc(), &table, LINKS);
+    drop(table);
     asserted
 }

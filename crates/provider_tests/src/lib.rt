@@ -1,11 +1,11 @@
-//! Tests of the hub's answers, byte by byte.
+//! Tests of the hub's answers byte by byte, and of what becomes of gradebook writes.
 #![tactic(auto)]
 
 #[cfg(test)]
-mod reads;
+mod district;
+#[cfg(test)]
+mod replies;
 #[cfg(test)]
 mod streams;
-#[cfg(test)]
-mod tables;
 #[cfg(test)]
 mod writes;

@@ -1,8 +1,8 @@
-//! Streams of requests, cut at each place, and failing there.
+//! Streams of requests that fail at each place.
 
 ghost use Rattle.hub_core.specs.Standing.{KeeperFits};
 
-use crate::tables::{SECOND, opened};
+use crate::district::{SECOND, opened};
 use http_wire::WireFault;
 use hub_core::Hub;
 use keeper_memory::{HubKeeper, MemHub};
@@ -21,7 +21,7 @@ static REPLIES: [(&str, &str); 3] = [
         "HTTP/1.1 201 Created\r\nContent-Type: application/json\r\nX-Hub-Version: 3\r\nContent-Length: 107\r\n\r\n{\"imsx_codeMajor\":\"success\",\"imsx_codeMinor\":\"full_success\",\"imsx_description\":\"\",\"imsx_severity\":\"status\"}",
     ),
     (
-        "GET /ims/oneroster/v1p1/orgs?limit=0 HTTP/1.1\r\nHost: hub\r\nAuthorization: Bearer tok-e\r\nX-Hub-Exchange: 7.3\r\n\r\n",
+        "GET /ims/oneroster/v1p1/orgs?limit=0 HTTP/1.1\r\nHost: hub\r\nAuthorization: Bearer tok-r\r\nX-Hub-Exchange: 7.3\r\n\r\n",
         "HTTP/1.1 400 Bad Request\r\nContent-Type: application/json\r\nX-Hub-Version: 3\r\nX-Hub-Exchange: 7.3\r\nContent-Length: 115\r\n\r\n{\"imsx_codeMajor\":\"failure\",\"imsx_codeMinor\":\"invalid_data\",\"imsx_description\":\"bad limit\",\"imsx_severity\":\"error\"}",
     ),
     (
@@ -39,31 +39,19 @@ fn stream(alloc: Global) -> Result<Vec<u8>, NoMemory> {
     Ok(bytes)
 }
 
-// What so many bytes of the requests get: how many of them are whole, whether nothing stands behind these, and what is written.
-fn answered(alloc: Global, bytes: usize) -> Result<(u64, bool, Vec<u8>), NoMemory> {
-    let mut left = bytes;
+// What so many bytes of the requests get: how many of them are whole, and what is written.
+fn answered(alloc: Global, bytes: usize) -> Result<(u64, Vec<u8>), NoMemory> {
+    let mut end: usize = 0;
     let mut count: u64 = 0;
     let mut written = Vec::new(alloc);
     for (request, reply) in &REPLIES {
-        match left.checked_sub(request.len()) {
-            Some(rest) => left = rest,
-            None => break,
+        end = end.saturating_add(request.len());
+        if end <= bytes {
+            count = count.saturating_add(1);
+            written.extend_from_slice(reply.as_bytes())?;
         }
-        count = count.saturating_add(1);
-        written.extend_from_slice(reply.as_bytes())?;
     }
-    Ok((count, left == 0, written))
-}
-
-fn ended(requests: u64) -> StreamEnd {
-    StreamEnd::Closed { requests, kept: 0 }
-}
-
-fn stopped(requests: u64, fault: WireFault) -> StreamEnd {
-    StreamEnd::Wire {
-        request: requests.saturating_add(1),
-        fault,
-    }
+    Ok((count, written))
 }
 
 // What a source gets: the end of its stream, and what is written.
@@ -84,57 +72,7 @@ fn served<H: HubKeeper>(
     Ok((end, sink))
 }
 
-// The first read gives so many bytes at most, and the next all others: nothing tells where it was cut.
-fn assert_cut<H: HubKeeper>(
-    rt: &impl Abort,
-    alloc: Global,
-    router: &PathRouter,
-    hub: &mut Hub,
-    keeper: &mut H,
-    at: usize,
-) -> Result<(), Fail>
-    requires { KeeperFits (H.stands_for keeper.old) hub.old }
-    ensures { KeeperFits (H.stands_for keeper.new) hub.new }
-{
-    let bytes = stream(alloc)?;
-    let (requests, _, written) = answered(alloc, bytes.len())?;
-    let source = MemSource::new(bytes, vec![in alloc; at]?, Vec::new(alloc));
-    let (end, sink) = served(alloc, router, hub, keeper, source)?;
-    assert_eq!(rt;
-        (end, sink.written()),
-        (ended(requests), written.as_slice()),
-        "{at}"
-    );
-    Ok(())
-}
-
-// The bytes end here: what is whole is answered, and a request that is cut off is told by the end alone.
-fn assert_ended<H: HubKeeper>(
-    rt: &impl Abort,
-    alloc: Global,
-    router: &PathRouter,
-    hub: &mut Hub,
-    keeper: &mut H,
-    at: usize,
-) -> Result<(), Fail>
-    requires { KeeperFits (H.stands_for keeper.old) hub.old }
-    ensures { KeeperFits (H.stands_for keeper.new) hub.new }
-{
-    let mut bytes = stream(alloc)?;
-    bytes.truncate(at);
-    let (requests, is_end, written) = answered(alloc, at)?;
-    let want = if is_end {
-        ended(requests)
-    } else {
-        stopped(requests, WireFault::Cut)
-    };
-    let source = MemSource::new(bytes, Vec::new(alloc), Vec::new(alloc));
-    let (end, sink) = served(alloc, router, hub, keeper, source)?;
-    assert_eq!(rt; (end, sink.written()), (want, written.as_slice()), "{at}");
-    Ok(())
-}
-
-// Each read gives one byte, and the one behind so many fails, where there is one: what is whole by then is answered.
+// The first read gives so many bytes, and the next one fails: what is whole by then is answered.
 fn assert_failed<H: HubKeeper>(
     rt: &impl Abort,
     alloc: Global,
@@ -146,22 +84,19 @@ fn assert_failed<H: HubKeeper>(
     requires { KeeperFits (H.stands_for keeper.old) hub.old }
     ensures { KeeperFits (H.stands_for keeper.new) hub.new }
 {
-    let bytes = stream(alloc)?;
-    let (requests, _, written) = answered(alloc, at)?;
-    // Behind the last byte one read finds the end.
-    let want = if at > bytes.len() {
-        ended(requests)
-    } else {
-        stopped(requests, WireFault::Source)
+    let (requests, written) = answered(alloc, at)?;
+    let want = StreamEnd::Wire {
+        request: requests.saturating_add(1),
+        fault: WireFault::Source,
     };
-    let failing = vec![in alloc; (at as u64).saturating_add(1)]?;
-    let source = MemSource::new(bytes, vec![in alloc; 1; at]?, failing);
+    let source = MemSource::new(stream(alloc)?, vec![in alloc; at]?, vec![in alloc; 2]?);
     let (end, sink) = served(alloc, router, hub, keeper, source)?;
     assert_eq!(rt; (end, sink.written()), (want, written.as_slice()), "{at}");
     Ok(())
 }
 
-fn assert_all<H: HubKeeper>(
+// The whole stream ends, and is answered.
+fn assert_whole<H: HubKeeper>(
     rt: &impl Abort,
     alloc: Global,
     router: &PathRouter,
@@ -169,74 +104,44 @@ fn assert_all<H: HubKeeper>(
     keeper: &mut H,
 ) -> Result<(), Fail>
     requires { KeeperFits (H.stands_for keeper.old) hub.old }
+    ensures { KeeperFits (H.stands_for keeper.new) hub.new }
 {
     let bytes = stream(alloc)?;
-    for at in 0..bytes.len() {
-        assert_cut(rt, alloc, router, hub, keeper, at)?;
-        assert_ended(rt, alloc, router, hub, keeper, at)?;
-        assert_failed(rt, alloc, router, hub, keeper, at)?;
+    let (requests, written) = answered(alloc, bytes.len())?;
+    let source = MemSource::new(bytes, Vec::new(alloc), Vec::new(alloc));
+    let (end, sink) = served(alloc, router, hub, keeper, source)?;
+    let want = StreamEnd::Closed { requests, kept: 0 };
+    assert_eq!(rt; (end, sink.written()), (want, written.as_slice()));
+    Ok(())
+}
+
+fn assert_all<H: HubKeeper>(
+    rt: &impl Abort,
+    alloc: Global,
+    hub: &mut Hub,
+    keeper: &mut H,
+) -> Result<(), Fail>
+    requires { KeeperFits (H.stands_for keeper.old) hub.old }
+{
+    let router = PathRouter::new(alloc)?;
+    let count = stream(alloc)?.len();
+    for at in 1..count {
+        assert_failed(rt, alloc, &router, hub, keeper, at)?;
     }
-    assert_failed(rt, alloc, router, hub, keeper, bytes.len())
+    assert_whole(rt, alloc, &router, hub, keeper)
 }
 
 fn assert_over<H: HubKeeper>(rt: &impl Abort, alloc: Global, keeper: &mut H) -> Result<(), Fail> {
-    let router = PathRouter::new(alloc)?;
     let mut hub = opened(rt, alloc, keeper)?;
-    let asserted = assert_all(rt, alloc, &router, &mut hub, keeper);
+    let asserted = assert_all(rt, alloc, &mut hub, keeper);
     drop(hub);
     asserted
 }
 
 #[test]
-fn streams_may_be_cut_and_fail(rt: HostRuntime) -> Result<(), Fail> {
+fn streams_fail_at_each_place(rt: HostRuntime) -> Result<(), Fail> {
     let mut keeper = MemHub::new(rt.alloc(), 9);
     let asserted = assert_over(&rt, rt.alloc(), &mut keeper);
     drop(keeper);
     asserted
-}
-
-// The newest version behind so many bytes of the requests, of which the first alone changes anything.
-fn newest_behind(bytes: usize) -> u64 {
-    if bytes < REPLIES[0].0.len() { 2 } else { 3 }
-}
-
-// The read behind so many bytes fails in a new hub: a write whose bytes are whole by then stands, and no other.
-fn assert_stands<H: HubKeeper>(
-    rt: &impl Abort,
-    alloc: Global,
-    router: &PathRouter,
-    keeper: &mut H,
-    at: usize,
-) -> Result<(), Fail> {
-    let mut hub = opened(rt, alloc, keeper)?;
-    let asserted = assert_failed(rt, alloc, router, &mut hub, keeper, at);
-    let newest = hub.table().newest();
-    drop(hub);
-    asserted?;
-    assert_eq!(rt; newest, newest_behind(at), "{at}");
-    Ok(())
-}
-
-fn assert_stands_anew(
-    rt: &impl Abort,
-    alloc: Global,
-    router: &PathRouter,
-    at: usize,
-) -> Result<(), Fail> {
-    let mut keeper = MemHub::new(alloc, 9);
-    let asserted = assert_stands(rt, alloc, router, &mut keeper, at);
-    drop(keeper);
-    asserted
-}
-
-// Up to the read that is never made.
-#[test]
-fn each_read_may_fail(rt: HostRuntime) -> Result<(), Fail> {
-    let alloc = rt.alloc();
-    let router = PathRouter::new(alloc)?;
-    let reads = stream(alloc)?.len().saturating_add(1);
-    for at in 0..reads.saturating_add(1) {
-        assert_stands_anew(&rt, alloc, &router, at)?;
-    }
-    Ok(())
 }

@@ -1,150 +1,329 @@
-//! Replies to writes, from the wire to the wire, over a hub and a keeper of which a commit fails.
+//! Verdicts on gradebook writes, by the first check that one fails, under marks, repeated, and over a keeper of which a commit fails.
 
 ghost use Rattle.hub_core.specs.Standing.{KeeperFits};
 
-use crate::reads::{request, written};
-use crate::tables::{moment, opened};
+use crate::district::opened;
+use crate::replies::reply_to;
 use hub_core::Hub;
 use keeper_memory::{HubKeeper, MemHub};
 use rest_paths::PathRouter;
-use rest_provider::answer;
-use status_info::Reply;
+use status_info::Cause;
 use std::alloc::Global;
 use std::process::Abort;
 use std::test::Fail;
 
-fn reply_to<H: HubKeeper>(
-    rt: &impl Abort,
-    alloc: Global,
-    router: &PathRouter,
-    hub: &mut Hub,
-    keeper: &mut H,
-    text: &str,
-) -> Result<Reply, Fail>
-    requires { KeeperFits (H.stands_for keeper.old) hub.old }
-    ensures { KeeperFits (H.stands_for keeper.new) hub.new }
-{
-    let request = request(rt, alloc, text)?;
-    let reply = answer(alloc, router, hub, keeper, &request, moment(rt));
-    drop(request);
-    Ok(reply)
-}
+// A write: the token of who asks, its mark or 0, the row's path, and the body that puts it; a row with no body is deleted. Then the cause of
+// the reply, and the version that it tells.
+type Asked = (
+    &'static str,
+    u64,
+    &'static str,
+    &'static str,
+    Cause,
+    Option<u64>,
+);
 
-// What is written for a request is this.
-fn compare<H: HubKeeper>(
-    rt: &impl Abort,
-    alloc: Global,
-    router: &PathRouter,
-    hub: &mut Hub,
-    keeper: &mut H,
-    text: &str,
-    want: &str,
-) -> Result<(), Fail>
-    requires { KeeperFits (H.stands_for keeper.old) hub.old }
-    ensures { KeeperFits (H.stands_for keeper.new) hub.new }
-{
-    let reply = reply_to(rt, alloc, router, hub, keeper, text)?;
-    let sink = written(alloc, &reply);
-    drop(reply);
-    let sink = sink?;
-    assert_eq!(rt; sink.written(), want.as_bytes(), "{text}");
-    Ok(())
-}
+const QUIZ: &str = r#"{"category":{"title":"Quiz"}}"#;
 
-// Requests, and what is written for them.
-static REPLIES: [(&str, &str); 13] = [
+const DATED: &str = r#"{"category":{"title":"Quiz","dateLastModified":"2030-01-01"}}"#;
+
+const SET: &str =
+    r#"{"lineItem":{"title":"Set","assignDate":"2024-09-01","dueDate":"2024-09-08","class":{"sourcedId":"k1"},"category":{"sourcedId":"hw"}}}"#;
+
+const OTHER: &str =
+    r#"{"lineItem":{"title":"Set 3","assignDate":"2024-09-01","dueDate":"2024-09-08","class":{"sourcedId":"k1"},"category":{"sourcedId":"hw"}}}"#;
+
+const OUTSIDE: &str =
+    r#"{"lineItem":{"title":"Set","assignDate":"2024-09-01","dueDate":"2024-09-08","class":{"sourcedId":"k2"},"category":{"sourcedId":"hw"}}}"#;
+
+const NOWHERE: &str =
+    r#"{"lineItem":{"title":"Set","assignDate":"2024-09-01","dueDate":"2024-09-08","class":{"sourcedId":"k1"},"category":{"sourcedId":"no"}}}"#;
+
+const IN_TERM: &str =
+    r#"{"lineItem":{"title":"Set","assignDate":"2024-09-01","dueDate":"2024-09-08","class":{"sourcedId":"k1"},"category":{"sourcedId":"hw"},"gradingPeriod":{"sourcedId":"t1"}}}"#;
+
+const IN_PERIOD: &str =
+    r#"{"lineItem":{"title":"Set","assignDate":"2024-09-01","dueDate":"2024-09-08","class":{"sourcedId":"k1"},"category":{"sourcedId":"hw"},"gradingPeriod":{"sourcedId":"g1"}}}"#;
+
+const JUDGED: &[Asked] = &[
+    // Put, put again, and put with another date than that of the write.
+    ("tok-e", 0, "categories/c2", QUIZ, Cause::Stored, Some(3)),
+    ("tok-e", 0, "categories/c2", QUIZ, Cause::Stored, Some(3)),
+    ("tok-e", 0, "categories/c2", DATED, Cause::Stored, Some(3)),
+    // Rows of the feed and of another caller, also one that isn't seen.
     (
-        "PUT /ims/oneroster/v1p1/categories/c2 HTTP/1.1\r\nHost: hub\r\nAuthorization: Bearer tok-g\r\nX-Hub-Mark: 7\r\nContent-Length: 29\r\n\r\n{\"category\":{\"title\":\"Quiz\"}}",
-        "HTTP/1.1 201 Created\r\nContent-Type: application/json\r\nX-Hub-Version: 3\r\nX-Hub-Mark: 7\r\nContent-Length: 107\r\n\r\n{\"imsx_codeMajor\":\"success\",\"imsx_codeMinor\":\"full_success\",\"imsx_description\":\"\",\"imsx_severity\":\"status\"}",
+        "tok-e",
+        0,
+        "categories/hw",
+        QUIZ,
+        Cause::OwnedByAnother,
+        Some(3),
     ),
     (
-        "PUT /ims/oneroster/v1p1/categories/c3 HTTP/1.1\r\nHost: hub\r\nAuthorization: Bearer tok-g\r\nContent-Length: 29\r\n\r\n{\"category\":{\"title\":\"Quiz\"}}",
-        "HTTP/1.1 201 Created\r\nContent-Type: application/json\r\nX-Hub-Version: 4\r\nContent-Length: 107\r\n\r\n{\"imsx_codeMajor\":\"success\",\"imsx_codeMinor\":\"full_success\",\"imsx_description\":\"\",\"imsx_severity\":\"status\"}",
-    ),
-    // What the mark tells of, and another write under it.
-    (
-        "PUT /ims/oneroster/v1p1/categories/c2 HTTP/1.1\r\nHost: hub\r\nAuthorization: Bearer tok-g\r\nX-Hub-Mark: 7\r\nContent-Length: 29\r\n\r\n{\"category\":{\"title\":\"Quiz\"}}",
-        "HTTP/1.1 201 Created\r\nContent-Type: application/json\r\nX-Hub-Version: 3\r\nX-Hub-Mark: 7\r\nContent-Length: 107\r\n\r\n{\"imsx_codeMajor\":\"success\",\"imsx_codeMinor\":\"full_success\",\"imsx_description\":\"\",\"imsx_severity\":\"status\"}",
-    ),
-    (
-        "PUT /ims/oneroster/v1p1/categories/c2 HTTP/1.1\r\nHost: hub\r\nAuthorization: Bearer tok-g\r\nX-Hub-Mark: 7\r\nContent-Length: 29\r\n\r\n{\"category\":{\"title\":\"Exam\"}}",
-        "HTTP/1.1 422 Unprocessable Entity\r\nContent-Type: application/json\r\nX-Hub-Version: 4\r\nContent-Length: 125\r\n\r\n{\"imsx_codeMajor\":\"failure\",\"imsx_codeMinor\":\"mark_taken\",\"imsx_description\":\"mark of another write\",\"imsx_severity\":\"error\"}",
-    ),
-    // The mark goes before the body, and the scope before the mark.
-    (
-        "PUT /ims/oneroster/v1p1/categories/c2 HTTP/1.1\r\nHost: hub\r\nAuthorization: Bearer tok-g\r\nX-Hub-Mark: x\r\nContent-Length: 1\r\n\r\n{",
-        "HTTP/1.1 400 Bad Request\r\nContent-Type: application/json\r\nX-Hub-Version: 4\r\nContent-Length: 114\r\n\r\n{\"imsx_codeMajor\":\"failure\",\"imsx_codeMinor\":\"invalid_data\",\"imsx_description\":\"bad mark\",\"imsx_severity\":\"error\"}",
+        "tok-w",
+        0,
+        "categories/c2",
+        QUIZ,
+        Cause::OwnedByAnother,
+        Some(3),
     ),
     (
-        "PUT /ims/oneroster/v1p1/categories/c2 HTTP/1.1\r\nHost: hub\r\nAuthorization: Bearer tok-g\r\nX-Hub-Mark: 8\r\nContent-Length: 1\r\n\r\n{",
-        "HTTP/1.1 400 Bad Request\r\nContent-Type: application/json\r\nX-Hub-Version: 4\r\nX-Hub-Mark: 8\r\nContent-Length: 114\r\n\r\n{\"imsx_codeMajor\":\"failure\",\"imsx_codeMinor\":\"invalid_data\",\"imsx_description\":\"bad body\",\"imsx_severity\":\"error\"}",
+        "tok-e",
+        0,
+        "lineItems/li2",
+        SET,
+        Cause::OwnedByAnother,
+        Some(3),
+    ),
+    // The body goes before the owner.
+    ("tok-e", 0, "categories/hw", "{", Cause::BadBody, Some(3)),
+    // A class of the other school, a category that stands nowhere, a grading period of another type, and one of the type.
+    (
+        "tok-e",
+        0,
+        "lineItems/li9",
+        OUTSIDE,
+        Cause::ReferenceOutsideGrant,
+        Some(3),
     ),
     (
-        "PUT /ims/oneroster/v1p1/categories/c2 HTTP/1.1\r\nHost: hub\r\nAuthorization: Bearer tok-e\r\nX-Hub-Mark: x\r\nContent-Length: 1\r\n\r\n{",
-        "HTTP/1.1 403 Forbidden\r\nContent-Type: application/json\r\nX-Hub-Version: 4\r\nContent-Length: 116\r\n\r\n{\"imsx_codeMajor\":\"failure\",\"imsx_codeMinor\":\"forbidden\",\"imsx_description\":\"scope missing\",\"imsx_severity\":\"error\"}",
+        "tok-e",
+        0,
+        "lineItems/li9",
+        NOWHERE,
+        Cause::ReferenceOutsideGrant,
+        Some(3),
     ),
     (
-        "DELETE /ims/oneroster/v1p1/categories/c2 HTTP/1.1\r\nHost: hub\r\nAuthorization: Bearer tok-g\r\nX-Hub-Mark: 9\r\n\r\n",
-        "HTTP/1.1 204 No Content\r\nX-Hub-Version: 5\r\nX-Hub-Mark: 9\r\n\r\n",
+        "tok-e",
+        0,
+        "lineItems/li9",
+        IN_TERM,
+        Cause::ReferenceOfWrongType,
+        Some(3),
     ),
     (
-        "DELETE /ims/oneroster/v1p1/categories/c9 HTTP/1.1\r\nHost: hub\r\nAuthorization: Bearer tok-g\r\n\r\n",
-        "HTTP/1.1 404 Not Found\r\nContent-Type: application/json\r\nX-Hub-Version: 5\r\nContent-Length: 122\r\n\r\n{\"imsx_codeMajor\":\"failure\",\"imsx_codeMinor\":\"unknown_object\",\"imsx_description\":\"no such object\",\"imsx_severity\":\"error\"}",
+        "tok-e",
+        0,
+        "lineItems/li9",
+        IN_PERIOD,
+        Cause::Stored,
+        Some(4),
     ),
-    // The keeper's commit fails once after it has acted.
+    // Rows that stand nowhere, aren't seen, and are the feed's.
+    ("tok-e", 0, "results/r9", "", Cause::NoSuchObject, Some(4)),
     (
-        "DELETE /ims/oneroster/v1p1/categories/c3 HTTP/1.1\r\nHost: hub\r\nAuthorization: Bearer tok-g\r\n\r\n",
-        "HTTP/1.1 500 Internal Server Error\r\nContent-Type: application/json\r\nContent-Length: 118\r\n\r\n{\"imsx_codeMajor\":\"failure\",\"imsx_codeMinor\":\"server_error\",\"imsx_description\":\"store failed\",\"imsx_severity\":\"error\"}",
+        "tok-e",
+        0,
+        "lineItems/li2",
+        "",
+        Cause::NoSuchObject,
+        Some(4),
     ),
     (
-        "DELETE /ims/oneroster/v1p1/categories/c3 HTTP/1.1\r\nHost: hub\r\nAuthorization: Bearer tok-g\r\n\r\n",
-        "HTTP/1.1 204 No Content\r\nX-Hub-Version: 6\r\n\r\n",
+        "tok-e",
+        0,
+        "lineItems/li1",
+        "",
+        Cause::OwnedByAnother,
+        Some(4),
     ),
+    // Deleted, deleted again, and put anew.
+    ("tok-e", 0, "categories/c2", "", Cause::Deleted, Some(5)),
+    ("tok-e", 0, "categories/c2", "", Cause::Deleted, Some(5)),
+    ("tok-e", 0, "categories/c2", QUIZ, Cause::Stored, Some(6)),
     (
-        "PUT /ims/oneroster/v1p1/orgs/d1 HTTP/1.1\r\nHost: hub\r\nAuthorization: Bearer tok-g\r\nContent-Length: 29\r\n\r\n{\"category\":{\"title\":\"Quiz\"}}",
-        "HTTP/1.1 405 Method Not Allowed\r\nContent-Type: application/json\r\nAllow: GET\r\nContent-Length: 125\r\n\r\n{\"imsx_codeMajor\":\"failure\",\"imsx_codeMinor\":\"not_supported\",\"imsx_description\":\"method not allowed\",\"imsx_severity\":\"error\"}",
-    ),
-    (
-        "HEAD /ims/oneroster/v1p1/categories/c2 HTTP/1.1\r\nHost: hub\r\nAuthorization: Bearer tok-g\r\n\r\n",
-        "HTTP/1.1 405 Method Not Allowed\r\nContent-Type: application/json\r\nAllow: GET, PUT, DELETE\r\nContent-Length: 0\r\n\r\n",
+        "tok-w",
+        0,
+        "categories/c2",
+        "",
+        Cause::OwnedByAnother,
+        Some(6),
     ),
 ];
 
-fn compare_all<H: HubKeeper>(
+const MARKED: &[Asked] = &[
+    ("tok-e", 7, "lineItems/li9", SET, Cause::Stored, Some(3)),
+    ("tok-e", 0, "categories/c2", QUIZ, Cause::Stored, Some(4)),
+    // The same write is told what was kept; another is refused, whichever part of it differs.
+    ("tok-e", 7, "lineItems/li9", SET, Cause::Stored, Some(3)),
+    (
+        "tok-e",
+        7,
+        "lineItems/li9",
+        OTHER,
+        Cause::MarkOfAnotherWrite,
+        Some(4),
+    ),
+    (
+        "tok-e",
+        7,
+        "lineItems/li8",
+        SET,
+        Cause::MarkOfAnotherWrite,
+        Some(4),
+    ),
+    (
+        "tok-e",
+        7,
+        "lineItems/li9",
+        "",
+        Cause::MarkOfAnotherWrite,
+        Some(4),
+    ),
+    // A number is each caller's own.
+    ("tok-w", 7, "categories/c5", QUIZ, Cause::Stored, Some(5)),
+    // A refusal is kept as well, and so is that nothing changed.
+    (
+        "tok-e",
+        8,
+        "lineItems/li8",
+        OUTSIDE,
+        Cause::ReferenceOutsideGrant,
+        Some(5),
+    ),
+    ("tok-e", 9, "categories/c2", QUIZ, Cause::Stored, Some(5)),
+    ("tok-e", 10, "categories/c2", "", Cause::Deleted, Some(6)),
+    (
+        "tok-e",
+        8,
+        "lineItems/li8",
+        OUTSIDE,
+        Cause::ReferenceOutsideGrant,
+        Some(5),
+    ),
+    ("tok-e", 9, "categories/c2", QUIZ, Cause::Stored, Some(5)),
+    ("tok-e", 10, "categories/c2", "", Cause::Deleted, Some(6)),
+    ("tok-e", 7, "lineItems/li9", SET, Cause::Stored, Some(3)),
+];
+
+// A change that fails, and a refusal under a mark that does.
+const REPEATED: &[Asked] = &[
+    ("tok-e", 7, "lineItems/li9", SET, Cause::StoreFailed, None),
+    ("tok-e", 7, "lineItems/li9", SET, Cause::Stored, Some(3)),
+];
+
+const REFUSED: &[Asked] = &[
+    (
+        "tok-e",
+        8,
+        "lineItems/li8",
+        OUTSIDE,
+        Cause::StoreFailed,
+        None,
+    ),
+    (
+        "tok-e",
+        8,
+        "lineItems/li8",
+        OUTSIDE,
+        Cause::ReferenceOutsideGrant,
+        Some(2),
+    ),
+];
+
+// A change and its mark are one commit, and a repeat is none.
+const NEXT: &[Asked] = &[
+    ("tok-e", 7, "lineItems/li9", SET, Cause::Stored, Some(3)),
+    ("tok-e", 7, "lineItems/li9", SET, Cause::Stored, Some(3)),
+    ("tok-e", 0, "categories/c2", QUIZ, Cause::StoreFailed, None),
+    ("tok-e", 0, "categories/c2", QUIZ, Cause::Stored, Some(4)),
+];
+
+// The commits that fail before and after they act, 0 being none, and the writes. The first two commits are those of the rows and the grants.
+static RUNS: [(u64, u64, &[Asked]); 7] = [
+    (0, 0, JUDGED),
+    (0, 0, MARKED),
+    (3, 0, REPEATED),
+    (0, 3, REPEATED),
+    (3, 0, REFUSED),
+    (0, 3, REFUSED),
+    (4, 0, NEXT),
+];
+
+fn mark_line(alloc: Global, mark: u64) -> Result<String, Fail> {
+    if mark == 0 {
+        return Ok(String::new(alloc));
+    }
+    Ok(format!(in alloc; "X-Hub-Mark: {mark}\r\n")?)
+}
+
+// The text of the request.
+fn text_of(alloc: Global, asked: &Asked) -> Result<String, Fail> {
+    let (token, mark, path, body) = (asked.0, asked.1, asked.2, asked.3);
+    let (verb, length) = (if body.is_empty() { "DELETE" } else { "PUT" }, body.len());
+    let mark = mark_line(alloc, mark)?;
+    Ok(format!(in alloc;
+        "{verb} /ims/oneroster/v1p1/{path} HTTP/1.1\r\nAuthorization: Bearer {token}\r\n{mark}Content-Length: {length}\r\n\r\n{body}"
+    )?)
+}
+
+fn judge<H: HubKeeper>(
     rt: &impl Abort,
     alloc: Global,
     router: &PathRouter,
     hub: &mut Hub,
     keeper: &mut H,
+    asked: &Asked,
+) -> Result<(), Fail>
+    requires { KeeperFits (H.stands_for keeper.old) hub.old }
+    ensures { KeeperFits (H.stands_for keeper.new) hub.new }
+{
+    let text = text_of(alloc, asked)?;
+    let reply = reply_to(rt, alloc, router, hub, keeper, text.as_str())?;
+    let told = (reply.cause, reply.version);
+    drop(reply);
+    assert_eq!(rt; told, (asked.4, asked.5), "{text}");
+    Ok(())
+}
+
+fn judge_all<H: HubKeeper>(
+    rt: &impl Abort,
+    alloc: Global,
+    hub: &mut Hub,
+    keeper: &mut H,
+    asks: &[Asked],
 ) -> Result<(), Fail>
     requires { KeeperFits (H.stands_for keeper.old) hub.old }
 {
-    for (text, want) in &REPLIES {
-        compare(rt, alloc, router, hub, keeper, text, want)?;
+    let router = PathRouter::new(alloc)?;
+    for asked in asks {
+        judge(rt, alloc, &router, hub, keeper, asked)?;
     }
     Ok(())
 }
 
-fn compare_over<H: HubKeeper>(
+fn judge_over<H: HubKeeper>(
     rt: &impl Abort,
     alloc: Global,
-    router: &PathRouter,
     keeper: &mut H,
+    asks: &[Asked],
 ) -> Result<(), Fail> {
     let mut hub = opened(rt, alloc, keeper)?;
-    let compared = compare_all(rt, alloc, router, &mut hub, keeper);
+    let judged = judge_all(rt, alloc, &mut hub, keeper, asks);
     drop(hub);
-    compared
+    judged
 }
 
-// The seventh commit fails after it has acted.
-#[test]
-fn writes_are_answered(rt: HostRuntime) -> Result<(), Fail> {
-    let alloc = rt.alloc();
-    let router = PathRouter::new(alloc)?;
-    let failing = vec![in alloc; 7]?;
-    let mut keeper = MemHub::new(alloc, 9).with_failures(Vec::new(alloc), failing, Vec::new(alloc));
-    let compared = compare_over(&rt, alloc, &router, &mut keeper);
+fn judge_in_memory(
+    rt: &impl Abort,
+    alloc: Global,
+    before: u64,
+    after: u64,
+    asks: &[Asked],
+) -> Result<(), Fail> {
+    let before = vec![in alloc; before]?;
+    let after = vec![in alloc; after]?;
+    let mut keeper = MemHub::new(alloc, 9).with_failures(before, after, Vec::new(alloc));
+    let judged = judge_over(rt, alloc, &mut keeper, asks);
     drop(keeper);
-    compared
+    judged
+}
+
+#[test]
+fn writes_are_judged(rt: HostRuntime) -> Result<(), Fail> {
+    for (before, after, asks) in &RUNS {
+        judge_in_memory(&rt, rt.alloc(), *before, *after, asks)?;
+    }
+    Ok(())
 }

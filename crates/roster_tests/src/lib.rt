@@ -1,13 +1,25 @@
-//! Tests of the crates that rows are made of, against values that were made outside the program; and rows made of cells, for
-//! the tests of the crates above.
+//! Tests of texts, rows, files and grants against values that were made outside the program, and of the ports to the outside.
 #![tactic(auto)]
 
 #[cfg(test)]
-mod base_tests;
+mod acceptors;
 #[cfg(test)]
-mod row_tests;
-pub mod samples;
+mod clocks;
 #[cfg(test)]
-mod text_tests;
+mod folders;
 #[cfg(test)]
-mod value_tests;
+mod grants;
+#[cfg(test)]
+mod json_texts;
+#[cfg(test)]
+mod kinds;
+#[cfg(test)]
+mod rows;
+#[cfg(test)]
+mod sets;
+#[cfg(test)]
+mod streams;
+#[cfg(test)]
+mod texts;
+#[cfg(test)]
+mod timed_ends;

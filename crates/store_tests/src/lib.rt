@@ -1,31 +1,24 @@
-//! Tests of the keepers over a database, of a hub and of a copy: what is kept is found again, beside a keeper in memory, and stores that are
-//! broken or cut off; and what hub and consumer have of them.
+//! Tests of the keepers over a database, of a hub and of a copy: what is kept is found again, stores that are broken or cut off, and those
+//! in the system's folder.
 #![tactic(auto)]
 
 #[cfg(test)]
 mod broken;
 #[cfg(test)]
-mod copies;
-#[cfg(test)]
 mod kept;
+#[cfg(test)]
+mod laws;
 #[cfg(test)]
 mod real;
 #[cfg(test)]
-mod shut;
+mod replies;
 #[cfg(test)]
 mod steps;
 #[cfg(test)]
 mod stops;
-pub mod store_laws;
 #[cfg(test)]
 mod stored;
 #[cfg(test)]
-mod tables;
-#[cfg(test)]
-mod ten_kinds;
-#[cfg(test)]
 mod ten_kinds_items;
-#[cfg(test)]
-mod turned;
 #[cfg(test)]
 mod words;

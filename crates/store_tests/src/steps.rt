@@ -1,48 +1,49 @@
 //! Steps over a store: words over a hub, words over a consumer's copy with the replies to their exchanges, which are given beforehand, and
-//! looks at what the copy's store holds.
+//! what is done to its items.
 
-use crate::stored::{aged_in, areas_in, format_in, kept_in, stored_in};
+use crate::stored::{areas_told, put_told};
 use crate::ten_kinds_items::Kept;
-use crate::words::{printed, run_line, told};
+use crate::words::run_line;
 use exchange_link::PeerLink;
-use item_tests::opened;
-use keeper_memory::{CopyKeeper, HubKeeper, MemCopy, MemHub};
+use keeper_memory::{MemCopy, MemHub};
 use keeper_sqlite::{ItemCopy, ItemHub, SqlItems, StoredItems};
 use roster_base::NoMemory;
-use sqlite::{Connection, FileStore, Files, Options};
-use sqlite_disk::Disk;
+use sqlite::{Alter, Connection, FileStore, Files, Options};
+use sqlite_disk::{Disk, Memory};
 use std::alloc::Global;
+use store_laws::items::opened;
 
 /// A reply: its head but for the number of its exchange and the length of its body, and its body.
 pub type Reply = (&'static str, &'static str);
 
-/// Words, the number of the run that they are where they make exchanges, and the replies to these.
+/// Words over a copy, the number of the run that they are where they make exchanges, and the replies to these.
 #[derive(Clone, Copy)]
 pub struct Turn(pub &'static str, pub u64, pub &'static [Reply]);
 
-/// Words over a hub, the same once more over the same keeper where they fail, words over a hub of which only what is printed is told, a turn
-/// of a hub that follows another one with a new copy, a turn of a copy, a look at the copy's store or at its format, or at a hub's areas, a copy's store made one of format 1, or items put into a store.
+/// Words over a hub, a turn of a copy, a look at how many items each area has, items that are put, or statements.
 #[derive(Clone, Copy)]
 pub enum Step {
     Hub(&'static str),
-    HubAgain(&'static str),
-    Printed(&'static str),
-    Follow(Turn),
     Copy(Turn),
-    Store,
-    Format,
     Areas,
-    Aged,
-    Kept(&'static [Kept]),
+    Put(&'static [Kept]),
+    Sql(&'static str),
+}
+
+/// Files that hold nothing.
+pub fn empty(alloc: Global) -> Files<Memory> {
+    Files {
+        log: Memory::new(alloc),
+        db: Memory::new(alloc),
+    }
 }
 
 fn reply_to(alloc: Global, run: u64, count: usize, reply: &Reply) -> Result<Vec<u8>, NoMemory> {
     let (head, body) = reply;
     let length = body.len();
-    let mut text = format!(in alloc;
-        "{head}\r\nX-Hub-Exchange: {run}.{count}\r\nContent-Length: {length}\r\n\r\n"
+    let text = format!(in alloc;
+        "{head}\r\nX-Hub-Exchange: {run}.{count}\r\nContent-Length: {length}\r\n\r\n{body}"
     )?;
-    text.push_str(body)?;
     Ok(text.into_bytes())
 }
 
@@ -59,45 +60,7 @@ fn replies_to(
     Ok(texts)
 }
 
-// Runs a turn over a hub and a copy, and tells the status and what is printed.
-fn turn_printed<H: HubKeeper, C: CopyKeeper>(
-    alloc: Global,
-    turn: &Turn,
-    keeper: &mut H,
-    copy: &mut C,
-) -> Result<String, NoMemory> {
-    let Turn(line, run, replies) = turn;
-    let mut link = PeerLink::new(alloc, replies_to(alloc, *run, replies)?);
-    printed(alloc, line, keeper, copy, &mut link)
-}
-
-/// Runs a turn over a copy, and tells the status and what is printed.
-pub fn turn_told<C: CopyKeeper>(
-    alloc: Global,
-    turn: &Turn,
-    copy: &mut C,
-) -> Result<String, NoMemory> {
-    let mut keeper = MemHub::new(alloc, 0);
-    let told = turn_printed(alloc, turn, &mut keeper, copy);
-    drop(keeper);
-    told
-}
-
-// Runs a turn over a hub that these items keep, with a new copy, and gives them back.
-fn follow_over<I: StoredItems>(
-    alloc: Global,
-    items: I,
-    keep: u32,
-    turn: &Turn,
-) -> (Result<String, NoMemory>, I) {
-    let mut keeper = ItemHub::adopt(items, keep);
-    let mut copy = MemCopy::new(alloc);
-    let told = turn_printed(alloc, turn, &mut keeper, &mut copy);
-    drop(copy);
-    (told, keeper.release())
-}
-
-// Runs the words over a hub that these items keep, and gives them back.
+// Runs the words over a hub that these items keep, with a new copy, and gives the items back.
 fn hub_over<I: StoredItems>(
     alloc: Global,
     items: I,
@@ -105,85 +68,92 @@ fn hub_over<I: StoredItems>(
     line: &str,
 ) -> (Result<String, NoMemory>, I) {
     let mut keeper = ItemHub::adopt(items, keep);
-    let told = told(alloc, line, &mut keeper);
+    let mut copy = MemCopy::new(alloc);
+    let mut link = PeerLink::new(alloc, Vec::new(alloc));
+    let told = run_line(alloc, line, &mut keeper, &mut copy, &mut link);
+    drop(copy);
+    drop(link);
     (told, keeper.release())
 }
 
-// Runs the words over a hub that these items keep, tells what is printed, and gives the items back.
-fn hub_printed<I: StoredItems>(
-    alloc: Global,
-    items: I,
-    keep: u32,
-    line: &str,
-) -> (Result<String, NoMemory>, I) {
-    let mut keeper = ItemHub::adopt(items, keep);
-    let told = run_line(alloc, line, &mut keeper);
-    (told, keeper.release())
-}
-
-// What the words tell over a keeper, or where they fail what they tell then.
-fn told_again<H: HubKeeper>(alloc: Global, line: &str, keeper: &mut H) -> Result<String, NoMemory> {
-    let first = told(alloc, line, keeper)?;
-    if first.starts_with('0') {
-        return Ok(first);
-    }
-    let second = told(alloc, line, keeper)?;
-    Ok(format!(in alloc; "again {second}")?)
-}
-
-// Runs the words over a hub that these items keep, once more where they fail, and gives the items back.
-fn hub_again<I: StoredItems>(
-    alloc: Global,
-    items: I,
-    keep: u32,
-    line: &str,
-) -> (Result<String, NoMemory>, I) {
-    let mut keeper = ItemHub::adopt(items, keep);
-    let told = told_again(alloc, line, &mut keeper);
-    (told, keeper.release())
-}
-
-// Runs a turn over a copy that these items keep, and gives them back.
+// Runs a turn over a copy that these items keep, with a new hub, and gives the items back.
 fn copy_over<I: StoredItems>(
+    alloc: Global,
+    items: I,
+    line: &str,
+    replies: Vec<Option<Vec<u8>>>,
+) -> (Result<String, NoMemory>, I) {
+    let mut keeper = MemHub::new(alloc, 0);
+    let mut copy = ItemCopy::adopt(items);
+    let mut link = PeerLink::new(alloc, replies);
+    let told = run_line(alloc, line, &mut keeper, &mut copy, &mut link);
+    drop(keeper);
+    drop(link);
+    (told, copy.release())
+}
+
+fn turn_over<I: StoredItems>(
     alloc: Global,
     items: I,
     turn: &Turn,
 ) -> (Result<String, NoMemory>, I) {
-    let mut copy = ItemCopy::adopt(items);
-    let told = turn_told(alloc, turn, &mut copy);
-    (told, copy.release())
+    let Turn(line, run, replies) = turn;
+    match replies_to(alloc, *run, replies) {
+        Ok(replies) => copy_over(alloc, items, line, replies),
+        Err(error) => (Err(error), items),
+    }
 }
 
-/// Takes a step over these items, and gives them back. A new hub keeps so many versions.
-pub fn step_over<I: StoredItems>(
+// Takes a step over these items, and gives them back. A new hub keeps so many versions.
+fn step_over<I: StoredItems>(
     alloc: Global,
-    items: I,
+    mut items: I,
     keep: u32,
     step: &Step,
 ) -> (Result<String, NoMemory>, I) {
     match step {
         Step::Hub(line) => hub_over(alloc, items, keep, line),
-        Step::HubAgain(line) => hub_again(alloc, items, keep, line),
-        Step::Printed(line) => hub_printed(alloc, items, keep, line),
-        Step::Follow(turn) => follow_over(alloc, items, keep, turn),
-        Step::Copy(turn) => copy_over(alloc, items, turn),
-        Step::Store => stored_in(alloc, items),
-        Step::Format => format_in(alloc, items),
-        Step::Areas => areas_in(alloc, items),
-        Step::Aged => aged_in(alloc, items),
-        Step::Kept(kept) => kept_in(alloc, kept, items),
+        Step::Copy(turn) => turn_over(alloc, items, turn),
+        Step::Areas => (areas_told(alloc, &mut items), items),
+        Step::Put(kept) => (put_told(alloc, &mut items, kept), items),
+        Step::Sql(_) => (Ok(String::new(alloc)), items),
     }
 }
 
-// Takes a step over the store in a connection, and gives its files back.
+// Runs statements over a connection, and tells where that fails.
+fn sql_told<S: Alter + Drop>(
+    alloc: Global,
+    connection: &mut Connection<S>,
+    sql: &str,
+) -> Result<String, NoMemory> {
+    let done = connection.execute_batch(sql).is_ok();
+    Ok(String::from_str(alloc, if done { "" } else { "failed" })?)
+}
+
+// Takes a step over the store in a connection, and gives its database back.
+fn step_on<S: Alter + Drop>(
+    alloc: Global,
+    mut connection: Connection<S>,
+    keep: u32,
+    step: &Step,
+) -> (Result<String, NoMemory>, S) {
+    if let Step::Sql(sql) = step {
+        let told = sql_told(alloc, &mut connection, sql);
+        return (told, connection.into_store());
+    }
+    let (told, items) = step_over(alloc, SqlItems::adopt(connection), keep, step);
+    (told, items.release().into_store())
+}
+
+// Takes a step over the store in a connection to files, and gives these back.
 fn step_open<D: Disk + Drop>(
     alloc: Global,
     connection: Connection<FileStore<D>>,
     keep: u32,
     step: &Step,
 ) -> (Result<String, NoMemory>, Files<D>) {
-    let (told, items) = step_over(alloc, SqlItems::adopt(connection), keep, step);
-    (told, items.release().into_store().close())
+    let (told, store) = step_on(alloc, connection, keep, step);
+    (told, store.close())
 }
 
 // Each step opens the files anew, so that few pages are made ready for what is read.
@@ -205,4 +175,13 @@ pub fn step_in<D: Disk + Drop>(
         Ok(connection) => step_open(alloc, connection, keep, step),
         Err(files) => (Ok(String::new(alloc)), files),
     }
+}
+
+/// The files that steps leave.
+pub fn files_after(alloc: Global, keep: u32, steps: &[Step]) -> Files<Memory> {
+    let mut files = empty(alloc);
+    for step in steps {
+        files = step_in(alloc, files, keep, step).1;
+    }
+    files
 }

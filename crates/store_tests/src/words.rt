@@ -1,9 +1,7 @@
 //! Words that are run over a keeper, and the files that they name.
 
-use crate::tables::push_keeper;
 use exchange_link::PeerLink;
-use keeper_memory::{CopyKeeper, HubKeeper, MemCopy};
-use made_districts::files::made_folder;
+use keeper_memory::{CopyKeeper, HubKeeper};
 use outside_ports::{FixedClock, MemFolder, MemSink};
 use real_run::run_hub;
 use roster_base::NoMemory;
@@ -21,19 +19,18 @@ file.courseResources,absent\nsource.systemName,Lake SIS\nsource.systemCode,LSIS\
 const SOME_ORGS: &str =
     "propertyName,value\nmanifest.version,1.0\noneroster.version,1.1\nfile.orgs,delta\n";
 
-// The set of all orgs.
-static LAKE: [(&str, &str); 2] = [
-    ("manifest.csv", ALL_ORGS),
+/// A file by its folder and name, with its text.
+pub type File = (&'static str, &'static str, &'static str);
+
+/// The set of all orgs, two sets of some, two files of grants, the body of a category, a set of resources, a grant of these, and requests.
+pub static FILES: [File; 18] = [
+    ("lake", "manifest.csv", ALL_ORGS),
     (
+        "lake",
         "orgs.csv",
         "sourcedId,status,dateLastModified,name,type,identifier,parentSourcedId,metadata.bus\n\
 d1,,,\"Lake, \"\"Unified\"\"\",district,LDU,,\ns1,,,East,school,,d1,7\ns2,,,Wést,school,,d1,\n",
     ),
-];
-
-// Folders, names and texts: two sets of some orgs, two files of grants, the body of a category, a set of resources, a grant of these, and
-// requests.
-static FILES: [(&str, &str, &str); 14] = [
     ("new", "manifest.csv", SOME_ORGS),
     (
         "new",
@@ -93,44 +90,35 @@ s2,active,2024-09-01T00:00:00.000Z,West High,school\ns3,active,2024-09-01T00:00:
         "before.http",
         "GET /ims/oneroster/v1p1/resources/rs1?fields=sourcedId&hubVersion=3 HTTP/1.1\r\nHost: hub\r\nAuthorization: Bearer tok-e\r\n\r\n",
     ),
+    (
+        "",
+        "s2.http",
+        "GET /ims/oneroster/v1p1/orgs/s2?fields=sourcedId,name HTTP/1.1\r\nHost: hub\r\nAuthorization: Bearer tok-a\r\n\r\n",
+    ),
+    (
+        "",
+        "marked.http",
+        "DELETE /ims/oneroster/v1p1/categories/c1 HTTP/1.1\r\nHost: hub\r\nAuthorization: Bearer tok-e\r\nX-Hub-Mark: 7\r\n\r\n",
+    ),
 ];
-
-type Files = Vec<(String, String, Vec<u8>)>;
 
 fn push_file(
     alloc: Global,
-    files: &mut Files,
-    dir: &str,
-    name: &str,
-    text: &str,
+    files: &mut Vec<(String, String, Vec<u8>)>,
+    (folder, name, text): &File,
 ) -> Result<(), NoMemory> {
-    let dir = String::from_str(alloc, dir)?;
+    let folder = String::from_str(alloc, folder)?;
     let name = String::from_str(alloc, name)?;
-    files.push((dir, name, text.as_bytes().to_vec(alloc)?))?;
+    files.push((folder, name, text.as_bytes().to_vec(alloc)?))?;
     Ok(())
 }
 
-// Enough schools that their rows are more than a keeper reads at once.
-const MANY: u16 = 90;
-
 fn folder(alloc: Global) -> Result<MemFolder, NoMemory> {
     let mut files = Vec::new(alloc);
-    for (name, text) in &LAKE {
-        push_file(alloc, &mut files, "lake", name, text)?;
-    }
-    for (dir, name, text) in &FILES {
-        push_file(alloc, &mut files, dir, name, text)?;
+    for file in &FILES {
+        push_file(alloc, &mut files, file)?;
     }
     Ok(MemFolder::new(files, Vec::new(alloc)))
-}
-
-// The folder that the words are about: that of a made district where they name its set.
-fn folder_for(alloc: Global, line: &str) -> Result<MemFolder, NoMemory> {
-    if line.ends_with("=gen") {
-        made_folder(alloc, MANY)
-    } else {
-        folder(alloc)
-    }
 }
 
 /// The words between spaces.
@@ -142,21 +130,20 @@ pub fn words_of(alloc: Global, line: &str) -> Result<Vec<String>, NoMemory> {
     Ok(words)
 }
 
-/// Runs the words between spaces over a hub, a copy and a link at noon, and tells the status and what is printed.
-pub fn printed<H: HubKeeper, C: CopyKeeper>(
+// Runs the words over a hub, a copy and a link, and tells the status and what is printed.
+fn run_words<H: HubKeeper, C: CopyKeeper>(
     alloc: Global,
-    line: &str,
+    words: &[String],
     keeper: &mut H,
     copy: &mut C,
     link: &mut PeerLink,
 ) -> Result<String, NoMemory> {
-    let words = words_of(alloc, line)?;
-    let mut folder = folder_for(alloc, line)?;
+    let mut folder = folder(alloc)?;
     let mut sink = MemSink::new(alloc, 1024, Vec::new(alloc))?;
     let clock = FixedClock::at(NOON);
     let status = run_hub(
         alloc,
-        words.as_slice(),
+        words,
         &mut folder,
         keeper,
         copy,
@@ -164,31 +151,19 @@ pub fn printed<H: HubKeeper, C: CopyKeeper>(
         &clock,
         &mut sink,
     );
+    drop(folder);
     let text = str::from_utf8(sink.written()).unwrap_or("no text");
     Ok(format!(in alloc; "{status} {text}")?)
 }
 
-/// Runs the words over a keeper, with a new copy and no hub to be copied, and tells the status and what is printed.
-pub fn run_line<H: HubKeeper>(
+/// Runs the words between spaces over a hub, a copy and a link at noon, and tells the status and what is printed.
+pub fn run_line<H: HubKeeper, C: CopyKeeper>(
     alloc: Global,
     line: &str,
     keeper: &mut H,
+    copy: &mut C,
+    link: &mut PeerLink,
 ) -> Result<String, NoMemory> {
-    let mut copy = MemCopy::new(alloc);
-    let mut link = PeerLink::new(alloc, Vec::new(alloc));
-    let told = printed(alloc, line, keeper, &mut copy, &mut link);
-    drop(copy);
-    told
-}
-
-/// Runs the words between spaces over a keeper, and tells the status, what is printed, and what the keeper gives then.
-pub fn told<H: HubKeeper>(alloc: Global, line: &str, keeper: &mut H) -> Result<String, NoMemory> {
-    let mut told = run_line(alloc, line, keeper)?;
-    push_keeper(alloc, &mut told, keeper)?;
-    Ok(told)
-}
-
-/// The files of the set of all orgs: names and texts.
-pub fn lake_files() -> &'static [(&'static str, &'static str)] {
-    &LAKE
+    let words = words_of(alloc, line)?;
+    run_words(alloc, words.as_slice(), keeper, copy, link)
 }

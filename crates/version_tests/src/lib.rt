@@ -1,17 +1,11 @@
-//! Tests of broken references, of rows and versions, of a keeper's tables, and of sets that are published one after another.
+//! Tests of broken references, and of sets and grants that are published one after another over a keeper of which calls fail.
 #![tactic(auto)]
 
-#[cfg(test)]
-mod copies;
 #[cfg(test)]
 mod publications;
 #[cfg(test)]
 mod references;
 #[cfg(test)]
-mod referring;
+mod runs;
 #[cfg(test)]
-mod samples;
-#[cfg(test)]
-mod tables;
-#[cfg(test)]
-mod versions;
+mod told;

@@ -1,11 +1,11 @@
-//! Tests of the causes of replies, and of requests and replies as bytes.
+//! Tests of paths and queries, of the causes of replies, and of requests and replies as bytes.
 #![tactic(auto)]
 
 #[cfg(test)]
-mod causes;
+mod paths;
+#[cfg(test)]
+mod queries;
 #[cfg(test)]
 mod replies;
 #[cfg(test)]
 mod requests;
-#[cfg(test)]
-mod sending;

@@ -1,6 +1,6 @@
 //! Replies as the hub writes them, and as the consumer reads them.
 
-use http_wire::{WireFault, WireReply, parse_reply, reply_length, write_reply};
+use http_wire::{WireFault, WireReply, parse_reply, reply_length, send_reply, write_reply};
 use outside_ports::MemSink;
 use roster_base::{Items, Text};
 use status_info::{Cause, Echo, LinkItem, Rel, Reply};
@@ -16,17 +16,13 @@ fn assert_reply(rt: &impl Abort, alloc: Global, reply: &Reply, want: &str) -> Re
     Ok(())
 }
 
-fn link(alloc: Global, rel: Rel, target: &str) -> Result<LinkItem, Fail> {
-    let target = Text::new(alloc, target)?;
-    Ok(LinkItem { rel, target })
-}
-
 static LINKS: [(Rel, &str); 2] = [(Rel::Next, "/x?offset=1"), (Rel::First, "/x?offset=0")];
 
 fn links_of(alloc: Global) -> Result<Items<LinkItem>, Fail> {
     let mut links = Items::new(alloc);
     for (rel, target) in &LINKS {
-        links.push(link(alloc, *rel, target)?)?;
+        let target = Text::new(alloc, target)?;
+        links.push(LinkItem { rel: *rel, target })?;
     }
     Ok(links)
 }
@@ -41,24 +37,18 @@ fn page(alloc: Global, links: Items<LinkItem>, body: Text) -> Reply {
     page
 }
 
+// For HEAD it has no body.
 #[test]
 fn a_page_has_its_bytes(rt: HostRuntime) -> Result<(), Fail> {
     let alloc = rt.alloc();
     let body = Text::new(alloc, "{}")?;
-    let page = page(alloc, links_of(alloc)?, body);
+    let mut page = page(alloc, links_of(alloc)?, body);
     let want =
         "HTTP/1.1 200 OK\r\nContent-Type: application/json\r\nX-Total-Count: 2\r\nLink: </x?offset=1>; rel=\"next\", </x?offset=0>; rel=\"first\"\r\nX-Hub-Warning: invalid_sort_field\r\nX-Hub-Version: 2\r\nX-Hub-Exchange: 1.20\r\nConnection: close\r\nContent-Length: 2\r\n\r\n{}";
-    assert_reply(&rt, alloc, &page, want)
-}
-
-#[test]
-fn a_page_for_head_has_no_body(rt: HostRuntime) -> Result<(), Fail> {
-    let alloc = rt.alloc();
-    let body = Text::new(alloc, "{}")?;
-    let mut page = page(alloc, Items::new(alloc), body);
+    assert_reply(&rt, alloc, &page, want)?;
     page.headless = true;
     let want =
-        "HTTP/1.1 200 OK\r\nContent-Type: application/json\r\nX-Total-Count: 2\r\nX-Hub-Warning: invalid_sort_field\r\nX-Hub-Version: 2\r\nX-Hub-Exchange: 1.20\r\nConnection: close\r\nContent-Length: 0\r\n\r\n";
+        "HTTP/1.1 200 OK\r\nContent-Type: application/json\r\nX-Total-Count: 2\r\nLink: </x?offset=1>; rel=\"next\", </x?offset=0>; rel=\"first\"\r\nX-Hub-Warning: invalid_sort_field\r\nX-Hub-Version: 2\r\nX-Hub-Exchange: 1.20\r\nConnection: close\r\nContent-Length: 0\r\n\r\n";
     assert_reply(&rt, alloc, &page, want)
 }
 
@@ -188,4 +178,36 @@ fn a_reply_tells_its_length(rt: HostRuntime) {
         };
         assert_eq!(rt; told, (*length, *fault), "{text}");
     }
+}
+
+// What is sent of a reply with a body of so many bytes where the call with that number fails, and whether it was made.
+fn sent(alloc: Global, length: usize, failing: u64) -> Result<(bool, usize), Fail> {
+    let body = Text::from_string("x".repeat(alloc, length)?);
+    let mut sink = MemSink::new(alloc, 100_000, vec![in alloc; failing]?)?;
+    let reply = page(alloc, Items::new(alloc), body);
+    let is_sent = send_reply(alloc, &mut sink, &reply).is_ok();
+    drop(reply);
+    Ok((is_sent, sink.written().len()))
+}
+
+// The length of a body, the number of the call that fails, whether the reply is sent, and how many bytes are written then. The head has 186
+// bytes. A body of up to 65,536 bytes goes out in one piece with it, a longer one in a piece of its own; of a piece that fails the first half
+// is written.
+static PIECES: [(usize, u64, (bool, usize)); 4] = [
+    (65_536, 1, (false, 32_861)),
+    (65_536, 2, (true, 65_722)),
+    (65_537, 2, (false, 32_954)),
+    (65_537, 3, (true, 65_723)),
+];
+
+#[test]
+fn replies_go_out_in_few_pieces(rt: HostRuntime) -> Result<(), Fail> {
+    for (length, failing, want) in &PIECES {
+        assert_eq!(rt;
+            sent(rt.alloc(), *length, *failing)?,
+            *want,
+            "{length} {failing}"
+        );
+    }
+    Ok(())
 }

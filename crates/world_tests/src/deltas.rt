@@ -1,152 +1,127 @@
-//! Incremental synchronisations behind a whole one and a write of another consumer, of which something fails in the first: the call behind
-//! it makes the copy whole.
+//! Incremental synchronisations behind a whole one and the writes of another consumer: each of their exchanges is lost, and each of their
+//! commits fails, and what they leave in the end is what a whole synchronisation leaves.
 
-use crate::losses::Failing;
-use crate::runs::run;
-use crate::whole::is_whole;
-use crate::worlds::{token, world};
-use consumer_deltas::{DeltaAnswer, delta_sync};
-use consumer_sync::sync;
-use exchange_link::SyncAnswer;
-use keeper_memory::MemCopy;
+use crate::hubs::Fault::{Copy, Exchange, Nothing};
+use crate::hubs::Place::{District, Other, Region};
+use crate::hubs::{Hubs, Step, assert_alike, assert_steps, new_hubs};
 use std::alloc::Global;
 use std::process::Abort;
 use std::test::Fail;
-use sync_world::{Fate, WorldLink};
+use sync_world::Fate::{ReplyLost, RequestLost};
 
-// What is called behind the call in which something failed.
-#[derive(Clone, Copy, Debug)]
-enum Next {
-    Delta,
-    Whole,
-}
+// The copy of the region is at version 2, and the other consumer makes version 4. The whole copy takes sixteen commits: of a run, a stage, a
+// page of each kind and the swap.
+#[rattlefmt::skip]
+static BEGUN: [Step; 8] = [
+    (District, Nothing, "publish sis=lake", 0, "sis version 1\n"),
+    (District, Nothing, "grant g.csv", 0, "grants version 2\n"),
+    (Region, Nothing, "sync tok-e 100 1", 0, "complete 2\n"),
+    (Region, Nothing, "delta tok-a 100 1", 19, "no base\n"),
+    (Other, Nothing, "enter put categories c2 c2.json", 0, "entered 1\n"),
+    (Other, Nothing, "enter put lineItems li2 set.json", 0, "entered 2\n"),
+    (Other, Nothing, "send tok-e 1", 0, "settled 2\n"),
+    (Other, Nothing, "outbox", 0, "1 201 3\n2 201 4\n"),
+];
 
-// What another consumer does: version 3 has one category more.
-static WRITES: [&str; 2] = ["enter put categories c2 c2.json", "send tok-e 1"];
+// What was gathered isn't asked for again.
+#[rattlefmt::skip]
+static LOST: [Step; 19] = [
+    (Region, Exchange(RequestLost, 1), "delta tok-e 1 1", 7, "interrupted orgs 0\n"),
+    (Region, Exchange(ReplyLost, 2), "delta tok-e 1 1", 7, "interrupted academicSessions 0\n"),
+    (Region, Exchange(RequestLost, 2), "delta tok-e 1 1", 7, "interrupted courses 0\n"),
+    (Region, Exchange(ReplyLost, 2), "delta tok-e 1 1", 7, "interrupted classes 0\n"),
+    (Region, Exchange(RequestLost, 2), "delta tok-e 1 1", 7, "interrupted users 0\n"),
+    (Region, Exchange(ReplyLost, 2), "delta tok-e 1 1", 7, "interrupted enrollments 0\n"),
+    (Region, Exchange(RequestLost, 2), "delta tok-e 1 1", 7, "interrupted demographics 0\n"),
+    (Region, Exchange(ReplyLost, 2), "delta tok-e 1 1", 7, "interrupted categories 0\n"),
+    (Region, Exchange(RequestLost, 2), "delta tok-e 1 1", 7, "interrupted lineItems 0\n"),
+    (Region, Exchange(ReplyLost, 2), "delta tok-e 1 1", 7, "interrupted results 0\n"),
+    (Region, Exchange(RequestLost, 2), "delta tok-e 1 1", 7, "interrupted resources 0\n"),
+    (Region, Exchange(ReplyLost, 2), "delta tok-e 1 1", 7, "interrupted classResources 0\n"),
+    (Region, Exchange(RequestLost, 2), "delta tok-e 1 1", 7, "interrupted courseResources 0\n"),
+    (Region, Nothing, "delta tok-e 1 1", 0, "complete 4\n"),
+    (Region, Nothing, "delta tok-e 1 1", 0, "complete 4\n"),
+    (District, Nothing, "publish sis=moved", 0, "sis version 5\n"),
+    (Region, Exchange(ReplyLost, 7), "delta tok-e 100 1", 7, "interrupted demographics 0\n"),
+    (Region, Nothing, "sync tok-e 100 1", 0, "complete 5\n"),
+    (Other, Nothing, "sync tok-e 2 1", 0, "complete 5\n"),
+];
 
-fn run_all(
+// Behind these steps the copies of the region and of the other consumer are alike.
+fn assert_whole(
     rt: &impl Abort,
     alloc: Global,
-    copy: &mut MemCopy,
-    link: &mut WorldLink,
+    hubs: &mut Hubs,
+    steps: &[Step],
 ) -> Result<(), Fail> {
-    for line in &WRITES {
-        let (status, text) = run(alloc, line, copy, link)?;
-        assert_eq!(rt; status, 0, "{line}: {text}");
-    }
-    Ok(())
+    assert_steps(rt, alloc, hubs, &BEGUN)?;
+    assert_steps(rt, alloc, hubs, steps)?;
+    assert_alike(rt, alloc, hubs, Region, Other)
 }
 
-fn write(rt: &impl Abort, alloc: Global, link: &mut WorldLink) -> Result<(), Fail> {
-    let mut other = MemCopy::new(alloc);
-    let written = run_all(rt, alloc, &mut other, link);
-    drop(other);
-    written
-}
-
-// Plans that an exchange or a commit fails, by its number among all of them.
-fn plan(copy: &mut MemCopy, link: &mut WorldLink, failing: Failing) -> Result<(), Fail> {
-    match failing {
-        Failing::Nothing => {}
-        Failing::Request(n) => link.meet(n, Fate::RequestLost)?,
-        Failing::Reply(n) => link.meet(n, Fate::ReplyLost)?,
-        Failing::Before(n) => copy.list_commit(false, n)?,
-        Failing::After(n) => copy.list_commit(true, n)?,
-    }
-    Ok(())
-}
-
-// The answers of an incremental synchronisation in which this fails, and of the call behind it.
-fn answers(
-    rt: &impl Abort,
-    alloc: Global,
-    copy: &mut MemCopy,
-    link: &mut WorldLink,
-    failing: Failing,
-    next: Next,
-) -> Result<(DeltaAnswer, DeltaAnswer), Fail> {
-    let token = token(rt, alloc)?;
-    let begun = sync(alloc, copy, link, &token, 100, 1);
-    assert_eq!(rt; begun, SyncAnswer::Complete { version: 2 });
-    write(rt, alloc, link)?;
-    plan(copy, link, failing)?;
-    let first = delta_sync(alloc, copy, link, &token, 100, 1);
-    let second = match next {
-        Next::Delta => delta_sync(alloc, copy, link, &token, 100, 1),
-        Next::Whole => DeltaAnswer::Ended {
-            answer: sync(alloc, copy, link, &token, 100, 1),
-        },
-    };
-    Ok((first, second))
-}
-
-const WHOLE: DeltaAnswer = DeltaAnswer::Ended {
-    answer: SyncAnswer::Complete { version: 3 },
-};
-
-// Whether the first answer is that the copy is whole, the second answer, and whether the copy is whole then.
-type Told = (bool, DeltaAnswer, bool);
-
-fn told_over(
-    rt: &impl Abort,
-    alloc: Global,
-    copy: &mut MemCopy,
-    failing: Failing,
-    next: Next,
-) -> Result<Told, Fail> {
-    let mut link = world(rt, alloc, Vec::new(alloc), Vec::new(alloc))?;
-    match answers(rt, alloc, copy, &mut link, failing, next) {
-        Ok((first, second)) => {
-            let whole = is_whole(rt, alloc, copy, link.into_keeper())?;
-            Ok((first == WHOLE, second, whole))
-        }
-        Err(fail) => {
-            drop(link);
-            Err(fail)
-        }
-    }
-}
-
-fn told(rt: &impl Abort, alloc: Global, failing: Failing, next: Next) -> Result<Told, Fail> {
-    let mut copy = MemCopy::new(alloc);
-    let told = told_over(rt, alloc, &mut copy, failing, next);
-    drop(copy);
-    told
-}
-
-fn assert_whole(rt: &impl Abort, alloc: Global, failing: Failing) -> Result<(), Fail> {
-    for next in &[Next::Delta, Next::Whole] {
-        let told = told(rt, alloc, failing, *next)?;
-        assert_eq!(rt; told, (false, WHOLE, true), "{next:?}");
-    }
-    Ok(())
+fn assert_worn(rt: &impl Abort, alloc: Global, steps: &[Step]) -> Result<(), Fail> {
+    let mut hubs = new_hubs(alloc)?;
+    let asserted = assert_whole(rt, alloc, &mut hubs, steps);
+    drop(hubs);
+    asserted
 }
 
 #[test]
-fn nothing_fails(rt: HostRuntime) -> Result<(), Fail> {
-    let told = told(&rt, rt.alloc(), Failing::Nothing, Next::Delta)?;
-    assert_eq!(rt; told, (true, WHOLE, true));
-    Ok(())
+fn each_exchange_is_lost(rt: HostRuntime) -> Result<(), Fail> {
+    assert_worn(&rt, rt.alloc(), &LOST)
 }
 
-// The whole synchronisation makes thirteen exchanges, and the write one.
+// A page that isn't kept is asked for again.
+#[rattlefmt::skip]
+static BEFORE: [Step; 18] = [
+    (Region, Copy(false, 17), "delta tok-e 100 1", 6, "copy store failed\n"),
+    (Region, Copy(false, 19), "delta tok-e 100 1", 6, "copy store failed\n"),
+    (Region, Copy(false, 22), "delta tok-e 100 1", 6, "copy store failed\n"),
+    (Region, Copy(false, 25), "delta tok-e 100 1", 6, "copy store failed\n"),
+    (Region, Copy(false, 28), "delta tok-e 100 1", 6, "copy store failed\n"),
+    (Region, Copy(false, 31), "delta tok-e 100 1", 6, "copy store failed\n"),
+    (Region, Copy(false, 34), "delta tok-e 100 1", 6, "copy store failed\n"),
+    (Region, Copy(false, 37), "delta tok-e 100 1", 6, "copy store failed\n"),
+    (Region, Copy(false, 40), "delta tok-e 100 1", 6, "copy store failed\n"),
+    (Region, Copy(false, 43), "delta tok-e 100 1", 6, "copy store failed\n"),
+    (Region, Copy(false, 46), "delta tok-e 100 1", 6, "copy store failed\n"),
+    (Region, Copy(false, 49), "delta tok-e 100 1", 6, "copy store failed\n"),
+    (Region, Copy(false, 52), "delta tok-e 100 1", 6, "copy store failed\n"),
+    (Region, Copy(false, 55), "delta tok-e 100 1", 6, "copy store failed\n"),
+    (Region, Copy(false, 58), "delta tok-e 100 1", 6, "copy store failed\n"),
+    (Region, Copy(false, 61), "delta tok-e 100 1", 6, "copy store failed\n"),
+    (Region, Nothing, "delta tok-e 100 1", 0, "complete 4\n"),
+    (Other, Nothing, "sync tok-e 100 1", 0, "complete 4\n"),
+];
+
 #[test]
-fn an_exchange_is_lost(rt: HostRuntime) -> Result<(), Fail> {
-    for number in 15..28 {
-        for failing in &[Failing::Request(number), Failing::Reply(number)] {
-            assert_whole(&rt, rt.alloc(), *failing)?;
-        }
-    }
-    Ok(())
+fn each_commit_fails_before_it_acts(rt: HostRuntime) -> Result<(), Fail> {
+    assert_worn(&rt, rt.alloc(), &BEFORE)
 }
 
-// Both calls commit a run, a stage, thirteen pages and the swap.
+// Behind the swap the copy is whole.
+#[rattlefmt::skip]
+static BEHIND: [Step; 17] = [
+    (Region, Copy(true, 17), "delta tok-e 100 1", 6, "copy store failed\n"),
+    (Region, Copy(true, 19), "delta tok-e 100 1", 6, "copy store failed\n"),
+    (Region, Copy(true, 21), "delta tok-e 100 1", 6, "copy store failed\n"),
+    (Region, Copy(true, 23), "delta tok-e 100 1", 6, "copy store failed\n"),
+    (Region, Copy(true, 25), "delta tok-e 100 1", 6, "copy store failed\n"),
+    (Region, Copy(true, 27), "delta tok-e 100 1", 6, "copy store failed\n"),
+    (Region, Copy(true, 29), "delta tok-e 100 1", 6, "copy store failed\n"),
+    (Region, Copy(true, 31), "delta tok-e 100 1", 6, "copy store failed\n"),
+    (Region, Copy(true, 33), "delta tok-e 100 1", 6, "copy store failed\n"),
+    (Region, Copy(true, 35), "delta tok-e 100 1", 6, "copy store failed\n"),
+    (Region, Copy(true, 37), "delta tok-e 100 1", 6, "copy store failed\n"),
+    (Region, Copy(true, 39), "delta tok-e 100 1", 6, "copy store failed\n"),
+    (Region, Copy(true, 41), "delta tok-e 100 1", 6, "copy store failed\n"),
+    (Region, Copy(true, 43), "delta tok-e 100 1", 6, "copy store failed\n"),
+    (Region, Copy(true, 45), "delta tok-e 100 1", 6, "copy store failed\n"),
+    (Region, Copy(true, 47), "delta tok-e 100 1", 6, "copy store failed\n"),
+    (Other, Nothing, "sync tok-e 100 1", 0, "complete 4\n"),
+];
+
 #[test]
-fn a_commit_fails(rt: HostRuntime) -> Result<(), Fail> {
-    for number in 17..33 {
-        for failing in &[Failing::Before(number), Failing::After(number)] {
-            assert_whole(&rt, rt.alloc(), *failing)?;
-        }
-    }
-    Ok(())
+fn each_commit_fails_once_it_has_acted(rt: HostRuntime) -> Result<(), Fail> {
+    assert_worn(&rt, rt.alloc(), &BEHIND)
 }

@@ -1,163 +1,112 @@
 //! The program's `export`: what it prints of a copy of the example district, and a hub that publishes what is printed.
 
-use crate::exports::{BULK, CATEGORIES, DELTA, GONE};
-use crate::lake::made;
-use crate::runs::run;
-use crate::worlds::{world, world_of};
-use keeper_memory::MemCopy;
+use crate::files::made;
+use crate::hubs::Fault::Nothing;
+use crate::hubs::Place::{District, Library, Reader, Region};
+use crate::hubs::{Hubs, Step, assert_alike, assert_scene, assert_steps, new_hubs, run};
 use outside_ports::MemFolder;
 use roster_values::Kind;
 use std::alloc::Global;
+use std::mem::replace;
 use std::process::Abort;
 use std::test::Fail;
-use sync_world::WorldLink;
-use test_lake::{File, file};
+use test_lake::file;
 
-// Words, their status and what they print.
-type Turn = (&'static str, u8, &'static str);
+// The manifest of exports of one mode.
+macro_rules! manifest {
+    ($mode:literal) => {
+        concat!(
+            "propertyName,value\nmanifest.version,1.0\noneroster.version,1.1\n",
+            "file.orgs,", $mode, "\nfile.academicSessions,", $mode, "\nfile.courses,", $mode,
+            "\nfile.classes,", $mode, "\nfile.users,", $mode, "\nfile.enrollments,", $mode,
+            "\nfile.demographics,", $mode, "\nfile.categories,", $mode, "\nfile.lineItems,", $mode,
+            "\nfile.results,", $mode, "\nfile.resources,", $mode, "\nfile.classResources,", $mode,
+            "\nfile.courseResources,", $mode, "\nsource.systemName,hub\nsource.systemCode,hub\n"
+        )
+    };
+}
 
-// Words in turn over one copy. The set has its category without a date, so that it is always told.
-static TURNS: [Turn; 10] = [
-    ("export orgs", 21, "nothing held\n"),
-    ("export orgs since lake", 21, "nothing held\n"),
-    (
-        "export orgs since none",
-        4,
-        "refused: manifest.csv: missing file\n",
-    ),
-    ("export manifest bulk", 0, BULK),
-    ("export manifest delta", 0, DELTA),
-    ("sync tok-e 100 1", 0, "complete 2\n"),
-    ("export categories", 0, CATEGORIES),
-    ("export categories since lake", 0, CATEGORIES),
-    ("export enrollments since lake", 0, GONE),
-    (
-        "export enrollments since none",
-        4,
-        "refused: manifest.csv: missing file\n",
-    ),
+const BULK: &str = manifest!("bulk");
+
+const DELTA: &str = manifest!("delta");
+
+// The orgs and the categories that a caller of one school sees.
+const ORGS: &str = "sourcedId,status,dateLastModified,name,type,identifier,parentSourcedId\n\
+    d1,active,2024-08-01T12:00:00.000Z,\"Lake District, Unified\",district,LDU,\n\
+    s1,active,2024-08-01T12:00:00.000Z,East High,school,E-1,d1\n";
+
+const CATEGORIES: &str =
+    "sourcedId,status,dateLastModified,title\nhw,active,2024-08-01T12:00:00.000Z,Homework\n";
+
+// Two enrollments of a class that the caller doesn't see.
+const GONE: &str =
+    "sourcedId,status,dateLastModified,classSourcedId,schoolSourcedId,userSourcedId,role,primary,beginDate,endDate\n\
+    e2,tobedeleted,2024-08-01T12:00:00.000Z,k2,s2,u2,student,,,\n\
+    e3,tobedeleted,2024-08-01T12:00:00.000Z,k2,s2,u3,teacher,true,,\n";
+
+// The set has its category without a date, so that it is always told.
+#[rattlefmt::skip]
+static PRINTED: [Step; 13] = [
+    (District, Nothing, "publish sis=lake", 0, "sis version 1\n"),
+    (District, Nothing, "grant g.csv", 0, "grants version 2\n"),
+    (Region, Nothing, "export orgs", 21, "nothing held\n"),
+    (Region, Nothing, "export orgs since lake", 21, "nothing held\n"),
+    (Region, Nothing, "export orgs since none", 4, "refused: manifest.csv: missing file\n"),
+    (Region, Nothing, "export manifest bulk", 0, BULK),
+    (Region, Nothing, "export manifest delta", 0, DELTA),
+    (Region, Nothing, "sync tok-e 100 1", 0, "complete 2\n"),
+    (Region, Nothing, "export orgs", 0, ORGS),
+    (Region, Nothing, "export categories", 0, CATEGORIES),
+    (Region, Nothing, "export categories since lake", 0, CATEGORIES),
+    (Region, Nothing, "export enrollments since lake", 0, GONE),
+    (Region, Nothing, "export enrollments since none", 4, "refused: manifest.csv: missing file\n"),
 ];
-
-fn assert_turn(
-    rt: &impl Abort,
-    alloc: Global,
-    copy: &mut MemCopy,
-    link: &mut WorldLink,
-    turn: &Turn,
-) -> Result<(), Fail> {
-    let (line, status, want) = turn;
-    let (told, text) = run(alloc, line, copy, link)?;
-    assert_eq!(rt; (told, text.as_str()), (*status, *want), "{line}");
-    Ok(())
-}
-
-fn assert_turns(
-    rt: &impl Abort,
-    alloc: Global,
-    copy: &mut MemCopy,
-    link: &mut WorldLink,
-) -> Result<(), Fail> {
-    for turn in &TURNS {
-        assert_turn(rt, alloc, copy, link, turn)?;
-    }
-    Ok(())
-}
 
 #[test]
 fn what_is_held_is_printed_whole_or_since_a_set(rt: HostRuntime) -> Result<(), Fail> {
-    let mut link = world(&rt, rt.alloc(), Vec::new(rt.alloc()), Vec::new(rt.alloc()))?;
-    let mut copy = MemCopy::new(rt.alloc());
-    let asserted = assert_turns(&rt, rt.alloc(), &mut copy, &mut link);
-    drop(copy);
-    drop(link);
-    asserted
+    assert_scene(&rt, rt.alloc(), &PRINTED)
 }
 
-// What words print that end with 0.
-fn printed(
-    rt: &impl Abort,
-    alloc: Global,
-    line: &str,
-    copy: &mut MemCopy,
-    link: &mut WorldLink,
-) -> Result<String, Fail> {
-    let (status, text) = run(alloc, line, copy, link)?;
-    assert_eq!(rt; status, 0, "{line}");
-    Ok(text)
-}
-
-// Adds the exports of all kinds and their manifest, in the folder `out`.
-fn add_exports(
-    rt: &impl Abort,
-    alloc: Global,
-    files: &mut Vec<File>,
-    copy: &mut MemCopy,
-    link: &mut WorldLink,
-) -> Result<(), Fail> {
-    let manifest = printed(rt, alloc, "export manifest bulk", copy, link)?;
-    files.push(file(alloc, "out", "manifest.csv", manifest.as_str())?)?;
+// A folder with the exports of the region's copy, of all kinds, and their manifest, in `out`.
+fn exported(rt: &impl Abort, alloc: Global, hubs: &mut Hubs) -> Result<MemFolder, Fail> {
+    let mut files = made(alloc)?;
+    files.push(file(alloc, "out", "manifest.csv", BULK)?)?;
     for kind in &Kind::ALL {
         let line = format!(in alloc; "export {}", kind.plural())?;
-        let text = printed(rt, alloc, line.as_str(), copy, link)?;
-        files.push(file(alloc, "out", kind.file_name(), text.as_str())?)?;
+        let (status, sink) = run(rt, alloc, hubs, Region, Nothing, line.as_str())?;
+        let text = str::from_utf8(sink.written())?;
+        assert_eq!(rt; status, 0, "{line}");
+        files.push(file(alloc, "out", kind.file_name(), text)?)?;
     }
-    Ok(())
+    Ok(MemFolder::new(files, Vec::new(alloc)))
 }
 
-// What is listed of each kind of a copy that is made through a link.
-fn copied(
-    rt: &impl Abort,
-    alloc: Global,
-    copy: &mut MemCopy,
-    link: &mut WorldLink,
-) -> Result<String, Fail> {
-    let mut all = printed(rt, alloc, "sync tok-a 100 1", copy, link)?;
-    for kind in &Kind::ALL {
-        let line = format!(in alloc; "list {}", kind.plural())?;
-        all.push_str(printed(rt, alloc, line.as_str(), copy, link)?.as_str())?;
-    }
-    Ok(all)
-}
+#[rattlefmt::skip]
+static COPIED: [Step; 3] = [
+    (District, Nothing, "publish sis=lake sis=odd", 0, "sis version 1\nsis version 2\n"),
+    (District, Nothing, "grant g.csv", 0, "grants version 3\n"),
+    (Region, Nothing, "sync tok-a 100 1", 0, "complete 3\n"),
+];
 
-// What is listed of a copy, and files with its exports.
-type Exported = (String, Vec<File>);
+#[rattlefmt::skip]
+static PUBLISHED: [Step; 3] = [
+    (Library, Nothing, "publish up=out", 0, "up version 1\n"),
+    (Library, Nothing, "grant g.csv", 0, "grants version 2\n"),
+    (Reader, Nothing, "sync tok-a 100 1", 0, "complete 2\n"),
+];
 
-fn exported(
-    rt: &impl Abort,
-    alloc: Global,
-    copy: &mut MemCopy,
-    link: &mut WorldLink,
-) -> Result<Exported, Fail> {
-    let listed = copied(rt, alloc, copy, link)?;
-    let mut files = made(alloc)?;
-    add_exports(rt, alloc, &mut files, copy, link)?;
-    Ok((listed, files))
-}
-
-fn exported_of_district(rt: &impl Abort, alloc: Global) -> Result<Exported, Fail> {
-    let mut link = world(rt, alloc, Vec::new(alloc), Vec::new(alloc))?;
-    let mut copy = MemCopy::new(alloc);
-    let exported = exported(rt, alloc, &mut copy, &mut link);
-    drop(copy);
-    drop(link);
-    exported
-}
-
-// What is listed of a copy of a hub that publishes the exports among files.
-fn copied_of_exports(rt: &impl Abort, alloc: Global, files: Vec<File>) -> Result<String, Fail> {
-    let mut folder = MemFolder::new(files, Vec::new(alloc));
-    let mut link = world_of(rt, alloc, "publish up=out", &mut folder)?;
-    let mut copy = MemCopy::new(alloc);
-    let listed = copied(rt, alloc, &mut copy, &mut link);
-    drop(copy);
-    drop(link);
-    listed
+fn assert_published(rt: &impl Abort, alloc: Global, hubs: &mut Hubs) -> Result<(), Fail> {
+    assert_steps(rt, alloc, hubs, &COPIED)?;
+    let folder = exported(rt, alloc, hubs)?;
+    drop(replace(&mut hubs.folder, folder));
+    assert_steps(rt, alloc, hubs, &PUBLISHED)?;
+    assert_alike(rt, alloc, hubs, Region, Reader)
 }
 
 #[test]
 fn a_hub_that_publishes_the_exports_is_copied_alike(rt: HostRuntime) -> Result<(), Fail> {
-    let (listed, files) = exported_of_district(&rt, rt.alloc())?;
-    let again = copied_of_exports(&rt, rt.alloc(), files)?;
-    assert_eq!(rt; again.as_str(), listed.as_str());
-    Ok(())
+    let mut hubs = new_hubs(rt.alloc())?;
+    let asserted = assert_published(&rt, rt.alloc(), &mut hubs);
+    drop(hubs);
+    asserted
 }

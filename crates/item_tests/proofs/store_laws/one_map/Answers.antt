@@ -1,6 +1,0 @@
-use Rattle.sqlite.specs.Held.{state}
-use Rattle.item_store.proofs.OneMap.{stands_once}
-use Rattle.item_tests.proofs.store_laws.one_map.Goals as goal
-
-pub returns : goal.returns
-returns g c m n clean live p q = stands_once (state g.S.Store c.args.conn.now) m n clean live p q

@@ -1,5 +1,0 @@
-use Rattle.hub_core.specs.Standing.{KeeperFits}
-use Rattle.provider_tests.proofs.writes.compare_all.Given as goal
-
-abbrev pub invariant-loop-text : goal.invariant-loop-text
-invariant-loop-text g l = KeeperFits (g.H.HubKeeper.stands_for l.keeper) l.hub

@@ -1,0 +1,36 @@
+use Rattle.std.proofs.Common.{refl, sym, subst}
+use Rattle.sqlite.specs.Held.{state}
+use Rattle.item_store.specs.Stands.{StandsFor}
+use Rattle.exchange_link.specs.Exchanges.{Told}
+use Rattle.exchange_link.specs.Agreement.{StageAgrees}
+use Rattle.exchange_link.specs.Synchronised.{HeldTold, Synchronised}
+use Rattle.exchange_link.specs.declared.answer.SyncAnswer.{SyncAnswer}
+use Rattle.keeper_sqlite.proofs.HoldingLemmas.{stored_tells, trusted_still}
+use Rattle.keeper_sqlite.specs.copy.Keeping.{KeepOrNew}
+use Rattle.keeper_sqlite.specs.hub.Telling.{KeepSome}
+use Rattle.sync_world.specs.Links.{told_by}
+use Rattle.store_laws.proofs.stored.sync_stored.Goals as goal
+
+pub returns-clause-found : goal.returns-clause-found
+returns-clause-found g c after stands =
+    let link = told_by c.sync-answer.new.link in
+    let (before, told, was, tells, done) = c.sync-answer.ensures.told (λ copy t stands tells. subst (StageAgrees copy) (sym tells.0) (c.requires.agree copy stands)) after link stands (refl, c.faults.ensures.hub) in
+    (before, was, subst (λ (t : Told). Synchronised c.args.token.now c.sync-answer.result before t after link) tells.0 done)
+
+pub returns-clause-synchronised : goal.returns-clause-synchronised
+returns-clause-synchronised g c quiet =
+    let view = state g.S.Store in
+    let old = c.args.copy.now in
+    let new = c.sync-answer.new.copy in
+    let leads = c.sync-answer.ensures.copy_leads in
+    let first = subst (λ items. KeepSome KeepOrNew (StandsFor (view items.store.connection))) (sym leads.0) c.requires.sound.0 in
+    let sure = trusted_still (view old.0.store.connection) (view new.0.store.connection) c.requires.sound.1 quiet leads.1 in
+    let after = stored_tells KeepOrNew (StandsFor (view new.1.store.connection)) (view new.0.store.connection) new.0.lost first sure (c.keeps.ensures first sure) in
+    let back = returns-clause-found g c after.0 after.1 in
+    (back.0, after.0, back.1, after.1, back.2)
+
+pub returns-clause-exact : goal.returns-clause-exact
+returns-clause-exact g c version is after stands =
+    let link = told_by c.sync-answer.new.link in
+    let (before, told, was, tells, done) = c.sync-answer.ensures.told (λ copy t stands tells. subst (StageAgrees copy) (sym tells.0) (c.requires.agree copy stands)) after link stands (refl, c.faults.ensures.hub) in
+    (subst (λ (a : SyncAnswer). HeldTold c.args.token.now a before told after link) is done.held).held

@@ -1,2 +1,0 @@
-pub mod FewRows
-pub mod SampleTables
