@@ -1,4 +1,4 @@
-"""What the two scripts over `hub serve` share: servers that are started and ended, and connections to them."""
+"""What the scripts over `hub serve` share: servers that are started and ended, and connections to them."""
 
 import contextlib
 import os
