@@ -1,5 +1,6 @@
 -- What is gathered and put in order are the changes.
 use Rattle.std.proofs.Common.{◌≡◌, ℤ, List, ap, ◌∙◌}
+use Rattle.std.proofs.lemmas.List.Elements.{recursion_from_All}
 use Rattle.std.specs.List.{AllByRecursion}
 use Rattle.keeper_memory.specs.copy.Lists.{IsList}
 use Rattle.roster_base.specs.Order.{in_order}
@@ -11,13 +12,13 @@ use Rattle.version_changes.specs.sets.Applying.{set_key}
 use Rattle.bulk_export.specs.Changes.{AreChanges, told}
 use Rattle.bulk_export.specs.Steps.{earlier_at, earlier_key, lying}
 use Rattle.bulk_export.specs.declared.earlier.EarlierRow.{EarlierRow}
-use Rattle.bulk_export.proofs.Ordering.{each, list_ascends, ordered_at, ordered_list, ordered_up}
+use Rattle.bulk_export.proofs.Ordering.{list_ascends, ordered_at, ordered_list, ordered_up}
 use Rattle.bulk_export.proofs.Telling.{gathered, of_one_kind, told_under}
 
 module _ (kind : Kind) (at : ℤ) (earlier : List SetRow) (held : List Record) (es : List EarlierRow) (is : IsList kind held) (rise : Ascends earlier_key es) (same : (k : Key) → earlier_at es k ≡ look_up set_key k earlier)
     (kinds : AllByRecursion (λ (e : EarlierRow). (lying e).row.kind ≡ kind) es) where
   all_of_kind : AllByRecursion (λ (row : Record). row.kind ≡ kind) (gathered at held es)
-  all_of_kind = of_one_kind at held es (λ (row : Record). row.kind ≡ kind) (λ row e. e) (each (λ (row : Record). row.kind ≡ kind) held is.kinds) kinds
+  all_of_kind = of_one_kind at held es (λ (row : Record). row.kind ≡ kind) (λ row e. e) (recursion_from_All (λ (row : Record). row.kind ≡ kind) held is.kinds) kinds
 
   pub changed : AreChanges at earlier held (in_order (λ (row : Record). row.id) (gathered at held es))
   changed = record {

@@ -6,8 +6,10 @@ use Rattle.csv.specs.Records.{field_at}
 use Rattle.roster_texts.specs.Trim.{trimmed}
 use Rattle.std.specs.Str.{chars, is_utf8}
 use Rattle.csv_sets.specs.Files.{file_of, largest}
-use Rattle.csv_sets.specs.Manifests.{files_said, manifest_below, manifest_of, mode_of, mode_of_word, mode_said, said_after, said_by, said_with, versions_checked}
-use Rattle.csv_sets.specs.Sets.{all_stand, bytes_of, is_listed, listed_in, manifest_at, part_at, parts_at, set_among, set_of}
+use Rattle.csv_sets.specs.Manifests.{files_said, manifest_below, manifest_of, mode_of, mode_of_word, mode_said}
+use Rattle.csv_sets.specs.Manifests.{said_after, said_by, said_with, versions_checked}
+use Rattle.csv_sets.specs.Sets.{all_stand, bytes_of, is_listed, listed_in, manifest_at, part_at, parts_at, set_among}
+use Rattle.csv_sets.specs.Sets.{set_of}
 use Rattle.csv_sets.specs.Written.{dated}
 use Rattle.outside_ports.specs.Files.{Stored}
 use Rattle.roster_types.specs.Records.{Record}

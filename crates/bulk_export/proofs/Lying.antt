@@ -1,5 +1,6 @@
 -- Rows as they lie in a set.
 use Rattle.std.proofs.Common.{◌≡◌, List, [], ◌∷◌, map, refl, sym, ap, subst, ◌∙◌}
+use Rattle.std.proofs.lemmas.List.Elements.{recursion_from_All}
 use Rattle.std.specs.List.{All, AllByRecursion}
 use Rattle.roster_base.specs.Order.{in_order}
 use Rattle.roster_types.specs.Keys.{Key, look_up}
@@ -10,7 +11,7 @@ use Rattle.version_core.proofs.LookUps.{KeepKeys, look_up-map}
 use Rattle.version_changes.specs.sets.Applying.{set_key}
 use Rattle.bulk_export.specs.Steps.{earlier_at, earlier_key, lying}
 use Rattle.bulk_export.specs.declared.earlier.EarlierRow.{EarlierRow}
-use Rattle.bulk_export.proofs.Ordering.{Of, each, each_overlaid, in_order_is}
+use Rattle.bulk_export.proofs.Ordering.{Of, each_overlaid, in_order_is}
 
 -- what holds of the rows of a set holds of them as they lie there
 pub each_lying : (P : SetRow → Type 0) (es : List EarlierRow) → AllByRecursion P (map lying es) → AllByRecursion (λ e. P (lying e)) es
@@ -23,7 +24,7 @@ each_kind kind (e ∷ es) all = ((λ i. (place_of_kind (all.0 i), (lying e).row.
 
 pub lent_of : (kind : Kind) (es : List EarlierRow) (rows : List SetRow) → map lying es ≡ rows → All (λ (listed : SetRow). listed.row.kind ≡ kind) rows
     → AllByRecursion (Of earlier_key (λ (e : EarlierRow). (lying e).row.id) (place_of_kind kind)) es
-lent_of kind es rows is all = each_kind kind es (subst (AllByRecursion (λ (listed : SetRow). listed.row.kind ≡ kind)) (sym is) (each (λ (listed : SetRow). listed.row.kind ≡ kind) rows all))
+lent_of kind es rows is all = each_kind kind es (subst (AllByRecursion (λ (listed : SetRow). listed.row.kind ≡ kind)) (sym is) (recursion_from_All (λ (listed : SetRow). listed.row.kind ≡ kind) rows all))
 
 keep : (es : List EarlierRow) → KeepKeys earlier_key set_key lying es
 keep [] = tt
@@ -37,5 +38,5 @@ pub kinds_ordered : (kind : Kind) (es : List EarlierRow) (rows : List SetRow) �
     → AllByRecursion (λ (e : EarlierRow). (lying e).row.kind ≡ kind) (in_order (λ (e : EarlierRow). (lying e).row.id) es)
 kinds_ordered kind es rows is all =
     let order = in_order_is earlier_key (λ (e : EarlierRow). (lying e).row.id) (place_of_kind kind) es (lent_of kind es rows is all) in
-    let kinds = each_lying (λ (listed : SetRow). listed.row.kind ≡ kind) es (subst (AllByRecursion (λ (listed : SetRow). listed.row.kind ≡ kind)) (sym is) (each (λ (listed : SetRow). listed.row.kind ≡ kind) rows all)) in
+    let kinds = each_lying (λ (listed : SetRow). listed.row.kind ≡ kind) es (subst (AllByRecursion (λ (listed : SetRow). listed.row.kind ≡ kind)) (sym is) (recursion_from_All (λ (listed : SetRow). listed.row.kind ≡ kind) rows all)) in
     subst (AllByRecursion (λ (e : EarlierRow). (lying e).row.kind ≡ kind)) (sym order) (each_overlaid earlier_key (λ (e : EarlierRow). (lying e).row.kind ≡ kind) es kinds)

@@ -1,32 +1,26 @@
 -- Items of one kind, in the order of their ids.
-use Rattle.std.proofs.Common.{◌≡◌, ◌<◌, ℕ, zero, suc, List, [], ◌∷◌, get_or, length, true, None, Option, Some, refl, sym, ap, subst, ◌∙◌, arith}
+use Rattle.std.proofs.Common.{◌≡◌, ◌<◌, ℕ, List, [], ◌∷◌, get_or, length, true, None, Option, Some, refl, sym, ap}
+use Rattle.std.proofs.Common.{subst, ◌∙◌, arith}
 use Rattle.std.specs.Prelude.{is_some}
 use Rattle.std.specs.Cmp.Lexicographic.{slice_cmp}
 use Rattle.std.specs.FinMap.Entries as entries
-use Rattle.std.specs.List.{All, AllByRecursion}
+use Rattle.std.specs.List.{AllByRecursion}
 use Rattle.std.specs.Option.{option_or}
 use Rattle.std.specs.Ordering.{is_lt, match_ordering, nat_cmp}
 use Rattle.std.specs.declared.cmp.Ordering.TheVariants.{Less, Equal, Greater}
 use Rattle.std.proofs.lemmas.Bool.{and_from}
+use Rattle.std.proofs.lemmas.List.Elements.{All-from_recursion, recursion_from_All}
 use Rattle.keeper_memory.specs.copy.Lists.{IsList, ascends}
-use Rattle.reference_rules.proofs.KeyOrder.{and_first, and_second, key_total, less_from_is_lt, same_kind}
+use Rattle.reference_rules.proofs.KeyOrder.{and_first, and_second, less_from_is_lt, same_kind}
 use Rattle.roster_base.specs.Order.{in_order, placed}
 use Rattle.roster_types.specs.Keys.{Ascends, Key, is_after, key_cmp, keyed, look_up, row_key}
 use Rattle.roster_types.specs.Records.{Record}
 use Rattle.roster_values.specs.Kinds.{place_of_kind}
 use Rattle.roster_values.specs.declared.kind.Kind.{Kind}
+use Rattle.version_core.proofs.LookUps.{below_trans}
 use Rattle.version_core.proofs.OrderLemmas.{Ascends-overlaid, look_up-overlaid}
 use Rattle.version_core.proofs.Places.{look_up-at}
 use Rattle.version_core.specs.Order.{by_order, overlaid, put}
-
-pub each : {X : Type 0} (P : X → Type 0) (xs : List X) → All P xs → AllByRecursion P xs
-each P [] all = tt
-each P (x ∷ xs) all = (all 0 x (omega arith), each P xs (λ k d lt. all (suc k) d (omega arith)))
-
-pub all_of : {X : Type 0} (P : X → Type 0) (xs : List X) → AllByRecursion P xs → All P xs
-all_of P [] each n d lt = absurd (omega arith)
-all_of P (x ∷ xs) each zero d lt = each.0
-all_of P (x ∷ xs) each (suc n) d lt = all_of P xs each.1 n d (omega arith)
 
 module _ {X : Type 0} (key : X → Key) where
   pub each_put : (P : X → Type 0) (x : X) (ys : List X) → P x → AllByRecursion P ys → AllByRecursion P (put key x ys)
@@ -88,11 +82,6 @@ pub places : (kind : Kind) (rows : List Record) → AllByRecursion (λ row. row.
 places kind [] all = tt
 places kind (row ∷ rows) all = (ap place_of_kind all.0, places kind rows all.1)
 
-below_trans : (k l : Key) (rows : List Record) → key_cmp k l ≡ Less → entries.below_all key_cmp l (keyed row_key rows) ≡ true → entries.below_all key_cmp k (keyed row_key rows) ≡ true
-below_trans k l [] less below = refl
-below_trans k l (row ∷ rows) less below =
-    and_from _ _ (ap is_lt (key_total.trans k l (row_key row) less (less_from_is_lt _ (and_first _ _ below)))) (below_trans k l rows less (and_second _ _ below))
-
 module _ (n : ℕ) where
   -- ids that ascend are keys that do
   less_key : (a : List ℕ) (row : Record) → OfPlace n row → is_after (Some a) row.id ≡ true → key_cmp (n, a) (row_key row) ≡ Less
@@ -103,7 +92,7 @@ module _ (n : ℕ) where
   below_ids a (row ∷ rows) of up =
       let less = less_key a row of.0 (and_first _ _ up) in
       let rest = subst (λ m. entries.below_all key_cmp (m, row.id) (keyed row_key rows) ≡ true) (sym of.0) (below_ids row.id rows of.1 (and_second _ _ up)) in
-      and_from _ _ (ap is_lt less) (below_trans (n, a) (row_key row) rows less rest)
+      and_from _ _ (ap is_lt less) (below_trans row_key (n, a) (row_key row) rows less rest)
 
   pub keys_ascend : (last : Option (List ℕ)) (rows : List Record) → AllByRecursion (OfPlace n) rows → ascends last rows ≡ true → Ascends row_key rows
   keys_ascend last [] of up = refl
@@ -125,7 +114,7 @@ module _ (n : ℕ) where
   ids_ascend (row ∷ rows) of up = ids_after row rows of.0 of.1 up
 
 pub list_ascends : (kind : Kind) (rows : List Record) → IsList kind rows → Ascends row_key rows
-list_ascends kind rows is = keys_ascend (place_of_kind kind) None rows (places kind rows (each (λ (row : Record). row.kind ≡ kind) rows is.kinds)) is.ascend
+list_ascends kind rows is = keys_ascend (place_of_kind kind) None rows (places kind rows (recursion_from_All (λ (row : Record). row.kind ≡ kind) rows is.kinds)) is.ascend
 
 -- rows of a kind put in order are those that they were, and a list
 module _ (kind : Kind) (rows : List Record) (all : AllByRecursion (λ (row : Record). row.kind ≡ kind) rows) where
@@ -146,4 +135,4 @@ module _ (kind : Kind) (rows : List Record) (all : AllByRecursion (λ (row : Rec
   ordered_list =
       let is = in_order_is row_key (λ (row : Record). row.id) (place_of_kind kind) rows (by_place rows all) in
       let kinds = subst (AllByRecursion (λ (row : Record). row.kind ≡ kind)) (sym is) (each_overlaid row_key (λ (row : Record). row.kind ≡ kind) rows all) in
-      record { kinds = all_of (λ (row : Record). row.kind ≡ kind) put_in_order kinds; ascend = ids_ascend (place_of_kind kind) put_in_order (places kind put_in_order kinds) ordered_up }
+      record { kinds = All-from_recursion (λ (row : Record). row.kind ≡ kind) put_in_order kinds; ascend = ids_ascend (place_of_kind kind) put_in_order (places kind put_in_order kinds) ordered_up }

@@ -1,5 +1,6 @@
 -- Under each key the rows that are gathered are those that an export of changes tells.
-use Rattle.std.proofs.Common.{◌≡◌, ℤ, List, [], ◌∷◌, ◌++◌, Bool, true, false, cond, Option, Some, None, refl, sym, ap, subst, ◌∙◌}
+use Rattle.std.proofs.Common.{◌≡◌, ℤ, List, [], ◌∷◌, ◌++◌, Bool, true, false, cond, Option, Some, None, refl, sym, ap}
+use Rattle.std.proofs.Common.{subst, ◌∙◌}
 use Rattle.std.specs.Prelude.{is_some, option_and_then, option_map, option_to_list}
 use Rattle.std.specs.List.{AllByRecursion}
 use Rattle.std.specs.Option.{option_or}
@@ -9,6 +10,7 @@ use Rattle.roster_types.specs.Keys.{Ascends, Key, key_cmp, look_up, row_key}
 use Rattle.roster_types.specs.Records.{Record}
 use Rattle.roster_types.specs.declared.set_row.SetRow.{SetRow}
 use Rattle.version_core.proofs.LookUps.{none_above}
+use Rattle.version_core.proofs.PutLemmas.{all_append}
 use Rattle.std.specs.FinMap.Entries as entries
 use Rattle.roster_types.specs.Keys.{keyed}
 use Rattle.version_changes.specs.sets.Applying.{is_active}
@@ -52,10 +54,6 @@ each_picked P Q f holds (x ∷ xs) all = by (f x) (λ r e. holds x r all.0 e) (e
     by : (o : Option Record) → ((r : Record) → o ≡ Some r → P r) → AllByRecursion P (each_told f xs) → AllByRecursion P (option_to_list o ++ each_told f xs)
     by None here rest = rest
     by (Some r) here rest = (here r refl, rest)
-
-pub each_both : (P : Record → Type 0) (xs ys : List Record) → AllByRecursion P xs → AllByRecursion P ys → AllByRecursion P (xs ++ ys)
-each_both P [] ys all more = more
-each_both P (x ∷ xs) ys all more = (all.0, each_both P xs ys all.1 more)
 
 -- ---- what each row becomes
 
@@ -111,6 +109,6 @@ module _ (at : ℤ) (held : List Record) (es : List EarlierRow) where
 
   -- each is of the kind of which all are
   pub of_one_kind : (P : Record → Type 0) → ((row : Record) → P row → P (marked at row)) → AllByRecursion P held → AllByRecursion (λ e. P (lying e).row) es → AllByRecursion P gathered
-  of_one_kind P marks held_are earlier_are = each_both P (each_told (new_row es) held) (each_told gone es)
+  of_one_kind P marks held_are earlier_are = all_append P (each_told (new_row es) held) (each_told gone es)
       (each_picked P P (new_row es) (λ row r is e. subst P (sym (new_is es row r e)) is) held held_are)
       (each_picked P (λ e. P (lying e).row) gone (λ e r is here. subst P (sym (gone_is at (lying e) (is_some (look_up row_key (earlier_key e) held)) r here)) (marks (lying e).row is)) es earlier_are)

@@ -1,5 +1,6 @@
 -- What an export of changes tells against an earlier set.
-use Rattle.std.specs.Prelude.{◌≡◌, ◌==◌, ◌&&◌, ℕ, ℤ, Bool, false, List, [], ◌∷◌, Option, Some, None, length, map, if◌then◌else◌}
+use Rattle.std.specs.Prelude.{◌≡◌, ◌==◌, ◌&&◌, ℕ, ℤ, Bool, false, List, [], ◌∷◌, Option, Some, None, length, map}
+use Rattle.std.specs.Prelude.{if◌then◌else◌}
 use Rattle.csv_sets.specs.Written.{written_text}
 use Rattle.keeper_memory.specs.copy.Copies.{Copy, held_list}
 use Rattle.roster_types.specs.Keys.{Ascends, Key, look_up, row_key}

@@ -56,7 +56,7 @@ enter_text error.NoMemory = codes "no memory\n"
 
 -- ---- the entries
 
--- the status and the version that the hub kept, or that the entry waits
+-- the status and the version that the hub kept, or `waiting`
 abbrev pub settled_text : Option Settled → List ℕ
 settled_text None = codes " waiting\n"
 settled_text (Some settled) = codes " " ++ decimal settled.status ++ codes " " ++ decimal settled.version ++ codes "\n"

@@ -18,10 +18,12 @@ use Rattle.roster_base.specs.Faults.{Rose}
 use Rattle.consumer_commands.specs.Consumers.{CopyRun, LinkRun}
 use Rattle.hub_words.specs.Tasks.{Task}
 
--- copy and link agreed before, where both tell
+-- before the call the copy agreed with what the link told, where both tell
 abbrev pub Agreed : CopyRun → LinkRun → Type 0
 Agreed copy link = (c : Copy) (t : Told) → copy.stood c → link.told t → StageAgrees c t
 
+-- what holds of a synchronisation with the answer `a`. `stood` and `told` speak of the time before the call, `stands` and `tells` of that
+-- after it; a clause about `after` says from which copy or hub before it came
 pub record IsSyncOf (task : Task) (a : SyncAnswer) (copies : CopyRun) (link : LinkRun) : Type 0 where
   -- over any link
   pub copy : (after : Copy) → copies.stands after → (before : Copy) × copies.stood before × Leaves task.token a before after

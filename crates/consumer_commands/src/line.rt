@@ -28,7 +28,7 @@ pub(crate) const LAST_NUMBER: &str = "last number\n";
 /// Status 17.
 pub(crate) const NO_MEMORY: &str = "no memory\n";
 
-/// The status of the process: each cause of a stop has its own.
+/// The status of the process: each cause of a stop has its own. None is 1, which says that the output couldn't be written.
 pub fn sync_status(answer: SyncAnswer) -> u8
     ensures value { result ≡ lines.sync_status answer }
     ensures other { result ≢ 1 }
@@ -70,13 +70,14 @@ fn gone_line(alloc: Global, pin: u64, oldest: u64) -> Result<String, NoMemory>
     Ok(format!(in alloc; "pin gone {pin} {oldest}\n")?)
 }
 
+/// A line that is the same for every answer of its sort.
 pub(crate) fn fixed_line(alloc: Global, line: &str) -> Result<String, NoMemory>
     ensures { IfOk result (λ t. string_bytes t ≡ line.now) }
 {
     Ok(String::from_str(alloc, line)?)
 }
 
-/// The line of an answer.
+/// The line that tells how the synchronisation ended.
 #[tactic(auto, unfolding(crate::specs::SyncLines::sync_text))]
 pub fn sync_line(alloc: Global, answer: SyncAnswer) -> Result<String, NoMemory>
     ensures { IfOk result (λ t. string_bytes t ≡ lines.sync_text answer) }

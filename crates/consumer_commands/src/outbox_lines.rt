@@ -11,7 +11,7 @@ use keeper_memory::OutEntry;
 use roster_base::NoMemory;
 use std::alloc::Global;
 
-/// The status of the process: each cause of a stop has its own.
+/// The status of the process: each cause of a stop has its own. None is 1, which says that the output couldn't be written.
 pub fn send_status(answer: SendAnswer) -> u8
     ensures value { result ≡ lines.send_status answer }
     ensures other { result ≢ 1 }
@@ -31,7 +31,7 @@ pub fn send_status(answer: SendAnswer) -> u8
     }
 }
 
-// A word and a number.
+// A line of a word and a number.
 fn number_line(alloc: Global, word: &str, number: u64) -> Result<String, NoMemory>
     ensures { IfOk result (λ t. string_bytes t ≡ lines.number_text word.now number) }
 {
@@ -40,7 +40,7 @@ fn number_line(alloc: Global, word: &str, number: u64) -> Result<String, NoMemor
     Ok(line)
 }
 
-/// The line of an answer.
+/// The line that tells how the sending ended.
 #[tactic(auto, unfolding(crate::specs::SendLines::send_text))]
 pub fn send_line(alloc: Global, answer: SendAnswer) -> Result<String, NoMemory>
     ensures { IfOk result (λ t. string_bytes t ≡ lines.send_text answer) }
@@ -60,14 +60,14 @@ pub fn send_line(alloc: Global, answer: SendAnswer) -> Result<String, NoMemory>
     }
 }
 
-/// The line of a write that was entered.
+/// The line that tells under which number a write was entered.
 pub fn entered_line(alloc: Global, number: u64) -> Result<String, NoMemory>
     ensures { IfOk result (λ t. string_bytes t ≡ lines.entered_text number) }
 {
     number_line(alloc, "entered ", number)
 }
 
-/// The status of the process: each cause has its own.
+/// The status of the process: each cause has its own. None is 1, which says that the output couldn't be written.
 pub fn enter_status(error: EnterError) -> u8
     ensures value { result ≡ lines.enter_status error }
     ensures other { result ≢ 1 }
@@ -79,7 +79,7 @@ pub fn enter_status(error: EnterError) -> u8
     }
 }
 
-/// The line of why a write wasn't entered.
+/// The line that tells why a write wasn't entered.
 #[tactic(auto, unfolding(crate::specs::SendLines::enter_text))]
 pub fn enter_line(alloc: Global, error: EnterError) -> Result<String, NoMemory>
     ensures { IfOk result (λ t. string_bytes t ≡ lines.enter_text error) }
@@ -91,7 +91,7 @@ pub fn enter_line(alloc: Global, error: EnterError) -> Result<String, NoMemory>
     }
 }
 
-/// The line of an entry: its number, and the status and the version that the hub kept, or that it waits.
+/// The line of an entry: its number, and either the status and the version that the hub kept, or `waiting`.
 #[tactic(auto, unfolding(crate::specs::SendLines::entry_text))]
 pub fn entry_line(alloc: Global, entry: &OutEntry) -> Result<String, NoMemory>
     ensures { IfOk result (λ t. string_bytes t ≡ lines.entry_text entry.now) }

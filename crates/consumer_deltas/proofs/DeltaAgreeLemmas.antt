@@ -1,5 +1,6 @@
 -- A copy in which a kind is staged fits the state of the hub.
-use Rattle.std.proofs.Common.{◌≡◌, ◌≢◌, ◌-◌, ◌<◌, ◌≤◌, ◌⊎◌, inr, ℕ, Bool, true, false, List, [], ◌++◌, length, drop, Option, Some, None, refl, sym, ◌∙◌, ap, subst, arith, length-append, append_assoc}
+use Rattle.std.proofs.Common.{◌≡◌, ◌≢◌, ◌-◌, ◌<◌, ◌≤◌, ◌⊎◌, inr, ℕ, true, false, List, [], ◌++◌, length, drop, Option}
+use Rattle.std.proofs.Common.{Some, None, refl, sym, ◌∙◌, ap, subst, arith, length-append, append_assoc}
 use Rattle.std.specs.Prelude.{◌==◌, IfSome, IsSomeAnd, get_or, option_map, unwrap_or}
 use Rattle.std.specs.Option.{option_map_or}
 use Rattle.std.proofs.Math.Seq.{drop-append_seam}
@@ -26,7 +27,7 @@ use Rattle.roster_values.specs.declared.kind.Kind.{Kind}
 use Rattle.row_deltas.specs.Deltas.{merged}
 use Rattle.version_core.specs.HubStates.{HubState}
 use Rattle.version_core.specs.Version.{IsVersion}
-use Rattle.consumer_sync.proofs.AgreeLemmas.{PinIs, StandsIn, taken_agrees}
+use Rattle.consumer_sync.proofs.AgreeLemmas.{PinIs, StandsIn, held_taken, taken_agrees}
 use Rattle.consumer_sync.proofs.KindLemmas.{place_at}
 use Rattle.consumer_sync.specs.Filling.{HasToken}
 use Rattle.consumer_sync.specs.Staging.{Adds, IsBroken, Taking, open_copy, taken}
@@ -47,10 +48,10 @@ use Rattle.consumer_deltas.specs.declared.gather.Delta.TheVariants as delta
 
 -- ---- what may be asked for
 
-abbrev IsBase : ℕ → List ℕ → Option Held → Type 0
+abbrev pub IsBase : ℕ → List ℕ → Option Held → Type 0
 IsBase base token o = IsSomeAnd o (λ held. (held.version ≡ base) × (held.token ≡ Some token))
 
-base_stands : (o : Option Held) (stage : Option Stage) (h : HubState) (base : ℕ) (token : List ℕ) → HeldFitsIf o stage h → IsBase base token o → base < length h.published
+pub base_stands : (o : Option Held) (stage : Option Stage) (h : HubState) (base : ℕ) (token : List ℕ) → HeldFitsIf o stage h → IsBase base token o → base < length h.published
 base_stands None stage h base token x has = absurd has
 base_stands (Some held) stage h base token x has = subst (λ n. n < length h.published) has.0 x.standing
 
@@ -91,10 +92,6 @@ may_ask c stage h token base limit held e et lt x has shown = subst (λ s. MayAs
 
 -- ---- stages
 
-pin-stage_after : (s : Stage) (rows : List Record) (total : ℕ) (done : Bool) → (stage_after s rows total done).pin ≡ s.pin
-pin-stage_after s rows total true = refl
-pin-stage_after s rows total false = refl
-
 begun_fits : (h : HubState) (pin : ℕ) (token : List ℕ) → pin < length h.published → knows (version_at h pin) token ≡ true → StageFits (begun pin token) h
 begun_fits h pin token lt known = record { standing = lt; fits = record { known = known; done = refl; present = (list_of (version_at h pin) token 0, refl); total = tt } }
 
@@ -106,11 +103,6 @@ held_opens : (o : Option Held) (stage : Option Stage) (h : HubState) (pin base :
 held_opens None stage h pin base token x has le = absurd has
 held_opens (Some held) None h pin base token x has le = record { standing = x.standing; below = subst (λ n. n ≤ pin) (sym has.0) le; seen = x.seen }
 held_opens (Some held) (Some s) h pin base token x has le = x
-
-held_taken : (o : Option Held) (s : Stage) (rows : List Record) (total : ℕ) (done : Bool) (h : HubState) → HeldFitsIf o (Some s) h → HeldFitsIf o (Some (stage_after s rows total done)) h
-held_taken None s rows total done h x = tt
-held_taken (Some held) s rows total true h x = record { standing = x.standing; below = x.below; seen = x.seen }
-held_taken (Some held) s rows total false h x = record { standing = x.standing; below = x.below; seen = x.seen }
 
 -- a list with which the next kind of a stage ends
 module _ (a h : HubState) (token : List ℕ) (pin : ℕ) (l : List Record) (up : ascends None l ≡ true) (stands : pin < length h.published) (known : knows (version_at h pin) token ≡ true) where

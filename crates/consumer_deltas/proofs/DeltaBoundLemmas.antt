@@ -1,14 +1,16 @@
 -- Kind after kind, over a link that tells.
-use Rattle.std.proofs.Common.{◌≡◌, ◌⊎◌, ⊎_elim, inl, inr, ◌+◌, ◌-◌, ◌*◌, ◌<◌, ◌≤◌, ℕ, true, [], ◌∷◌, drop, List, length, Option, Some, None, refl, sym, subst, ap, ◌∙◌, arith, max}
-use Rattle.std.specs.Prelude.{IfSome, IsSomeAnd, option_map}
+use Rattle.std.proofs.Common.{◌≡◌, ◌⊎◌, ⊎_elim, inl, inr, ◌+◌, ◌-◌, ◌*◌, ◌<◌, ◌≤◌, ℕ, true, [], ◌∷◌, drop, List, length}
+use Rattle.std.proofs.Common.{Option, Some, None, refl, sym, subst, ap, ◌∙◌, arith, max}
+use Rattle.std.specs.Prelude.{IfSome, option_map}
 use Rattle.std.proofs.Math.Nat.{mul-le-mul_left}
 use Rattle.std.proofs.lemmas.List.{drop_more}
-use Rattle.keeper_memory.specs.copy.Copies.{Copy, Held, Stage}
+use Rattle.std.proofs.lemmas.Option.{none-some, same_Some}
+use Rattle.keeper_memory.specs.copy.Copies.{Copy, Stage}
 use Rattle.keeper_memory.specs.copy.Lists.{kind_count}
 use Rattle.keeper_memory.specs.copy.States.{stage_of, state_of}
 use Rattle.keeper_memory.specs.declared.copy.state.StageState.{StageState}
-use Rattle.exchange_link.proofs.AskLemmas.{grew_on}
-use Rattle.exchange_link.specs.Agreement.{CopyFits, HeldFitsIf, StageFitsIf}
+use Rattle.exchange_link.proofs.AskLemmas.{cause_more, grew_on}
+use Rattle.exchange_link.specs.Agreement.{CopyFits, StageFitsIf}
 use Rattle.exchange_link.specs.Bounds.{pages}
 use Rattle.exchange_link.specs.Exchanges.{Told}
 use Rattle.exchange_link.specs.Places.{kind_at, kinds_of, pin_of}
@@ -22,23 +24,19 @@ use Rattle.hub_spec.specs.views.Deltas.{delta as what_differs}
 use Rattle.roster_values.specs.Kinds.{all_kinds}
 use Rattle.roster_values.specs.declared.kind.Kind.TheVariants.{Orgs}
 use Rattle.version_core.specs.HubStates.{HubState}
+use Rattle.consumer_sync.proofs.BoundLemmas.{times_some}
 use Rattle.consumer_sync.specs.Filling.{PinLaw, StageEnds}
 use Rattle.consumer_sync.specs.Judging.{opened, paged}
+use Rattle.consumer_deltas.proofs.DeltaAgreeLemmas.{IsBase, base_stands}
 use Rattle.consumer_deltas.specs.DeltaAnswers.{DeltaTold, HasBase}
 use Rattle.consumer_deltas.specs.DeltaCalls.{DeltaBounded, IsNewPin, delta_pages, delta_work}
-use Rattle.consumer_deltas.specs.DeltaFilling.{BasedBehind, DeltaEnds, FillTold, GoneBehind, KindTold, NamesPinIf, StaysBased}
+use Rattle.consumer_deltas.specs.DeltaFilling.{BasedBehind, DeltaEnds, FillTold, GoneBehind, KindTold, NamesPinIf}
+use Rattle.consumer_deltas.specs.DeltaFilling.{StaysBased}
 use Rattle.consumer_deltas.specs.DeltaTelling.{GonePin, IsPinFrom, NamesPin}
 use Rattle.consumer_deltas.specs.declared.answer.DeltaAnswer.{DeltaAnswer}
 use Rattle.consumer_deltas.specs.declared.answer.DeltaAnswer.TheVariants.{BaseGone, Ended, NoBase}
 
 -- ---- what is held, and where the pin is
-
-abbrev IsBase : ℕ → List ℕ → Option Held → Type 0
-IsBase base token o = IsSomeAnd o (λ held. (held.version ≡ base) × (held.token ≡ Some token))
-
-base_stands : (o : Option Held) (stage : Option Stage) (h : HubState) (base : ℕ) (token : List ℕ) → HeldFitsIf o stage h → IsBase base token o → base < length h.published
-base_stands None stage h base token x has = absurd has
-base_stands (Some held) stage h base token x has = subst (λ n. n < length h.published) has.0 x.standing
 
 abbrev StandsIf : Option StageState → HubState → Type 0
 StandsIf None h = Unit {0}
@@ -52,18 +50,12 @@ stands_on : (stage : Option StageState) (a b : HubState) → Grew a b → Stands
 stands_on None a b g x = tt
 stands_on (Some s) a b g x = omega (arith, x, g.longer)
 
-some_number : {a b : ℕ} → Some a ≡ Some b → a ≡ b
-some_number e = cc
-
-none_some : {a : ℕ} {K : Type 0} → None ≡ Some a → K
-none_some e = cc
-
 pin_goes_on : (first old new : Option StageState) (start mid : HubState) (v : ℕ) → PinLaw first start old → Grew start mid → IsPinFrom (pin_of old) mid v → pin_of new ≡ Some v → PinLaw first start new
-pin_goes_on first old None start mid v law g from e = none_some e
-pin_goes_on None None (Some s) start mid v law g from e = let at : s.pin ≡ v = some_number e in omega (arith, at, from, g.longer)
-pin_goes_on None (Some o) (Some s) start mid v law g from e = let at : s.pin ≡ v = some_number e in omega (arith, at, from, law)
+pin_goes_on first old None start mid v law g from e = absurd (none-some _ e)
+pin_goes_on None None (Some s) start mid v law g from e = let at : s.pin ≡ v = same_Some _ _ e in omega (arith, at, from, g.longer)
+pin_goes_on None (Some o) (Some s) start mid v law g from e = let at : s.pin ≡ v = same_Some _ _ e in omega (arith, at, from, law)
 pin_goes_on (Some f) None new start mid v law g from e = absurd law
-pin_goes_on (Some f) (Some o) (Some s) start mid v law g from e = some_number e ∙ from ∙ law
+pin_goes_on (Some f) (Some o) (Some s) start mid v law g from e = same_Some _ _ e ∙ from ∙ law
 
 gone_behind : (first old : Option StageState) (start mid : HubState) (a : DeltaAnswer) → PinLaw first start old → Grew start mid → GonePin (pin_of old) mid a → GoneBehind first start a
 gone_behind None None start mid (Ended (answer.PinGone pin oldest)) law g gone = omega (arith, gone, g.longer)
@@ -95,12 +87,6 @@ work_next limit token old new h base pin lt next =
     ∙ ap (λ k. max 1 (pages limit (length (what_differs (version_at h base) (version_at h pin) token (kind_at (kinds_of old))))) + delta_pages limit token (version_at h base) (version_at h pin) (drop k all_kinds)) (sym next)
 
 -- in numbers: tries t, exchanges n before and m of a kind, its pages p, the work w before and w' behind, the whole work f
-times_one : (t a : ℕ) → 1 ≤ a → t ≤ t * a
-times_one t a le = let x : t * 1 ≤ t * a = mul-le-mul_left t le in grind (arith, x)
-
-times_le : (t a b : ℕ) → a ≤ b → t * a ≤ t * b
-times_le t a b le = mul-le-mul_left t le
-
 first_num : (n m t p w w' : ℕ) → n ≡ 0 → m ≤ t * p → w ≡ p + w' → n + m + t * w' ≤ t * w
 first_num n m t p w w' so few e = let x : t * w ≡ t * p + t * w' = ap (λ w. t * w) e ∙ grind arith in omega (arith, so, few, x)
 
@@ -115,11 +101,11 @@ some_num p w w' e = (omega (arith, e), omega (arith, e))
 
 last_num : (n m t p w f : ℕ) → n + t * w ≤ t * f → 1 ≤ w → p ≤ w → (m ≤ t) ⊎ (m ≤ t * p) → n + m ≤ t * f
 last_num n m t p w f so some le x =
-    let few : m ≤ t * w = ⊎_elim (λ (few : m ≤ t). let y = times_one t w some in omega (arith, few, y)) (λ (few : m ≤ t * p). let y = times_le t p w le in omega (arith, few, y)) x in
+    let few : m ≤ t * w = ⊎_elim (λ (few : m ≤ t). let y = times_some t w some in omega (arith, few, y)) (λ (few : m ≤ t * p). let y = mul-le-mul_left t le in omega (arith, few, y)) x in
     omega (arith, so, few)
 
 new_num : (n m t p w : ℕ) → n ≡ 0 → m ≤ t * p → p ≤ w → n + m ≤ t * w
-new_num n m t p w so few le = let y = times_le t p w le in omega (arith, so, few, y)
+new_num n m t p w so few le = let y = mul-le-mul_left t le in omega (arith, so, few, y)
 
 done_num : (n t w f : ℕ) → n + t * w ≤ t * f → n ≤ t * f
 done_num n t w f so = omega (arith, so)
@@ -134,14 +120,14 @@ module _ (tries limit : ℕ) (token : List ℕ) (base : ℕ) where
   -- behind one kind more
   so_on : (n m v : ℕ) (first old new : Option StageState) (start a b : HubState) → SoFar n tries limit token base first old a → PinLaw first start old → Grew a b → base < length a.published → StandsIf old a
       → kinds_of old < kind_count → kinds_of new ≡ kinds_of old + 1 → pin_of new ≡ Some v → IsPinFrom (pin_of old) a v → m ≤ tries * max 1 (P old b v) → SoFar (n + m) tries limit token base first new b
-  so_on n m v first old None start a b so law g low stands lt next e from few = none_some e
+  so_on n m v first old None start a b so law g low stands lt next e from few = absurd (none-some _ e)
   so_on n m v (Some f) None new start a b so law g low stands lt next e from few = absurd law
   so_on n m v None None (Some s) start a b so law g low stands lt next e from few =
-      let few' : m ≤ tries * max 1 (P None b s.pin) = subst (λ v. m ≤ tries * max 1 (P None b v)) (sym (some_number e)) few in
+      let few' : m ≤ tries * max 1 (P None b s.pin) = subst (λ v. m ≤ tries * max 1 (P None b v)) (sym (same_Some _ _ e)) few in
       first_num n m tries (max 1 (P None b s.pin)) (W None b s.pin) (W (Some s) b s.pin) so few' (work_next limit token None (Some s) b base s.pin lt next)
   so_on n m v first (Some o) (Some s) start a b so law g low stands lt next e from few =
-      let ps : o.pin ≡ s.pin = sym from ∙ sym (some_number e) in
-      let few' : m ≤ tries * max 1 (P (Some o) b s.pin) = subst (λ v. m ≤ tries * max 1 (P (Some o) b v)) (sym (some_number e)) few in
+      let ps : o.pin ≡ s.pin = sym from ∙ sym (same_Some _ _ e) in
+      let few' : m ≤ tries * max 1 (P (Some o) b s.pin) = subst (λ v. m ≤ tries * max 1 (P (Some o) b v)) (sym (same_Some _ _ e)) few in
       let moved : n + tries * W (Some o) b o.pin ≤ tries * W first b o.pin =
       moved_num n tries (W (Some o) a o.pin) (W (Some o) b o.pin) (W first a o.pin) (W first b o.pin) (work_same limit token (Some o) a b base o.pin g low stands) (work_same limit token first a b base o.pin g low stands) so in
       let at : n + tries * W (Some o) b s.pin ≤ tries * W first b s.pin = subst (λ p. n + tries * W (Some o) b p ≤ tries * W first b p) ps moved in
@@ -189,19 +175,10 @@ module _ (tries limit : ℕ) (token : List ℕ) (base : ℕ) where
 
 -- ---- the pin of the stage that is left
 
-some_state : {a b : StageState} → Some a ≡ Some b → a ≡ b
-some_state e = cc
-
-no_state : {a : StageState} {K : Type 0} → None ≡ Some a → K
-no_state e = cc
-
-some_none : {a : DeltaAnswer} {K : Type 0} → Some a ≡ None → K
-some_none e = cc
-
 on_pinned : (token : List ℕ) (o n : Option Stage) (s : StageState) → option_map state_of o ≡ Some s → StageOn token o n → IfSome n (λ x. x.pin ≡ s.pin)
-on_pinned token None n s e x = no_state e
+on_pinned token None n s e x = absurd (none-some _ e)
 on_pinned token (Some f) None s e x = tt
-on_pinned token (Some f) (Some g) s e x = x.pin ∙ ap (λ (y : StageState). y.pin) (some_state e)
+on_pinned token (Some f) (Some g) s e x = x.pin ∙ ap (λ (y : StageState). y.pin) (same_Some _ _ e)
 
 end_pinned : (token : List ℕ) (e : SyncAnswer) (o n : Option Stage) (s : StageState) → option_map state_of o ≡ Some s → StageEnds token (Some e) o n → IfSome n (λ x. x.pin ≡ s.pin)
 end_pinned token (answer.PinGone pin oldest) o n s is x = subst (λ (m : Option Stage). IfSome m (λ x. x.pin ≡ s.pin)) (sym x) tt
@@ -215,17 +192,12 @@ left_pinned token base NoBase before c old is x s at = absurd x
 
 stage_pinned : (o : Option Stage) (s : StageState) → option_map state_of o ≡ Some s → IfSome o (λ x. x.pin ≡ s.pin)
 stage_pinned None s e = tt
-stage_pinned (Some f) s e = ap (λ (y : StageState). y.pin) (some_state e)
+stage_pinned (Some f) s e = ap (λ (y : StageState). y.pin) (same_Some _ _ e)
 
 -- ---- what they tell
 
-told_more : (token : List ℕ) (z a b : Told) (e : DeltaAnswer) → Moved z a → DeltaTold token a b e → DeltaTold token z b e
-told_more token z a b (Ended (answer.TooLarge kind total)) m x = x
-told_more token z a b (Ended (answer.BadReply kind offset)) m x = x
-told_more token z a b (Ended answer.HubFault) m x = omega (arith, x, m.counts)
-told_more token z a b (Ended (answer.PinGone pin oldest)) m x = (x.0, grew_on m.grew x.1, x.2, x.3, x.4, x.5)
-told_more token z a b (Ended answer.UnknownToken) m x = (x.0, grew_on m.grew x.1, x.2, x.3)
-told_more token z a b (Ended e) m x = tt
+pub told_more : (token : List ℕ) (z a b : Told) (e : DeltaAnswer) → Moved z a → DeltaTold token a b e → DeltaTold token z b e
+told_more token z a b (Ended s) m x = cause_more token z a b s m x
 told_more token z a b NoBase m x = tt
 told_more token z a b (BaseGone held oldest) m x = (x.0, grew_on m.grew x.1, x.2, x.3, x.4, x.5, x.6)
 
@@ -252,7 +224,7 @@ module _ (token : List ℕ) (limit tries base n m : ℕ) (first old new : Option
   pub kind_end : (a : DeltaAnswer) → ((s : StageState) → old ≡ Some s → IfSome c.stage (λ x. x.pin ≡ s.pin)) → KindTold token limit tries base m old new (Some a) told t c → FillTold token limit tries base (n + m) first new (Some a) start t c
   kind_end a left k = record {
     fits = k.fits;
-    pin = λ none. some_none none;
+    pin = λ none. absurd (none-some _ (sym none));
     cause = told_more token start told t a moved k.cause;
     gone = gone_behind first old start.hub told.hub a law moved.grew k.gone;
     stays = based_behind first old start.hub c a law k.stays;

@@ -1,6 +1,10 @@
 -- When an incremental synchronisation has to be complete.
-use Rattle.std.proofs.Common.{◌≡◌, ◌⊎◌, ⊎_elim, inl, inr, ◌<◌, ◌≤◌, ℕ, Bool, true, false, cond, List, [], ◌∷◌, length, Option, Some, None, sym, subst, ap, ◌∙◌, arith, is_some, find, zero, suc, bytes_eq}
+use Rattle.std.proofs.Common.{◌≡◌, ◌⊎◌, ⊎_elim, ◌<◌, ◌≤◌, ℕ, Bool, true, false, cond, List, [], ◌∷◌, length, Option}
+use Rattle.std.proofs.Common.{Some, sym, subst, ap, ◌∙◌, arith, find, bytes_eq}
+use Rattle.std.proofs.lemmas.Bool.{cases_lt}
+use Rattle.std.proofs.lemmas.Option.{none-some, same_Some}
 use Rattle.std.specs.List.{AllByRecursion}
+use Rattle.consumer_sync.proofs.DoneLemmas.{known_not}
 use Rattle.keeper_memory.specs.copy.Copies.{Copy}
 use Rattle.exchange_link.specs.Completeness.{StandsAt, first_pin}
 use Rattle.exchange_link.specs.Exchanges.{Told}
@@ -24,7 +28,8 @@ use Rattle.consumer_deltas.proofs.DeltaStopLemmas.{halts_end}
 use Rattle.consumer_deltas.specs.DeltaAnswers.{DeltaTold}
 use Rattle.consumer_deltas.specs.DeltaCalls.{IsDeltaDone}
 use Rattle.consumer_deltas.specs.DeltaCauses.{DeltaCause}
-use Rattle.consumer_deltas.specs.DeltaCauses.DeltaCause.{Broke as BrokeBeside, Halted, OutOfRuns, Swapped, Unbased, Wants as WantsAlone}
+use Rattle.consumer_deltas.specs.DeltaCauses.DeltaCause.{Broke as BrokeBeside, Halted, OutOfRuns, Swapped, Unbased}
+use Rattle.consumer_deltas.specs.DeltaCauses.DeltaCause.{Wants as WantsAlone}
 use Rattle.consumer_deltas.specs.DeltaFilling.{GoneBehind, Halts}
 use Rattle.consumer_deltas.specs.DeltaFilling.Halts.{Broke, Merging, Stopped, Wants as WantsBeside}
 use Rattle.consumer_deltas.specs.DeltaGathering.{ending_of}
@@ -91,21 +96,6 @@ found_has P test (r ∷ rows) row all e =
       | false ↦ λ later. found_has P test rows row all.1 later
     ] e
 
-some_by : {a b : GrantRow} → Some a ≡ Some b → a ≡ b
-some_by e = cc
-
-none_by : {a : GrantRow} {K : Type 0} → None ≡ Some a → K
-none_by e = cc
-
-known_not : (o : Option GrantRow) (by : GrantRow) → o ≡ Some by → is_some o ≡ false → ⊥
-known_not None by e f = cc
-known_not (Some x) by e f = cc
-
-below_or_not : (n m : ℕ) → (n < m) ⊎ (m ≤ n)
-below_or_not n zero = inr (omega arith)
-below_or_not zero (suc m) = inl (omega arith)
-below_or_not (suc n) (suc m) = elim (below_or_not n m) as (λ _. (suc n < suc m) ⊎ (suc m ≤ suc n)) [ inl within ↦ inl (omega arith) | inr above ↦ inr (omega arith) ]
-
 -- a state in between, and a later one in which the token's grant isn't younger than a version that was published then
 module _ (mid u : HubState) (hub : IsHub u) (grew : Grew mid u) (token : List ℕ) (base : ℕ) (low : base < length mid.published) (at : StandsAt base token u) where
   abbrev by : GrantRow
@@ -127,7 +117,7 @@ module _ (mid u : HubState) (hub : IsHub u) (grew : Grew mid u) (token : List �
   -- so no version is gone that stands later
   pub not_gone : (pin : ℕ) (other : GrantRow) → oldest_number u ≤ pin → by.grant.since ≤ pin → grant_of token (newest_in mid).grants ≡ Some other → (pin < oldest_number mid) ⊎ (pin < other.grant.since) → ⊥
   not_gone pin other oldest since known why =
-      let same : other ≡ by = some_by (sym known ∙ was_known) in
+      let same : other ≡ by = same_Some _ _ (sym known ∙ was_known) in
       ⊎_elim (λ (h : pin < oldest_number mid). omega (arith, h, oldest, keeps))
       (λ (h : pin < other.grant.since). let h2 : pin < by.grant.since = subst (λ (r : GrantRow). pin < r.grant.since) same h in omega (arith, h2, since)) why
 
@@ -146,13 +136,13 @@ module _ (mid u : HubState) (hub : IsHub u) (grew : Grew mid u) (token : List �
       published : (v < length mid.published) → base < other.grant.since → ⊥
       published lt h = ⊎_elim
           (λ (below : v < by.grant.since). let le = since_low v other lt known in omega (arith, h, le, below, at.since))
-          (λ (since : by.grant.since ≤ v). let same : other ≡ by = some_by (sym known ∙ known_in v since lt) in let h2 : base < by.grant.since = subst (λ (r : GrantRow). base < r.grant.since) same h in omega (arith, h2, at.since))
-          (below_or_not v by.grant.since)
+          (λ (since : by.grant.since ≤ v). let same : other ≡ by = same_Some _ _ (sym known ∙ known_in v since lt) in let h2 : base < by.grant.since = subst (λ (r : GrantRow). base < r.grant.since) same h in omega (arith, h2, at.since))
+          (cases_lt v by.grant.since)
 
       young : base < other.grant.since → ⊥
       young h = ⊎_elim (λ (lt : v < length mid.published). published lt h)
-          (λ (above : length mid.published ≤ v). none_by (sym (ap (λ (version : BaseVersion). grant_of token version.grants) (beyond v mid.published above)) ∙ known))
-          (below_or_not v (length mid.published))
+          (λ (above : length mid.published ≤ v). absurd (none-some _ (sym (ap (λ (version : BaseVersion). grant_of token version.grants) (beyond v mid.published above)) ∙ known)))
+          (cases_lt v (length mid.published))
 
 -- where nothing fails and both versions stand, the call is complete, or wants memory
 pub done_of : (kept : List ℕ) (run count : ℕ) (missed broke : Type 0) (copies : Copy → Type 0) (place : Place) (a : DeltaAnswer) (token : List ℕ) (first : Option StageState) (t u : Told) → IsHub u.hub
@@ -165,7 +155,7 @@ done_of kept run count missed broke copies place (Ended (answer.Interrupted kind
     m (halts_needs kept run count missed broke copies place (Ended (answer.Interrupted kind offset)) halts)
 done_of kept run count missed broke copies place (Ended answer.KeeperFault) token first t u hub halts told gone m b quiet low at on = b (halts_needs kept run count missed broke copies place (Ended answer.KeeperFault) halts)
 done_of kept run count missed broke copies place (Ended (answer.PinGone pin oldest)) token first t u hub halts told gone m b quiet low at on =
-    let same : at.by ≡ on.by = some_by (sym at.known ∙ on.known) in
+    let same : at.by ≡ on.by = same_Some _ _ (sym at.known ∙ on.known) in
     let since : on.by.grant.since ≤ pin = (let s = subst (λ (r : GrantRow). r.grant.since ≤ first_pin first t.hub) same at.since in omega (arith, s, gone)) in
     not_gone told.0 u.hub hub told.2 token place.base (omega (arith, low, told.1.longer)) on pin told.3 (omega (arith, at.oldest, gone)) since told.4 told.5
 done_of kept run count missed broke copies place (Ended answer.UnknownToken) token first t u hub halts told gone m b quiet low at on =

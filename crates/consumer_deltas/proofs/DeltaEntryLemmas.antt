@@ -1,35 +1,32 @@
 -- The entries of a delta: how many there are, and in which order.
-use Rattle.std.proofs.Common.{◌≡◌, ◌+◌, ◌-◌, ◌≤◌, ℕ, List, [], ◌∷◌, ◌++◌, Bool, true, false, ◌&&◌, cond, not, filter, map, length, take, drop, min, Option, Some, None, refl, sym, ap, ◌∙◌, arith}
-use Rattle.std.proofs.lemmas.List.{length-drop, length-map, length-take, take-append-drop}
-use Rattle.std.specs.FinMap.Entries as entries
+use Rattle.std.proofs.Common.{◌≡◌, ◌+◌, ◌-◌, ◌≤◌, ℕ, List, [], ◌∷◌, ◌++◌, Bool, true, false, cond, filter, length, take}
+use Rattle.std.proofs.Common.{drop, min, Option, Some, None, refl, sym, ap, ◌∙◌, arith}
+use Rattle.std.proofs.lemmas.Bool.{and_from}
+use Rattle.std.proofs.lemmas.List.{length-drop, length-take, take-append-drop}
 use Rattle.std.specs.List.{AllByRecursion}
 use Rattle.std.specs.Ordering.{is_lt}
 use Rattle.std.specs.declared.cmp.Ordering.TheVariants.{Equal, Greater, Less}
+use Rattle.consumer_sync.proofs.DoneLemmas.{ascends-append}
 use Rattle.exchange_link.proofs.CutLemmas.{any_first, rows_ascend}
 use Rattle.hub_spec.proofs.Below.{and_first, and_second}
 use Rattle.hub_spec.specs.views.Pages.{slice}
 use Rattle.keeper_memory.specs.copy.Lists.{ascends, last_from}
 use Rattle.reference_rules.proofs.KeyOrder.{same_kind}
-use Rattle.roster_types.specs.Keys.{Ascends, Key, is_after, is_of_kind, key_cmp, keyed, row_key}
+use Rattle.roster_types.specs.Keys.{Ascends, Key, is_after, is_of_kind, key_cmp, row_key}
 use Rattle.roster_types.specs.Records.{Record}
 use Rattle.roster_values.specs.Kinds.{place_of_kind}
 use Rattle.roster_values.specs.declared.kind.Kind.{Kind}
 use Rattle.row_deltas.proofs.DeltaLemmas.{Ascends-delta}
 use Rattle.row_deltas.proofs.EntryLemmas.{all_entries}
-use Rattle.row_deltas.proofs.MergeLemmas.{ids_gone-append, rows_put-append}
-use Rattle.row_deltas.specs.Deltas.{AreOf, delta_of, entry_key, gone_entry, id_key, ids_gone, is_lacking, rows_put, stands_in}
+use Rattle.row_deltas.proofs.MergeLemmas.{ids_gone-append, rows_put-append, rows_put_above}
+use Rattle.row_deltas.specs.Deltas.{AreOf, delta_of, entry_key, gone_entry, id_key, ids_gone, rows_put}
 use Rattle.row_deltas.specs.declared.entry.DeltaEntry.{DeltaEntry}
 use Rattle.row_deltas.specs.declared.entry.DeltaEntry.TheVariants.{Gone, Put}
 use Rattle.version_core.specs.Order.{by_order, overlaid, put}
 use Rattle.consumer_deltas.proofs.DeltaFitLemmas.{all_below}
-use Rattle.consumer_deltas.proofs.DeltaStageLemmas.{part_up}
 use Rattle.consumer_deltas.proofs.DeltaToldLemmas.{entry_count, rest_is}
 use Rattle.consumer_deltas.specs.DeltaGathering.{AreFirst}
 use Rattle.consumer_deltas.specs.DeltaJudging.{Sofar, count_in, ids_ascend, last_id}
-
-both_true : (a b : Bool) → a ≡ true → b ≡ true → (a && b) ≡ true
-both_true true b e f = f
-both_true false b e f = e
 
 -- ---- how many there are
 
@@ -54,17 +51,6 @@ kept_short p (row ∷ rows) =
     let le = kept_short p rows in
     elim (p row) as (λ b. length (cond b (row ∷ filter p rows) (filter p rows)) ≤ length (row ∷ rows)) [ true ↦ omega (arith, le) | false ↦ omega (arith, le) ]
 
--- not more than the rows of both lists
-pub delta_short : (kind : Kind) (old new : List Record) → length (delta_of kind old new) ≤ length old + length new
-unfolding delta_of
-delta_short kind old new =
-    let stays : Record → Bool = λ row. not (stands_in old row) in
-    let puts : List DeltaEntry = map Put (filter stays new) in
-    let gone : List DeltaEntry = map gone_entry (filter (is_lacking new) old) in
-    let e : length puts ≡ length (filter stays new) = length-map (filter stays new) Put in
-    let f : length gone ≡ length (filter (is_lacking new) old) = length-map (filter (is_lacking new) old) gone_entry in
-    omega (arith, length-overlaid (entry_key kind) puts gone, e, f, kept_short stays new, kept_short (is_lacking new) old)
-
 -- ---- in which order
 
 -- the first of some ids, where there is one, is above an id
@@ -77,14 +63,9 @@ any_id [] = tt
 any_id (id ∷ ids) = refl
 
 module _ (kind : Kind) where
-  put_below : (k : Key) (es : List DeltaEntry) → entries.below_all key_cmp k (keyed (entry_key kind) es) ≡ true → entries.below_all key_cmp k (keyed row_key (rows_put es)) ≡ true
-  put_below k [] below = refl
-  put_below k (Put row ∷ es) below = both_true _ _ (and_first _ _ below) (put_below k es (and_second _ _ below))
-  put_below k (Gone id ∷ es) below = put_below k es (and_second _ _ below)
-
   puts_rise : (es : List DeltaEntry) → Ascends (entry_key kind) es → Ascends row_key (rows_put es)
   puts_rise [] up = refl
-  puts_rise (Put row ∷ es) up = both_true _ _ (put_below (row_key row) es (and_first _ _ up)) (puts_rise es (and_second _ _ up))
+  puts_rise (Put row ∷ es) up = and_from _ _ (rows_put_above kind (row_key row) es (and_first _ _ up)) (puts_rise es (and_second _ _ up))
   puts_rise (Gone id ∷ es) up = puts_rise es (and_second _ _ up)
 
   abbrev IsPutOf : DeltaEntry → Type 0
@@ -108,7 +89,7 @@ module _ (kind : Kind) where
   gone_ascend last [] up first = refl
   gone_ascend last (Put row ∷ es) up first = gone_ascend last es (and_second _ _ up) first
   gone_ascend last (Gone id ∷ es) up first =
-      both_true _ _ first (gone_ascend (Some id) es (and_second _ _ up) (gone_first id (ids_gone es) (all_below kind (id_key kind id) es (and_first _ _ up))))
+      and_from _ _ first (gone_ascend (Some id) es (and_second _ _ up) (gone_first id (ids_gone es) (all_below kind (id_key kind id) es (and_first _ _ up))))
 
   module _ (old new : List Record) (are_old : AreOf kind old) (are_new : AreOf kind new) (up : Ascends row_key old) (up' : Ascends row_key new) where
     abbrev all : List DeltaEntry
@@ -128,7 +109,7 @@ ids_part_up : (last : Option (List ℕ)) (ids more : List (List ℕ)) → ids_as
 ids_part_up last [] more up = (refl, up)
 ids_part_up last (id ∷ ids) more up =
     let rest = ids_part_up (Some id) ids more (and_second (is_after last id) _ up) in
-    (both_true _ _ (and_first (is_after last id) _ up) rest.0, rest.1)
+    (and_from _ _ (and_first (is_after last id) _ up) rest.0, rest.1)
 
 module _ (sofar : Sofar) (limit : ℕ) (all : List DeltaEntry) (first : AreFirst sofar all) where
   abbrev part : List DeltaEntry
@@ -152,8 +133,8 @@ module _ (sofar : Sofar) (limit : ℕ) (all : List DeltaEntry) (first : AreFirst
 
   pub puts_next : ascends None (rows_put all) ≡ true → ascends (last_from None sofar.puts) (rows_put part) ≡ true
   puts_next up =
-      let rest = part_up None sofar.puts (rows_put part ++ rows_put behind) (ap (ascends None) (sym puts_split) ∙ up) in
-      (part_up (last_from None sofar.puts) (rows_put part) (rows_put behind) rest.1).0
+      let rest = ascends-append None sofar.puts (rows_put part ++ rows_put behind) (ap (ascends None) (sym puts_split) ∙ up) in
+      (ascends-append (last_from None sofar.puts) (rows_put part) (rows_put behind) rest.1).0
 
   pub gone_next : ids_ascend None (ids_gone all) ≡ true → ids_ascend (last_id None sofar.gone) (ids_gone part) ≡ true
   gone_next up =

@@ -1,5 +1,7 @@
 -- What the kinds make of a copy, over any link.
-use Rattle.std.proofs.Common.{◌≡◌, ◌⊎◌, ⊎_elim, inl, inr, arith, min, ℕ, ◌+◌, ◌-◌, ◌^◌, ◌++◌, List, Option, Some, None, refl, sym, subst, ap, ◌∙◌, append_assoc}
+use Rattle.std.proofs.Common.{◌≡◌, ◌⊎◌, ⊎_elim, inl, inr, arith, min, ℕ, ◌+◌, ◌-◌, ◌^◌, List, Option, Some, None, refl}
+use Rattle.std.proofs.Common.{sym, subst, ap, ◌∙◌}
+use Rattle.std.proofs.lemmas.Option.{none-some, same_Some}
 use Rattle.std.specs.Prelude.{IfSome}
 use Rattle.keeper_memory.specs.copy.Changes.{copy_after}
 use Rattle.keeper_memory.specs.copy.Copies.{Copy, Stage, held_list}
@@ -8,18 +10,18 @@ use Rattle.http_wire.specs.declared.reply_reading.WireReply.{WireReply}
 use Rattle.roster_base.specs.Faults.{CountsError, Rose}
 use Rattle.roster_base.specs.declared.keeper.KeeperError.{KeeperError}
 use Rattle.roster_base.specs.declared.keeper.KeeperError.TheVariants as fault
-use Rattle.exchange_link.specs.Agreement.{IsFrontOf}
-use Rattle.exchange_link.specs.Synchronised.{Grows, StageOn, staged_list}
+use Rattle.exchange_link.specs.Synchronised.{StageOn}
 use Rattle.exchange_link.specs.declared.answer.SyncAnswer.{SyncAnswer}
 use Rattle.exchange_link.specs.declared.answer.SyncAnswer.TheVariants as answer
-use Rattle.consumer_sync.proofs.FillLemmas.{fills_end, fills_open, fills_taken, grows_refl}
+use Rattle.consumer_sync.proofs.FillLemmas.{fills_end, fills_open, fills_taken, grows_refl, grows_trans}
 use Rattle.consumer_sync.specs.Faulted.{SaysGone}
 use Rattle.consumer_sync.specs.Filling.{Ends, Fills, StageEnds}
 use Rattle.consumer_sync.specs.Staging.{Adds, IsBroken, IsNotGone, Taking, broken_answer}
 use Rattle.consumer_sync.specs.Staging.Adds.{Opened, Stays as StaysAdded, Takes}
 use Rattle.consumer_deltas.specs.DeltaCalls.{IsDeltaAside}
 use Rattle.consumer_deltas.specs.DeltaCauses.{RepliesIf}
-use Rattle.consumer_deltas.specs.DeltaFilling.{CanStage, DeltaEnds, Halts, IsPinGone, LetsGo, StagesKind, StandsOn, Unstaged, no_page}
+use Rattle.consumer_deltas.specs.DeltaFilling.{CanStage, DeltaEnds, Halts, IsPinGone, LetsGo, StagesKind, StandsOn}
+use Rattle.consumer_deltas.specs.DeltaFilling.{Unstaged, no_page}
 use Rattle.consumer_deltas.specs.DeltaFilling.Halts.{Broke, Merging, Wants}
 use Rattle.consumer_deltas.specs.DeltaFilling.LetsGo.{Fails as FailsToGo, Goes, Stays, Wants as WantsToGo}
 use Rattle.consumer_deltas.specs.DeltaMerging.{Merges, StagesList, Unmerged, rest_of}
@@ -134,12 +136,6 @@ go_stage token kept given result before after says (WantsToGo gone is e) = inl (
 
 -- ---- one kind behind the others
 
-front_trans : (xs ys zs : List Record) → IsFrontOf xs ys → IsFrontOf ys zs → IsFrontOf xs zs
-front_trans xs ys zs f g = (f.0 ++ g.0, sym (append_assoc xs f.0 g.0) ∙ ap (λ x. x ++ g.0) f.1 ∙ g.1)
-
-grows_trans : (a b c : Stage) → Grows a b → Grows b c → Grows a c
-grows_trans a b c x y = record { pin = y.pin ∙ x.pin; token = y.token ∙ x.token; lists = λ place. front_trans (staged_list a place) (staged_list b place) (staged_list c place) (x.lists place) (y.lists place) }
-
 on_trans : (token : List ℕ) (a b c : Option Stage) → StageOn token a b → StageOn token b c → StageOn token a c
 on_trans token None None c x y = y
 on_trans token None (Some s) None x y = absurd y
@@ -177,24 +173,15 @@ ends_behind token base (Some NoBase) a b c x y = absurd y
 pub stage_behind : (token kept : List ℕ) (a b c : Copy) → Fills token a b → StageOn token b.stage c.stage ⊎ SaysGone kept → StageOn token a.stage c.stage ⊎ SaysGone kept
 stage_behind token kept a b c x y = ⊎_elim (λ (on : StageOn token b.stage c.stage). inl (on_trans token a.stage b.stage c.stage x.stage on)) (λ (gone : SaysGone kept). inr gone) y
 
-pub begins : (token : List ℕ) (c : Copy) → Fills token c c
-begins token c = fills_refl token c
-
 pub fills_from : (token : List ℕ) (base : ℕ) (r : Option DeltaAnswer) (a b : Copy) → r ≡ None → DeltaEnds token base r a b → Fills token a b
 fills_from token base r a b e x = subst (λ r. DeltaEnds token base r a b) e x
 
 -- ---- the answers that come of what was gathered
 
-some_answer : {a b : SyncAnswer} → Some a ≡ Some b → a ≡ b
-some_answer e = cc
-
-no_answer : {a : SyncAnswer} {K : Type 0} → Some a ≡ None → K
-no_answer e = cc
-
 pub closed_ends : (broke : Type 0) (copies : Copy → Type 0) (kind : Kind) (pin : ℕ) (r : Option SyncAnswer) → (r ≡ None) ⊎ IsBroken r → (r ≡ Some answer.KeeperFault → broke) → IfSome r (Unstaged broke copies kind (delta.Closed pin))
 closed_ends broke copies kind pin None b f = tt
-closed_ends broke copies kind pin (Some a) b f = ⊎_elim (λ (e : Some a ≡ None). no_answer e)
-    (λ b. ⊎_elim (λ (e : Some a ≡ Some answer.KeeperFault). inl (f e, some_answer e)) (λ (e : Some a ≡ Some answer.NoMemory). inr (some_answer e)) b) b
+closed_ends broke copies kind pin (Some a) b f = ⊎_elim (λ (e : Some a ≡ None). absurd (none-some _ (sym e)))
+    (λ b. ⊎_elim (λ (e : Some a ≡ Some answer.KeeperFault). inl (f e, same_Some _ _ e)) (λ (e : Some a ≡ Some answer.NoMemory). inr (same_Some _ _ e)) b) b
 
 pub can_stage : (place : Place) (held : List Record) (d : Delta) → IsGathered place held d → CanStage place.kind d
 can_stage place held (delta.Closed pin) x = x.0.low

@@ -1,5 +1,7 @@
 -- The entries of a delta fit the rows from which it leads, and parts of them do.
-use Rattle.std.proofs.Common.{◌≡◌, ◌+◌, ◌<◌, ◌≤◌, ℕ, suc, length, drop, drop-cons, add-one, get_or, List, [], ◌∷◌, ◌++◌, Bool, true, false, ◌&&◌, not, cond, Option, Some, None, refl, sym, ap, ◌∙◌}
+use Rattle.std.proofs.Common.{◌≡◌, ◌+◌, ◌<◌, ◌≤◌, ℕ, suc, length, drop, drop-cons, add-one, get_or, List, [], ◌∷◌, ◌++◌}
+use Rattle.std.proofs.Common.{Bool, true, false, ◌&&◌, not, cond, Option, Some, None, refl, sym, ap, ◌∙◌}
+use Rattle.std.proofs.lemmas.Bool.{and_from}
 use Rattle.std.specs.Prelude.{◌||◌, is_some}
 use Rattle.std.specs.FinMap.Entries as entries
 use Rattle.std.specs.List.{AllByRecursion}
@@ -22,10 +24,6 @@ use Rattle.version_core.proofs.PutLemmas.{key_same}
 use Rattle.consumer_deltas.specs.DeltaFits.{apart, fits, has_id, has_row}
 use Rattle.consumer_deltas.specs.DeltaGathering.{AreFirst}
 use Rattle.consumer_deltas.specs.DeltaJudging.{Sofar}
-
-both_true : (a b : Bool) → a ≡ true → b ≡ true → (a && b) ≡ true
-both_true true b e f = f
-both_true false b e f = e
 
 -- what is gone was there
 gone_old : (o n : Option Record) (id : List ℕ) → difference o n ≡ Some (Gone id) → is_some o ≡ true
@@ -67,7 +65,7 @@ module _ (kind : Kind) where
         let k = id_key kind id in
         let was : is_some (look_up row_key k old) ≡ true = gone_old (look_up row_key k old) (look_up row_key k new) id (sym (look_up-delta kind old new are_old are_new up up' k) ∙ found.0) in
         let apart : not (is_some (look_up row_key k (rows_put all))) ≡ true = ap (λ o. not (is_some o)) (look_up-rows_put kind k all (Ascends-delta kind old new are_old are_new up up') ∙ ap put_of found.0) in
-        both_true _ _ was (both_true _ _ apart (each_fits ids found.1))
+        and_from _ _ was (and_from _ _ apart (each_fits ids found.1))
 
     pub fits_delta : fits kind old (rows_put all) (ids_gone all) ≡ true
     fits_delta = each_fits (ids_gone all) (found_gone all (Ascends-delta kind old new are_old are_new up up'))

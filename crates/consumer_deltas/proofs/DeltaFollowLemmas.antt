@@ -1,6 +1,8 @@
 -- The rows behind those that are staged.
-use Rattle.std.proofs.Common.{◌≡◌, ◌⊎◌, ◌+◌, ◌-◌, inl, inr, ⊎_elim, ℕ, List, [], ◌∷◌, ◌++◌, length, length-append, take, drop, Bool, true, false, ◌&&◌, cond, Some, None, refl, sym, ap, subst, ◌∙◌, arith}
+use Rattle.std.proofs.Common.{◌≡◌, ◌⊎◌, ◌-◌, inl, inr, ⊎_elim, ℕ, List, [], ◌∷◌, ◌++◌, length, length-append, take}
+use Rattle.std.proofs.Common.{drop, Bool, true, false, cond, Some, None, refl, sym, ap, subst, ◌∙◌, arith}
 use Rattle.std.proofs.Math.Seq.{drop-append_seam}
+use Rattle.std.proofs.lemmas.Bool.{and_from}
 use Rattle.std.proofs.lemmas.Cmp.{nat_list_cmp_total}
 use Rattle.std.proofs.lemmas.List.{take_all}
 use Rattle.std.specs.Cmp.Lexicographic.{slice_cmp}
@@ -17,10 +19,6 @@ use Rattle.roster_types.specs.Keys.{is_after}
 use Rattle.roster_types.specs.Records.{Record}
 use Rattle.consumer_deltas.specs.DeltaStaging.{above, following}
 
-both_true : (a b : Bool) → a ≡ true → b ≡ true → (a && b) ≡ true
-both_true true b e f = f
-both_true false b e f = e
-
 never_less : (o : Ordering) → o ≡ ordering_reverse o → is_lt o ≡ false
 never_less Less e = cc
 never_less Equal e = refl
@@ -29,7 +27,8 @@ never_less Greater e = refl
 no_self : (a : List ℕ) → is_lt (slice_cmp nat_cmp a a) ≡ false
 no_self a = never_less (slice_cmp nat_cmp a a) (nat_list_cmp_total.antisymm a a)
 
-lower : (a b c : List ℕ) → is_lt (slice_cmp nat_cmp a b) ≡ true → is_lt (slice_cmp nat_cmp b c) ≡ true → is_lt (slice_cmp nat_cmp a c) ≡ true
+-- what is above a greater id is above a smaller one
+pub lower : (a b c : List ℕ) → is_lt (slice_cmp nat_cmp a b) ≡ true → is_lt (slice_cmp nat_cmp b c) ≡ true → is_lt (slice_cmp nat_cmp a c) ≡ true
 lower a b c e f = ap is_lt (nat_list_cmp_total.trans a b c (less_from_is_lt _ e) (less_from_is_lt _ f))
 
 -- the last id of rows that ascend is not below any
@@ -52,7 +51,7 @@ not_after d rows up =
 front_up : (d : List ℕ) (rows more : List Record) → ascends (Some d) (rows ++ more) ≡ true → ascends (Some d) rows ≡ true
 front_up d [] more up = refl
 front_up d (row ∷ rows) more up =
-    both_true (is_lt (slice_cmp nat_cmp d row.id)) (ascends (Some row.id) rows) (and_first (is_lt (slice_cmp nat_cmp d row.id)) (ascends (Some row.id) (rows ++ more)) up)
+    and_from (is_lt (slice_cmp nat_cmp d row.id)) (ascends (Some row.id) rows) (and_first (is_lt (slice_cmp nat_cmp d row.id)) (ascends (Some row.id) (rows ++ more)) up)
     (front_up row.id rows more (and_second (is_lt (slice_cmp nat_cmp d row.id)) (ascends (Some row.id) (rows ++ more)) up))
 
 enter : (b : Bool) (x y : List Record) → b ≡ true → cond b x y ≡ x

@@ -1,8 +1,10 @@
 -- The entries of a kind's delta, page after page.
-use Rattle.std.proofs.Common.{◌≡◌, ◌⊎◌, ⊎_elim, inl, inr, ◌+◌, ◌-◌, ◌<◌, ◌≤◌, ℕ, true, false, length, length-append, List, Option, Some, None, refl, sym, ap, subst, ◌∙◌, arith, min}
+use Rattle.std.proofs.Common.{◌≡◌, ◌⊎◌, ⊎_elim, inl, inr, ◌+◌, ◌-◌, ◌<◌, ◌≤◌, ℕ, true, false, length, length-append}
+use Rattle.std.proofs.Common.{List, Option, Some, None, refl, sym, ap, subst, ◌∙◌, arith, min}
 use Rattle.std.specs.Prelude.{◌==◌, IfSome, Result, Ok, Err}
 use Rattle.std.specs.List.{All}
 use Rattle.std.proofs.lemmas.Bool.Decides.{nat_tests}
+use Rattle.keeper_memory.proofs.CopyLemmas.{list_more, no_list}
 use Rattle.keeper_memory.specs.copy.Lists.{IsList}
 use Rattle.keeper_memory.specs.declared.copy.state.TheConstants.{LAST}
 use Rattle.exchange_link.proofs.AskedLemmas.{sends_trans, sends_weaker}
@@ -16,7 +18,7 @@ use Rattle.roster_types.specs.Records.{Record}
 use Rattle.roster_values.specs.declared.kind.Kind.{Kind}
 use Rattle.status_info.specs.declared.request.Request.{Request}
 use Rattle.consumer_deltas.proofs.DeltaJudgeLemmas.{IsPart}
-use Rattle.consumer_deltas.proofs.DeltaListLemmas.{ids_join, list_join, no_list}
+use Rattle.consumer_deltas.proofs.DeltaListLemmas.{ids_join}
 use Rattle.consumer_deltas.specs.DeltaGathering.{AreEntries, Given, NoReply, NoneCame, Stops, Wants}
 use Rattle.consumer_deltas.specs.DeltaJudging.{MayCome, Sofar, count_in, entry_limit, is_whole, nothing_yet, with_page}
 use Rattle.consumer_sync.specs.Judging.{agrees}
@@ -66,7 +68,7 @@ module _ (place : Place) (sofar : Sofar) (w : WireReply) (pin : ℕ) (page : Ent
   come_on : MayCome place.kind joined
   come_on = record {
     held = far.come.held;
-    puts = list_join place.kind sofar.puts page.puts far.come.puts kinds part.puts;
+    puts = list_more place.kind sofar.puts page.puts far.come.puts kinds part.puts;
     gone = ids_join None sofar.gone page.gone far.come.gone part.gone;
     fits = part.fits;
   }

@@ -1,15 +1,19 @@
 -- What it means that the entries of a page are taken, and that a kind is closed.
-use Rattle.std.proofs.Common.{◌≡◌, ◌+◌, ◌-◌, ◌≤◌, ℕ, Bool, true, false, List, length, Option, Some, None, Result, Ok, Err, refl, sym, ap, ◌∙◌, arith, min, not}
+use Rattle.std.proofs.Common.{◌≡◌, ◌+◌, ◌-◌, ◌≤◌, ℕ, Bool, true, false, List, length, Option, Some, None, Result, Ok}
+use Rattle.std.proofs.Common.{Err, refl, sym, ap, ◌∙◌, arith, min, not}
 use Rattle.std.specs.Prelude.{◌==◌, ◌&&◌, nat_lt, if◌then◌else◌}
-use Rattle.std.proofs.lemmas.Bool.{and_parts}
+use Rattle.std.proofs.lemmas.Bool.{and_parts, both_ways}
 use Rattle.std.proofs.lemmas.Bool.Decides.{nat_tests}
+use Rattle.std.proofs.lemmas.Option.{same_Some}
 use Rattle.keeper_memory.specs.copy.Lists.{ascends, last_from}
 use Rattle.http_wire.specs.declared.reply_reading.WireReply.{WireReply}
 use Rattle.roster_types.specs.Records.{Record}
 use Rattle.row_json.specs.Deltas.{gone_of}
 use Rattle.row_json.specs.Reading.{rows_of}
 use Rattle.row_json.specs.declared.fault.JsonFault.{JsonFault}
-use Rattle.consumer_deltas.specs.DeltaJudging.{Sofar, base_act, closed_act, count_in, delta_judged, differing_act, entries_from, entries_of, entry_limit, fits_held, ids_ascend, last_id, lost_act, page_act, part_act, read_act, with_page}
+use Rattle.consumer_deltas.specs.DeltaJudging.{Sofar, base_act, closed_act, count_in, delta_judged, differing_act}
+use Rattle.consumer_deltas.specs.DeltaJudging.{entries_from, entries_of, entry_limit, fits_held, ids_ascend, last_id}
+use Rattle.consumer_deltas.specs.DeltaJudging.{lost_act, page_act, part_act, read_act, with_page}
 use Rattle.consumer_sync.specs.Judging.{agrees}
 use Rattle.consumer_deltas.specs.declared.gathered.Entries.{Entries}
 use Rattle.consumer_deltas.specs.declared.judging.DeltaAct.{DeltaAct}
@@ -74,9 +78,6 @@ others_stop place w status =
     stops (status == 404) (lost_act place.base place.pin w.oldest) _ (lost_stops place.base place.pin w.oldest)
     (stops (status == 401) act.UnknownToken _ refl (stops (status == 500) act.HubFault _ refl (stops (status == 503) act.HubNoMemory act.BadReply refl refl)))
 
-pub not_both : (b : Bool) → b ≡ true → b ≡ false → ⊥
-not_both b e f = cc
-
 -- the entries of a page that follow those that came
 pub record IsPart (place : Place) (sofar : Sofar) (w : WireReply) (pin : ℕ) (page : Entries) (total : ℕ) : Type 0 where
   pub status : w.status ≡ 200
@@ -125,17 +126,14 @@ none_taken : (place : Place) (w : WireReply) (status pin : ℕ) (page : Entries)
 none_taken place w status pin page total e =
     elim (status == 403) as (λ b. (if b then closed_act place.pin place.is_fresh w.version else others place w status) ≡ takes pin page total → ⊥) [
       | true ↦ λ d. closed_none place.pin place.is_fresh w.version pin page total d
-      | false ↦ λ d. let stop : goes_on (takes pin page total) ≡ false = ap goes_on (sym d) ∙ others_stop place w status in not_both (goes_on (takes pin page total)) (takes_on pin page total) stop
+      | false ↦ λ d. let stop : goes_on (takes pin page total) ≡ false = ap goes_on (sym d) ∙ others_stop place w status in both_ways (goes_on (takes pin page total)) stop (takes_on pin page total)
     ] e
-
-some_page : {a b : Entries} → Some a ≡ Some b → a ≡ b
-some_page e = cc
 
 entries_read : (rows : Result (List Record) JsonFault) (ids : Result (List (List ℕ)) JsonFault) (page : Entries) → entries_from rows ids ≡ Some page → (rows ≡ Ok page.puts) × (ids ≡ Ok page.gone)
 entries_read (Err fault) ids page e = cc
 entries_read (Ok puts) (Err fault) page e = cc
 entries_read (Ok puts) (Ok gone) page e =
-    let same = some_page e in
+    let same = same_Some _ _ e in
     (ap (λ (p : Entries). let r : Result (List Record) JsonFault = Ok p.puts in r) same, ap (λ (p : Entries). let r : Result (List (List ℕ)) JsonFault = Ok p.gone in r) same)
 
 module _ (place : Place) (sofar : Sofar) (w : WireReply) (pin : ℕ) (page : Entries) (total : ℕ) where
@@ -234,6 +232,6 @@ module _ (place : Place) (sofar : Sofar) (w : WireReply) (pin : ℕ) where
         | true ↦ λ d. absurd (none_closes w.version w.total d)
         | false ↦ λ d. elim (w.status == 403) as (λ b. (w.status == 403) ≡ b → (if b then closed_act place.pin place.is_fresh w.version else others place w w.status) ≡ act.Close pin → IsClosed place w pin) [
           | true ↦ λ s f. let status : w.status ≡ 403 = grind (arith, nat_tests, s) in closed_is w.version status refl f
-          | false ↦ λ _ f. let stop : goes_on (act.Close pin) ≡ false = ap goes_on (sym f) ∙ others_stop place w w.status in absurd (not_both (goes_on (act.Close pin)) (closes_on pin) stop)
+          | false ↦ λ _ f. let stop : goes_on (act.Close pin) ≡ false = ap goes_on (sym f) ∙ others_stop place w w.status in absurd (both_ways (goes_on (act.Close pin)) stop (closes_on pin))
         ] refl d
       ] e

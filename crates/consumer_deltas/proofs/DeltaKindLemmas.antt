@@ -1,8 +1,10 @@
 -- What one kind makes of a copy and a hub that agree.
-use Rattle.std.proofs.Common.{◌≡◌, ◌⊎◌, ⊎_elim, inl, inr, ◌*◌, ◌<◌, ◌≤◌, ℕ, Bool, true, false, List, [], length, Option, Some, None, Ok, Err, refl, sym, subst, ap, ◌∙◌, arith, max}
+use Rattle.std.proofs.Common.{◌≡◌, ◌⊎◌, ⊎_elim, inl, inr, ◌*◌, ◌<◌, ◌≤◌, ℕ, true, List, [], length, Option, Some, None}
+use Rattle.std.proofs.Common.{Ok, Err, refl, sym, subst, ap, ◌∙◌, arith, max}
 use Rattle.std.specs.Prelude.{IfSome, Result, option_map, unwrap_or}
 use Rattle.std.proofs.Math.Nat.{mul-le-mul_left}
-use Rattle.keeper_memory.specs.copy.Changes.{begun, copy_after, stage_after}
+use Rattle.std.proofs.lemmas.Option.{none-some, same_Some}
+use Rattle.keeper_memory.specs.copy.Changes.{begun, copy_after}
 use Rattle.keeper_memory.specs.copy.Copies.{Copy, Stage}
 use Rattle.keeper_memory.specs.copy.Lists.{kind_count}
 use Rattle.keeper_memory.specs.copy.States.{stage_of, state_of}
@@ -24,13 +26,15 @@ use Rattle.roster_base.specs.declared.keeper.KeeperError.TheVariants as fault
 use Rattle.roster_types.specs.Records.{Record}
 use Rattle.roster_values.specs.declared.kind.Kind.{Kind}
 use Rattle.version_core.specs.HubStates.{HubState}
+use Rattle.consumer_sync.proofs.StageLemmas.{pin-stage_after}
 use Rattle.consumer_sync.specs.Filling.{HasToken}
 use Rattle.consumer_sync.specs.Judging.{opened, paged}
 use Rattle.consumer_sync.specs.Staging.{Adds, IsBroken, Taking, broken_answer, open_copy, taken}
 use Rattle.consumer_sync.specs.Staging.Adds.{Opened, Stays as StaysAdded, Takes}
 use Rattle.consumer_deltas.proofs.DeltaAgreeLemmas.{kind_fits}
 use Rattle.consumer_deltas.specs.DeltaAnswers.{DeltaTold, HasBase}
-use Rattle.consumer_deltas.specs.DeltaFilling.{IsPinGone, KindTold, LetsGo, StagesKind, StaysBased, first_place, no_page, pin_in}
+use Rattle.consumer_deltas.specs.DeltaFilling.{IsPinGone, KindTold, LetsGo, StagesKind, StaysBased, first_place}
+use Rattle.consumer_deltas.specs.DeltaFilling.{no_page, pin_in}
 use Rattle.consumer_deltas.specs.DeltaFilling.LetsGo.{Fails as FailsToGo, Goes, Stays, Wants as WantsToGo}
 use Rattle.consumer_deltas.specs.DeltaJudging.{Sofar}
 use Rattle.consumer_deltas.specs.DeltaMerging.{Merges, StagesList, rest_of}
@@ -56,10 +60,6 @@ pinned_by (Some s) h v from = sym from
 
 pub pinned_from : (c : Copy) (stage : Option StageState) (h : HubState) (v : ℕ) → stage_of c ≡ stage → IsPinFrom (pin_of stage) h v → IsPinnedAt v c.stage
 pinned_from c stage h v e from = pinned_by c.stage h v (subst (λ s. IsPinFrom (pin_of s) h v) (sym e) from)
-
-pin-stage_after : (s : Stage) (rows : List Record) (total : ℕ) (done : Bool) → (stage_after s rows total done).pin ≡ s.pin
-pin-stage_after s rows total true = refl
-pin-stage_after s rows total false = refl
 
 pin_opened : (o : Option Stage) (v : ℕ) (token : List ℕ) → IsPinnedAt v o → (unwrap_or o (begun v token)).pin ≡ v
 pin_opened None v token is = refl
@@ -214,13 +214,7 @@ pin_paged None h v token from = refl
 pin_paged (Some s) h v token from = ap Some (sym from)
 
 broken_beside : (s : SyncAnswer) → IsBroken (Some s) → IsBeside (Ended s)
-broken_beside s b = ⊎_elim (λ (e : Some s ≡ Some answer.KeeperFault). subst (λ a. IsBeside (Ended a)) (sym (same e)) tt) (λ (e : Some s ≡ Some answer.NoMemory). subst (λ a. IsBeside (Ended a)) (sym (same e)) tt) b
-  where
-    same : {a b : SyncAnswer} → Some a ≡ Some b → a ≡ b
-    same e = cc
-
-no_some : {s : SyncAnswer} {K : Type 0} → Some s ≡ None → K
-no_some e = cc
+broken_beside s b = ⊎_elim (λ (e : Some s ≡ Some answer.KeeperFault). subst (λ a. IsBeside (Ended a)) (sym (same_Some _ _ e)) tt) (λ (e : Some s ≡ Some answer.NoMemory). subst (λ a. IsBeside (Ended a)) (sym (same_Some _ _ e)) tt) b
 
 one_num : (n t p : ℕ) → n ≤ t → n ≤ t * max 1 p
 one_num n t p few = let le : 1 ≤ max 1 p = omega arith in let x : t * 1 ≤ t * max 1 p = mul-le-mul_left t le in let y : t ≤ t * max 1 p = grind (arith, x) in omega (arith, few, y)
@@ -262,7 +256,7 @@ module _ (token : List ℕ) (limit tries base n : ℕ) (stage : Option StageStat
   -- or keeper or memory gave up
   pub unstaged_told : (new : Option StageState) (s : SyncAnswer) → StagesKind d kind stage token (Some s) before after → KindTold token limit tries base n stage new (Some (Ended s)) told t after
   unstaged_told new s done =
-      let beside : IsBeside (Ended s) = ⊎_elim (λ (none : Some s ≡ None). no_some none) (λ b. broken_beside s b) (staged (Some s) done).1 in
+      let beside : IsBeside (Ended s) = ⊎_elim (λ (none : Some s ≡ None). absurd (none-some _ (sym none))) (λ b. broken_beside s b) (staged (Some s) done).1 in
       record {
         fits = (staged (Some s) done).0;
         cause = beside_told token told t (Ended s) beside;

@@ -1,15 +1,16 @@
 -- The lists of a copy, in the words of what differs.
-use Rattle.std.proofs.Common.{◌≡◌, ℕ, List, [], ◌∷◌, ◌++◌, Bool, true, false, ◌&&◌, Option, None, Some, not, filter, bytes_eq, refl, ◌∙◌, ap, arith}
+use Rattle.std.proofs.Common.{◌≡◌, ℕ, List, [], ◌∷◌, ◌++◌, Bool, true, Option, None, Some, not, filter, bytes_eq, refl}
+use Rattle.std.proofs.Common.{◌∙◌, ap, arith}
+use Rattle.std.proofs.lemmas.Bool.{and_from}
 use Rattle.std.specs.FinMap.Entries as entries
 use Rattle.std.specs.List.{All, AllByRecursion, list_any}
 use Rattle.std.specs.Ordering.{is_lt, nat_cmp}
 use Rattle.std.proofs.lemmas.Bool.Decides.{nat_tests}
-use Rattle.std.proofs.lemmas.Cmp.{nat_list_cmp_total}
-use Rattle.std.proofs.lemmas.List.Elements.{All-append, All-from_recursion, All-nil, recursion_from_All}
+use Rattle.std.proofs.lemmas.List.Elements.{All-from_recursion, recursion_from_All}
 use Rattle.std.specs.Cmp.Lexicographic.{slice_cmp}
 use Rattle.exchange_link.proofs.CutLemmas.{any_first, rows_ascend}
-use Rattle.hub_spec.proofs.Below.{and_first, and_second, less_from_is_lt}
-use Rattle.keeper_memory.specs.copy.Lists.{IsList, ascends, last_from}
+use Rattle.hub_spec.proofs.Below.{and_first, and_second}
+use Rattle.keeper_memory.specs.copy.Lists.{IsList, ascends}
 use Rattle.reference_rules.proofs.KeyOrder.{same_kind}
 use Rattle.roster_types.specs.Keys.{Ascends, is_after, is_of_kind, key_cmp, keyed, row_key}
 use Rattle.roster_types.specs.Records.{Record}
@@ -20,15 +21,8 @@ use Rattle.row_deltas.proofs.DeltaLemmas.{all_overlaid}
 use Rattle.row_deltas.specs.Deltas.{AreOf, id_key, merged}
 use Rattle.version_core.proofs.LookUps.{Ascends-filter, all_kept}
 use Rattle.version_core.proofs.OrderLemmas.{Ascends-overlaid}
+use Rattle.consumer_deltas.proofs.DeltaFollowLemmas.{lower}
 use Rattle.consumer_deltas.specs.DeltaJudging.{ids_ascend, last_id}
-
-both_true : (a b : Bool) → a ≡ true → b ≡ true → (a && b) ≡ true
-both_true true b e f = f
-both_true false b e f = e
-
--- what is above a greater id is above a smaller one
-lower : (a b c : List ℕ) → is_lt (slice_cmp nat_cmp a b) ≡ true → is_lt (slice_cmp nat_cmp b c) ≡ true → is_lt (slice_cmp nat_cmp a c) ≡ true
-lower a b c e f = ap is_lt (nat_list_cmp_total.trans a b c (less_from_is_lt _ e) (less_from_is_lt _ f))
 
 module _ (kind : Kind) where
   key_less : (a b : List ℕ) → is_lt (slice_cmp nat_cmp a b) ≡ true → is_lt (key_cmp (id_key kind a) (id_key kind b)) ≡ true
@@ -38,20 +32,20 @@ module _ (kind : Kind) where
 
   ids_lower : (a b : List ℕ) (ids : List (List ℕ)) → is_lt (slice_cmp nat_cmp a b) ≡ true → ids_ascend (Some b) ids ≡ true → ids_ascend (Some a) ids ≡ true
   ids_lower a b [] less up = refl
-  ids_lower a b (id ∷ ids) less up = both_true _ _ (lower a b id less (and_first _ _ up)) (and_second (is_lt (slice_cmp nat_cmp b id)) _ up)
+  ids_lower a b (id ∷ ids) less up = and_from _ _ (lower a b id less (and_first _ _ up)) (and_second (is_lt (slice_cmp nat_cmp b id)) _ up)
 
   ids_below : (id : List ℕ) (ids : List (List ℕ)) → ids_ascend (Some id) ids ≡ true → entries.below_all key_cmp (id_key kind id) (keyed (id_key kind) ids) ≡ true
   ids_below id [] up = refl
   ids_below id (other ∷ ids) up =
       let less = and_first (is_lt (slice_cmp nat_cmp id other)) _ up in
-      both_true _ _ (key_less id other less) (ids_below id ids (ids_lower id other ids less (and_second (is_lt (slice_cmp nat_cmp id other)) _ up)))
+      and_from _ _ (key_less id other less) (ids_below id ids (ids_lower id other ids less (and_second (is_lt (slice_cmp nat_cmp id other)) _ up)))
 
   pub ids_rise : (last : Option (List ℕ)) (ids : List (List ℕ)) → ids_ascend last ids ≡ true → Ascends (id_key kind) ids
   ids_rise last [] up = refl
-  ids_rise None (id ∷ ids) up = both_true _ _ (ids_below id ids up) (ids_rise (Some id) ids up)
+  ids_rise None (id ∷ ids) up = and_from _ _ (ids_below id ids up) (ids_rise (Some id) ids up)
   ids_rise (Some last) (id ∷ ids) up =
       let rest = and_second (is_lt (slice_cmp nat_cmp last id)) _ up in
-      both_true _ _ (ids_below id ids rest) (ids_rise (Some id) ids rest)
+      and_from _ _ (ids_below id ids rest) (ids_rise (Some id) ids rest)
 
   -- rows
 
@@ -60,18 +54,18 @@ module _ (kind : Kind) where
 
   rows_lower : (a b : List ℕ) (rows : List Record) → is_lt (slice_cmp nat_cmp a b) ≡ true → ascends (Some b) rows ≡ true → ascends (Some a) rows ≡ true
   rows_lower a b [] less up = refl
-  rows_lower a b (row ∷ rows) less up = both_true _ _ (lower a b row.id less (and_first _ _ up)) (and_second (is_lt (slice_cmp nat_cmp b row.id)) _ up)
+  rows_lower a b (row ∷ rows) less up = and_from _ _ (lower a b row.id less (and_first _ _ up)) (and_second (is_lt (slice_cmp nat_cmp b row.id)) _ up)
 
   rows_below : (id : List ℕ) (rows : List Record) → AreRows rows → ascends (Some id) rows ≡ true → entries.below_all key_cmp (id_key kind id) (keyed row_key rows) ≡ true
   rows_below id [] are up = refl
   rows_below id (row ∷ rows) are up =
       let less = and_first (is_lt (slice_cmp nat_cmp id row.id)) _ up in
-      both_true _ _ (ap (λ (k : Kind). is_lt (key_cmp (id_key kind id) (id_key k row.id))) are.0 ∙ key_less id row.id less)
+      and_from _ _ (ap (λ (k : Kind). is_lt (key_cmp (id_key kind id) (id_key k row.id))) are.0 ∙ key_less id row.id less)
       (rows_below id rows are.1 (rows_lower id row.id rows less (and_second (is_lt (slice_cmp nat_cmp id row.id)) _ up)))
 
   -- a row in front of others
   first : (row : Record) (rows : List Record) → row.kind ≡ kind → entries.below_all key_cmp (id_key kind row.id) (keyed row_key rows) ≡ true → Ascends row_key rows → Ascends row_key (row ∷ rows)
-  first row rows of below up = both_true _ _ (ap (λ (k : Kind). entries.below_all key_cmp (id_key k row.id) (keyed row_key rows)) of ∙ below) up
+  first row rows of below up = and_from _ _ (ap (λ (k : Kind). entries.below_all key_cmp (id_key k row.id) (keyed row_key rows)) of ∙ below) up
 
   rise : (last : Option (List ℕ)) (rows : List Record) → AreRows rows → ascends last rows ≡ true → Ascends row_key rows
   rise last [] are up = refl
@@ -109,22 +103,9 @@ module _ (kind : Kind) where
 
 -- ---- parts, one behind the other
 
-pub rows_join : (last : Option (List ℕ)) (rows more : List Record) → ascends last rows ≡ true → ascends (last_from last rows) more ≡ true → ascends last (rows ++ more) ≡ true
-rows_join last [] more up up' = up'
-rows_join last (row ∷ rows) more up up' = both_true _ _ (and_first (is_after last row.id) _ up) (rows_join (Some row.id) rows more (and_second (is_after last row.id) _ up) up')
-
 pub ids_join : (last : Option (List ℕ)) (ids more : List (List ℕ)) → ids_ascend last ids ≡ true → ids_ascend (last_id last ids) more ≡ true → ids_ascend last (ids ++ more) ≡ true
 ids_join last [] more up up' = up'
-ids_join last (id ∷ ids) more up up' = both_true _ _ (and_first (is_after last id) _ up) (ids_join (Some id) ids more (and_second (is_after last id) _ up) up')
-
-pub no_list : (kind : Kind) → IsList kind []
-no_list kind = record { kinds = All-nil (λ (row : Record). row.kind ≡ kind); ascend = refl }
-
-pub list_join : (kind : Kind) (rows more : List Record) → IsList kind rows → All (λ row. row.kind ≡ kind) more → ascends (last_from None rows) more ≡ true → IsList kind (rows ++ more)
-list_join kind rows more is kinds up = record {
-  kinds = All-append (λ (row : Record). row.kind ≡ kind) rows more is.kinds kinds;
-  ascend = rows_join None rows more is.ascend up;
-}
+ids_join last (id ∷ ids) more up up' = and_from _ _ (and_first (is_after last id) _ up) (ids_join (Some id) ids more (and_second (is_after last id) _ up) up')
 
 -- what follows is a list by itself
 alone : (last : Option (List ℕ)) (rows : List Record) → ascends last rows ≡ true → ascends None rows ≡ true

@@ -1,22 +1,22 @@
 -- What the hub's own reply means for the delta of a kind, over a link that tells.
-use Rattle.std.proofs.Common.{◌≡◌, ◌≢◌, ◌+◌, ◌-◌, ◌<◌, ◌≤◌, ◌^◌, ◌⊎◌, ⊎_elim, inl, inr, ℕ, Bool, true, false, not, List, [], length, min, Option, Some, None, Ok, refl, sym, ap, subst, ◌∙◌, arith, length-append}
+use Rattle.std.proofs.Common.{◌≡◌, ◌≢◌, ◌+◌, ◌-◌, ◌<◌, ◌≤◌, ◌^◌, ◌⊎◌, ⊎_elim, inl, inr, ℕ, Bool, true, false, not, List}
+use Rattle.std.proofs.Common.{[], length, min, Option, Some, None, Ok, refl, sym, ap, subst, ◌∙◌, arith, length-append}
+use Rattle.std.proofs.lemmas.Bool.{both_ways, cond-false, cond-true, eq-eqb, lt-ltb}
 use Rattle.std.specs.Prelude.{Result, ◌==◌, ◌&&◌, nat_lt, if◌then◌else◌, IfSome, IsSomeAnd, max, unwrap_or}
 use Rattle.std.proofs.lemmas.Bool.Decides.{nat_tests}
-use Rattle.exchange_link.proofs.AskLemmas.{grew_on, grew_refl}
+use Rattle.std.proofs.lemmas.Option.{same_Some}
+use Rattle.exchange_link.proofs.AskLemmas.{grew_on}
 use Rattle.exchange_link.proofs.CutLemmas.{list_good}
-use Rattle.exchange_link.specs.Causes.{ToldCause}
 use Rattle.exchange_link.specs.DeltaPages.{delta_page_request}
 use Rattle.exchange_link.specs.DeltaSayings.{BaseGone, Differs, NotKnown, NotOpened, PinGone, TellsFrom, opens_kind}
 use Rattle.exchange_link.specs.Exchanges.{Told}
 use Rattle.exchange_link.specs.Owning.{IsOwnRead}
 use Rattle.exchange_link.specs.Owning.Gives.{Answers as GivesAnswer, Broke as GivesFault, Wants as GivesWant}
 use Rattle.exchange_link.specs.Pages.{Page, asked_by}
-use Rattle.exchange_link.specs.Requests.{Moved}
 use Rattle.exchange_link.specs.Sayings.{knows, list_of}
-use Rattle.exchange_link.specs.declared.answer.SyncAnswer.{SyncAnswer}
-use Rattle.exchange_link.specs.declared.answer.SyncAnswer.TheVariants as answer
 use Rattle.http_wire.specs.declared.reply_reading.WireReply.{WireReply}
 use Rattle.hub_spec.proofs.CutDeltas.{list_ascends, list_is_of}
+use Rattle.hub_spec.proofs.Growing.{Grew-refl}
 use Rattle.hub_spec.proofs.Versions.{number_at, version_is}
 use Rattle.hub_spec.specs.requests.PageRequests.{CanAsk}
 use Rattle.hub_spec.specs.rules.Checks.{version_at}
@@ -31,6 +31,7 @@ use Rattle.roster_base.specs.Faults.{Rose}
 use Rattle.roster_types.specs.Records.{Record}
 use Rattle.roster_values.specs.Kinds.{place_of_kind}
 use Rattle.roster_values.specs.declared.kind.Kind.{Kind}
+use Rattle.row_deltas.proofs.EntryLemmas.{length-delta}
 use Rattle.row_deltas.specs.Deltas.{ids_gone, rows_put}
 use Rattle.row_deltas.specs.declared.entry.DeltaEntry.{DeltaEntry}
 use Rattle.row_json.specs.Deltas.{gone_of}
@@ -42,21 +43,24 @@ use Rattle.version_core.specs.Version.{row_limit}
 use Rattle.version_core.specs.declared.change.BaseVersion.{BaseVersion}
 use Rattle.version_core.specs.declared.grant_row.GrantRow.{GrantRow}
 use Rattle.consumer_sync.specs.Judging.{agrees}
-use Rattle.consumer_deltas.proofs.DeltaEntryLemmas.{delta_short, gone_next, gone_up, part_count, puts_next, puts_up}
+use Rattle.consumer_deltas.proofs.DeltaEntryLemmas.{gone_next, gone_up, part_count, puts_next, puts_up}
 use Rattle.consumer_deltas.proofs.DeltaFitLemmas.{first_fits, fits_delta}
-use Rattle.consumer_deltas.proofs.DeltaJudgeLemmas.{IsClosed, IsPart, closed_taken, closes_on, goes_on, not_both, part_taken, takes_on}
+use Rattle.consumer_deltas.proofs.DeltaJudgeLemmas.{IsClosed, IsPart, closed_taken, closes_on, goes_on, part_taken}
+use Rattle.consumer_deltas.proofs.DeltaJudgeLemmas.{takes_on}
 use Rattle.consumer_deltas.proofs.DeltaGatherLemmas.{pin_is}
 use Rattle.consumer_deltas.proofs.DeltaPagesLemmas.{Paged, paged_end, paged_next}
+use Rattle.consumer_deltas.proofs.DeltaStopLemmas.{judged_at}
 use Rattle.consumer_deltas.proofs.DeltaTellLemmas.{PinLaw, delta_law_of, delta_told_of}
 use Rattle.consumer_deltas.proofs.DeltaToldLemmas.{first_on, first_whole, part_told}
 use Rattle.consumer_deltas.specs.DeltaAnswers.{DeltaTold}
 use Rattle.consumer_deltas.specs.DeltaFits.{fits}
 use Rattle.consumer_deltas.specs.DeltaGathering.{AreFirst, IsDelta, IsPartOf, IsShutAt, ending_of}
-use Rattle.consumer_deltas.specs.DeltaJudging.{Sofar, base_act, by_status, closed_act, count_in, delta_judged, differing_act, entries_from, entry_limit, fits_held, ids_ascend, is_whole, last_id, lost_act, nothing_yet, read_act, with_page}
+use Rattle.consumer_deltas.specs.DeltaJudging.{Sofar, base_act, closed_act, count_in, delta_judged, differing_act}
+use Rattle.consumer_deltas.specs.DeltaJudging.{entries_from, entry_limit, fits_held, ids_ascend, is_whole, last_id}
+use Rattle.consumer_deltas.specs.DeltaJudging.{lost_act, nothing_yet, read_act, with_page}
 use Rattle.consumer_deltas.specs.DeltaRequests.{page_asked}
 use Rattle.consumer_deltas.specs.DeltaTelling.{IsAtPin, IsPinFrom, MayAsk, PagesBounded}
 use Rattle.consumer_deltas.specs.declared.answer.DeltaAnswer.{DeltaAnswer}
-use Rattle.consumer_deltas.specs.declared.answer.DeltaAnswer.TheVariants as delta_answer
 use Rattle.consumer_deltas.specs.declared.gather.Delta.{Delta}
 use Rattle.consumer_deltas.specs.declared.gathered.Entries.{Entries}
 use Rattle.consumer_deltas.specs.declared.judging.DeltaAct.{DeltaAct}
@@ -184,9 +188,6 @@ pub record TakenMeans (a b : HubState) (token : List ℕ) (here : Place) (sofar 
   pub opened : opens_kind (version_at b pin) token here.kind ≡ true
   pub from : IsPinFrom here.pin a pin
 
-some_number : {a b : ℕ} → Some a ≡ Some b → a ≡ b
-some_number e = cc
-
 module _ (a mid b : HubState) (from : Grew a mid) (to : Grew mid b) (token : List ℕ) (here : Place) (sofar : Sofar) (w : WireReply) where
   taken_told : (pin : ℕ) (page : Entries) (total : ℕ) → IsPart here sofar w pin page total → TellsFrom mid (page_asked token here (count_in sofar)) here.base w → TakenMeans a b token here sofar pin page total
   taken_told pin page total part (NotKnown status none) = absurd (omega (arith, status, part.status))
@@ -194,7 +195,7 @@ module _ (a mid b : HubState) (from : Grew a mid) (to : Grew mid b) (token : Lis
   taken_told pin page total part (NotOpened v read status version shut none) = absurd (omega (arith, status, part.status))
   taken_told pin page total part (BaseGone v by read found status oldest out) = absurd (omega (arith, status, part.status))
   taken_told pin page total part (Differs v read status version opened based low is_total rows ids) =
-      let is : v ≡ pin = some_number (sym version ∙ part.version) in
+      let is : v ≡ pin = same_Some _ _ (sym version ∙ part.version) in
       let stands : pin < length mid.published = omega (arith, read.standing, is) in
       record {
         part = part_told mid b to token here sofar w pin page total part (Differs v read status version opened based low is_total rows ids);
@@ -208,7 +209,7 @@ module _ (a mid b : HubState) (from : Grew a mid) (to : Grew mid b) (token : Lis
   closed_told pin shut (BaseGone v by read found status oldest out) = absurd (omega (arith, status, shut.status))
   closed_told pin shut (Differs v read status version opened based low is_total rows ids) = absurd (omega (arith, status, shut.status))
   closed_told pin shut (NotOpened v read status version closed none) =
-      let is : v ≡ pin = some_number (sym version ∙ shut.version) in
+      let is : v ≡ pin = same_Some _ _ (sym version ∙ shut.version) in
       let stands : pin < length mid.published = omega (arith, read.standing, is) in
       let longer = to.longer in (
         record {
@@ -292,30 +293,12 @@ pass : {A : Type 0} (b : Bool) (x y : A) → b ≡ true → (if not b then x els
 pass true x y e = refl
 pass false x y e = cc
 
-skip : {A : Type 0} (b : Bool) (x y : A) → b ≡ false → (if b then x else y) ≡ y
-skip false x y e = refl
-skip true x y e = cc
-
-enter : {A : Type 0} (b : Bool) (x y : A) → b ≡ true → (if b then x else y) ≡ x
-enter true x y e = refl
-enter false x y e = cc
-
-eq_test : (a b : ℕ) → a ≡ b → (a == b) ≡ true
-eq_test a b e = grind (arith, nat_tests)
-
 few_test : (t : ℕ) → t ≤ entry_limit → nat_lt entry_limit t ≡ false
 few_test t le = grind (arith, nat_tests)
 
-less_test : (a b : ℕ) → a < b → nat_lt a b ≡ true
-less_test a b lt = grind (arith, nat_tests)
-
 agrees_pin : (o : Option ℕ) (v n : ℕ) → v ≡ unwrap_or o n → agrees o v ≡ true
 agrees_pin None v n e = refl
-agrees_pin (Some pin) v n e = eq_test pin v (sym e)
-
--- the status picks the act
-judged_at : (place : Place) (sofar : Sofar) (w : WireReply) (n : ℕ) → w.status ≡ n → delta_judged place sofar w ≡ by_status n place sofar w
-judged_at place sofar w n e = ap (λ n. by_status n place sofar w) e
+agrees_pin (Some pin) v n e = eq-eqb pin v (sym e)
 
 page_take : (place : Place) (sofar : Sofar) (w : WireReply) (v t : ℕ) (page : Entries) → w.status ≡ 200 → w.version ≡ Some v → w.total ≡ Some t → agrees place.pin v ≡ true → t ≤ entry_limit → agrees sofar.total t ≡ true
     → rows_of place.kind w.body ≡ Ok page.puts → gone_of w.body ≡ Ok page.gone → length page.puts + length page.gone ≡ min place.limit (t - count_in sofar)
@@ -324,10 +307,10 @@ page_take place sofar w v t page status version told pinned few same rows ids co
     judged_at place sofar w 200 status
     ∙ (λ i. differing_act place.kind sofar place.pin place.limit (version i) (told i) w.body)
     ∙ pass (agrees place.pin v) _ _ pinned
-    ∙ skip (nat_lt entry_limit t) _ _ (few_test t few)
+    ∙ cond-false (nat_lt entry_limit t) _ _ (few_test t few)
     ∙ pass (agrees sofar.total t) _ _ same
     ∙ (λ i. read_act place.kind sofar place.limit v t (entries_from (rows i) (ids i)))
-    ∙ pass (length page.puts + length page.gone == min place.limit (t - count_in sofar)) _ _ (eq_test _ _ count)
+    ∙ pass (length page.puts + length page.gone == min place.limit (t - count_in sofar)) _ _ (eq-eqb _ _ count)
     ∙ pass (ascends (last_from None sofar.puts) page.puts) _ _ up
     ∙ pass (ids_ascend (last_id None sofar.gone) page.gone) _ _ up'
     ∙ pass (fits_held place.kind (with_page sofar page t)) _ _ fit
@@ -345,7 +328,7 @@ module _ (a b : Told) (token : List ℕ) (here : Place) (sofar : Sofar) (w : Wir
 
   -- an act that goes on isn't one
   goes : (y : DeltaAct) → goes_on y ≡ true → delta_judged here sofar w ≡ y → ⊥
-  goes y on e = not_both (goes_on (delta_judged here sofar w)) (ap goes_on e ∙ on) ends
+  goes y on e = both_ways (goes_on (delta_judged here sofar w)) ends (ap goes_on e ∙ on)
 
   low_pin : (o : Option ℕ) (v : ℕ) → IfSome o (λ pin. (pin < length mid.published) × (here.base ≤ pin)) → v ≡ unwrap_or o (newest_number mid) → here.base ≤ v
   low_pin None v pinned e = let stands = x.based in omega (arith, stands, e)
@@ -358,7 +341,7 @@ module _ (a b : Told) (token : List ℕ) (here : Place) (sofar : Sofar) (w : Wir
       let old : (pin < oldest_number mid) ⊎ (pin < by.grant.since) = first_two (pin < oldest_number mid) (pin < by.grant.since) (newest_number mid < pin) out (λ late. omega (arith, stands.0, late)) in
       let lt : pin < max (oldest_number mid) by.grant.since = above_one pin (oldest_number mid) by.grant.since old in
       subst Ends
-      (sym (judged_at here sofar w 404 status ∙ (λ i. lost_act here.base (asks i) (oldest i)) ∙ enter (nat_lt pin (max (oldest_number mid) by.grant.since)) _ _ (less_test _ _ lt)))
+      (sym (judged_at here sofar w 404 status ∙ (λ i. lost_act here.base (asks i) (oldest i)) ∙ cond-true (nat_lt pin (max (oldest_number mid) by.grant.since)) _ _ (lt-ltb _ _ lt)))
       (mid, from, to, by, found, old)
 
   module _ (version : ℕ) (by : GrantRow) (read : version ≡ unwrap_or here.pin (newest_number mid)) (found : grant_of token (version_at mid version).grants ≡ Some by) where
@@ -369,7 +352,7 @@ module _ (a b : Told) (token : List ℕ) (here : Place) (sofar : Sofar) (w : Wir
     base_act_ends out =
         let old : (here.base < oldest_number mid) ⊎ (here.base < by.grant.since) = first_two (here.base < oldest_number mid) (here.base < by.grant.since) (version < here.base) out (λ late. let low = low_pin here.pin version x.pinned read in omega (arith, low, late)) in
         let lt : here.base < kept_from = above_one here.base (oldest_number mid) by.grant.since old in
-        subst Ends (sym (enter (nat_lt here.base kept_from) _ _ (less_test _ _ lt))) (mid, from, to, version, by, found, old)
+        subst Ends (sym (cond-true (nat_lt here.base kept_from) _ _ (lt-ltb _ _ lt))) (mid, from, to, version, by, found, old)
 
     lost_ends : PinLaw mid (page_asked token here (count_in sofar)) w → w.status ≡ 404 → w.oldest ≡ Some kept_from → ((here.base < oldest_number mid) ⊎ ((here.base < by.grant.since) ⊎ (version < here.base)))
         → (o : Option ℕ) → here.pin ≡ o → Ends (lost_act here.base o (Some kept_from))
@@ -395,8 +378,8 @@ module _ (a b : Told) (token : List ℕ) (here : Place) (sofar : Sofar) (w : Wir
       elim here.is_fresh as (λ f. here.is_fresh ≡ f → delta_judged here sofar w ≡ (if f then act.Close version else act.BadReply) → ⊥) [
         | true ↦ λ _ e. goes (act.Close version) (closes_on version) e
         | false ↦ λ late _.
-            let shows = at_pin mid (λ pin. Shows mid token here.kind pin) here.pin version (pin_from mid mid (grew_refl mid) here.pin version read) (x.staged late) in
-            ⊎_elim (λ (opened : opens_kind (version_at mid version) token here.kind ≡ true). not_both _ opened shut) (λ (some : list_of (version_at mid version) token (place_of_kind here.kind) ≢ []). some none) shows
+            let shows = at_pin mid (λ pin. Shows mid token here.kind pin) here.pin version (pin_from mid mid (Grew-refl mid) here.pin version read) (x.staged late) in
+            ⊎_elim (λ (opened : opens_kind (version_at mid version) token here.kind ≡ true). both_ways _ shut opened) (λ (some : list_of (version_at mid version) token (place_of_kind here.kind) ≢ []). some none) shows
       ] refl judged
 
   module _ (version : ℕ) (standing : version < length mid.published) (read : version ≡ unwrap_or here.pin (newest_number mid)) where
@@ -407,14 +390,14 @@ module _ (a b : Told) (token : List ℕ) (here : Place) (sofar : Sofar) (w : Wir
     shown = slice here.limit (count_in sofar) differing
 
     is_pin : IsPinFrom here.pin mid version
-    is_pin = pin_from mid mid (grew_refl mid) here.pin version read
+    is_pin = pin_from mid mid (Grew-refl mid) here.pin version read
 
     first_now : AreFirst sofar differing
     first_now = first_at mid mid token here sofar sofar.total version is_pin x.came
 
     same_total : (o : Option ℕ) → Came mid token here sofar o → agrees o (length differing) ≡ true
     same_total None y = refl
-    same_total (Some total) y = eq_test total (length differing) ((at_pin mid (λ pin. IsFirstPart mid token here sofar total pin) here.pin version is_pin y).total_is)
+    same_total (Some total) y = eq-eqb total (length differing) ((at_pin mid (λ pin. IsFirstPart mid token here sofar total pin) here.pin version is_pin y).total_is)
 
     abbrev base_rows : List Record
     base_rows = list_in (version_at mid here.base) token here.kind
@@ -424,7 +407,7 @@ module _ (a b : Told) (token : List ℕ) (here : Place) (sofar : Sofar) (w : Wir
 
     few : length differing ≤ entry_limit
     few =
-        let many : length differing ≤ length base_rows + length pin_rows = delta_short here.kind base_rows pin_rows in
+        let many : length differing ≤ length base_rows + length pin_rows = length-delta here.kind base_rows pin_rows in
         let few_old : length base_rows ≤ row_limit = (list_good mid hub here.base token (place_of_kind here.kind) x.based).few in
         let few_new : length pin_rows ≤ row_limit = (list_good mid hub version token (place_of_kind here.kind) standing).few in
         omega (arith, many, few_old, few_new)
@@ -553,14 +536,3 @@ paged_to before a b grew token place here sofar base some x from at to tries le 
     (paged_end before a b token place here sofar tries (at - from) (to - at) grew (omega (arith, stands, base)) some (omega (arith, le', most)) r named so)
 
 -- ---- from an earlier state on
-
-cause_back : (token : List ℕ) (t a b : Told) (s : SyncAnswer) → Moved t a → ToldCause token a b s → ToldCause token t b s
-cause_back token t a b answer.HubFault moved x = let counts = moved.counts in omega (arith, counts, x)
-cause_back token t a b (answer.PinGone pin oldest) moved x = (x.0, grew_on moved.grew x.1, x.2, x.3, x.4, x.5)
-cause_back token t a b answer.UnknownToken moved x = (x.0, grew_on moved.grew x.1, x.2, x.3)
-cause_back token t a b s moved x = x
-
-pub told_back : (token : List ℕ) (t a b : Told) (y : DeltaAnswer) → Moved t a → DeltaTold token a b y → DeltaTold token t b y
-told_back token t a b (delta_answer.Ended s) moved x = cause_back token t a b s moved x
-told_back token t a b delta_answer.NoBase moved x = tt
-told_back token t a b (delta_answer.BaseGone held oldest) moved x = (x.0, grew_on moved.grew x.1, x.2, x.3, x.4, x.5, x.6)

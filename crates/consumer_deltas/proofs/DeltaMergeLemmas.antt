@@ -1,5 +1,7 @@
 -- What differs of a kind, merged with what is held of it.
-use Rattle.std.proofs.Common.{◌≡◌, ◌<◌, ◌⊎◌, ⊎_elim, ℕ, List, [], length, get_or, Option, None, Some, sym, ap, subst, ◌∙◌}
+use Rattle.std.proofs.Common.{◌≡◌, ◌<◌, ◌⊎◌, ⊎_elim, ℕ, List, [], length, get_or, Option, None, Some, sym, ap, subst}
+use Rattle.std.proofs.Common.{◌∙◌}
+use Rattle.std.proofs.lemmas.Option.{none-some, same_Some}
 use Rattle.std.specs.Prelude.{IfSome}
 use Rattle.std.specs.Option.{option_map_or}
 use Rattle.consumer_sync.specs.Staging.{IsBroken, Taking}
@@ -56,19 +58,13 @@ module _ (kind : Kind) (entries : Sofar) (held rows : List Record) (is : rows �
     merged_many before after shown staged =
         ap length (is_merged after (shown ∙ sym (same_list kind after before (list_held kind stage pin token rows result before after staged))))
 
-some_answer : {a b : SyncAnswer} → Some a ≡ Some b → a ≡ b
-some_answer e = cc
-
-none_some : (a : SyncAnswer) → Some a ≡ None → ⊥
-none_some a e = cc
-
 -- why a list isn't staged
 pub ends_staged : (broke : Type 0) (copies : Copy → Type 0) (kind : Kind) (entries : Sofar) (n : ℕ) (result : Option SyncAnswer) → (result ≡ Some answer.KeeperFault → broke) → ((c : Copy) → copies c → n ≡ length (merged_with kind entries c))
     → (result ≡ None) ⊎ (IsBroken result ⊎ ((row_limit < n) × (result ≡ Some (answer.TooLarge kind n)))) → IfSome result (Unmerged broke copies kind entries)
 ends_staged broke copies kind entries n None rose many x = tt
 ends_staged broke copies kind entries n (Some a) rose many x = ⊎_elim
-    (λ (none : Some a ≡ None). absurd (none_some a none))
+    (λ (none : Some a ≡ None). absurd (none-some a (sym none)))
     (λ y. ⊎_elim
-    (λ (b : IsBroken (Some a)). ⊎_elim (λ (e : Some a ≡ Some answer.KeeperFault). Broke (rose e) (some_answer e)) (λ (e : Some a ≡ Some answer.NoMemory). Wants (some_answer e)) b)
-    (λ (t : (row_limit < n) × (Some a ≡ Some (answer.TooLarge kind n))). IsTooMany n t.0 many (some_answer t.1)) y)
+    (λ (b : IsBroken (Some a)). ⊎_elim (λ (e : Some a ≡ Some answer.KeeperFault). Broke (rose e) (same_Some _ _ e)) (λ (e : Some a ≡ Some answer.NoMemory). Wants (same_Some _ _ e)) b)
+    (λ (t : (row_limit < n) × (Some a ≡ Some (answer.TooLarge kind n))). IsTooMany n t.0 many (same_Some _ _ t.1)) y)
     x

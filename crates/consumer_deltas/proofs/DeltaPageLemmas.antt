@@ -9,7 +9,8 @@ use Rattle.hub_spec.specs.requests.DeltaRequests.{delta_query}
 use Rattle.hub_spec.specs.requests.PageRequests.{page_path, pin_text}
 use Rattle.roster_texts.specs.Texts.{is_token}
 use Rattle.status_info.specs.declared.request.Echo.{Echo}
-use Rattle.consumer_sync.proofs.PageLemmas.{both, decimal_sent, decimal_short, path_sent, path_short, pin_sent, pin_short}
+use Rattle.consumer_sync.proofs.PageLemmas.{both, decimal_sent, decimal_short, path_sent, path_short, pin_sent}
+use Rattle.consumer_sync.proofs.PageLemmas.{pin_short}
 use Rattle.consumer_deltas.specs.DeltaRequests.{delta_unnumbered}
 
 module _ (limit offset base : ℕ) (pin : Option ℕ) (l : limit < 2 ^ 64) (o : offset < 2 ^ 64) (b : base < 2 ^ 64) (p : IfSome pin (λ n. n < 2 ^ 64)) where

@@ -1,5 +1,6 @@
 -- How many exchanges the pages of a kind take.
-use Rattle.std.proofs.Common.{◌≡◌, inl, inr, ◌+◌, ◌-◌, ◌*◌, ◌/◌, ◌<◌, ◌≤◌, ℕ, zero, suc, List, length, min, Some, sym, ap, ◌∙◌, arith}
+use Rattle.std.proofs.Common.{◌≡◌, inl, inr, ◌+◌, ◌-◌, ◌*◌, ◌/◌, ◌<◌, ◌≤◌, ℕ, zero, suc, List, length, min, Some, sym}
+use Rattle.std.proofs.Common.{ap, ◌∙◌, arith}
 use Rattle.std.specs.Prelude.{Result}
 use Rattle.std.proofs.Math.Nat.{add-div_right, mul-le-mul_left}
 use Rattle.exchange_link.specs.Bounds.{pages}
@@ -58,9 +59,6 @@ module _ (before h i : HubState) (token : List ℕ) (place here : Place) (sofar 
 
   same_count : (v : ℕ) → v < length h.published → count_at i v ≡ count_at h v
   same_count v stands = λ k. length (what_differs (grew.same place.base based k) (grew.same v stands k) token place.kind)
-
-  some_pin : {a b : ℕ} → Some a ≡ Some b → a ≡ b
-  some_pin e = cc
 
   -- one page more, which isn't the last
   pub paged_next : (v : ℕ) (there : Place) (next : Sofar) → ((p : ℕ) → here.pin ≡ Some p → p ≡ v) → there.pin ≡ Some v → IsPinFrom place.pin before v → v < length i.published

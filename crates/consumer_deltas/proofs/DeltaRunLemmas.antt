@@ -1,6 +1,8 @@
 -- The parts of an incremental synchronisation make the whole.
-use Rattle.std.proofs.Common.{◌≡◌, ◌≢◌, ◌⊎◌, ⊎_elim, inl, inr, ◌+◌, ◌<◌, ◌≤◌, ℕ, List, length, Option, Some, None, Ok, Err, refl, sym, subst, ap, ◌∙◌, arith}
-use Rattle.std.specs.Prelude.{IfSome, IsSomeAnd, option_map}
+use Rattle.std.proofs.Common.{◌≡◌, ◌≢◌, ◌⊎◌, ⊎_elim, inl, inr, ◌+◌, ◌<◌, ◌≤◌, ℕ, List, length, Option, Some, None, Ok}
+use Rattle.std.proofs.Common.{Err, refl, sym, subst, ap, ◌∙◌, arith}
+use Rattle.std.proofs.lemmas.Option.{none-some, same_Some}
+use Rattle.std.specs.Prelude.{IfSome, option_map}
 use Rattle.std.specs.Option.{option_map_or}
 use Rattle.keeper_memory.specs.copy.Changes.{copy_after, swapped}
 use Rattle.keeper_memory.specs.copy.Copies.{Copy, Held, Stage, held_token}
@@ -10,7 +12,7 @@ use Rattle.keeper_memory.specs.declared.copy.state.CopyState.{CopyState}
 use Rattle.keeper_memory.specs.declared.copy.state.StageState.{StageState}
 use Rattle.keeper_memory.specs.declared.copy.state.TheConstants.{LAST}
 use Rattle.exchange_link.proofs.AskLemmas.{asks_refl}
-use Rattle.exchange_link.specs.Agreement.{CopyFits, HeldFitsIf, StageAgrees}
+use Rattle.exchange_link.specs.Agreement.{CopyFits, StageAgrees}
 use Rattle.exchange_link.specs.Beginning.{Enters}
 use Rattle.exchange_link.specs.Causes.{IsAside, LastLaw}
 use Rattle.exchange_link.specs.Exchanges.{Told}
@@ -27,15 +29,17 @@ use Rattle.version_core.specs.HubStates.{HubState}
 use Rattle.consumer_sync.proofs.FaultLemmas.{abort_faults, enter_faults, fill_faults}
 use Rattle.consumer_sync.proofs.FillLemmas.{fills_end}
 use Rattle.consumer_sync.proofs.MarkLemmas.{marks_kept}
-use Rattle.consumer_sync.proofs.SyncLemmas.{drop_fails, fill_leaves, fill_sync, pin_law}
+use Rattle.consumer_sync.proofs.SyncLemmas.{drop_fails, fail_stage, fill_leaves, fill_sync, pin_law}
 use Rattle.consumer_sync.specs.Faulted.{FaultLaw, SaysGone}
 use Rattle.consumer_sync.specs.Filling.{Ends, Fills, PinLaw}
 use Rattle.consumer_sync.specs.Requests.{IsUnmarked}
 use Rattle.consumer_sync.specs.Staging.{broken_answer}
 use Rattle.consumer_sync.specs.Starting.{Aborts, Drops, StartCause, SwapsIn, unentered, without_other}
+use Rattle.consumer_deltas.proofs.DeltaAgreeLemmas.{IsBase, base_stands as held_stands}
 use Rattle.consumer_deltas.proofs.DeltaStopLemmas.{IsDeltaEnd}
 use Rattle.consumer_deltas.specs.DeltaAnswers.{BaseLaw, DeltaLeaves, DeltaTold, HasBase, LacksBase}
-use Rattle.consumer_deltas.specs.DeltaCalls.{AnswersPin, DeltaBounded, DeltaFaultLaw, DeltaLastLaw, DeltaSynchronised, IsDeltaDone, IsNewPin}
+use Rattle.consumer_deltas.specs.DeltaCalls.{AnswersPin, DeltaBounded, DeltaFaultLaw, DeltaLastLaw, DeltaSynchronised}
+use Rattle.consumer_deltas.specs.DeltaCalls.{IsDeltaDone, IsNewPin}
 use Rattle.consumer_deltas.specs.DeltaCauses.{DeltaCause}
 use Rattle.consumer_deltas.specs.DeltaCauses.DeltaCause.{Broke, OutOfRuns, Wants}
 use Rattle.consumer_deltas.specs.DeltaFilling.{BasedBehind, DeltaEnds, NamesPinIf}
@@ -46,28 +50,16 @@ use Rattle.consumer_deltas.specs.declared.judging.Place.{Place}
 
 -- ---- the base
 
-abbrev IsBase : ℕ → List ℕ → Option Held → Type 0
-IsBase base token o = IsSomeAnd o (λ held. (held.version ≡ base) × (held.token ≡ Some token))
-
-some_number : {a b : ℕ} → Some a ≡ Some b → a ≡ b
-some_number e = cc
-
-none_number : {a : ℕ} {K : Type 0} → None ≡ Some a → K
-none_number e = cc
-
-none_token : {a : List ℕ} {K : Type 0} → None ≡ Some a → K
-none_token e = cc
-
 based_by : (o : Option Held) (base : ℕ) (token : List ℕ) → option_map_or (λ (h : Held). h.token) o None ≡ Some token → option_map (λ (h : Held). h.version) o ≡ Some base → IsBase base token o
-based_by None base token e f = none_token e
-based_by (Some held) base token e f = (some_number f, e)
+based_by None base token e f = absurd (none-some _ e)
+based_by (Some held) base token e f = (same_Some _ _ f, e)
 
 -- a version that is held under the token
 pub based : (c : Copy) (s : CopyState) (base : ℕ) (token : List ℕ) → s ≡ small_part c → s.held_token ≡ Some token → s.held ≡ Some base → HasBase base token c
 based c s base token shows e f = based_by c.held base token (ap (λ (s : CopyState). s.held_token) (sym shows) ∙ e) (ap (λ (s : CopyState). s.held) (sym shows) ∙ f)
 
 held_some : (o : Option Held) (token : List ℕ) → option_map_or (λ (h : Held). h.token) o None ≡ Some token → option_map (λ (h : Held). h.version) o ≡ None → ⊥
-held_some None token e f = none_token e
+held_some None token e f = absurd (none-some _ e)
 held_some (Some held) token e f = cc
 
 -- nothing is
@@ -178,9 +170,6 @@ start_more broke more answer.KeeperFault f k = f k
 start_more broke more answer.NoMemory f k = tt
 start_more broke more a f k = absurd k
 
-fail_stage : (token : List ℕ) (b a : Copy) → Aborts token b a → (StageOn token (own_stage token b.stage) a.stage) ⊎ (a.stage ≡ b.stage)
-fail_stage token b a f = ⊎_elim (λ (e : a.stage ≡ b.stage). inr e) (λ e. inl (subst (λ o. StageOn token o a.stage) (sym e.0) (subst (λ o. StageOn token None o) (sym e.1) tt))) f.stage
-
 fail_leaves : (token : List ℕ) (e : SyncAnswer) (b a : Copy) (K : Type 0) → (e ≢ answer.LastRun) × StartCause K e → Aborts token b a → Leaves token e b a
 fail_leaves token answer.LastRun b a K k f = absurd (k.0 refl)
 fail_leaves token answer.KeeperFault b a K k f = record { run = f.run; entries = f.entries; last_number = f.last_number; held = inl f.held; stage = ⊎_elim (λ x. inl x) (λ x. inr (inr (tt, x))) (fail_stage token b a f) }
@@ -258,18 +247,12 @@ bounded_map n tries limit token base None P Q h f b = ⊎_elim (λ (few : n ≤ 
 pub end_pin : (base : ℕ) (a : DeltaAnswer) (c : Copy) (h i : HubState) (v : ℕ) → IsDeltaEnd base a → IsNewPin (NamesPinIf (Some a)) c h i v → IsNewPin (AnswersPin a) c h i v
 end_pin base a c h i v end x = record { newest = x.newest; standing = x.standing; named = answers_names base a v end x.named; stage = x.stage }
 
-some_state : {a b : StageState} → Some a ≡ Some b → a ≡ b
-some_state e = cc
-
-no_state : {a : StageState} {K : Type 0} → None ≡ Some a → K
-no_state e = cc
-
 stage_pin : (o : Option Stage) (st : StageState) (v : ℕ) → option_map state_of o ≡ Some st → IfSome o (λ s. s.pin ≡ v) → v ≡ st.pin
-stage_pin None st v e x = no_state e
-stage_pin (Some s) st v e x = sym x ∙ ap (λ (y : StageState). y.pin) (some_state e)
+stage_pin None st v e x = absurd (none-some _ e)
+stage_pin (Some s) st v e x = sym x ∙ ap (λ (y : StageState). y.pin) (same_Some _ _ e)
 
 swapped_stage : (c : Copy) (o : Option Stage) (st : StageState) → option_map state_of o ≡ Some st → (swapped c o).stage ≡ None
-swapped_stage c None st e = no_state e
+swapped_stage c None st e = absurd (none-some _ e)
 swapped_stage c (Some s) st e = refl
 
 no_stage : (v : ℕ) (o : Option Stage) → o ≡ None → IfSome o (λ s. s.pin ≡ v)
@@ -300,10 +283,6 @@ delta_marks token NoBase b c t leaves marks = subst (λ d. MarksTold d t) (sym l
 delta_marks token (BaseGone held oldest) b c t leaves marks = marks_kept token answer.HubFault b c t leaves.1 marks
 
 -- ---- completeness
-
-held_stands : (o : Option Held) (stage : Option Stage) (h : HubState) (base : ℕ) (token : List ℕ) → HeldFitsIf o stage h → IsBase base token o → base < length h.published
-held_stands None stage h base token x has = absurd has
-held_stands (Some held) stage h base token x has = subst (λ n. n < length h.published) has.0 x.standing
 
 pub base_stands : (base : ℕ) (token : List ℕ) (c : Copy) (h : HubState) → CopyFits c h → HasBase base token c → base < length h.published
 base_stands base token c h fits has = held_stands c.held c.stage h base token fits.held has

@@ -1,12 +1,15 @@
 -- The merged rows of a kind, staged page after page.
-use Rattle.std.proofs.Common.{◌≡◌, ⊎_elim, ℕ, zero, suc, ◌+◌, ◌-◌, Bool, true, false, ◌&&◌, cond, List, [], ◌∷◌, ◌++◌, length, map, min, take, drop, arith, Option, Some, None, refl, sym, ◌∙◌, ap, subst, append_assoc}
+use Rattle.std.proofs.Common.{◌≡◌, ⊎_elim, ℕ, zero, suc, ◌+◌, ◌-◌, Bool, true, false, cond, List, [], ◌∷◌, ◌++◌, length}
+use Rattle.std.proofs.Common.{map, min, take, drop, arith, Option, Some, None, refl, sym, ◌∙◌, ap, subst, append_assoc}
 use Rattle.std.specs.Prelude.{unwrap_or}
 use Rattle.std.specs.List.{All}
 use Rattle.std.proofs.Math.Seq.{drop-drop}
+use Rattle.std.proofs.lemmas.Bool.{and_from}
 use Rattle.std.proofs.lemmas.List.{take-append-drop}
 use Rattle.std.proofs.lemmas.List.Elements.{All-tail, All-take}
 use Rattle.consumer_deltas.specs.DeltaStaging.{Stages, above, following, part_of}
 use Rattle.consumer_deltas.specs.DeltaStaging.Stages.{Opens, Part, Whole, Stays as StaysAll}
+use Rattle.consumer_sync.proofs.DoneLemmas.{ascends-append}
 use Rattle.consumer_sync.specs.Judging.{opened, paged}
 use Rattle.consumer_sync.specs.Staging.{Adds, IsBroken, Taking, open_copy, taken}
 use Rattle.consumer_sync.specs.Staging.Adds.{Opened, Stays, Takes}
@@ -23,24 +26,20 @@ use Rattle.roster_types.specs.Keys.{is_after}
 use Rattle.roster_types.specs.Records.{Record}
 use Rattle.roster_values.specs.declared.kind.Kind.{Kind}
 
-both_true : (a b : Bool) → a ≡ true → b ≡ true → (a && b) ≡ true
-both_true true b e f = f
-both_true false b e f = e
-
 -- ---- the rows that follow those which are staged
 
 above_up : (last prev : Option (List ℕ)) (rows : List Record) → ascends prev rows ≡ true → ascends last (above last rows) ≡ true
 above_up last prev [] up = refl
 above_up last prev (row ∷ rows) up =
     elim (is_after last row.id) as (λ b. is_after last row.id ≡ b → ascends last (cond b (row ∷ rows) (above last rows)) ≡ true) [
-      | true ↦ λ here. both_true _ _ here (and_second (is_after prev row.id) _ up)
+      | true ↦ λ here. and_from _ _ here (and_second (is_after prev row.id) _ up)
       | false ↦ λ _. above_up last (Some row.id) rows (and_second (is_after prev row.id) _ up)
     ] refl
 
 take_up : (n : ℕ) (last : Option (List ℕ)) (rows : List Record) → ascends last rows ≡ true → ascends last (take n rows) ≡ true
 take_up zero last rows up = refl
 take_up (suc n) last [] up = refl
-take_up (suc n) last (row ∷ rows) up = both_true _ _ (and_first (is_after last row.id) _ up) (take_up n (Some row.id) rows (and_second (is_after last row.id) _ up))
+take_up (suc n) last (row ∷ rows) up = and_from _ _ (and_first (is_after last row.id) _ up) (take_up n (Some row.id) rows (and_second (is_after last row.id) _ up))
 
 above_all : (P : Record → Type 0) (last : Option (List ℕ)) (rows : List Record) → All P rows → All P (above last rows)
 above_all P last [] all = all
@@ -62,13 +61,6 @@ cut_shown shown (suc n) [] = let e : min 0 (suc n) ≡ 0 = omega arith in ap (λ
 cut_shown shown (suc n) (x ∷ xs) =
     let e : min (length (x ∷ xs)) (suc n) ≡ suc (min (length xs) n) = omega arith in
     ap (λ m. map shown (take m (x ∷ xs))) e ∙ ap (λ rows. shown x ∷ rows) (cut_shown shown n xs)
-
--- a first part ascends, and what follows it ascends from its last
-pub part_up : (last : Option (List ℕ)) (rows more : List Record) → ascends last (rows ++ more) ≡ true → (ascends last rows ≡ true) × (ascends (last_from last rows) more ≡ true)
-part_up last [] more up = (refl, up)
-part_up last (row ∷ rows) more up =
-    let rest = part_up (Some row.id) rows more (and_second (is_after last row.id) _ up) in
-    (both_true _ _ (and_first (is_after last row.id) _ up) rest.0, rest.1)
 
 -- ---- the small part of the stage
 
@@ -162,10 +154,10 @@ module _ (last : Option (List ℕ)) (from n : ℕ) (all : List Record) (up : asc
   page_split = ap (λ rows. take n (drop from all) ++ rows) (sym (drop-drop n from all)) ∙ take-append-drop n (drop from all)
 
   pub page_up : ascends last (take n (drop from all)) ≡ true
-  page_up = (part_up last (take n (drop from all)) (drop (from + n) all) (ap (ascends last) page_split ∙ up)).0
+  page_up = (ascends-append last (take n (drop from all)) (drop (from + n) all) (ap (ascends last) page_split ∙ up)).0
 
   pub behind_up : ascends (last_from last (take n (drop from all))) (drop (from + n) all) ≡ true
-  behind_up = (part_up last (take n (drop from all)) (drop (from + n) all) (ap (ascends last) page_split ∙ up)).1
+  behind_up = (ascends-append last (take n (drop from all)) (drop (from + n) all) (ap (ascends last) page_split ∙ up)).1
 
 pub front_of : (n : ℕ) (all : List Record) → IsFrontOf (take n all) all
 front_of n all = (drop n all, take-append-drop n all)

@@ -1,7 +1,9 @@
 -- Why the pages of a kind end.
-use Rattle.std.proofs.Common.{◌≡◌, ◌⊎◌, ⊎_elim, inl, inr, ◌<◌, ◌≤◌, ℕ, Bool, true, false, List, Option, Some, None, refl, sym, subst, ap, ◌∙◌, arith, not, is_some}
+use Rattle.std.proofs.Common.{◌≡◌, ◌⊎◌, ⊎_elim, inl, inr, ◌<◌, ◌≤◌, ℕ, Bool, true, false, List, Option, Some, None}
+use Rattle.std.proofs.Common.{refl, sym, subst, ap, ◌∙◌, arith, not, is_some}
+use Rattle.std.proofs.lemmas.Bool.{cond-false, cond-true, eqb-true, le-ltb, lt-ltb}
 use Rattle.std.specs.Prelude.{◌==◌, IfSome, if◌then◌else◌, min, nat_lt, ◌+◌, ◌-◌, length, ◌&&◌}
-use Rattle.std.proofs.lemmas.Bool.Decides.{nat_tests}
+use Rattle.std.proofs.lemmas.Option.{same_Some}
 use Rattle.keeper_memory.specs.copy.Copies.{Copy, held_list}
 use Rattle.keeper_memory.specs.copy.Lists.{ascends, last_from}
 use Rattle.consumer_sync.specs.Faulted.{SaysGone}
@@ -25,7 +27,9 @@ use Rattle.consumer_deltas.specs.DeltaGathering.{Stops, ending_of}
 use Rattle.consumer_deltas.specs.DeltaGathering.Stops.{Given, NoReply, NoneCame, Wants}
 use Rattle.consumer_deltas.specs.DeltaMerging.{Unmerged}
 use Rattle.consumer_deltas.specs.DeltaMerging.Unmerged.{Broke as Broken, TooMany as OverLimit, Wants as Wanting}
-use Rattle.consumer_deltas.specs.DeltaJudging.{Sofar, base_act, by_status, closed_act, count_in, delta_judged, differing_act, entries_of, entry_limit, fits_held, ids_ascend, last_id, lost_act, page_act, part_act, read_act, with_page}
+use Rattle.consumer_deltas.specs.DeltaJudging.{Sofar, base_act, by_status, closed_act, count_in, delta_judged}
+use Rattle.consumer_deltas.specs.DeltaJudging.{differing_act, entries_of, entry_limit, fits_held, ids_ascend, last_id}
+use Rattle.consumer_deltas.specs.DeltaJudging.{lost_act, page_act, part_act, read_act, with_page}
 use Rattle.consumer_deltas.specs.DeltaRequests.{IsDeltaUnder}
 use Rattle.consumer_deltas.specs.DeltaTelling.{GonePin, IsPinFrom, NamesPin}
 use Rattle.consumer_deltas.specs.declared.answer.DeltaAnswer.{DeltaAnswer}
@@ -115,14 +119,11 @@ lost_gone base pin (Some oldest) is = refl
 abbrev SaysOldest : WireReply → DeltaAct → Type 0
 SaysOldest w x = IsGoneAct x → (w.status ≡ 404) × (is_some w.oldest ≡ true)
 
-status_is : (a b : ℕ) → (a == b) ≡ true → a ≡ b
-status_is a b e = grind (arith, nat_tests, e)
-
 gone_says : (place : Place) (sofar : Sofar) (w : WireReply) → SaysOldest w (delta_judged place sofar w)
 gone_says place sofar w =
     either (SaysOldest w) (w.status == 200) _ _ (λ _ is. absurd (kept_differing place sofar w.version w.total w.body is))
     (λ _. either (SaysOldest w) (w.status == 403) _ _ (λ _ is. absurd (kept_closed place.pin place.is_fresh w.version is))
-    (λ _. either (SaysOldest w) (w.status == 404) _ _ (λ e is. (status_is w.status 404 e, lost_gone place.base place.pin w.oldest is))
+    (λ _. either (SaysOldest w) (w.status == 404) _ _ (λ e is. (eqb-true w.status 404 e, lost_gone place.base place.pin w.oldest is))
     (λ _. either (SaysOldest w) (w.status == 401) _ _ (λ _ is. absurd is)
     (λ _. either (SaysOldest w) (w.status == 500) _ _ (λ _ is. absurd is)
     (λ _. either (SaysOldest w) (w.status == 503) _ _ (λ _ is. absurd is) (λ _ is. absurd is))))))
@@ -159,9 +160,6 @@ gone_at place sofar w =
     (λ _. either (GoneAt place.pin) (w.status == 500) _ _ (λ _. tt)
     (λ _. either (GoneAt place.pin) (w.status == 503) _ _ (λ _. tt) (λ _. tt))))))
 
-some_number : {a b : ℕ} → Some a ≡ Some b → a ≡ b
-some_number e = cc
-
 pub ending_gone : (pin : Option ℕ) (h : HubState) (x : DeltaAct) (here : Place) (n : ℕ) → ((v : ℕ) → here.pin ≡ Some v → IsPinFrom pin h v) → GoneAt here.pin x → GonePin pin h (ending_of x here n)
 ending_gone pin h (act.PinGone v oldest) here n from at = from v at
 ending_gone pin h (act.BaseGone oldest) here n from at = tt
@@ -172,7 +170,7 @@ ending_gone pin h act.HubNoMemory here n from at = tt
 ending_gone pin h x here n from at = tt
 
 pub ending_names : (x : DeltaAct) (here : Place) (n v : ℕ) → here.pin ≡ Some v → GoneAt here.pin x → NamesPin (ending_of x here n) v
-ending_names (act.PinGone pin oldest) here n v e at = some_number (sym e ∙ at)
+ending_names (act.PinGone pin oldest) here n v e at = same_Some _ _ (sym e ∙ at)
 ending_names (act.BaseGone oldest) here n v e at = tt
 ending_names act.UnknownToken here n v e at = tt
 ending_names (act.TooLarge total) here n v e at = tt
@@ -201,30 +199,17 @@ none_named (BaseGone held oldest) v none = tt
 
 -- ---- exactly where
 
-judged_at : (here : Place) (sofar : Sofar) (w : WireReply) (n : ℕ) → w.status ≡ n → delta_judged here sofar w ≡ by_status n here sofar w
+-- the status picks the act
+pub judged_at : (here : Place) (sofar : Sofar) (w : WireReply) (n : ℕ) → w.status ≡ n → delta_judged here sofar w ≡ by_status n here sofar w
 judged_at here sofar w n e = ap (λ n. by_status n here sofar w) e
 
-enter : (b : Bool) (x y : DeltaAct) → b ≡ true → (if b then x else y) ≡ x
-enter true x y e = refl
-enter false x y e = cc
-
-skip : (b : Bool) (x y : DeltaAct) → b ≡ false → (if b then x else y) ≡ y
-skip true x y e = cc
-skip false x y e = refl
-
-less_is : (a b : ℕ) → a < b → nat_lt a b ≡ true
-less_is a b lt = grind (arith, nat_tests, lt)
-
-less_not : (a b : ℕ) → b ≤ a → nat_lt a b ≡ false
-less_not a b le = grind (arith, nat_tests, le)
-
 lost_pin : (base pin oldest : ℕ) → pin < oldest → lost_act base (Some pin) (Some oldest) ≡ act.PinGone pin oldest
-lost_pin base pin oldest lt = enter (nat_lt pin oldest) (act.PinGone pin oldest) (base_act base oldest) (less_is pin oldest lt)
+lost_pin base pin oldest lt = cond-true (nat_lt pin oldest) (act.PinGone pin oldest) (base_act base oldest) (lt-ltb pin oldest lt)
 
 lost_base : (base : ℕ) (pin : Option ℕ) (oldest : ℕ) → base < oldest → IfSome pin (λ pin. oldest ≤ pin) → lost_act base pin (Some oldest) ≡ act.BaseGone oldest
-lost_base base None oldest lt le = enter (nat_lt base oldest) (act.BaseGone oldest) act.BadReply (less_is base oldest lt)
+lost_base base None oldest lt le = cond-true (nat_lt base oldest) (act.BaseGone oldest) act.BadReply (lt-ltb base oldest lt)
 lost_base base (Some pin) oldest lt le =
-    skip (nat_lt pin oldest) (act.PinGone pin oldest) (base_act base oldest) (less_not pin oldest le) ∙ enter (nat_lt base oldest) (act.BaseGone oldest) act.BadReply (less_is base oldest lt)
+    cond-false (nat_lt pin oldest) (act.PinGone pin oldest) (base_act base oldest) (le-ltb pin oldest le) ∙ cond-true (nat_lt base oldest) (act.BaseGone oldest) act.BadReply (lt-ltb base oldest lt)
 
 gives : (here : Place) (sofar : Sofar) (w : WireReply) (n : ℕ) → RepliesTo here w (ending_of (delta_judged here sofar w) here n)
 gives here sofar w n = record {

@@ -1,9 +1,12 @@
 -- What the hub answers to a request for what differs, as the consumer reads it.
-use Rattle.std.proofs.Common.{◌≡◌, ◌<◌, ◌≤◌, ◌^◌, ℕ, ℤ, zero, suc, arith, length, Bool, true, false, ◌&&◌, List, [], ◌∷◌, drop, take, Option, Some, Ok, ◌⊎◌, inl, inr, refl, sym, ap, ◌∙◌}
+use Rattle.std.proofs.Common.{◌≡◌, ◌<◌, ◌≤◌, ◌^◌, ℕ, ℤ, zero, suc, arith, length, true, false, List, [], ◌∷◌, drop}
+use Rattle.std.proofs.Common.{take, Option, Some, Ok, ◌⊎◌, inl, inr, refl, sym, ap, ◌∙◌}
+use Rattle.std.proofs.lemmas.Bool.{and_from}
 use Rattle.std.specs.List.{AllByRecursion, list_all}
 use Rattle.std.specs.Prelude.{is_some, max, unwrap_or}
 use Rattle.std.specs.Str.{is_utf8}
 use Rattle.std.proofs.lemmas.List.Elements.{All-from_recursion}
+use Rattle.std.proofs.lemmas.Option.{same_Some}
 use Rattle.std.specs.Option.{option_map_or}
 use Rattle.grant_scopes.specs.Opens.{opens}
 use Rattle.grant_scopes.specs.declared.access.Access.TheVariants.{Read}
@@ -38,11 +41,9 @@ use Rattle.version_core.specs.HubStates.{HubState, newest_number, oldest_number}
 use Rattle.version_core.specs.declared.grant_row.GrantRow.{GrantRow}
 use Rattle.exchange_link.proofs.TellLemmas.{IsOf, are_held, are_kind, body_is, list_rows, outside, read_at}
 use Rattle.exchange_link.specs.DeltaPages.{delta_page_request}
-use Rattle.exchange_link.specs.DeltaSayings.{BaseGone, Differs, NotKnown, NotOpened, PinGone, TellsFrom, delta_at, opens_kind}
+use Rattle.exchange_link.specs.DeltaSayings.{BaseGone, Differs, NotKnown, NotOpened, PinGone, TellsFrom, delta_at}
+use Rattle.exchange_link.specs.DeltaSayings.{opens_kind}
 use Rattle.exchange_link.specs.Pages.{Page, asked_by}
-
-some_number : {a b : ℕ} → Some a ≡ Some b → a ≡ b
-some_number e = cc
 
 -- nothing is below itself
 first_two : (n a b : ℕ) → (n < a) ⊎ ((n < b) ⊎ (n < n)) → (n < a) ⊎ (n < b)
@@ -79,14 +80,10 @@ puts_said kind [] all = tt
 puts_said kind (Put row ∷ es) all = (all.0, puts_said kind es all.1)
 puts_said kind (Gone id ∷ es) all = puts_said kind es all.1
 
-both : (a b : Bool) → a ≡ true → b ≡ true → (a && b) ≡ true
-both true b e f = f
-both false b e f = e
-
 gone_said : (kind : Kind) (es : List DeltaEntry) → AllByRecursion (IsSaid kind) es → list_all is_id (ids_gone es) ≡ true
 gone_said kind [] all = refl
 gone_said kind (Put row ∷ es) all = gone_said kind es all.1
-gone_said kind (Gone id ∷ es) all = both (is_id id) (list_all is_id (ids_gone es)) all.0 (gone_said kind es all.1)
+gone_said kind (Gone id ∷ es) all = and_from (is_id id) (list_all is_id (ids_gone es)) all.0 (gone_said kind es all.1)
 
 -- so the text of a part of a delta is read back as that part
 module _ (kind : Kind) (es : List DeltaEntry) (said : AllByRecursion (IsSaid kind) es) (text : List ℕ) (is : text ≡ delta_text kind (rows_put es) (ids_gone es)) (text_is : is_utf8 text ≡ true) where
@@ -145,11 +142,11 @@ module _ (state : HubState) (hub : IsHub state) (page : Page) (base : ℕ) where
   law_from reply (says.NotOpened by version found read shut none is at) pin oldest asks status old lt = let s : status_of reply.cause ≡ 403 = ap status_of is in absurd (omega (arith, status, s))
   law_from reply (says.Differs by version found based read opened low high is at total body whole) pin oldest asks status old lt = let s : status_of reply.cause ≡ 200 = ap status_of is in absurd (omega (arith, status, s))
   law_from reply (says.PinGone by p found asked out is tells version) pin oldest asks status old lt =
-      let same : max (oldest_number state) by.grant.since ≡ oldest = some_number (sym tells ∙ old) in
+      let same : max (oldest_number state) by.grant.since ≡ oldest = same_Some _ _ (sym tells ∙ old) in
       let below : pin < max (oldest_number state) by.grant.since = omega (arith, lt, same) in
       (by, found, first_two pin (oldest_number state) by.grant.since (outside pin (oldest_number state) by.grant.since pin (inl below)))
   law_from reply (says.BaseGone by version found read out is tells at) pin oldest asks status old lt =
-      let same : max (oldest_number state) by.grant.since ≡ oldest = some_number (sym tells ∙ old) in
+      let same : max (oldest_number state) by.grant.since ≡ oldest = same_Some _ _ (sym tells ∙ old) in
       let read_is : version ≡ pin = read.pinned ∙ ap (λ o. unwrap_or o (newest_number state)) asks in
       let kept : oldest_number state ≤ version = read.kept in
       let since : by.grant.since ≤ version = read.since in

@@ -1,7 +1,10 @@
 -- What is gathered over a link that tells is the delta.
-use Rattle.std.proofs.Common.{◌≡◌, ◌≢◌, ◌+◌, ◌<◌, ◌≤◌, ℕ, List, [], ◌∷◌, ◌++◌, length, length-append, take, drop, Some, Result, Ok, refl, sym, ap, ◌∙◌, arith, append_assoc}
+use Rattle.std.proofs.Common.{◌≡◌, ◌≢◌, ◌+◌, ◌<◌, ◌≤◌, ℕ, List, [], ◌∷◌, ◌++◌, length, length-append, take, drop}
+use Rattle.std.proofs.Common.{Result, Ok, refl, sym, ap, ◌∙◌, arith, append_assoc}
 use Rattle.std.proofs.Math.Seq.{drop-append_seam}
 use Rattle.std.proofs.lemmas.List.{take-append-drop}
+use Rattle.std.proofs.lemmas.Option.{same_Some}
+use Rattle.consumer_sync.proofs.AgreeLemmas.{ok_rows}
 use Rattle.exchange_link.specs.DeltaSayings.{BaseGone, Differs, NotKnown, NotOpened, PinGone, TellsFrom}
 use Rattle.exchange_link.specs.Sayings.{knows}
 use Rattle.http_wire.specs.declared.reply_reading.WireReply.{WireReply}
@@ -11,7 +14,6 @@ use Rattle.hub_spec.proofs.CutDeltas.{cut_to_cut}
 use Rattle.hub_spec.specs.views.Cuts.{list_in}
 use Rattle.hub_spec.specs.views.Deltas.{delta}
 use Rattle.hub_spec.specs.views.Pages.{slice}
-use Rattle.roster_types.specs.Records.{Record}
 use Rattle.row_deltas.proofs.MergeLemmas.{ids_gone-append, rows_put-append}
 use Rattle.roster_values.specs.declared.kind.Kind.{Kind}
 use Rattle.row_deltas.specs.Deltas.{ids_gone, merged, rows_put}
@@ -75,12 +77,6 @@ first_leads before after is is' token kind sofar first many =
     let same = first_whole sofar (delta before after token kind) first many in
     (λ i. merged (list_in before token kind) (same.0 i) (same.1 i)) ∙ cut_to_cut before after is is' token kind
 
-some_number : {a b : ℕ} → Some a ≡ Some b → a ≡ b
-some_number e = cc
-
-ok_rows : {a b : List Record} → (let x : Result (List Record) JsonFault = Ok a in let y : Result (List Record) JsonFault = Ok b in x ≡ y) → a ≡ b
-ok_rows e = cc
-
 ok_ids : {a b : List (List ℕ)} → (let x : Result (List (List ℕ)) JsonFault = Ok a in let y : Result (List (List ℕ)) JsonFault = Ok b in x ≡ y) → a ≡ b
 ok_ids e = cc
 
@@ -98,7 +94,7 @@ module _ (mid b : HubState) (grew : Grew mid b) (token : List ℕ) (place : Plac
   part_told (NotOpened v read status version shut none) = absurd (other 403 status (λ n. omega (arith, n)))
   part_told (BaseGone v by read found status oldest out) = absurd (other 404 status (λ n. omega (arith, n)))
   part_told (Differs v read status version opened based low is_total rows ids) =
-      let is : v ≡ pin = some_number (sym version ∙ part.version) in
+      let is : v ≡ pin = same_Some _ _ (sym version ∙ part.version) in
       let stands : pin < length mid.published = omega (arith, read.standing, is) in
       let below : place.base ≤ pin = omega (arith, low, is) in
       let D = same_delta below stands in
@@ -109,7 +105,7 @@ module _ (mid b : HubState) (grew : Grew mid b) (token : List ℕ) (place : Plac
         known = ap (λ version. knows version token) (grew.same pin stands) ∙ ap (λ n. knows (version_at mid n) token) (sym is) ∙ read.known;
         based = ap (λ version. knows version token) (grew.same place.base (omega (arith, below, stands))) ∙ based;
         low = below;
-        total_is = some_number (sym part.told ∙ is_total) ∙ ap length at;
+        total_is = same_Some _ _ (sym part.told ∙ is_total) ∙ ap length at;
         puts = ok_rows (sym part.rows ∙ rows) ∙ ap (λ es. rows_put (slice place.limit (count_in sofar) es)) at;
         gone = ok_ids (sym part.ids ∙ ids) ∙ ap (λ es. ids_gone (slice place.limit (count_in sofar) es)) at;
       }

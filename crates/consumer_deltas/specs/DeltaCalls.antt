@@ -1,5 +1,6 @@
 -- What one call of an incremental synchronisation does.
-use Rattle.std.specs.Prelude.{◌≡◌, ◌⊎◌, ℕ, ◌+◌, ◌*◌, ◌<◌, ◌≤◌, List, [], ◌∷◌, drop, length, max, Option, Some, None, IfSome, ⊤}
+use Rattle.std.specs.Prelude.{◌≡◌, ◌⊎◌, ℕ, ◌+◌, ◌*◌, ◌<◌, ◌≤◌, List, [], ◌∷◌, drop, length, max, Option, Some, None}
+use Rattle.std.specs.Prelude.{IfSome, ⊤}
 use Rattle.consumer_deltas.specs.DeltaAnswers.{DeltaLeaves, HasBase}
 use Rattle.consumer_deltas.specs.DeltaRequests.{IsDeltaUnder}
 use Rattle.consumer_sync.specs.Faulted.{FaultLaw}

@@ -1,5 +1,6 @@
 -- Kind after kind.
-use Rattle.std.specs.Prelude.{◌≡◌, ◌==◌, ◌⊎◌, ◌*◌, ◌<◌, ◌≤◌, ℕ, [], List, Option, Some, None, IfSome, length, max, true, ⊤}
+use Rattle.std.specs.Prelude.{◌≡◌, ◌==◌, ◌⊎◌, ◌*◌, ◌<◌, ◌≤◌, ℕ, [], List, Option, Some, None, IfSome, length, max, true}
+use Rattle.std.specs.Prelude.{⊤}
 use Rattle.consumer_deltas.specs.DeltaAnswers.{DeltaTold}
 use Rattle.consumer_deltas.specs.DeltaCalls.{DeltaBounded, IsNewPin}
 use Rattle.consumer_deltas.specs.DeltaGathering.{AreEntries, Stops}

@@ -1,5 +1,6 @@
 -- What a reply to a request for what differs means.
-use Rattle.std.specs.Prelude.{◌≡◌, ⊤, ℕ, ◌+◌, ◌-◌, ◌==◌, ◌&&◌, ◌++◌, not, Bool, true, false, nat_lt, min, List, [], ◌∷◌, length, Option, Some, None, Result, Ok, Err, if◌then◌else◌}
+use Rattle.std.specs.Prelude.{◌≡◌, ⊤, ℕ, ◌+◌, ◌-◌, ◌==◌, ◌&&◌, ◌++◌, not, Bool, true, false, nat_lt, min, List, [], ◌∷◌}
+use Rattle.std.specs.Prelude.{length, Option, Some, None, Result, Ok, Err, if◌then◌else◌}
 use Rattle.std.specs.List.{All}
 use Rattle.keeper_memory.specs.copy.Lists.{IsList, ascends, last_from}
 use Rattle.http_wire.specs.declared.reply_reading.WireReply.{WireReply}
@@ -14,7 +15,8 @@ use Rattle.consumer_deltas.specs.DeltaFits.{fits}
 use Rattle.consumer_deltas.specs.declared.gathered.Entries.{Entries}
 use Rattle.consumer_deltas.specs.declared.gathered.Gathered.TheInside.{Inside}
 use Rattle.consumer_deltas.specs.declared.judging.DeltaAct.{DeltaAct}
-use Rattle.consumer_deltas.specs.declared.judging.DeltaAct.TheVariants.{Take, Close, PinGone, BaseGone, UnknownToken, TooLarge, BadReply, HubFault, HubNoMemory}
+use Rattle.consumer_deltas.specs.declared.judging.DeltaAct.TheVariants.{Take, Close, PinGone, BaseGone, UnknownToken}
+use Rattle.consumer_deltas.specs.declared.judging.DeltaAct.TheVariants.{TooLarge, BadReply, HubFault, HubNoMemory}
 use Rattle.consumer_deltas.specs.declared.judging.Place.{Place}
 
 -- the rows that are held of a kind, and what has come of its delta: the rows that are put, the ids that are gone, and how many entries

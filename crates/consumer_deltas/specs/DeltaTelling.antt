@@ -1,5 +1,6 @@
 -- What the pages of a kind tell, over a link that tells.
-use Rattle.std.specs.Prelude.{◌≡◌, ◌≢◌, ◌⊎◌, ◌*◌, ◌<◌, ◌≤◌, ℕ, false, List, [], Option, Some, None, IfErr, IfOk, IfSome, IsSomeAnd, Result, Ok, Err, length, ⊤}
+use Rattle.std.specs.Prelude.{◌≡◌, ◌≢◌, ◌⊎◌, ◌*◌, ◌<◌, ◌≤◌, ℕ, false, List, [], Option, Some, None, IfErr, IfOk, IfSome}
+use Rattle.std.specs.Prelude.{IsSomeAnd, Result, Ok, Err, length, ⊤}
 use Rattle.consumer_deltas.specs.DeltaAnswers.{DeltaTold}
 use Rattle.consumer_deltas.specs.DeltaGathering.{IsDelta, IsShutAt}
 use Rattle.consumer_deltas.specs.declared.answer.DeltaAnswer.{DeltaAnswer}

@@ -4,7 +4,8 @@ ghost use Rattle.std.specs.Prelude.{◌≡◌, ◌⊎◌, ◌+◌, ◌-◌, ◌*
 ghost use Rattle.consumer_deltas.specs.DeltaAnswers.{HasBase};
 ghost use Rattle.consumer_deltas.specs.DeltaCalls.{AsksSome};
 ghost use Rattle.consumer_deltas.specs.DeltaCauses.{RepliesIf, RepliesOn};
-ghost use Rattle.consumer_deltas.specs.DeltaFilling.{CanStage, DeltaEnds, FillTold, Halts, IsPinGone, KindTold, LetsGo, StagesKind, StandsOn, Unstaged, first_place, pin_in};
+ghost use Rattle.consumer_deltas.specs.DeltaFilling.{CanStage, DeltaEnds, FillTold, Halts, IsPinGone, KindTold, LetsGo};
+ghost use Rattle.consumer_deltas.specs.DeltaFilling.{StagesKind, StandsOn, Unstaged, first_place, pin_in};
 ghost use Rattle.consumer_deltas.specs.DeltaGathering.{most_asked};
 ghost use Rattle.consumer_deltas.specs.DeltaRequests.{IsDeltaUnder};
 ghost use Rattle.consumer_sync.specs.Faulted.{SaysGone};

@@ -48,7 +48,7 @@ fn are_apart(kind: Kind, rows: &[Row], ids: &[Id]) -> bool
     true
 }
 
-// The same, each row looked for among all ids.
+// Whether none of the ids is that of a row, each row looked for among all ids.
 fn stand_apart(kind: Kind, rows: &[Row], ids: &[Id]) -> bool
     requires { Ascends (id_key kind) ids.now }
     ensures { result ≡ apart kind rows.now ids.now }

@@ -35,6 +35,7 @@ pub enum Delta {
     Whole { pin: u64, entries: Gathered },
 }
 
+/// The answer of a call that ends as a synchronisation ends.
 pub fn ended(answer: SyncAnswer) -> DeltaAnswer
     ensures { result ≡ DeltaAnswer.Ended answer }
 {

@@ -2,7 +2,9 @@
 
 ghost use Rattle.std.specs.Prelude.{◌≡◌, ◌<◌, ◌^◌, IfOk, IfSome, option_copied};
 ghost use Rattle.std.specs.List.{All};
-ghost use Rattle.consumer_deltas.specs.DeltaJudging.{ArePuts, MayCome, base_act, closed_act, count_in, delta_judged, differing_act, entries_of, ids_ascend, lost_act, page_act, part_act};
+ghost use Rattle.consumer_deltas.specs.DeltaJudging.{ArePuts, MayCome, base_act, closed_act, count_in, delta_judged};
+ghost use Rattle.consumer_deltas.specs.DeltaJudging.{differing_act, entries_of, ids_ascend, lost_act, page_act};
+ghost use Rattle.consumer_deltas.specs.DeltaJudging.{part_act};
 ghost use Rattle.roster_values.specs.declared.kind.Kind.{Kind as Kinds};
 
 use crate::fits::fits_on;

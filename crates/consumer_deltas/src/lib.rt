@@ -1,4 +1,5 @@
 //! The incremental synchronisation: of each kind what differs from the held version on, merged with what is held.
+#![tactic(auto)]
 
 pub mod answer;
 mod fill;

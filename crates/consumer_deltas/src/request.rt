@@ -17,11 +17,11 @@ ghost use Rattle.keeper_memory.specs.declared.copy.state.TheConstants.{LAST};
 ghost use Rattle.status_info.specs.declared.request.Echo.{Echo as Number};
 
 use crate::judging::Place;
-use consumer_sync::page::{path_text, pin_text};
+use consumer_sync::page::{pin_text, read_request};
 use exchange_link::{Link, Outcome, ask};
-use roster_base::{Bytes, NoMemory, Text, TryCopy};
+use roster_base::NoMemory;
 use roster_texts::Token;
-use status_info::{MarkField, Request, Verb};
+use status_info::Request;
 use std::alloc::Global;
 
 /// What each request of a call has: whose it is, the base from which it asks, how many entries it asks for, its run, and how often it is
@@ -35,6 +35,7 @@ pub struct Asker<'a> {
     pub tries: u64,
 }
 
+// The query that asks for `limit` entries from `offset` on of what differs from the base.
 #[tactic(auto, unfolding(hub_spec::specs::requests::DeltaRequests::delta_query))]
 fn query_text(
     alloc: Global,
@@ -55,19 +56,12 @@ fn query_text(
     Ok(query)
 }
 
+// The request for a page, still without a number.
 fn request_for(alloc: Global, token: &Token, place: Place, offset: u64) -> Result<Request, NoMemory>
     ensures { IfOk result (λ q. q ≡ delta_unnumbered (page_asked token.now place offset) place.base) }
 {
-    Ok(Request {
-        verb: Verb::Get,
-        path: Text::from_string(path_text(alloc, place.kind)?),
-        query: Text::from_string(query_text(alloc, place.limit, offset, place.base, place.pin)?),
-        token: Some(token.copy(alloc)?),
-        mark: MarkField::Nothing,
-        echo: None,
-        close: false,
-        body: Bytes::from_vec(Vec::new(alloc)),
-    })
+    let query = query_text(alloc, place.limit, offset, place.base, place.pin)?;
+    read_request(alloc, token, place.kind, query)
 }
 
 // The request for a page, still without a number; it may be sent under each.
@@ -89,7 +83,8 @@ fn page_request(
     Ok(request)
 }
 
-/// The request for a page of a kind's delta, tried at most so often, each time under the next count of its run.
+/// Sends the request for the page of a kind's delta from `offset` on until its own reply comes, at most `by.tries` times, each time under
+/// the next count of its run; `count` is the last one. Gives that reply, or why there is none.
 pub fn fetch<L: Link>(
     alloc: Global,
     link: &mut L,

@@ -2,7 +2,8 @@
 
 ghost use Rattle.std.specs.Prelude.{◌≡◌, ◌≢◌, ◌⊎◌, ℕ, ◌+◌, ◌<◌, ◌≤◌, IfErr, IfOk, IfSome, None, Some};
 ghost use Rattle.consumer_deltas.specs.DeltaAnswers.{BaseLaw, DeltaLeaves, DeltaTold, HasBase, LacksBase};
-ghost use Rattle.consumer_deltas.specs.DeltaCalls.{AnswersPin, AsksDeltas, DeltaBounded, DeltaFaultLaw, DeltaLastLaw, DeltaSynchronised, IsDeltaDone, IsNewPin};
+ghost use Rattle.consumer_deltas.specs.DeltaCalls.{AnswersPin, AsksDeltas, DeltaBounded, DeltaFaultLaw, DeltaLastLaw};
+ghost use Rattle.consumer_deltas.specs.DeltaCalls.{DeltaSynchronised, IsDeltaDone, IsNewPin};
 ghost use Rattle.consumer_deltas.specs.DeltaCauses.{DeltaCaused};
 ghost use Rattle.exchange_link.specs.Agreement.{StageAgrees};
 ghost use Rattle.exchange_link.specs.Causes.{RoseBy};
@@ -113,35 +114,34 @@ pub fn delta_sync<C: CopyKeeper, L: Link>(
             };
         }
     };
-    match begin_run(alloc, copy) {
-        Err(error) => DeltaAnswer::Ended {
-            answer: unentered(error),
-        },
-        Ok(state) => {
-            // Under which token something is held was looked at before.
-            drop(state.held_token);
-            match drop_other(alloc, copy, state.stage, token) {
-                Err(answer) => DeltaAnswer::Ended { answer },
-                Ok(begun) => {
-                    let mut stage = begun;
-                    let by = Asker {
-                        token,
-                        base,
-                        limit: limit as u64,
-                        run: state.run,
-                        tries: tries as u64,
-                    };
-                    match fill(alloc, copy, link, &mut stage, by) {
-                        Some(answer) => answer,
-                        None => match stage {
-                            None => unreachable!(),
-                            Some(s) => DeltaAnswer::Ended {
-                                answer: finish(alloc, copy, s.pin),
-                            },
-                        },
-                    }
-                }
-            }
+    let state = match begin_run(alloc, copy) {
+        Ok(state) => state,
+        Err(error) => {
+            return DeltaAnswer::Ended {
+                answer: unentered(error),
+            };
         }
+    };
+    // Under which token something is held was looked at before.
+    drop(state.held_token);
+    let mut stage = match drop_other(alloc, copy, state.stage, token) {
+        Ok(begun) => begun,
+        Err(answer) => return DeltaAnswer::Ended { answer },
+    };
+    let by = Asker {
+        token,
+        base,
+        limit: limit as u64,
+        run: state.run,
+        tries: tries as u64,
+    };
+    if let Some(answer) = fill(alloc, copy, link, &mut stage, by) {
+        return answer;
+    }
+    match stage {
+        None => unreachable!(),
+        Some(s) => DeltaAnswer::Ended {
+            answer: finish(alloc, copy, s.pin),
+        },
     }
 }

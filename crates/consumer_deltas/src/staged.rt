@@ -1,6 +1,7 @@
 //! A kind's merged rows, staged.
 
-ghost use Rattle.std.specs.Prelude.{◌≡◌, ◌⊎◌, ◌+◌, ◌-◌, ◌^◌, ◌<◌, ◌≤◌, [], true, drop, min, None, Some, IfOk, length, map, option_copied, take};
+ghost use Rattle.std.specs.Prelude.{◌≡◌, ◌⊎◌, ◌+◌, ◌-◌, ◌^◌, ◌<◌, ◌≤◌, [], true, drop, min, None, Some, IfOk, length};
+ghost use Rattle.std.specs.Prelude.{map, option_copied, take};
 ghost use Rattle.consumer_deltas.specs.declared.staged.TheConstants.{PAGE};
 ghost use Rattle.std.specs.List.{All};
 ghost use Rattle.consumer_deltas.specs.DeltaStaging.{Stages, above, following};
@@ -48,7 +49,7 @@ fn rows_above<'a, 'r>(rows: &'a [&'r Row], last: Option<&Id>) -> &'a [&'r Row]
     &rows[rows.len()..]
 }
 
-// So many rows from the front on, or all.
+// The first `most` rows, or all where there are fewer.
 fn first_rows<'a, 'r>(rows: &'a [&'r Row], most: u64) -> &'a [&'r Row]
     ensures rows { map (λ row. row.now) result.now ≡ take most (map (λ row. row.now) rows.now) }
     ensures few { length result.now ≤ most }

@@ -1,5 +1,6 @@
 -- All entries, one after another.
 use Rattle.std.proofs.Common.{◌≡◌, ◌≢◌, ◌+◌, ◌-◌, ◌*◌, ◌≤◌, ℕ, true, List, [], ◌∷◌, Some, None, refl, sym, subst, arith}
+use Rattle.std.proofs.Math.Nat.{mul-le-mul_left}
 use Rattle.std.specs.Prelude.{IfSome, is_none}
 use Rattle.std.specs.List.{AllByRecursion}
 use Rattle.keeper_memory.specs.copy.Changes.{copy_after}
@@ -33,15 +34,12 @@ more_to a b c n m x le y = record { least = let one = x.least in let two = y.lea
 next_times : (t s : ℕ) → t * (s + 1) ≡ t * s + t
 next_times t s = omega arith
 
-times_le : (t a b : ℕ) → a ≤ b → t * a ≤ t * b
-times_le t a b le = grind (arith, le)
-
 -- the exchanges of one more entry
 pub bound_next : (tries settled count more : ℕ) → count ≤ tries * settled → more ≤ count + tries → more ≤ tries * (settled + 1)
 bound_next tries settled count more few le = omega (arith, next_times tries settled, few, le)
 
 pub bound_at : (tries settled count start asked most : ℕ) → count ≤ tries * settled → asked ≤ start + count → settled ≤ most → asked ≤ start + tries * most
-bound_at tries settled count start asked most few le fits = omega (arith, few, le, times_le tries settled most fits)
+bound_at tries settled count start asked most few le fits = omega (arith, few, le, mul-le-mul_left tries fits)
 
 -- ---- the copy
 

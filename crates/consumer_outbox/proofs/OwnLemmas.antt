@@ -1,5 +1,6 @@
 -- What the hub's own reply to an entry's request says.
-use Rattle.std.proofs.Common.{◌≡◌, ◌≤◌, ◌⊎◌, inl, inr, ⊎_elim, ℕ, ◌==◌, true, cond, List, [], ◌∷◌, All, Option, Some, None, sym, ◌∙◌, ap, subst, arith}
+use Rattle.std.proofs.Common.{◌≡◌, ◌≤◌, ◌⊎◌, inl, inr, ⊎_elim, ℕ, ◌==◌, true, cond, List, [], ◌∷◌, All, Option, Some}
+use Rattle.std.proofs.Common.{None, sym, ◌∙◌, ap, subst, arith}
 use Rattle.std.proofs.lemmas.Bool.Decides.{nat_tests}
 use Rattle.std.proofs.lemmas.List.Elements.{All-head, All-tail}
 use Rattle.std.specs.List.{AllByRecursion}
@@ -19,9 +20,11 @@ use Rattle.hub_spec.specs.rules.Growth.{Grew}
 use Rattle.hub_spec.specs.rules.States.{IsHub}
 use Rattle.hub_spec.proofs.AgreeLemmas.{first_of_entry, settling_keeps, traffic_keeps}
 use Rattle.hub_spec.proofs.AnswerLemmas.{marked_is, says_write}
-use Rattle.hub_spec.proofs.ShowLemmas.{Bad as BadStatus, Deleted, IsKeptStatus, Missing, Refused, Stored, own_shown, shown_where_it_can, status_kept}
+use Rattle.hub_spec.proofs.ShowLemmas.{Bad as BadStatus, Deleted, IsKeptStatus, Missing, Refused, Stored, own_shown}
+use Rattle.hub_spec.proofs.ShowLemmas.{shown_where_it_can, status_kept}
 use Rattle.hub_spec.specs.marks.Agreement.{GivesOnly, IsCaller, IsOfEntry, IsShown, MarksAgree}
-use Rattle.hub_spec.specs.marks.Answering.{SaysWrite, Shown as ShownMark, ShowsMark, Shut as ShutOut, Stranger, Taken as TakenMark}
+use Rattle.hub_spec.specs.marks.Answering.{SaysWrite, Shown as ShownMark, ShowsMark, Shut as ShutOut, Stranger}
+use Rattle.hub_spec.specs.marks.Answering.{Taken as TakenMark}
 use Rattle.hub_spec.specs.marks.Marked.{Marked, mark_of, marked_by}
 use Rattle.roster_base.specs.Faults.{Rose}
 use Rattle.status_info.specs.Causes.{status_of}
@@ -74,10 +77,6 @@ said_of a b q token marked w is_token is own = record {
 }
 
 -- ---- the agreement while an entry is asked for
-
-all_recursion : {X : Type 0} (P : X → Type 0) (xs : List X) → All P xs → AllByRecursion P xs
-all_recursion P [] h = tt
-all_recursion P (x ∷ xs) h = (All-head P x xs h, all_recursion P xs (All-tail P x xs h))
 
 carried : (token : List ℕ) (entry : OutEntry) (Q : Marked → Type 0) (more : List Request) → Q (mark_of entry) → All (Carries token entry) more → AllByRecursion (λ q. IfSome (marked_by q) Q) more
 carried token entry Q [] good h = tt

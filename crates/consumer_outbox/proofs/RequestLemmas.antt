@@ -1,7 +1,7 @@
 -- The request of an entry may be sent, and is read as its write.
-use Rattle.std.proofs.Common.{◌≡◌, ◌<◌, ◌≤◌, ◌+◌, ◌/◌, ◌%◌, ℕ, Bool, true, false, cond, nat_le, List, [], ◌∷◌, ◌++◌, length, length-append, Some, IsUtf8, codes, refl, sym, subst, arith}
+use Rattle.std.proofs.Common.{◌≡◌, ◌<◌, ◌≤◌, ◌+◌, ◌/◌, ◌%◌, ℕ, Bool, true, false, cond, nat_le, List, [], ◌∷◌, ◌++◌}
+use Rattle.std.proofs.Common.{length, length-append, Some, IsUtf8, codes, refl, sym, subst, arith}
 use Rattle.std.specs.List.{flat_map, list_all}
-use Rattle.std.specs.Prelude.{Err, IfOk, Ok, Result}
 use Rattle.std.proofs.lemmas.Bool.{and_from}
 use Rattle.std.proofs.lemmas.Bool.Decides.{nat_tests}
 use Rattle.keeper_memory.specs.copy.Copies.{IsGradebook, IsOutWrite}
@@ -93,7 +93,3 @@ request_can token entry n good text id is least most echo =
 
 pub request_marked : (token : List ℕ) (entry : OutEntry) (n : Echo) → IsUtf8 entry.write.id → is_id entry.write.id ≡ true → IsOutWrite entry.write → marked_by (numbered (request_of token entry) n) ≡ Some (mark_of entry)
 request_marked token entry n text id is = request_read token (mark_of entry) (Some n) is.kind text id
-
-pub ok_map : {X E : Type 0} (r : Result X E) (P Q : X → Type 0) → ((x : X) → P x → Q x) → IfOk r P → IfOk r Q
-ok_map (Ok x) P Q f h = f x h
-ok_map (Err e) P Q f h = tt

@@ -1,5 +1,6 @@
 -- The steps of a copy.
 use Rattle.std.proofs.Common.{◌≡◌, inl, inr, ⊎_elim, ℕ, List, Option, Some, None, refl, sym, subst}
+use Rattle.std.proofs.lemmas.Option.{none-some}
 use Rattle.std.specs.Prelude.{Err, IfSome, IsSomeAnd}
 use Rattle.keeper_memory.specs.copy.Changes.{Commits, copy_after}
 use Rattle.keeper_memory.specs.copy.Copies.{Copy, first_unsettled}
@@ -16,20 +17,18 @@ use Rattle.hub_spec.specs.marks.Marked.{mark_of, marked_by}
 use Rattle.status_info.specs.declared.request.Echo.{Echo}
 use Rattle.status_info.specs.declared.request.Request.{Request}
 use Rattle.exchange_link.specs.Requests.{numbered}
-use Rattle.consumer_outbox.specs.Sends.{EndsIf, Goes, IsBroken, Moves, Rests, Settles, Stays, Takes, broken_answer, request_of}
+use Rattle.consumer_outbox.specs.Sends.{EndsIf, Goes, IsBroken, Moves, Rests, Settles, Stays, Takes, broken_answer}
+use Rattle.consumer_outbox.specs.Sends.{request_of}
 use Rattle.consumer_outbox.specs.declared.verdict.Verdict.{Verdict}
 use Rattle.consumer_outbox.specs.declared.verdict.Verdict.TheVariants as verdict
-
-some_none : {a : SendAnswer} → Some a ≡ None → ⊥
-some_none e = cc
 
 -- a commit that fails
 pub takes_err : (status version number : ℕ) (error : KeeperError) (before after : Copy) → Commits (Settle number status version) (Err error) before after
     → Takes (verdict.Settles status version) number (Some (broken_answer error)) before after
 takes_err status version number fault.Failed before after x = ⊎_elim
-    (λ (e : after ≡ before). Stays some_none e)
+    (λ (e : after ≡ before). Stays (λ none. none-some _ (sym none)) e)
     (λ (e : after ≡ copy_after (Settle number status version) before). Settles status version refl (inr (inl refl)) e) x
-takes_err status version number fault.NoMemory before after e = Stays some_none e
+takes_err status version number fault.NoMemory before after e = Stays (λ none. none-some _ (sym none)) e
 
 pub broken_is : (error : KeeperError) → IsBroken (Some (broken_answer error))
 broken_is fault.Failed = inl refl

@@ -1,8 +1,10 @@
 -- What a verdict says of the reply, and of the answer.
-use Rattle.std.proofs.Common.{◌≡◌, ◌≢◌, ◌⊎◌, inl, inr, ⊎_elim, ℕ, ◌==◌, Bool, true, false, cond, List, Option, Some, None, refl, sym, ◌∙◌, ap, subst, arith}
+use Rattle.std.proofs.Common.{◌≡◌, ◌≢◌, ◌⊎◌, inl, inr, ⊎_elim, ℕ, ◌==◌, Bool, true, false, cond, List, Option, Some}
+use Rattle.std.proofs.Common.{None, refl, sym, ◌∙◌, ap, subst, arith}
 use Rattle.std.proofs.lemmas.Bool.Decides.{nat_tests}
 use Rattle.exchange_link.specs.Causes.{IsOwnReply}
-use Rattle.exchange_link.specs.SendCauses.{AnswersSend, IsBadAnswer, IsOther, IsSendAside, NoVersion, OtherMark, Unmarked}
+use Rattle.exchange_link.specs.SendCauses.{AnswersSend, IsBadAnswer, IsOther, IsSendAside, NoVersion, OtherMark}
+use Rattle.exchange_link.specs.SendCauses.{Unmarked}
 use Rattle.exchange_link.specs.declared.send_answer.SendAnswer.{SendAnswer}
 use Rattle.exchange_link.specs.declared.send_answer.SendAnswer.TheVariants as answer
 use Rattle.http_wire.specs.declared.reply_reading.WireReply.{WireReply}

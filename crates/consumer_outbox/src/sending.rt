@@ -1,13 +1,15 @@
 //! Entry after entry, until one isn't settled by its reply.
 
-ghost use Rattle.std.specs.Prelude.{◌≡◌, ◌≢◌, ◌⊎◌, ℕ, [], ◌∷◌, ◌+◌, ◌*◌, ◌-◌, ◌<◌, ◌≤◌, true, IfErr, IfOk, IfSome, IsSomeAnd, None, Some};
+ghost use Rattle.std.specs.Prelude.{◌≡◌, ◌≢◌, ◌⊎◌, ℕ, [], ◌∷◌, ◌+◌, ◌*◌, ◌-◌, ◌<◌, ◌≤◌, true, IfErr, IfOk, IfSome};
+ghost use Rattle.std.specs.Prelude.{IsSomeAnd, None, Some};
 ghost use Rattle.keeper_memory.specs.copy.Copies.{Copy, IsOutWrite, first_unsettled};
 ghost use Rattle.keeper_memory.specs.copy.States.{CanBeEntry};
 ghost use Rattle.keeper_memory.specs.declared.copy.state.TheConstants.{LAST};
 ghost use Rattle.exchange_link.specs.Asked.{IsTry, IsWriteUnder, SendsOn, TriedEntry};
 ghost use Rattle.exchange_link.specs.Causes.{IsLast, IsMore, IsOwnReply, RoseBy};
 ghost use Rattle.exchange_link.specs.Exchanges.{Told};
-ghost use Rattle.exchange_link.specs.SendCauses.{CarriesFirst, EndsAtEntry, IsSendAside, AnswersSend, SendCauseOf, SendToldCause};
+ghost use Rattle.exchange_link.specs.SendCauses.{CarriesFirst, EndsAtEntry, IsSendAside, AnswersSend, SendCauseOf};
+ghost use Rattle.exchange_link.specs.SendCauses.{SendToldCause};
 ghost use Rattle.exchange_link.specs.SendCompleteness.{CanSendAll, IsFine};
 ghost use Rattle.exchange_link.specs.Sent.{AllSettled, NamesFirst, number_in, unsettled};
 ghost use Rattle.http_wire.specs.Answers.{IsNoReply, IsReplyText};
@@ -17,7 +19,9 @@ ghost use Rattle.roster_base.specs.Faults.{Rose};
 ghost use Rattle.exchange_link.specs.Owning.{IsOwnRead};
 ghost use Rattle.exchange_link.specs.Requests.{Asks, IfOwn, IsReady, Moved, number, numbered};
 ghost use Rattle.version_core.specs.HubStates.{newest_number};
-ghost use Rattle.consumer_outbox.specs.Sends.{Carries, CauseIf, EndsIf, ExactIf, Goes, IsBroken, IsFineIf, IsInterrupted, Ready, SettledTo, SoFar, Takes, ToldIf, answer_of, broken_answer, request_of};
+ghost use Rattle.consumer_outbox.specs.Sends.{Carries, CauseIf, EndsIf, ExactIf, Goes, IsBroken, IsFineIf};
+ghost use Rattle.consumer_outbox.specs.Sends.{IsInterrupted, Ready, SettledTo, SoFar, Takes, ToldIf, answer_of};
+ghost use Rattle.consumer_outbox.specs.Sends.{broken_answer, request_of};
 ghost use Rattle.consumer_outbox.specs.Verdicts.{does_settle, verdict_of};
 
 use crate::halves::settled_from;

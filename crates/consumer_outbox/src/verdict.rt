@@ -5,6 +5,7 @@ ghost use Rattle.consumer_outbox.specs.Verdicts.{answered_verdict, marked_verdic
 
 use http_wire::WireReply;
 
+/// What the own reply makes of the entry that was sent.
 #[derive(Clone, Copy)]
 pub enum Verdict {
     Settles { status: u16, version: u64 },

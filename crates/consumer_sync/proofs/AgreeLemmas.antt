@@ -1,9 +1,12 @@
 -- The agreement is kept.
-use Rattle.std.proofs.Common.{◌≡◌, ◌≢◌, ◌+◌, ◌-◌, ◌<◌, ◌≤◌, ◌⊎◌, ⊎_elim, ℕ, Bool, true, false, List, [], ◌∷◌, ◌++◌, length, take, drop, Option, Some, None, Ok, refl, sym, ◌∙◌, ap, subst, arith, length-append, append_assoc}
+use Rattle.std.proofs.Common.{◌≡◌, ◌≢◌, ◌+◌, ◌-◌, ◌<◌, ◌≤◌, ◌⊎◌, ⊎_elim, ℕ, Bool, true, false, List, [], ◌∷◌, ◌++◌}
+use Rattle.std.proofs.Common.{length, take, drop, Option, Some, None, Ok, refl, sym, ◌∙◌, ap, subst, arith}
+use Rattle.std.proofs.Common.{length-append, append_assoc}
 use Rattle.std.specs.Prelude.{◌==◌, unwrap_or, option_map, Result}
 use Rattle.std.proofs.Math.Seq.{drop-append_seam}
-use Rattle.std.proofs.lemmas.List.{take-append-drop, take_all, take_more}
+use Rattle.std.proofs.lemmas.List.{append-nil, take-append-drop, take_all, take_more}
 use Rattle.std.proofs.lemmas.Bool.Decides.{nat_tests}
+use Rattle.std.proofs.lemmas.Option.{same_Some}
 use Rattle.keeper_memory.specs.copy.Changes.{begun, stage_after}
 use Rattle.keeper_memory.specs.copy.Copies.{Copy, Held, Stage}
 use Rattle.keeper_memory.specs.copy.Lists.{kind_count}
@@ -41,6 +44,7 @@ use Rattle.exchange_link.proofs.AskLemmas.{grew_on}
 use Rattle.exchange_link.proofs.FitLemmas.{copy_on, held_alone}
 use Rattle.consumer_sync.proofs.JudgeLemmas.{IsListed, IsPage, IsShut, taken_page}
 use Rattle.consumer_sync.proofs.KindLemmas.{place_at}
+use Rattle.consumer_sync.proofs.StageLemmas.{pin-stage_after}
 
 -- ---- what the hub said
 
@@ -94,13 +98,9 @@ front_more p l rows limit f e =
 -- the last rows end it
 front_whole : (p l : List Record) → IsFrontOf p l → length p ≡ length l → p ≡ l
 front_whole p l f e = elim f.0 as (λ (r : List Record). p ++ r ≡ l → p ≡ l) [
-  | [] ↦ (λ h. sym (append_nil p) ∙ h)
+  | [] ↦ (λ h. sym (append-nil p) ∙ h)
   | x ∷ xs ↦ (λ h. absurd (omega (arith, ap length h, length-append p (x ∷ xs), e)))
 ] f.1
-  where
-    append_nil : (xs : List Record) → xs ++ [] ≡ xs
-    append_nil [] = refl
-    append_nil (x ∷ xs) = ap (λ ys. x ∷ ys) (append_nil xs)
 
 page_fits : (s : Stage) (v : BaseVersion) (limit : ℕ) (k : Taking) (done : Bool) → FitsVersion s v → FromVersion v s.token limit (length s.done) (length s.present) k → k.done ≡ done
     → FitsVersion (stage_after s k.rows k.total done) v
@@ -140,10 +140,7 @@ pub record StandsIn (stage : Option StageState) (before after : HubState) (token
   pub from : FromVersion (version_at after k.pin) token limit (kinds_of stage) (staged_of stage) k
   pub pin : PinIs stage before k.pin
 
-some_number : {a b : ℕ} → Some a ≡ Some b → a ≡ b
-some_number e = cc
-
-ok_rows : {a b : List Record} → (let x : Result (List Record) JsonFault = Ok a in let y : Result (List Record) JsonFault = Ok b in x ≡ y) → a ≡ b
+pub ok_rows : {a b : List Record} → (let x : Result (List Record) JsonFault = Ok a in let y : Result (List Record) JsonFault = Ok b in x ≡ y) → a ≡ b
 ok_rows e = cc
 
 read_page : (a mid b : HubState) (stage : Option StageState) (token : List ℕ) (limit v : ℕ) (k : Taking) → Grew a mid → Grew mid b → kinds_of stage < kind_count → IsRead mid (next_page token limit stage) v → v ≡ k.pin
@@ -175,7 +172,7 @@ says_page a mid b stage token limit w k g h lt page from (Shut v read st ver non
     (λ (f : IsListed stage w k). let u = f.status in absurd (omega (arith, u, st)))
     (λ (f : IsShut stage w k).
     let none2 : list_of (version_at mid v) token (kinds_of stage) ≡ [] = ap (list_of (version_at mid v) token) (sym (place_at (kinds_of stage) lt)) ∙ none in
-    read_page a mid b stage token limit v k g h lt read (some_number (sym ver ∙ f.version))
+    read_page a mid b stage token limit v k g h lt read (same_Some _ _ (sym ver ∙ f.version))
     (f.rows ∙ sym (ap (λ l. take limit (drop (staged_of stage) l)) none2 ∙ ap (λ n. take limit (drop n [])) f.none ∙ nothing limit))
     (f.total ∙ sym (ap length none2)) page.done)
     from
@@ -185,8 +182,8 @@ says_page a mid b stage token limit w k g h lt page from (Shut v read st ver non
 says_page a mid b stage token limit w k g h lt page from (Listed v read st ver tot rows) = ⊎_elim
     (λ (f : IsListed stage w k).
     let at : list_of (version_at mid v) token (place_of_kind (kind_at (kinds_of stage))) ≡ list_of (version_at mid v) token (kinds_of stage) = ap (list_of (version_at mid v) token) (place_at (kinds_of stage) lt) in
-    read_page a mid b stage token limit v k g h lt read (some_number (sym ver ∙ f.version))
-    (ok_rows (sym f.rows ∙ rows) ∙ ap (λ l. take limit (drop (staged_of stage) l)) at) (some_number (sym f.total ∙ tot) ∙ ap length at) page.done)
+    read_page a mid b stage token limit v k g h lt read (same_Some _ _ (sym ver ∙ f.version))
+    (ok_rows (sym f.rows ∙ rows) ∙ ap (λ l. take limit (drop (staged_of stage) l)) at) (same_Some _ _ (sym f.total ∙ tot) ∙ ap length at) page.done)
     (λ (f : IsShut stage w k). let u = f.status in absurd (omega (arith, u, st)))
     from
 
@@ -203,10 +200,6 @@ own_page a b stage token limit w k own lt e =
 
 begun_fits : (v : BaseVersion) (pin : ℕ) (token : List ℕ) → knows v token ≡ true → FitsVersion (begun pin token) v
 begun_fits v pin token e = record { known = e; done = refl; present = (list_of v token 0, refl); total = tt }
-
-pin-stage_after : (s : Stage) (rows : List Record) (total : ℕ) (done : Bool) → (stage_after s rows total done).pin ≡ s.pin
-pin-stage_after s rows total true = refl
-pin-stage_after s rows total false = refl
 
 after_agrees : (s : Stage) (h : HubState) (limit : ℕ) (k : Taking) → StageFits s h → FromVersion (version_at h s.pin) s.token limit (length s.done) (length s.present) k → StageFits (stage_after s k.rows k.total k.done) h
 after_agrees s h limit k x from =
@@ -237,7 +230,7 @@ held_opened (Some held) None a b pin token x z p = record { standing = z.standin
 held_opened (Some held) (Some s) a b pin token x z p = z
 
 -- nor than one with a page more
-held_taken : (o : Option Held) (s : Stage) (rows : List Record) (total : ℕ) (done : Bool) (h : HubState) → HeldFitsIf o (Some s) h → HeldFitsIf o (Some (stage_after s rows total done)) h
+pub held_taken : (o : Option Held) (s : Stage) (rows : List Record) (total : ℕ) (done : Bool) (h : HubState) → HeldFitsIf o (Some s) h → HeldFitsIf o (Some (stage_after s rows total done)) h
 held_taken None s rows total done h x = tt
 held_taken (Some held) s rows total true h x = record { standing = x.standing; below = x.below; seen = x.seen }
 held_taken (Some held) s rows total false h x = record { standing = x.standing; below = x.below; seen = x.seen }

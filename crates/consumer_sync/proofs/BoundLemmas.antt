@@ -1,10 +1,12 @@
 -- Each page takes a round.
-use Rattle.std.proofs.Common.{◌≡◌, ◌≢◌, ◌+◌, ◌-◌, ◌*◌, ◌/◌, ◌<◌, ◌≤◌, ◌⊎◌, inl, inr, ⊎_elim, ℕ, Bool, true, false, List, [], ◌∷◌, length, drop, Option, Some, None, refl, sym, ◌∙◌, ap, subst, arith, min}
+use Rattle.std.proofs.Common.{◌≡◌, ◌≢◌, ◌+◌, ◌-◌, ◌*◌, ◌/◌, ◌<◌, ◌≤◌, ◌⊎◌, inl, inr, ⊎_elim, ℕ, Bool, true, false, List}
+use Rattle.std.proofs.Common.{[], ◌∷◌, length, drop, Option, Some, None, refl, sym, ◌∙◌, ap, subst, arith, min}
 use Rattle.std.specs.Prelude.{◌==◌, unwrap_or, option_map}
 use Rattle.std.proofs.Math.Nat.{add-div_right, mul-le-mul_left}
 use Rattle.std.proofs.lemmas.List.{drop_more}
 use Rattle.std.proofs.lemmas.Bool.Decides.{nat_tests}
-use Rattle.keeper_memory.specs.copy.Changes.{begun, copy_after, stage_after, swapped}
+use Rattle.std.proofs.lemmas.Option.{same_Some}
+use Rattle.keeper_memory.specs.copy.Changes.{begun, copy_after, swapped}
 use Rattle.keeper_memory.specs.copy.Copies.{Copy, Stage}
 use Rattle.keeper_memory.specs.copy.Lists.{kind_count}
 use Rattle.keeper_memory.specs.copy.States.{stage_of, state_of}
@@ -34,6 +36,7 @@ use Rattle.consumer_sync.specs.Staging.Performs.{Kept, Grown, Cleared}
 use Rattle.consumer_sync.specs.declared.judging.Act.{Act}
 use Rattle.consumer_sync.proofs.JudgeLemmas.{IsPage}
 use Rattle.consumer_sync.proofs.AgreeLemmas.{FromVersion, StandsIn}
+use Rattle.consumer_sync.proofs.StageLemmas.{pin-paged, pin-stage_after}
 use Rattle.consumer_sync.specs.Starting.{SwapsIn}
 
 -- a whole page less is one page less
@@ -84,10 +87,6 @@ pub standing_if : (o : Option Stage) (h : HubState) → StageFitsIf o h → Stan
 standing_if None h x = tt
 standing_if (Some s) h x = x.standing
 
-pin-paged : (s : StageState) (rows : List Record) (total : ℕ) (d : Bool) → (paged s rows total d).pin ≡ s.pin
-pin-paged s rows total true = refl
-pin-paged s rows total false = refl
-
 -- the bound goes on with a page
 pub bound_on : (n m tries limit : ℕ) (token : List ℕ) (first stage : Option StageState) (start h i : HubState) (k : Taking) → 0 < limit → BoundSoFar n tries limit token first stage h → m ≤ n + tries → Grew h i → StandingIf stage h → PinLaw first start stage
     → IsPage stage limit k → StandsIn stage h i token limit k → BoundSoFar m tries limit token first (Some (paged (opened stage k.pin token) k.rows k.total k.done)) i
@@ -106,7 +105,7 @@ bound_on n m tries limit token first (Some s) start h i k pos b le g st law p y 
     subst (λ v. n + tries * work limit token (Some s) v ≤ tries * work limit token first v) (sym (g.same s.pin st)) b in
     subst (λ x. m + tries * work limit token (Some next) (version_at i x) ≤ tries * work limit token first (version_at i x)) (sym e) (omega (arith, w2, le, b2))
 
-times_some : (t a : ℕ) → 1 ≤ a → t ≤ t * a
+pub times_some : (t a : ℕ) → 1 ≤ a → t ≤ t * a
 times_some t a le = let x : t * 1 ≤ t * a = mul-le-mul_left t le in grind (arith, x)
 
 -- and to the end, where one request more was tried
@@ -133,20 +132,13 @@ bound_done n tries limit token (Some f) None P start h b law pin = absurd law
 bound_done n tries limit token None (Some s) P start h b law pin = inr (s.pin, pin s refl, omega (arith, b))
 bound_done n tries limit token (Some f) (Some s) P start h b law pin = subst (λ x. n ≤ tries * work limit token (Some f) (version_at h x)) law (omega (arith, b))
 
-some_state : {a b : StageState} → Some a ≡ Some b → a ≡ b
-some_state e = cc
-
 pub pin_same : (o : Option Stage) (stage : Option StageState) → option_map state_of o ≡ stage → (s : StageState) → stage ≡ Some s → HasPin s.pin o
 pin_same None stage e s f = let no : None ≡ Some s = e ∙ f in cc
-pin_same (Some x) stage e s f = ap (λ (y : StageState). y.pin) (some_state (e ∙ f))
-
-pin-stage_after : (s : Stage) (rows : List Record) (total : ℕ) (done : Bool) → (stage_after s rows total done).pin ≡ s.pin
-pin-stage_after s rows total true = refl
-pin-stage_after s rows total false = refl
+pin_same (Some x) stage e s f = ap (λ (y : StageState). y.pin) (same_Some _ _ (e ∙ f))
 
 pin_open : (o : Option Stage) (stage : Option StageState) (pin : ℕ) (token : List ℕ) → option_map state_of o ≡ stage → (s : StageState) → stage ≡ Some s → (unwrap_or o (begun pin token)).pin ≡ s.pin
 pin_open None stage pin token e s f = let no : None ≡ Some s = e ∙ f in cc
-pin_open (Some x) stage pin token e s f = ap (λ (y : StageState). y.pin) (some_state (e ∙ f))
+pin_open (Some x) stage pin token e s f = ap (λ (y : StageState). y.pin) (same_Some _ _ (e ∙ f))
 
 -- what a reply leaves of the pin
 abbrev pub PinLeft : Option SyncAnswer → ℕ → Option Stage → Type 0
@@ -174,10 +166,7 @@ pub call_pin : (result : Option SyncAnswer) (c : Copy) (sent : List Request) (st
 call_pin None c sent stage token limit kept run n missed broke k last s e (inl h) = h
 call_pin None c sent stage token limit kept run n missed broke k last s e (inr x) = absurd x.0
 call_pin (Some (answer.Complete p)) c sent stage token limit kept run n missed broke k last s e h = absurd k
-call_pin (Some (answer.PinGone p old)) c sent stage token limit kept run n missed broke k last s e h = some_pin (sym (ap pin_of e) ∙ k.4)
-  where
-    some_pin : {a b : ℕ} → Some a ≡ Some b → a ≡ b
-    some_pin e = cc
+call_pin (Some (answer.PinGone p old)) c sent stage token limit kept run n missed broke k last s e h = same_Some _ _ (sym (ap pin_of e) ∙ k.4)
 call_pin (Some answer.KeeperFault) c sent stage token limit kept run n missed broke k last s e (inl h) = inl h
 call_pin (Some answer.KeeperFault) c sent stage token limit kept run n missed broke k last s e (inr x) = inr (x.1, inr (next_page token limit stage, number run n, ap pin_of e, last))
 call_pin (Some a) c sent stage token limit kept run n missed broke k last s e (inl h) = h
@@ -189,7 +178,7 @@ swap_pin (answer.Complete p) st c a sent v e x h = sym (has_pin c.stage st v e h
   where
     has_pin : (o : Option Stage) (st : StageState) (v : ℕ) → option_map state_of o ≡ Some st → HasPin v o → st.pin ≡ v
     has_pin None st v e h = cc
-    has_pin (Some s) st v e h = sym (ap (λ (y : StageState). y.pin) (some_state e)) ∙ h
+    has_pin (Some s) st v e h = sym (ap (λ (y : StageState). y.pin) (same_Some _ _ e)) ∙ h
 swap_pin answer.KeeperFault st c a sent v e x h = ⊎_elim (λ (y : a ≡ c). subst (λ (d : Copy). IsCallPin answer.KeeperFault d sent v) (sym y) (inl h))
     (λ (y : a ≡ copy_after Swap c). let held = swapped_holds c c.stage v h in subst (λ (d : Copy). IsCallPin answer.KeeperFault d sent v) (sym y) (inr (held.0, inl held.1))) x
   where

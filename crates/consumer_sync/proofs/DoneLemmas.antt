@@ -1,10 +1,13 @@
 -- An own reply at a state that keeps the pin and knows the token gives a page.
-use Rattle.std.proofs.Common.{◌≡◌, ◌-◌, ◌<◌, ◌≤◌, inl, inr, ⊎_elim, ℕ, Bool, true, false, List, [], ◌∷◌, ◌++◌, length, take, drop, Option, Some, None, Ok, refl, sym, ◌∙◌, ap, subst, arith, min, not, length-append}
-use Rattle.std.proofs.lemmas.Bool.{and_from, and_parts}
+use Rattle.std.proofs.Common.{◌≡◌, ◌-◌, ◌<◌, ◌≤◌, inl, inr, ⊎_elim, ℕ, Bool, true, false, List, [], ◌∷◌, ◌++◌, length}
+use Rattle.std.proofs.Common.{take, drop, Option, Some, None, Ok, refl, sym, ◌∙◌, ap, subst, arith, min, not}
+use Rattle.std.proofs.Common.{length-append}
+use Rattle.std.proofs.lemmas.Bool.{and_from, and_parts, cond-false, cond-true, eq-eqb}
 use Rattle.std.specs.Prelude.{◌==◌, nat_lt, if◌then◌else◌, option_map, Result, max, is_some}
 use Rattle.std.proofs.Math.Seq.{drop-append_seam}
 use Rattle.std.proofs.lemmas.List.{length-drop, length-take, take-append-drop}
 use Rattle.std.proofs.lemmas.Bool.Decides.{nat_tests}
+use Rattle.std.proofs.lemmas.Option.{same_Some}
 use Rattle.keeper_memory.specs.copy.Copies.{Copy, Stage}
 use Rattle.keeper_memory.specs.copy.Lists.{ascends, kind_count, last_from}
 use Rattle.keeper_memory.specs.copy.States.{stage_of, state_of}
@@ -42,7 +45,7 @@ use Rattle.exchange_link.specs.Requests.{Moved}
 use Rattle.consumer_sync.specs.Staging.{IsBroken, answer_of}
 use Rattle.consumer_sync.specs.declared.judging.Act.{Act}
 use Rattle.consumer_sync.specs.declared.judging.Act.TheVariants as act
-use Rattle.exchange_link.proofs.AskLemmas.{grew_on}
+use Rattle.exchange_link.proofs.AskLemmas.{cause_more}
 use Rattle.consumer_sync.proofs.KindLemmas.{place_at}
 use Rattle.consumer_sync.proofs.AgreeLemmas.{IsSaid}
 use Rattle.consumer_sync.proofs.AgreeLemmas.Given.{Wants, Broke, Answers}
@@ -54,23 +57,12 @@ pass : (b : Bool) (x y : Act) → b ≡ true → (if not b then x else y) ≡ y
 pass true x y e = refl
 pass false x y e = cc
 
-skip : (b : Bool) (x y : Act) → b ≡ false → (if b then x else y) ≡ y
-skip false x y e = refl
-skip true x y e = cc
-
-enter : (b : Bool) (x y : Act) → b ≡ true → (if b then x else y) ≡ x
-enter true x y e = refl
-enter false x y e = cc
-
 page_take : (stage : Option StageState) (limit v t : ℕ) (body : List ℕ) (rows : List Record) → agrees (pin_of stage) v ≡ true → nat_lt row_limit t ≡ false → agrees (total_of stage) t ≡ true
     → rows_of (kind_at (kinds_of stage)) body ≡ Ok rows → (length rows == min limit (t - staged_of stage)) ≡ true
     → ascends (last_of stage) rows ≡ true → page_act stage limit v t body ≡ act.Take v rows t (length rows == t - staged_of stage)
 page_take stage limit v t body rows a b d r e f =
-    pass (agrees (pin_of stage) v) _ _ a ∙ skip (nat_lt row_limit t) _ _ b ∙ pass (agrees (total_of stage) t) _ _ d ∙ ap (read_act stage limit v t) r
+    pass (agrees (pin_of stage) v) _ _ a ∙ cond-false (nat_lt row_limit t) _ _ b ∙ pass (agrees (total_of stage) t) _ _ d ∙ ap (read_act stage limit v t) r
     ∙ pass (length rows == min limit (t - staged_of stage)) _ _ e ∙ pass (ascends (last_of stage) rows) _ _ f
-
-eq_test : (a b : ℕ) → a ≡ b → (a == b) ≡ true
-eq_test a b e = grind (arith, nat_tests)
 
 few_test : (t : ℕ) → t ≤ row_limit → nat_lt row_limit t ≡ false
 few_test t le = grind (arith, nat_tests)
@@ -79,7 +71,8 @@ few_test t le = grind (arith, nat_tests)
 pub judged_at : (stage : Option StageState) (limit : ℕ) (w : WireReply) (n : ℕ) → w.status ≡ n → judged stage limit w ≡ by_status n stage limit w
 judged_at stage limit w n e = ap (λ n. by_status n stage limit w) e
 
-ascends-append : (d : Option (List ℕ)) (xs ys : List Record) → ascends d (xs ++ ys) ≡ true → (ascends d xs ≡ true) × (ascends (last_from d xs) ys ≡ true)
+-- a first part ascends, and what follows it ascends from its last
+pub ascends-append : (d : Option (List ℕ)) (xs ys : List Record) → ascends d (xs ++ ys) ≡ true → (ascends d xs ≡ true) × (ascends (last_from d xs) ys ≡ true)
 ascends-append d [] ys e = (refl, e)
 ascends-append d (x ∷ xs) ys e =
     let b = and_parts (is_after d x.id) (ascends (Some x.id) (xs ++ ys)) e in
@@ -106,7 +99,7 @@ done_close a v kind offset e = ap (λ a. answer_of a kind offset) e
 
 total_test : (t : Option ℕ) (n : ℕ) → FitsTotal t n → agrees t n ≡ true
 total_test None n e = refl
-total_test (Some t) n e = eq_test t n e
+total_test (Some t) n e = eq-eqb t n e
 
 -- a page of a list, given where the stage stands
 listed_done : (o : Option Stage) (limit v : ℕ) (kind : Kind) (offset : ℕ) (w : WireReply) (l : List Record) → agrees (pin_of (option_map state_of o)) v ≡ true → IsGood l → FitsTotal (total_of (option_map state_of o)) (length l)
@@ -120,7 +113,7 @@ listed_done o limit v kind offset w l pin good total p es el front st ver tot ro
     let count : length part ≡ min limit (length l - staged_of stage) = page_count p l part limit refl ∙ ap (λ n. min limit (length l - n)) (sym es) in
     let asc : ascends (last_of stage) part ≡ true = ap (λ d. ascends d part) el ∙ page_ascends p l part limit front good.ordered refl in
     done_take _ v part (length l) (length part == length l - staged_of stage) kind offset
-    (judged_at stage limit w 200 st ∙ listed ∙ page_take stage limit v (length l) w.body part pin (few_test (length l) good.few) (total_test (total_of stage) (length l) total) rows (eq_test _ _ count) asc)
+    (judged_at stage limit w 200 st ∙ listed ∙ page_take stage limit v (length l) w.body part pin (few_test (length l) good.few) (total_test (total_of stage) (length l) total) rows (eq-eqb _ _ count) asc)
 
 -- a list as the version has it, whatever stage stands
 read_done : (o : Option Stage) (token : List ℕ) (limit v : ℕ) (w : WireReply) (mid : HubState) (kind : Kind) (offset : ℕ) → IsHub mid → HasToken token (option_map state_of o) → StageFitsIf o mid → kinds_of (option_map state_of o) < kind_count
@@ -137,7 +130,7 @@ read_done (Some s) token limit v w mid kind offset is_hub et x lt read st ver to
     let at : list_of (version_at mid v) token (place_of_kind (kind_at (length s.done))) ≡ list_of (version_at mid v) s.token (length s.done) =
     ap (list_of (version_at mid v) token) (place_at (length s.done) lt) ∙ ap (λ t. list_of (version_at mid v) t (length s.done)) (sym et) in
     let l = list_of (version_at mid v) s.token (length s.done) in
-    listed_done (Some s) limit v kind offset w l (eq_test s.pin v (sym e)) (list_good mid is_hub v s.token (length s.done) read.standing) fits.total s.present refl refl fits.present st ver
+    listed_done (Some s) limit v kind offset w l (eq-eqb s.pin v (sym e)) (list_good mid is_hub v s.token (length s.done) read.standing) fits.total s.present refl refl fits.present st ver
     (tot ∙ ap (λ (xs : List Record). Some (length xs)) at)
     (rows ∙ ap (λ (xs : List Record). let o : Result (List Record) JsonFault = Ok (take limit (drop (length s.present) xs)) in o) at)
 
@@ -153,7 +146,7 @@ shut_done (Some s) token limit v w mid kind offset et x lt read st ver none =
     let at : list_of (version_at mid v) token (place_of_kind (kind_at (length s.done))) ≡ list_of (version_at mid v) s.token (length s.done) =
     ap (list_of (version_at mid v) token) (place_at (length s.done) lt) ∙ ap (λ t. list_of (version_at mid v) t (length s.done)) (sym et) in
     let nought : length s.present ≡ 0 = let h = ap length (fits.present).1 in let g = length-append s.present (fits.present).0 in let i = ap length (sym at ∙ none) in omega (arith, h, g, i) in
-    done_close _ v kind offset (judged_at (Some (state_of s)) limit w 403 st ∙ ap (shut_act (Some (state_of s))) ver ∙ enter _ _ _ (and_from (s.pin == v) (length s.present == 0) (eq_test s.pin v (sym e)) (eq_test (length s.present) 0 nought)))
+    done_close _ v kind offset (judged_at (Some (state_of s)) limit w 403 st ∙ ap (shut_act (Some (state_of s))) ver ∙ cond-true _ _ _ (and_from (s.pin == v) (length s.present == 0) (eq-eqb s.pin v (sym e)) (eq-eqb (length s.present) 0 nought)))
 
 -- the pin of the call lies below where the stage is pinned
 pin_below : (first : Option StageState) (o : Option Stage) (start a : HubState) → Grew start a → StageFitsIf o a → PinLaw first start (option_map state_of o) → 0 < length a.published → first_pin first start < length a.published
@@ -162,21 +155,15 @@ pin_below None (Some s) start a g x law pos = omega (arith, law, x.standing)
 pin_below (Some f) None start a g x law pos = absurd law
 pin_below (Some f) (Some s) start a g x law pos = omega (arith, law, x.standing)
 
-some_nat : {a b : ℕ} → Some a ≡ Some b → a ≡ b
-some_nat e = cc
-
 pin_above : (first : Option StageState) (o : Option Stage) (start : HubState) (p : ℕ) → PinLaw first start (option_map state_of o) → pin_of (option_map state_of o) ≡ Some p → first_pin first start ≤ p
 pin_above None None start p law e = cc
-pin_above None (Some s) start p law e = let f = some_nat e in omega (arith, law, f)
+pin_above None (Some s) start p law e = let f = same_Some _ _ e in omega (arith, law, f)
 pin_above (Some f) None start p law e = absurd law
-pin_above (Some f) (Some s) start p law e = let h = some_nat e in omega (arith, law, h)
+pin_above (Some f) (Some s) start p law e = let h = same_Some _ _ e in omega (arith, law, h)
 
 pin_standing : (o : Option Stage) (h : HubState) (p : ℕ) → StageFitsIf o h → pin_of (option_map state_of o) ≡ Some p → p < length h.published
 pin_standing None h p x e = cc
-pin_standing (Some s) h p x e = subst (λ n. n < length h.published) (some_nat e) x.standing
-
-some_by : {a b : GrantRow} → Some a ≡ Some b → a ≡ b
-some_by e = cc
+pin_standing (Some s) h p x e = subst (λ n. n < length h.published) (same_Some _ _ e) x.standing
 
 -- a later state's grant was the same before, since the version that it names
 was_known : (token : List ℕ) (by : GrantRow) (mid b : HubState) → Grew mid b → IsHub mid → IsHub b → grant_of token (newest_in b).grants ≡ Some by → by.grant.since < length mid.published → grant_of token (newest_in mid).grants ≡ Some by
@@ -186,7 +173,7 @@ was_known token by mid b g hm hb known since =
     let at : grant_of token (version_at b q).grants ≡ Some by = known_at b hb token by known q (omega (arith, since)) (omega (arith, lt, g.longer)) in
     ap (λ (v : BaseVersion). grant_of token v.grants) (newest_at mid hm.state ∙ sym (g.same q lt)) ∙ at
 
-known_not : (o : Option GrantRow) (by : GrantRow) → o ≡ Some by → is_some o ≡ false → ⊥
+pub known_not : (o : Option GrantRow) (by : GrantRow) → o ≡ Some by → is_some o ≡ false → ⊥
 known_not None by e f = cc
 known_not (Some x) by e f = cc
 
@@ -206,7 +193,7 @@ own_done' o first a b start token limit w kind offset et x lt own g ha hb law qu
         | Gone p by e kn st old why ↦ absurd (
             let le = pin_above first o start p law e in
             let pl = pin_standing o a.hub p x e in
-            let same : by ≡ at.by = some_by (sym kn ∙ was) in
+            let same : by ≡ at.by = same_Some _ _ (sym kn ∙ was) in
             let keeps : oldest_number own.mid ≤ oldest_number b.hub = let k = (own.to).keep in omega (arith, k, (own.to).longer) in
             ⊎_elim (λ (h : p < oldest_number own.mid). omega (arith, h, le, at.oldest, keeps))
             (λ h. ⊎_elim (λ (h : p < by.grant.since). let h2 : p < (at.by).grant.since = subst (λ (r : GrantRow). p < r.grant.since) same h in omega (arith, h2, le, at.since))
@@ -250,17 +237,9 @@ own_told' o a b token limit w kind offset et x lt own =
       ]
     ]
 
-told_more : (token : List ℕ) (z a b : Told) (e : SyncAnswer) → Moved z a → ToldCause token a b e → ToldCause token z b e
-told_more token z a b (answer.TooLarge k t) m x = x
-told_more token z a b (answer.BadReply k o) m x = x
-told_more token z a b answer.HubFault m x = omega (arith, x, m.counts)
-told_more token z a b (answer.PinGone p o) m x = (x.0, grew_on m.grew x.1, x.2, x.3, x.4, x.5)
-told_more token z a b answer.UnknownToken m x = (x.0, grew_on m.grew x.1, x.2, x.3)
-told_more token z a b e m x = tt
-
 told_if_more : (token : List ℕ) (z a b : Told) (e : Option SyncAnswer) → Moved z a → ToldIf token a b e → ToldIf token z b e
 told_if_more token z a b None m x = tt
-told_if_more token z a b (Some e) m x = told_more token z a b e m x
+told_if_more token z a b (Some e) m x = cause_more token z a b e m x
 
 pub own_told : (c : Copy) (stage : Option StageState) (z a b : Told) (token : List ℕ) (limit : ℕ) (w : WireReply) (kind : Kind) (offset : ℕ) → Moved z a → stage_of c ≡ stage → HasToken token stage → StageFitsIf c.stage a.hub → kinds_of stage < kind_count
     → IsSaid a b (next_page token limit stage) w → ToldIf token z b (answer_of (judged stage limit w) kind offset)

@@ -1,5 +1,6 @@
 -- What is left of a stage where the keeper failed.
-use Rattle.std.proofs.Common.{◌≡◌, ◌⊎◌, inl, inr, ℕ, ◌+◌, true, false, List, Option, None, Some, Err, cond, refl, sym, ap, subst, ⊎_elim}
+use Rattle.std.proofs.Common.{◌≡◌, ◌⊎◌, inl, inr, ℕ, ◌+◌, true, false, List, Option, None, Some, Err, cond, refl, sym}
+use Rattle.std.proofs.Common.{ap, subst, ⊎_elim}
 use Rattle.std.specs.Prelude.{bytes_eq, is_some}
 use Rattle.consumer_sync.proofs.CauseLemmas.{answer_cause}
 use Rattle.consumer_sync.proofs.FillLemmas.{grows_refl}

@@ -1,7 +1,10 @@
 -- One round of the loop.
-use Rattle.std.proofs.Common.{◌≡◌, ◌≢◌, ◌⊎◌, ◌-◌, ◌<◌, ◌≤◌, inl, inr, ⊎_elim, ℕ, zero, suc, Bool, true, false, List, [], ◌∷◌, ◌++◌, length, get_or, Option, Some, None, refl, sym, ◌∙◌, ap, subst, arith, min, append_assoc, length-append, ◌+◌}
+use Rattle.std.proofs.Common.{◌≡◌, ◌≢◌, ◌⊎◌, ◌-◌, ◌<◌, ◌≤◌, inl, inr, ⊎_elim, ℕ, zero, suc, Bool, true, false, List, []}
+use Rattle.std.proofs.Common.{◌∷◌, ◌++◌, length, get_or, Option, Some, None, refl, sym, ◌∙◌, ap, subst, arith, min}
+use Rattle.std.proofs.Common.{append_assoc, length-append, ◌+◌}
 use Rattle.std.specs.Prelude.{◌==◌, IfSome, bytes_eq, if◌then◌else◌, option_map, unwrap_or}
 use Rattle.std.proofs.lemmas.Bool.Decides.{nat_tests}
+use Rattle.std.proofs.lemmas.List.{append-nil}
 use Rattle.keeper_memory.specs.copy.Changes.{begun, stage_after}
 use Rattle.keeper_memory.specs.copy.Copies.{Copy, Stage}
 use Rattle.keeper_memory.specs.copy.Lists.{kind_count}
@@ -33,6 +36,7 @@ use Rattle.consumer_sync.specs.Staging.Performs.{Kept, Grown, Cleared}
 use Rattle.consumer_sync.specs.declared.judging.Act.{Act}
 use Rattle.consumer_sync.proofs.JudgeLemmas.{IsListed, IsPage, IsShut}
 use Rattle.consumer_sync.proofs.AgreeLemmas.{PinIs}
+use Rattle.consumer_sync.proofs.StageLemmas.{pin-paged}
 
 -- the weight falls with each page
 falls : (s : StageState) (limit : ℕ) (rows : List Record) (total : ℕ) (done d : Bool) → 0 < limit → s.kinds_done < kind_count → total ≤ row_limit → length rows ≡ min limit (total - s.staged)
@@ -54,10 +58,6 @@ kinds_more s rows total false lt = omega arith
 pub kinds_on : (stage : Option StageState) (token : List ℕ) (k : Taking) → kinds_of stage < kind_count → kinds_of (Some (paged (opened stage k.pin token) k.rows k.total k.done)) ≤ kind_count
 kinds_on None token k lt = kinds_more (opened None k.pin token) k.rows k.total k.done lt
 kinds_on (Some s) token k lt = kinds_more s k.rows k.total k.done lt
-
-pin-paged : (s : StageState) (rows : List Record) (total : ℕ) (d : Bool) → (paged s rows total d).pin ≡ s.pin
-pin-paged s rows total true = refl
-pin-paged s rows total false = refl
 
 -- ---- the numbers of a stage
 
@@ -103,12 +103,8 @@ pin_on None (Some s) a b token k law g p = let e = pin-paged s k.rows k.total k.
 pin_on (Some f) (Some s) a b token k law g p = pin-paged s k.rows k.total k.done ∙ law
 pin_on (Some f) None a b token k law g p = absurd law
 
-append_nil : (xs : List Record) → xs ++ [] ≡ xs
-append_nil [] = refl
-append_nil (x ∷ xs) = ap (λ ys. x ∷ ys) (append_nil xs)
-
 front_refl : (xs : List Record) → IsFrontOf xs xs
-front_refl xs = ([], append_nil xs)
+front_refl xs = ([], append-nil xs)
 
 front_trans : (xs ys zs : List Record) → IsFrontOf xs ys → IsFrontOf ys zs → IsFrontOf xs zs
 front_trans xs ys zs f g = (f.0 ++ g.0, sym (append_assoc xs f.0 g.0) ∙ ap (λ x. x ++ g.0) f.1 ∙ g.1)
@@ -133,7 +129,7 @@ grows_after s rows total false = record { pin = refl; token = refl; lists = fron
 pub grows_refl : (s : Stage) → Grows s s
 grows_refl s = record { pin = refl; token = refl; lists = λ kind. front_refl (staged_list s kind) }
 
-grows_trans : (a b c : Stage) → Grows a b → Grows b c → Grows a c
+pub grows_trans : (a b c : Stage) → Grows a b → Grows b c → Grows a c
 grows_trans a b c x y = record { pin = y.pin ∙ x.pin; token = y.token ∙ x.token; lists = λ kind. front_trans _ _ _ (x.lists kind) (y.lists kind) }
 
 on_open : (token : List ℕ) (pin : ℕ) (o m : Option Stage) → StageOn token o m → StageOn token o (Some (unwrap_or m (begun pin token)))

@@ -1,7 +1,9 @@
 -- The parts of a synchronisation make the whole.
-use Rattle.std.proofs.Common.{◌≡◌, ◌≢◌, ◌+◌, ◌≤◌, ◌⊎◌, inl, inr, ⊎_elim, ℕ, Bool, true, false, List, length, Option, Some, None, Ok, Err, refl, sym, ◌∙◌, ap, subst, arith}
+use Rattle.std.proofs.Common.{◌≡◌, ◌≢◌, ◌+◌, ◌≤◌, ◌⊎◌, inl, inr, ⊎_elim, ℕ, Bool, true, false, List, length, Option}
+use Rattle.std.proofs.Common.{Some, None, Ok, Err, refl, sym, ◌∙◌, ap, subst, arith}
 use Rattle.std.specs.Prelude.{if◌then◌else◌, option_map, bytes_eq}
 use Rattle.std.proofs.lemmas.List.{take_all}
+use Rattle.std.proofs.lemmas.Option.{same_Some}
 use Rattle.std.proofs.lemmas.Slice.Eq.{bytes_eq-Decides}
 use Rattle.keeper_memory.specs.copy.Changes.{copy_after, held_of, swapped}
 use Rattle.keeper_memory.specs.copy.Copies.{Copy, Held, Stage}
@@ -11,7 +13,8 @@ use Rattle.keeper_memory.specs.declared.copy.change.CopyChange.TheVariants.{Run,
 use Rattle.keeper_memory.specs.declared.copy.state.CopyState.{CopyState}
 use Rattle.keeper_memory.specs.declared.copy.state.StageState.{StageState}
 use Rattle.keeper_memory.specs.declared.copy.state.TheConstants.{LAST}
-use Rattle.exchange_link.specs.Agreement.{CopyFits, HeldFits, HeldFitsIf, NoneAbove, StageAgrees, StageFits, StageFitsIf}
+use Rattle.exchange_link.specs.Agreement.{CopyFits, HeldFits, HeldFitsIf, NoneAbove, StageAgrees, StageFits}
+use Rattle.exchange_link.specs.Agreement.{StageFitsIf}
 use Rattle.exchange_link.specs.Causes.{AsksOn, CauseOf, LastLaw, IsAside}
 use Rattle.exchange_link.specs.Completeness.{IsDone}
 use Rattle.exchange_link.specs.Exchanges.{Told}
@@ -19,7 +22,8 @@ use Rattle.hub_spec.specs.views.Cuts.{cut}
 use Rattle.exchange_link.specs.Sayings.{knows}
 use Rattle.hub_spec.specs.rules.Checks.{version_at}
 use Rattle.exchange_link.specs.Places.{kinds_of}
-use Rattle.exchange_link.specs.Synchronised.{CompleteAt, HeldLaw, HeldTold, IsPinOf, Leaves, MayStay, StageLaw, StageOn, Synchronised, held_at, own_stage, own_state}
+use Rattle.exchange_link.specs.Synchronised.{CompleteAt, HeldLaw, HeldTold, IsPinOf, Leaves, MayStay, StageLaw, StageOn}
+use Rattle.exchange_link.specs.Synchronised.{Synchronised, held_at, own_stage, own_state}
 use Rattle.exchange_link.specs.declared.answer.SyncAnswer.{SyncAnswer}
 use Rattle.exchange_link.specs.declared.answer.SyncAnswer.TheVariants as answer
 use Rattle.exchange_link.proofs.CutLemmas.{cut_whole}
@@ -50,7 +54,7 @@ fail_agree token b a t f h = record {
   fits = fail_fits token b a t.hub f h.fits;
 }
 
-fail_stage : (token : List ℕ) (b a : Copy) → Aborts token b a → (StageOn token (own_stage token b.stage) a.stage) ⊎ (a.stage ≡ b.stage)
+pub fail_stage : (token : List ℕ) (b a : Copy) → Aborts token b a → (StageOn token (own_stage token b.stage) a.stage) ⊎ (a.stage ≡ b.stage)
 fail_stage token b a f = ⊎_elim (λ (e : a.stage ≡ b.stage). inr e)
     (λ e. inl (subst (λ o. StageOn token o a.stage) (sym e.0) (subst (λ o. StageOn token None o) (sym e.1) tt))) f.stage
 
@@ -180,12 +184,9 @@ pub pin_law : (token : List ℕ) (o : Option Stage) (h : HubState) (s : StageSta
 pin_law token None h s x = x
 pin_law token (Some f) h s x = pin_if (bytes_eq f.token token) f h s x
 
-some_stage : {a b : StageState} → Some a ≡ Some b → a ≡ b
-some_stage e = cc
-
 stage_some : (o : Option Stage) (st : StageState) → option_map state_of o ≡ Some st → (s : Stage) × (o ≡ Some s) × (state_of s ≡ st)
 stage_some None st e = cc
-stage_some (Some s) st e = (s, refl, some_stage e)
+stage_some (Some s) st e = (s, refl, same_Some _ _ e)
 
 token_if : (b : Bool) (f s : Stage) (token : List ℕ) → (b ≡ true → f.token ≡ token) → StageOn token (if b then Some f else None) (Some s) → s.token ≡ token
 token_if true f s token e x = x.token ∙ e refl

@@ -1,5 +1,6 @@
 -- What a reply makes of a copy.
-use Rattle.std.specs.Prelude.{◌≡◌, ◌≢◌, ◌⊎◌, ℕ, ◌≤◌, Bool, true, List, [], Option, Some, None, Result, Ok, Err, unwrap_or, ⊤}
+use Rattle.std.specs.Prelude.{◌≡◌, ◌≢◌, ◌⊎◌, ℕ, ◌≤◌, Bool, true, List, [], Option, Some, None, Result, Ok, Err}
+use Rattle.std.specs.Prelude.{unwrap_or, ⊤}
 use Rattle.std.specs.List.{All}
 use Rattle.keeper_memory.specs.copy.Changes.{begun, copy_after, stage_after}
 use Rattle.keeper_memory.specs.copy.Copies.{Copy}

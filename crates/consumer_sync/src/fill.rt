@@ -17,7 +17,8 @@ ghost use Rattle.http_wire.specs.declared.reply_reading.WireReply.{WireReply as 
 ghost use Rattle.roster_base.specs.Faults.{Rose};
 ghost use Rattle.consumer_sync.specs.Faulted.{SaysGone};
 ghost use Rattle.exchange_link.specs.Synchronised.{StageOn};
-ghost use Rattle.consumer_sync.specs.Filling.{AsksOnIf, CauseIf, Ends, ExactIf, HasToken, IsCallPinIf, IsDoneIf, IsEndIf, IsSmall, PinLaw, ToldIf, TriedIf, request_of};
+ghost use Rattle.consumer_sync.specs.Filling.{AsksOnIf, CauseIf, Ends, ExactIf, HasToken, IsCallPinIf, IsDoneIf};
+ghost use Rattle.consumer_sync.specs.Filling.{IsEndIf, IsSmall, PinLaw, ToldIf, TriedIf, request_of};
 ghost use Rattle.consumer_sync.specs.Requests.{IsUnmarked};
 ghost use Rattle.exchange_link.specs.Requests.{Asks, IsReady};
 

@@ -16,7 +16,7 @@ ghost use Rattle.status_info.specs.declared.request.Echo.{Echo as Number};
 ghost use Rattle.exchange_link.specs.Owning.{IsOwnRead};
 ghost use Rattle.exchange_link.specs.Requests.{Asks, IfOwn, IsReady, number, numbered};
 ghost use Rattle.consumer_sync.specs.Filling.{request_of};
-ghost use Rattle.consumer_sync.specs.Requests.{IsUnmarked, unnumbered};
+ghost use Rattle.consumer_sync.specs.Requests.{IsUnmarked, read_request, unnumbered};
 
 use crate::judging::{kind, pin, staged};
 use exchange_link::{Link, Outcome, ask};
@@ -38,7 +38,7 @@ pub struct Asker<'a> {
 
 /// The path of a kind's pages.
 #[tactic(auto, unfolding(hub_spec::specs::requests::PageRequests::page_path))]
-pub fn path_text(alloc: Global, kind: Kind) -> Result<String, NoMemory>
+fn path_text(alloc: Global, kind: Kind) -> Result<String, NoMemory>
     ensures { IfOk result (λ s. string_bytes s ≡ page_path kind) }
 {
     let mut path = String::from_str(alloc, "/ims/oneroster/v1p1/")?;
@@ -70,6 +70,27 @@ fn query_text(alloc: Global, limit: u64, offset: u64, pin: Option<u64>) -> Resul
     Ok(query)
 }
 
+/// The request that reads rows of a kind by a query, still without a number.
+pub fn read_request(
+    alloc: Global,
+    token: &Token,
+    kind: Kind,
+    query: String,
+) -> Result<Request, NoMemory>
+    ensures { IfOk result (λ q. q ≡ read_request token.now kind (string_bytes query)) }
+{
+    Ok(Request {
+        verb: Verb::Get,
+        path: Text::from_string(path_text(alloc, kind)?),
+        query: Text::from_string(query),
+        token: Some(token.copy(alloc)?),
+        mark: MarkField::Nothing,
+        echo: None,
+        close: false,
+        body: Bytes::from_vec(Vec::new(alloc)),
+    })
+}
+
 fn request_for(
     alloc: Global,
     token: &Token,
@@ -80,16 +101,8 @@ fn request_for(
 ) -> Result<Request, NoMemory>
     ensures { IfOk result (λ q. q ≡ unnumbered (record { token = token.now; kind = kind; limit = limit; offset = offset; pin = pin })) }
 {
-    Ok(Request {
-        verb: Verb::Get,
-        path: Text::from_string(path_text(alloc, kind)?),
-        query: Text::from_string(query_text(alloc, limit, offset, pin)?),
-        token: Some(token.copy(alloc)?),
-        mark: MarkField::Nothing,
-        echo: None,
-        close: false,
-        body: Bytes::from_vec(Vec::new(alloc)),
-    })
+    let query = query_text(alloc, limit, offset, pin)?;
+    read_request(alloc, token, kind, query)
 }
 
 /// The request for the next page of a stage, still without a number; it may be sent under each.

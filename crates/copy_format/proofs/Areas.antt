@@ -1,5 +1,7 @@
 -- What edits do to the areas of a copy.
-use Rattle.std.proofs.Common.{◌≡◌, ◌<◌, ◌≤◌, ◌==◌, ℕ, zero, suc, List, [], ◌∷◌, Bool, true, false, cond, not, if◌then◌else◌, Some, None, refl, ap, ◌∙◌, arith}
+use Rattle.std.proofs.Common.{◌≡◌, ◌<◌, ◌≤◌, ◌==◌, ℕ, zero, suc, List, [], ◌∷◌, Bool, true, false, cond, not, Some}
+use Rattle.std.proofs.Common.{None, refl, ap, ◌∙◌, arith}
+use Rattle.std.proofs.lemmas.Bool.{cond-false, cond-true, eq-eqb}
 use Rattle.std.specs.FinMap.{from_entries, insert, retain_keys}
 use Rattle.std.specs.Ordering.{eq_by_cmp}
 use Rattle.std.proofs.lemmas.Bool.Decides.{Decides-eqb}
@@ -19,14 +21,6 @@ use Rattle.std.specs.Prelude.{Option}
 use Rattle.copy_format.specs.Bodies.{stage_body}
 use Rattle.copy_format.specs.Edits.{clear_side}
 use Rattle.copy_format.specs.Format.{other_side, row_area, stage_entries, token_entries}
-
-pub other_than : {X : Type 0} (b : Bool) (x y : X) → b ≡ false → (if b then x else y) ≡ y
-other_than true x y is = absurd cc
-other_than false x y is = refl
-
-pub same_as : {X : Type 0} (b : Bool) (x y : X) → b ≡ true → (if b then x else y) ≡ x
-same_as true x y is = refl
-same_as false x y is = absurd cc
 
 apart : (a b : ℕ) → (a ≡ b → ⊥) → (a == b) ≡ false
 apart a b differ = elim (a == b) as (λ t. (a == b) ≡ t → t ≡ false) [
@@ -55,19 +49,16 @@ sides_apart k l = by_side (λ side. (row_area side k == row_area (other_side sid
 pub kinds_apart : (k l : Kind) (side : ℕ) → (place_of_kind k ≡ place_of_kind l → ⊥) → (row_area side k == row_area side l) ≡ false
 kinds_apart k l side differ = apart (row_area side k) (row_area side l) (λ is. differ (omega (arith, is)))
 
-pub itself : (a : ℕ) → (a == a) ≡ true
-itself a = (Decides-eqb a a).1 refl
-
 -- ---- puts
 
 pub put_elsewhere : (k : ℕ) (e : Entry) (m : Items) (a : ℕ) → (a == k) ≡ false → after (put_at k e ∷ []) m a ≡ m a
-put_elsewhere k e m a differ = other_than (a == k) (insert (m a) e.0 e.1) (m a) differ
+put_elsewhere k e m a differ = cond-false (a == k) (insert (m a) e.0 e.1) (m a) differ
 
 pub puts_elsewhere : (k : ℕ) (es : List Entry) (m : Items) (a : ℕ) → (a == k) ≡ false → after (puts k es) m a ≡ m a
-puts_elsewhere k es m a differ = (puts_act k es).on m a ∙ other_than (a == k) (filled es (m a)) (m a) differ
+puts_elsewhere k es m a differ = (puts_act k es).on m a ∙ cond-false (a == k) (filled es (m a)) (m a) differ
 
 pub puts_here : (k : ℕ) (es : List Entry) (m : Items) → after (puts k es) m k ≡ filled es (m k)
-puts_here k es m = (puts_act k es).on m k ∙ same_as (k == k) (filled es (m k)) (m k) (itself k)
+puts_here k es m = (puts_act k es).on m k ∙ cond-true (k == k) (filled es (m k)) (m k) (eq-eqb k k refl)
 
 -- a body in the place of another
 pub one_new : (label new old : List ℕ) → from_entries {R = bytes_cmp} ((label, new) ∷ (label, old) ∷ []) ≡ from_entries ((label, new) ∷ [])

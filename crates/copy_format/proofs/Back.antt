@@ -1,5 +1,6 @@
 -- What was written is found again.
-use Rattle.std.proofs.Common.{◌≡◌, ℕ, List, [], ◌∷◌, ◌++◌, Bool, true, false, drop, Ok, Option, None, Some, Result, refl, sym, ap, ◌∙◌, append_assoc, arith}
+use Rattle.std.proofs.Common.{◌≡◌, ℕ, List, [], ◌∷◌, ◌++◌, drop, Ok, Option, None, Some, Result, refl, sym, ap, ◌∙◌}
+use Rattle.std.proofs.Common.{append_assoc, arith}
 use Rattle.std.specs.Prelude.{IfSome, slice_index_or}
 use Rattle.roster_values.proofs.KindLaws.{kind_from_place}
 use Rattle.keeper_memory.specs.copy.Copies.{IsOutWrite}
@@ -8,15 +9,17 @@ use Rattle.keeper_memory.specs.declared.copy.entry.Settled.{Settled}
 use Rattle.keeper_memory.specs.declared.copy.state.StageState.{StageState}
 use Rattle.hub_format.proofs.Back.{number_back, sized_back}
 use Rattle.hub_format.proofs.Orders.{same_number}
+use Rattle.hub_format.proofs.Unique.{same_flag}
 use Rattle.hub_format.specs.Format.{Entry}
-use Rattle.hub_format.specs.Pieces.{IsSized, flag, number, sized}
+use Rattle.hub_format.specs.Pieces.{IsSized, number, sized}
 use Rattle.roster_types.specs.Records.{Record}
 use Rattle.roster_values.specs.declared.kind.Kind.{Kind}
 use Rattle.row_json.specs.Json.{single_text}
 use Rattle.row_json.specs.Reading.{row_of}
 use Rattle.row_json.specs.declared.fault.JsonFault.{JsonFault}
 use Rattle.version_core.specs.declared.mark.Write.{Write}
-use Rattle.copy_format.specs.Bodies.{optional_number, optional_settled, optional_sized, row_body, stage_body, state_body, write_bytes}
+use Rattle.copy_format.specs.Bodies.{optional_number, optional_settled, optional_sized, row_body, stage_body}
+use Rattle.copy_format.specs.Bodies.{state_body, write_bytes}
 use Rattle.copy_format.specs.Format.{FitsSettled, FitsSmall, IsOut, IsRowOf, IsSmall, out_entry, row_entry}
 
 pub optional_number_back : (a b : Option ℕ) (x y : List ℕ) → IfSome a IsSmall → IfSome b IsSmall → optional_number a ++ x ≡ optional_number b ++ y → (a ≡ b) × (x ≡ y)
@@ -65,12 +68,6 @@ stage_back s t fits_s fits_t same =
     let totals = optional_number_back s.total t.total (optional_sized s.last) (optional_sized t.last) fits_s.total fits_t.total staged.1 in
     let lasts = optional_sized_back s.last t.last [] [] fits_s.last fits_t.last (ap (λ xs. xs ++ []) totals.1) in
     λ i. record { pin = pins.0 i; token = tokens.0 i; kinds_done = kinds.0 i; staged = staged.0 i; total = totals.0 i; last = lasts.0 i }
-
-same_flag : (a b : Bool) → flag a ≡ flag b → a ≡ b
-same_flag true true same = refl
-same_flag true false same = absurd cc
-same_flag false true same = absurd cc
-same_flag false false same = refl
 
 -- a write in front of a rest
 pub write_back : (a b : Write) (x y : List ℕ) → IsSized a.id → IsSized b.id → IsSized a.body → IsSized b.body → write_bytes a ++ x ≡ write_bytes b ++ y → (a ≡ b) × (x ≡ y)

@@ -1,15 +1,20 @@
 -- The items of a copy become those of the copy after a change.
-use Rattle.std.proofs.Common.{◌≡◌, ◌<◌, ◌≤◌, ◌^◌, ◌+◌, ◌==◌, ℕ, List, [], ◌∷◌, ◌++◌, Bool, true, false, not, cond, map, length, get_or, Option, None, Some, inl, inr, refl, sym, ap, ◌∙◌, subst, arith, length-append}
+use Rattle.std.proofs.Common.{◌≡◌, ◌<◌, ◌≤◌, ◌^◌, ◌+◌, ◌==◌, ℕ, List, [], ◌∷◌, ◌++◌, Bool, true, false, not, cond, map}
+use Rattle.std.proofs.Common.{length, get_or, Option, None, Some, inl, inr, refl, sym, ap, ◌∙◌, subst, arith}
+use Rattle.std.proofs.Common.{length-append}
 use Rattle.std.specs.Prelude.{IfSome, IsSomeAnd, is_none, if◌then◌else◌, option_map}
 use Rattle.std.specs.FinMap.{from_entries, insert, retain_keys}
 use Rattle.std.specs.List.{All, AllByRecursion}
 use Rattle.std.specs.Option.{option_map_or}
 use Rattle.std.specs.Ordering.{eq_by_cmp}
-use Rattle.std.proofs.lemmas.Bool.{cases_eq}
+use Rattle.std.proofs.lemmas.Bool.{cases_eq, cond-false}
 use Rattle.std.proofs.lemmas.List.Elements.{All-head, All-tail}
+use Rattle.std.proofs.lemmas.Option.{same_Some}
 use Rattle.keeper_memory.proofs.CopyLemmas.{changed_is, empty_is, nth_list}
-use Rattle.keeper_memory.specs.copy.Changes.{AllDone, CanChange, CanPage, begun, copy_after, settled_first, stage_after, swapped}
-use Rattle.keeper_memory.specs.copy.Copies.{Copy, Held, IsCopy, IsStage, NumbersRise, Stage, first_unsettled, held_list, held_token}
+use Rattle.keeper_memory.specs.copy.Changes.{AllDone, CanChange, CanPage, begun, copy_after, settled_first, stage_after}
+use Rattle.keeper_memory.specs.copy.Changes.{swapped}
+use Rattle.keeper_memory.specs.copy.Copies.{Copy, Held, IsCopy, IsStage, NumbersRise, Stage, first_unsettled, held_list}
+use Rattle.keeper_memory.specs.copy.Copies.{held_token}
 use Rattle.keeper_memory.specs.copy.HeldCopy.{empty_copy}
 use Rattle.keeper_memory.specs.copy.Lists.{IsList, kind_count}
 use Rattle.keeper_memory.specs.copy.States.{state_of}
@@ -31,14 +36,18 @@ use Rattle.item_maps.specs.declared.item.Edit.TheVariants.{Clear}
 use Rattle.roster_values.proofs.KindLaws.{kind_from_place, kind_there}
 use Rattle.roster_values.specs.Kinds.{all_kinds, place_of_kind}
 use Rattle.roster_values.specs.declared.kind.Kind.{Kind}
+use Rattle.version_core.proofs.PutLemmas.{all_append}
 use Rattle.version_core.proofs.RoomLemmas.{map_push}
 use Rattle.version_core.specs.declared.mark.Write.{Write}
 use Rattle.copy_format.specs.Bodies.{out_body, stage_body, state_body}
 use Rattle.copy_format.specs.Edits.{FitsChange, clear_stage, edits, first_edits, settled_edits, turn_edits}
-use Rattle.copy_format.specs.Format.{AreItemsOf, Fit, FitRows, FitsHeld, FitsOut, FitsRow, FitsSettled, FitsStage, Keep, KeepOne, other_side, out_entry, row_area, row_entry, rows_under, stage_entries, staged_list, state_entry, token_entries}
-use Rattle.copy_format.proofs.Areas.{clears, kinds_apart, low_not_row, by_side, one_new, other_than, put_elsewhere, puts_elsewhere, puts_here, row_not_low, sides_apart, stage_cleared, stage_put, token_put}
+use Rattle.copy_format.specs.Format.{AreItemsOf, Fit, FitRows, FitsHeld, FitsOut, FitsRow, FitsSettled, FitsStage, Keep}
+use Rattle.copy_format.specs.Format.{KeepOne, other_side, out_entry, row_area, row_entry, rows_under, stage_entries}
+use Rattle.copy_format.specs.Format.{staged_list, state_entry, token_entries}
+use Rattle.copy_format.proofs.Areas.{clears, kinds_apart, low_not_row, by_side, one_new, put_elsewhere, puts_elsewhere}
+use Rattle.copy_format.proofs.Areas.{puts_here, row_not_low, sides_apart, stage_cleared, stage_put, token_put}
 use Rattle.copy_format.proofs.Climbing.{AreSmall, differ, filled_behind, outs_sorted, rows_sorted}
-use Rattle.copy_format.proofs.Lists.{all_at, all_more, all_push, at_last, at_other, empty_last}
+use Rattle.copy_format.proofs.Lists.{all_at, all_push, at_last, at_other, empty_last}
 use Rattle.copy_format.proofs.Low.{rows_cleared}
 
 -- ---- facts of a copy
@@ -79,14 +88,11 @@ fit_settled settled (entry ∷ entries) fits all = elim (is_none entry.settled) 
   | false ↦ (all.0, fit_settled settled entries fits all.1)
 ]
 
-pub some_entry : {a b : OutEntry} → Some a ≡ Some b → a ≡ b
-some_entry is = cc
-
 -- the first that isn't settled has a number above those before it
 pub found_above : (n : ℕ) (entries : List OutEntry) (entry : OutEntry) → AreSmall entries → NumbersRise n entries → first_unsettled entries ≡ Some entry → (n < entry.number) × (entry.number < 2 ^ 64)
 found_above n [] entry small rise is = absurd cc
 found_above n (x ∷ xs) entry small rise is = elim (is_none x.settled) as (λ b. (if b then Some x else first_unsettled xs) ≡ Some entry → (n < entry.number) × (entry.number < 2 ^ 64)) [
-  | true ↦ λ is. let same = some_entry is in subst (λ (e : OutEntry). (n < e.number) × (e.number < 2 ^ 64)) same (rise.0, small.0)
+  | true ↦ λ is. let same = same_Some _ _ is in subst (λ (e : OutEntry). (n < e.number) × (e.number < 2 ^ 64)) same (rise.0, small.0)
   | false ↦ λ is. let rest = found_above x.number xs entry small.1 rise.1 is in (let above = rest.0 in let first = rise.0 in omega (arith, above, first), rest.1)
 ] is
 
@@ -96,7 +102,7 @@ settled_alike : (settled : Settled) (n : ℕ) (entries : List OutEntry) (entry :
 settled_alike settled n [] entry small rise is q = absurd cc
 settled_alike settled n (x ∷ xs) entry small rise is q = elim (is_none x.settled) as (λ b. (if b then Some x else first_unsettled xs) ≡ Some entry
     → found q (out_entry (record entry { settled = Some settled }) ∷ map out_entry (x ∷ xs)) ≡ found q (map out_entry (if b then record x { settled = Some settled } ∷ xs else x ∷ settled_first settled xs))) [
-      | true ↦ λ is. let same = some_entry is in
+      | true ↦ λ is. let same = same_Some _ _ is in
           subst (λ (e : OutEntry). found q (out_entry (record e { settled = Some settled }) ∷ map out_entry (x ∷ xs)) ≡ found q (map out_entry (record x { settled = Some settled } ∷ xs))) same
           (hidden (eq_by_cmp bytes_cmp q (number x.number)) (Some (out_body (record x { settled = Some settled }))) (Some (out_body x)) (found q (map out_entry xs)))
       | false ↦ λ is.
@@ -161,7 +167,7 @@ module _ (side : ℕ) (c : Copy) (items : Items) (stored : AreItemsOf 2 side c i
   bare = after_edit (Clear 2 [] (0 ∷ [])) items
 
   bare_row : (s : ℕ) (kind : Kind) → bare (row_area s kind) ≡ items (row_area s kind)
-  bare_row s kind = other_than (row_area s kind == 2) _ _ (row_not_low s kind 2 (omega arith))
+  bare_row s kind = cond-false (row_area s kind == 2) _ _ (row_not_low s kind 2 (omega arith))
 
   -- and with it its rows
   gone : (kind : Kind) → after (clear_stage (other_side side)) items (row_area (other_side side) kind) ≡ from_entries []
@@ -266,7 +272,7 @@ module _ (side : ℕ) (c : Copy) (items : Items) (stored : AreItemsOf 2 side c i
       let lists : (kind : Kind) → get_or (s.done ++ s.present ∷ []) (place_of_kind kind) [] ≡ get_or s.done (place_of_kind kind) [] =
       λ kind. ap (λ rows. get_or (s.done ++ rows ∷ []) (place_of_kind kind) []) none ∙ empty_last s.done (place_of_kind kind) in
       let row : (t : ℕ) (kind : Kind) → bare (row_area t kind) ≡ items (row_area t kind) =
-      λ t kind. other_than (row_area t kind == 2) _ _ (row_not_low t kind 2 (omega arith)) ∙ put_elsewhere 4 ([], s.token) named (row_area t kind) (row_not_low t kind 4 (omega arith))
+      λ t kind. cond-false (row_area t kind == 2) _ _ (row_not_low t kind 2 (omega arith)) ∙ put_elsewhere 4 ([], s.token) named (row_area t kind) (row_not_low t kind 4 (omega arith))
       ∙ put_elsewhere 1 put items (row_area t kind) (row_not_low t kind 1 (omega arith)) in
       let held_fits = held_fit c.held in
       record {
@@ -300,7 +306,7 @@ module _ (side : ℕ) (c : Copy) (items : Items) (stored : AreItemsOf 2 side c i
     lists_later false p = refl
 
     all_present : FitRows (s.present ++ rows)
-    all_present = all_more FitsRow s.present rows stage_fit.present fits.0
+    all_present = all_append FitsRow s.present rows stage_fit.present fits.0
 
     fit_later : (d : Bool) → FitsStage (stage_after s rows total d)
     fit_later true = record { token = stage_fit.token; done = all_push FitRows s.done (s.present ++ rows) stage_fit.done all_present; present = tt; staged = omega arith; total = tt }

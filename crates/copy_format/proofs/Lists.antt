@@ -46,10 +46,6 @@ pub all_push : (P : List Record → Type 0) (lists : Lists) (x : List Record) �
 all_push P [] x all has = (has, tt)
 all_push P (l ∷ lists) x all has = (all.0, all_push P lists x all.1 has)
 
-pub all_more : (P : Record → Type 0) (xs ys : List Record) → AllByRecursion P xs → AllByRecursion P ys → AllByRecursion P (xs ++ ys)
-all_more P [] ys xs_all ys_all = ys_all
-all_more P (x ∷ xs) ys xs_all ys_all = (xs_all.0, all_more P xs ys xs_all.1 ys_all)
-
 -- lists that are equal at each place are equal
 pub same_lists : (xs ys : Lists) → length xs ≡ length ys → ((p : ℕ) → p < length xs → get_or xs p [] ≡ get_or ys p []) → xs ≡ ys
 same_lists [] [] long same = refl

@@ -1,5 +1,6 @@
 -- Ids stand below the byte 255, with which no character begins.
-use Rattle.std.proofs.Common.{◌≡◌, ◌<◌, ◌/◌, ◌+◌, ℕ, List, [], ◌∷◌, ◌++◌, Bool, T, true, false, cond, not, inl, inr, refl, sym, ap, ◌∙◌, subst, arith, ltb, ltb→lt}
+use Rattle.std.proofs.Common.{◌≡◌, ◌<◌, ◌/◌, ◌+◌, ℕ, List, [], ◌∷◌, ◌++◌, Bool, T, true, false, cond, not, inl, inr}
+use Rattle.std.proofs.Common.{refl, sym, ap, ◌∙◌, subst, arith, ltb, ltb→lt}
 use Rattle.std.specs.Char.{encode_utf8}
 use Rattle.std.specs.FinMap.{from_entries, retain_keys}
 use Rattle.std.specs.List.{AllByRecursion}

@@ -1,9 +1,11 @@
 -- Items are those of one copy at most.
-use Rattle.std.proofs.Common.{◌≡◌, ◌++◌, ◌∷◌, [], ℕ, List, length, map, get_or, None, Option, Some, inl, inr, refl, sym, ap, ◌∙◌, subst, arith}
+use Rattle.std.proofs.Common.{◌≡◌, ◌++◌, ◌∷◌, [], ℕ, List, length, map, get_or, None, Option, Some, inl, inr, refl, sym}
+use Rattle.std.proofs.Common.{ap, ◌∙◌, subst, arith}
 use Rattle.std.specs.Prelude.{IfSome, option_map}
 use Rattle.std.specs.List.{AllByRecursion}
 use Rattle.std.specs.Option.{option_map_or}
 use Rattle.std.proofs.lemmas.Bool.{cases_eq, cases_lt}
+use Rattle.std.proofs.lemmas.Option.{same_Some}
 use Rattle.std.specs.FinMap.{entries, from_entries}
 use Rattle.keeper_memory.proofs.CopyLemmas.{held_list_is, lists_few, nth_list}
 use Rattle.keeper_memory.specs.copy.Copies.{Copy, Held, IsCopy, IsHeld, IsStage, Stage, held_list, held_token}
@@ -17,7 +19,9 @@ use Rattle.roster_types.specs.Records.{Record}
 use Rattle.roster_values.proofs.KindLaws.{kind_there}
 use Rattle.roster_values.specs.Kinds.{all_kinds, place_of_kind}
 use Rattle.roster_values.specs.declared.kind.Kind.{Kind}
-use Rattle.copy_format.specs.Format.{AreItemsOf, Fit, FitRows, FitsStage, IsOut, IsRowOf, IsSmall, Keep, other_side, out_entry, row_area, row_entry, rows_under, stage_entries, staged_list, token_entries}
+use Rattle.copy_format.specs.Format.{AreItemsOf, Fit, FitRows, FitsStage, IsOut, IsRowOf, IsSmall, Keep, other_side}
+use Rattle.copy_format.specs.Format.{out_entry, row_area, row_entry, rows_under, stage_entries, staged_list}
+use Rattle.copy_format.specs.Format.{token_entries}
 use Rattle.hub_format.proofs.Unique.{same_list}
 use Rattle.copy_format.proofs.Back.{out_back, row_back, stage_back, state_back}
 use Rattle.copy_format.proofs.Changing.{held_fit, small_numbers, staged_fit}
@@ -52,9 +56,6 @@ version_small : (o : Option Held) → IfSome o IsHeld → IfSome (option_map (λ
 version_small None is = tt
 version_small (Some h) is = let le = is.version in omega (arith, le)
 
-same_some : {X : Type 0} (a b : X) → Some a ≡ Some b → a ≡ b
-same_some a b same = cc
-
 -- what is held is one, where the version, the token and the rows of each kind are
 same_held : (o p : Option Held) → IfSome o IsHeld → IfSome p IsHeld → option_map (λ h. h.version) o ≡ option_map (λ h. h.version) p → option_map_or (λ h. h.token) o None ≡ option_map_or (λ h. h.token) p None
     → ((kind : Kind) → option_map_or (λ h. get_or h.lists (place_of_kind kind) []) o [] ≡ option_map_or (λ h. get_or h.lists (place_of_kind kind) []) p []) → o ≡ p
@@ -62,7 +63,7 @@ same_held None None is_o is_p versions tokens rows = refl
 same_held None (Some k) is_o is_p versions tokens rows = absurd cc
 same_held (Some h) None is_o is_p versions tokens rows = absurd cc
 same_held (Some h) (Some k) is_o is_p versions tokens rows =
-    let version = same_some h.version k.version versions in
+    let version = same_Some h.version k.version versions in
     let all = is_o.all in
     let lists = same_lists h.lists k.lists (is_o.all ∙ sym is_p.all) (λ p lt. by_place (λ p. get_or h.lists p [] ≡ get_or k.lists p []) rows p (omega (arith, lt, all))) in
     λ i. Some (record { version = version i; token = tokens i; lists = lists i })

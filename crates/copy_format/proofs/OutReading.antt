@@ -1,5 +1,6 @@
 -- An entry whose item is another's is that entry.
-use Rattle.std.proofs.Common.{◌≡◌, ◌≤◌, ◌++◌, ◌∷◌, ℕ, List, None, Option, Some, sym, ap, ◌∙◌, append_assoc, subst, arith}
+use Rattle.std.proofs.Common.{◌≡◌, ◌≤◌, ◌++◌, ◌∷◌, ℕ, List, None, Option, Some, sym, ap, ◌∙◌, append_assoc, subst}
+use Rattle.std.proofs.Common.{arith}
 use Rattle.std.specs.Prelude.{IfSome}
 use Rattle.keeper_memory.specs.copy.Copies.{IsOutWrite}
 use Rattle.keeper_memory.specs.declared.copy.entry.OutEntry.{OutEntry}

@@ -13,9 +13,6 @@ ascends-push last (x ∷ rows) row up behind =
     let parts = and_parts (is_after last x.id) (ascends (Some x.id) rows) up in
     and_from (is_after last x.id) (ascends (Some x.id) (rows ++ row ∷ [])) parts.0 (ascends-push (Some x.id) rows row parts.1 behind)
 
-pub no_rows : (kind : Kind) → IsList kind []
-no_rows kind = record { kinds = All-nil (λ (r : Record). r.kind ≡ kind); ascend = refl }
-
 pub list_push : (kind : Kind) (rows : List Record) (row : Record) → IsList kind rows → row.kind ≡ kind → is_after (last_from None rows) row.id ≡ true → IsList kind (rows ++ row ∷ [])
 list_push kind rows row is same behind = record {
   kinds = All-append (λ (r : Record). r.kind ≡ kind) rows (row ∷ []) is.kinds (All-cons (λ (r : Record). r.kind ≡ kind) row [] same (All-nil (λ (r : Record). r.kind ≡ kind)));

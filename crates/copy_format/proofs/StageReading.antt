@@ -1,5 +1,6 @@
 -- A stage, or a token, whose item is another's is that one.
-use Rattle.std.proofs.Common.{◌≡◌, ◌<◌, ◌≤◌, ℕ, length, arith, ◌∷◌, [], List, get_or, map, None, Option, Some, sym, ap, ◌∙◌}
+use Rattle.std.proofs.Common.{◌≡◌, ◌<◌, ◌≤◌, ℕ, length, arith, ◌∷◌, [], List, get_or, map, None, Option, Some, sym, ap}
+use Rattle.std.proofs.Common.{◌∙◌}
 use Rattle.std.specs.Prelude.{IfSome, option_map}
 use Rattle.keeper_memory.specs.copy.Copies.{IsStage, Stage}
 use Rattle.keeper_memory.specs.copy.States.{state_of}

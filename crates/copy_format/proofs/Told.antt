@@ -1,5 +1,7 @@
 -- What the items of a copy tell.
-use Rattle.std.proofs.Common.{◌≡◌, ◌<◌, ◌≤◌, ◌^◌, ◌+◌, ℕ, List, [], ◌∷◌, Bool, true, false, T, map, Option, None, Some, inl, inr, refl, sym, ap, ◌∙◌, subst, arith}
+use Rattle.std.proofs.Common.{◌≡◌, ◌<◌, ◌≤◌, ◌^◌, ◌+◌, ℕ, List, [], ◌∷◌, Bool, true, false, map, Option, None, Some}
+use Rattle.std.proofs.Common.{inl, inr, refl, sym, ap, ◌∙◌, subst, arith}
+use Rattle.std.proofs.Math.Bool.{and-true}
 use Rattle.std.specs.Prelude.{◌&&◌, ◌-◌, IfSome, cond, if◌then◌else◌, is_none, nat_lt, option_map, slice_get}
 use Rattle.std.specs.FinMap.{entries, from_entries, is_sorted, retain_keys}
 use Rattle.std.specs.FinMap.Entries.{is_sorted-where_key}
@@ -9,8 +11,10 @@ use Rattle.std.proofs.lemmas.Bool.{cases_eq, cases_lt}
 use Rattle.std.proofs.lemmas.Cmp.{nat_cmp_total, tied_itself}
 use Rattle.std.proofs.lemmas.Bool.Decides.{nat_tests}
 use Rattle.std.proofs.lemmas.List.Elements.{All-head, All-tail}
+use Rattle.std.proofs.lemmas.Option.{same_Some}
 use Rattle.keeper_memory.proofs.CopyLemmas.{held_list_is}
-use Rattle.keeper_memory.specs.copy.Copies.{Copy, IsCopy, IsOutWrite, NumbersRise, Stage, entry_after, first_unsettled, held_list, held_token}
+use Rattle.keeper_memory.specs.copy.Copies.{Copy, IsCopy, IsOutWrite, NumbersRise, Stage, entry_after, first_unsettled}
+use Rattle.keeper_memory.specs.copy.Copies.{held_list, held_token}
 use Rattle.keeper_memory.specs.copy.Lists.{last_from}
 use Rattle.keeper_memory.specs.copy.States.{state_of}
 use Rattle.keeper_memory.specs.declared.copy.entry.OutEntry.{OutEntry}
@@ -23,8 +27,10 @@ use Rattle.hub_format.specs.Pieces.{IsSized, number}
 use Rattle.item_maps.specs.Items.{Items, bytes_cmp, is_between, listed}
 use Rattle.roster_types.specs.Records.{Record}
 use Rattle.roster_values.specs.declared.kind.Kind.{Kind}
-use Rattle.copy_format.specs.Format.{AreItemsOf, Fit, FitRows, FitsOut, FitsSmall, FitsStage, IsOut, IsRowOf, out_entry, row_area, rows_under, stage_entries, state_entry, token_entries}
-use Rattle.copy_format.proofs.Changing.{found_above, held_fit, small_numbers, some_entry}
+use Rattle.version_core.proofs.OrderLemmas.{passed, passes}
+use Rattle.copy_format.specs.Format.{AreItemsOf, Fit, FitRows, FitsOut, FitsSmall, FitsStage, IsOut, IsRowOf, out_entry}
+use Rattle.copy_format.specs.Format.{row_area, rows_under, stage_entries, state_entry, token_entries}
+use Rattle.copy_format.proofs.Changing.{found_above, held_fit, small_numbers}
 use Rattle.copy_format.proofs.Climbing.{AreSmall, outs_sorted, rows_sorted}
 use Rattle.copy_format.proofs.Low.{rows_low}
 
@@ -32,16 +38,8 @@ use Rattle.copy_format.proofs.Low.{rows_low}
 listed_from : (area : ℕ) (from to : List ℕ) (m : Items) (es fs : List Entry) → m area ≡ from_entries es → where_label (is_between from to) es ≡ fs → is_sorted bytes_cmp fs ≡ true → listed area from to m ≡ fs
 listed_from area from to m es fs is passes up = ap (λ x. entries (retain_keys x (is_between from to))) is ∙ listed_where (is_between from to) es fs passes up
 
-truth : (b : Bool) → b ≡ true → T b
-truth true is = tt
-truth false is = absurd cc
-
-holds : (b : Bool) → T b → b ≡ true
-holds true is = refl
-holds false is = absurd is
-
 pub where_sorted : (p : List ℕ → Bool) (es : List Entry) → is_sorted bytes_cmp es ≡ true → is_sorted bytes_cmp (where_label p es) ≡ true
-where_sorted p es up = holds (is_sorted bytes_cmp (where_label p es)) (is_sorted-where_key bytes_cmp p es (truth (is_sorted bytes_cmp es) up))
+where_sorted p es up = passed (is_sorted bytes_cmp (where_label p es)) (is_sorted-where_key bytes_cmp p es (passes (is_sorted bytes_cmp es) up))
 
 -- the rows of lists that fit, each with its kind
 pub rows_of_kind : (kind : Kind) (rows : List Record) → All (λ row. row.kind ≡ kind) rows → FitRows rows → AllByRecursion (IsRowOf kind) rows
@@ -138,11 +136,7 @@ is_above after = is_between (number (after + 1)) (number (LAST + 1))
 above_number : (after n : ℕ) → after + 1 < 2 ^ 64 → n ≤ LAST → is_above after (number n) ≡ nat_lt after n
 above_number after n fits le =
     ap (λ o. is_ge (bytes_cmp (number n) (number (after + 1))) && is_lt o) (number_order n (LAST + 1) (omega arith) (omega arith) ∙ less_is n (LAST + 1) (omega arith))
-    ∙ and_true (is_ge (bytes_cmp (number n) (number (after + 1)))) ∙ ap is_ge (number_order n (after + 1) (omega arith) fits) ∙ not_below n after
-  where
-    and_true : (b : Bool) → (b && true) ≡ b
-    and_true true = refl
-    and_true false = refl
+    ∙ and-true (is_ge (bytes_cmp (number n) (number (after + 1)))) ∙ ap is_ge (number_order n (after + 1) (omega arith) fits) ∙ not_below n after
 
 first_where : (after last : ℕ) (entries : List OutEntry) → after + 1 < 2 ^ 64 → last ≤ LAST → All (λ entry. entry.number ≤ last) entries
     → slice_get (where_label (is_above after) (map out_entry entries)) 0 ≡ option_map out_entry (entry_after after entries)
@@ -179,7 +173,7 @@ pub unsettled_above : (n : ℕ) (entries : List OutEntry) (entry : OutEntry) →
 unsettled_above n [] entry small rise is = absurd cc
 unsettled_above n (x ∷ xs) entry small rise is = elim (is_none x.settled) as (λ b. (if b then Some x else first_unsettled xs) ≡ Some entry → entry_after (entry.number - 1) (x ∷ xs) ≡ Some entry) [
   | true ↦ λ is.
-      let same = some_entry is in
+      let same = same_Some _ _ is in
       let first = rise.0 in
       subst (λ (e : OutEntry). entry_after (e.number - 1) (x ∷ xs) ≡ Some e) same (let yes : nat_lt (x.number - 1) x.number ≡ true = grind (arith, nat_tests) in rw yes refl)
   | false ↦ λ is.

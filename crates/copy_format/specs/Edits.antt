@@ -14,7 +14,8 @@ use Rattle.item_maps.specs.declared.item.Edit.{Edit}
 use Rattle.item_maps.specs.declared.item.Edit.TheVariants.{Clear}
 use Rattle.roster_values.specs.Kinds.{all_kinds}
 use Rattle.roster_values.specs.declared.kind.Kind.{Kind}
-use Rattle.copy_format.specs.Format.{FitRows, FitsSettled, other_side, out_entry, row_area, rows_under, stage_entries, state_entry, token_entries}
+use Rattle.copy_format.specs.Format.{FitRows, FitsSettled, other_side, out_entry, row_area, rows_under, stage_entries}
+use Rattle.copy_format.specs.Format.{state_entry, token_entries}
 
 -- the format, and the state of the copy that holds nothing
 abbrev pub first_edits : List Edit

@@ -1,10 +1,11 @@
 //! The edits of a change.
 
-ghost use Rattle.std.specs.Prelude.{◌≡◌, ◌≤◌, ℕ, None, Some, IfOk, IfSome, OnOk};
+ghost use Rattle.std.specs.Prelude.{◌≡◌, ◌≤◌, ℕ, Some, IfOk, IfSome, OnOk};
 ghost use Rattle.keeper_memory.specs.copy.Copies.{Copy, Stage, first_unsettled};
 ghost use Rattle.keeper_memory.specs.copy.Lists.{kind_count};
 ghost use Rattle.keeper_memory.specs.copy.States.{state_of};
-ghost use Rattle.keeper_memory.specs.declared.copy.change.CopyChange.TheVariants.{Begin, Drop as Dropped, Enter, Page, Run, Settle, Swap};
+ghost use Rattle.keeper_memory.specs.declared.copy.change.CopyChange.TheVariants.{Begin, Drop as Dropped, Enter, Page};
+ghost use Rattle.keeper_memory.specs.declared.copy.change.CopyChange.TheVariants.{Run, Settle, Swap};
 ghost use Rattle.copy_format.specs.Edits.{FitsChange, edits as edits_of, first_edits, turn_edits};
 ghost use Rattle.copy_format.specs.Roots.{root_in};
 
@@ -70,7 +71,6 @@ pub fn begin_edits(alloc: Global, pin: u64, token: Token) -> Result<Vec<Edit>, N
 
 /// A page of the next kind. None where the stage has too many rows.
 pub fn page_edits(
-    alloc: Global,
     side: u8,
     stage: StageState,
     kind: Kind,
@@ -84,6 +84,8 @@ pub fn page_edits(
         → IfOk result (λ o. IfSome o (λ edits. edits.items ≡ edits_of side c (Page kind rows total done))) }
     ensures fits { (c : Copy) (s : Stage) → c.stage ≡ Some s → stage ≡ state_of s → IfOk result (λ o. IfSome o (λ _. FitsChange (Page kind rows total done) c)) }
 {
+    let rows = rows.into_vec();
+    let alloc = *rows.allocator();
     let Some(later) = staged_more(alloc, stage, rows.as_slice(), total, done)? else {
         return Ok(None);
     };

@@ -10,7 +10,7 @@ ghost use Rattle.copy_format.specs.Bodies.{optional_settled};
 ghost use Rattle.copy_format.specs.Format.{FitsSettled, IsOut, out_entry};
 
 use crate::reading::only_optional_settled;
-use hub_format::{number_at, only_number, sized_at, write_of};
+use hub_format::{only_number, sized_at, write_of};
 use item_maps::Item;
 use keeper_memory::{LAST, OutEntry};
 use roster_base::NoMemory;
@@ -37,12 +37,7 @@ fn parts_of(body: &[u8]) -> Option<(u8, u8, &[u8], &[u8], &[u8])>
 fn is_gradebook(kind: Kind) -> bool
     ensures { result ≡ true → IsGradebook kind }
 {
-    match kind {
-        Kind::Categories => true,
-        Kind::LineItems => true,
-        Kind::Results => true,
-        _ => false,
-    }
+    matches!(kind, Kind::Categories | Kind::LineItems | Kind::Results)
 }
 
 // Whether a write may be entered.

@@ -8,11 +8,12 @@ ghost use Rattle.hub_format.specs.Pieces.{IsSized, number, sized};
 ghost use Rattle.copy_format.specs.Bodies.{optional_number, stage_body};
 ghost use Rattle.copy_format.specs.Format.{FitsSmall, FitsStage, IsSmall, stage_entries};
 
-use crate::reading::{bare_body, only_optional_id, optional_number_at, token_in};
+use crate::reading::{bare_body, only_optional_id, optional_number_at};
 use hub_format::{number_at, sized_at};
 use item_maps::Item;
 use keeper_memory::{LAST, StageState};
 use roster_base::NoMemory;
+use roster_texts::Token;
 use roster_values::Kind;
 use std::alloc::Global;
 
@@ -39,7 +40,7 @@ fn stage_of_body(alloc: Global, body: &[u8]) -> Result<Option<StageState>, NoMem
     let Some((pin, token, kinds_done, staged, total, rest)) = parts_of(body) else {
         return Ok(None);
     };
-    let Some(token) = token_in(alloc, token)? else {
+    let Some(token) = Token::from_bytes(alloc, token)? else {
         return Ok(None);
     };
     match only_optional_id(alloc, rest)? {

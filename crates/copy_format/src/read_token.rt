@@ -4,7 +4,7 @@ ghost use Rattle.std.specs.Prelude.{◌≡◌, [], List, ℕ, IfOk, IfSome, Opti
 ghost use Rattle.item_maps.specs.Edits.{entry_of};
 ghost use Rattle.copy_format.specs.Format.{token_entries};
 
-use crate::reading::{bare_body, token_in};
+use crate::reading::bare_body;
 use item_maps::Item;
 use roster_base::NoMemory;
 use roster_texts::Token;
@@ -15,7 +15,7 @@ fn token_of_item(alloc: Global, item: &Item) -> Result<Option<Token>, NoMemory>
     ensures { IfOk result (λ o. IfSome o (λ token. entry_of item.now ≡ ([], token))) }
 {
     match bare_body(item) {
-        Some(body) => token_in(alloc, body),
+        Some(body) => Token::from_bytes(alloc, body),
         None => Ok(None),
     }
 }

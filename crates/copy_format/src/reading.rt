@@ -1,6 +1,6 @@
 //! What bodies say, read back.
 
-ghost use Rattle.std.specs.Prelude.{◌≡◌, ◌∷◌, ◌++◌, [], ◌<◌, IfOk, IfSome};
+ghost use Rattle.std.specs.Prelude.{◌≡◌, ◌∷◌, ◌++◌, [], IfOk, IfSome};
 ghost use Rattle.item_maps.specs.Edits.{entry_of};
 ghost use Rattle.hub_format.specs.Pieces.{IsSized};
 ghost use Rattle.copy_format.specs.Bodies.{optional_number, optional_settled, optional_sized};
@@ -10,11 +10,10 @@ use hub_format::{id_at, number_at, only_number};
 use item_maps::Item;
 use keeper_memory::Settled;
 use roster_base::NoMemory;
-use roster_texts::{Id, Token};
+use roster_texts::Id;
 use std::alloc::Global;
-use std::str;
 
-// The body of an item without a label.
+/// The body of an item without a label.
 pub(crate) fn bare_body(item: &Item) -> Option<&[u8]>
     ensures body { IfSome result (λ body. entry_of item.now ≡ ([], body.now)) }
 {
@@ -25,17 +24,7 @@ pub(crate) fn bare_body(item: &Item) -> Option<&[u8]>
     }
 }
 
-// The token in these bytes, if they are one.
-pub(crate) fn token_in(alloc: Global, bytes: &[u8]) -> Result<Option<Token>, NoMemory>
-    ensures { IfOk result (λ o. IfSome o (λ token. token ≡ bytes.now)) }
-{
-    match str::from_utf8(bytes) {
-        Ok(text) => Token::read(alloc, text),
-        Err(_) => Ok(None),
-    }
-}
-
-// The number in front that may be missing, and what stands behind it.
+/// The number in front that may be missing, and what stands behind it.
 pub(crate) fn optional_number_at(bytes: &[u8]) -> Option<(Option<u64>, &[u8])>
     ensures number { IfSome result (λ p. bytes.now ≡ optional_number p.0 ++ p.1.now) }
     ensures small { IfSome result (λ p. IfSome p.0 IsSmall) }
@@ -50,7 +39,7 @@ pub(crate) fn optional_number_at(bytes: &[u8]) -> Option<(Option<u64>, &[u8])>
     }
 }
 
-// The only id, which may be missing.
+/// The only id, which may be missing.
 pub(crate) fn only_optional_id(alloc: Global, bytes: &[u8]) -> Result<Option<Option<Id>>, NoMemory>
     ensures id { IfOk result (λ o. IfSome o (λ id. bytes.now ≡ optional_sized id)) }
     ensures small { IfOk result (λ o. IfSome o (λ id. IfSome id IsSized)) }
@@ -76,7 +65,7 @@ fn settled_of(bytes: &[u8]) -> Option<Settled>
     Some(Settled { status, version })
 }
 
-// The only settlement, which may be missing.
+/// The only settlement, which may be missing.
 pub(crate) fn only_optional_settled(bytes: &[u8]) -> Option<Option<Settled>>
     ensures settled { IfSome result (λ s. bytes.now ≡ optional_settled s) }
     ensures fits { IfSome result (λ s. IfSome s FitsSettled) }

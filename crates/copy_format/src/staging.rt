@@ -1,6 +1,6 @@
 //! The small part of a stage, with a page more.
 
-ghost use Rattle.std.specs.Prelude.{◌≡◌, ◌≤◌, ◌<◌, ◌+◌, [], IfOk, IfSome, length};
+ghost use Rattle.std.specs.Prelude.{◌≡◌, ◌≤◌, ◌+◌, IfOk, IfSome, length};
 ghost use Rattle.keeper_memory.specs.copy.Changes.{begun, stage_after};
 ghost use Rattle.keeper_memory.specs.copy.Copies.{Stage};
 ghost use Rattle.keeper_memory.specs.copy.Lists.{kind_count, last_from};

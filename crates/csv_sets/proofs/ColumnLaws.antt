@@ -1,5 +1,7 @@
 -- The columns of a header.
-use Rattle.std.proofs.Common.{◌≡◌, ◌+◌, ℕ, suc, List, [], ◌∷◌, Bool, true, false, Option, Some, None, cond, length, map, refl, sym, ap, ◌∙◌, arith, bytes_eq, nat_lt, option_map, is_some, find, position, add-zero}
+use Rattle.std.proofs.Common.{◌≡◌, ◌+◌, ℕ, suc, List, [], ◌∷◌, Bool, true, false, Option, Some, None, cond, length, map}
+use Rattle.std.proofs.Common.{refl, sym, ap, ◌∙◌, arith, bytes_eq, nat_lt, option_map, is_some, find, position}
+use Rattle.std.proofs.Common.{add-zero}
 use Rattle.std.proofs.lemmas.Bool.Decides.{nat_tests}
 use Rattle.std.specs.List.{list_any, position_or_len, range_with_len}
 use Rattle.csv.specs.Records.{field_at}

@@ -1,5 +1,6 @@
 -- No fault of a file or a manifest is that of the folder.
-use Rattle.std.proofs.Common.{◌≡◌, ◌+◌, ◌++◌, length, nat_lt, not, ℕ, List, [], ◌∷◌, Bool, true, false, Option, Some, None, Result, Ok, Err, inr, ◌∙◌}
+use Rattle.std.proofs.Common.{◌≡◌, ◌+◌, ◌++◌, length, nat_lt, not, ℕ, List, [], ◌∷◌, Bool, true, false, Option, Some}
+use Rattle.std.proofs.Common.{None, Result, Ok, Err, inr, ◌∙◌}
 use Rattle.std.specs.Prelude.{◌≢◌, ◌&&◌, IfErr, IfSome, if◌then◌else◌}
 use Rattle.csv.specs.Reading.{default_config, records, strip_bom}
 use Rattle.outside_ports.specs.Files.{Stored}
@@ -20,7 +21,8 @@ use Rattle.std.specs.Str.{is_utf8}
 use Rattle.roster_texts.specs.Texts.{is_id}
 use Rattle.csv_sets.specs.Files.{file_of, has_id, in_record, largest, rows_after, rows_of}
 use Rattle.csv_sets.specs.Folders.{ReadsFolder}
-use Rattle.csv_sets.specs.Headers.{Header, columns_checked, columns_of, has_column, header_of, in_file, is_metadata, is_read, key_in, required_checked}
+use Rattle.csv_sets.specs.Headers.{Header, columns_checked, columns_of, has_column, header_of, in_file, is_metadata}
+use Rattle.csv_sets.specs.Headers.{is_read, key_in, required_checked}
 use Rattle.csv_sets.specs.Manifests.{manifest_of}
 use Rattle.csv_sets.specs.Rows.{row_at}
 use Rattle.csv_sets.specs.Sets.{in_manifest, listed_in}

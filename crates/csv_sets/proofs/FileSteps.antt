@@ -1,12 +1,15 @@
 -- The rows of a file.
-use Rattle.std.proofs.Common.{◌≡◌, ◌≤◌, ◌+◌, ◌==◌, ℕ, List, [], ◌∷◌, ◌++◌, length, map, Bool, true, false, not, Option, Some, None, Result, Ok, Err, IfOk, refl, arith, bytes_eq, Global, Vec, nat_lt, pos, is_some, slice_index_or}
+use Rattle.std.proofs.Common.{◌≡◌, ◌≤◌, ◌+◌, ◌==◌, ℕ, List, [], ◌∷◌, ◌++◌, length, map, Bool, true, false, not, Option}
+use Rattle.std.proofs.Common.{Some, None, Result, Ok, Err, IfOk, refl, arith, bytes_eq, Global, Vec, nat_lt, pos}
+use Rattle.std.proofs.Common.{is_some, slice_index_or}
+use Rattle.std.proofs.lemmas.Bool.{or_parts}
 use Rattle.std.proofs.lemmas.List.Elements.{All-nil, All-push}
 use Rattle.std.proofs.lemmas.List.{length-map, map_push}
 use Rattle.std.proofs.lemmas.Bool.Decides.{nat_tests}
 use Rattle.std.proofs.lemmas.Str.{IsUtf8-from_is_utf8, is_utf8-from_IsUtf8}
 use Rattle.std.specs.List.{All, AllByRecursion, IsDistinct}
 use Rattle.std.specs.Str.{is_utf8}
-use Rattle.std.specs.Prelude.{IsUtf8, ◌||◌, if◌then◌else◌}
+use Rattle.std.specs.Prelude.{IsUtf8, if◌then◌else◌}
 use Rattle.csv.specs.Reading.{default_config, records, strip_bom}
 use Rattle.roster_base.specs.Reading.{Gives, ◌>>=◌}
 use Rattle.roster_base.specs.declared.refusal.Refusal.{Refusal}
@@ -25,7 +28,8 @@ use Rattle.csv_sets.specs.declared.fault.SetFault.{SetFault}
 use Rattle.csv_sets.specs.declared.fault.SetFault.TheVariants.{NotUtf8, RepeatedId}
 use Rattle.csv_sets.specs.declared.fault.SetFile.TheVariants.{RowsOf}
 use Rattle.csv_sets.specs.Files.{file_of, has_id, in_record, largest, rows_after, rows_of}
-use Rattle.csv_sets.specs.Headers.{Header, columns_checked, columns_of, header_from, header_of, place_of, required_checked}
+use Rattle.csv_sets.specs.Headers.{Header, columns_checked, columns_of, header_from, header_of, place_of}
+use Rattle.csv_sets.specs.Headers.{required_checked}
 use Rattle.csv_sets.specs.Rows.{metadata_at, row_at, set_row, values_at}
 
 -- rows of one kind, whose ids differ, and which carry the moment 0 where they bring no date
@@ -33,10 +37,6 @@ pub record AreRows (kind : Kind) (rows : List SetRow) : Type 0 where
   pub dates : All IsDatedOrZero rows
   pub kinds : All (λ (r : SetRow). r.row.kind ≡ kind) rows
   pub differ : IsDistinct bytes_eq (map (λ r. r.row.id) rows)
-
-pub neither : (a b : Bool) → (a || b) ≡ false → (a ≡ false) × (b ≡ false)
-neither true b e = cc e
-neither false b e = (refl, e)
 
 other_push : (id new : List ℕ) (ids : List (List ℕ)) → AllByRecursion (λ y. bytes_eq id y ≡ false) ids → bytes_eq id new ≡ false → AllByRecursion (λ y. bytes_eq id y ≡ false) (ids ++ new ∷ [])
 other_push id new [] h e = (e, tt)
@@ -46,7 +46,7 @@ distinct_push : (rows : List SetRow) (id : List ℕ) → IsDistinct bytes_eq (ma
 unfolding IsDistinct
 distinct_push [] id h e = (tt, tt)
 distinct_push (r ∷ rows) id h e =
-    let parts = neither (bytes_eq r.row.id id) (has_id id rows) e in
+    let parts = or_parts (bytes_eq r.row.id id) (has_id id rows) e in
     (other_push r.row.id id (map (λ r. r.row.id) rows) h.0 parts.0, distinct_push rows id h.1 parts.1)
 
 rows_push : (kind : Kind) (rows : List SetRow) (row : SetRow) → AreRows kind rows → (row.row.kind ≡ kind) × IsDatedOrZero row → has_id row.row.id rows ≡ false → AreRows kind (rows ++ row ∷ [])

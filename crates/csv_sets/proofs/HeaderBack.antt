@@ -1,5 +1,8 @@
 -- A header that is written is read back: all fields have their places, and the keys stand behind them.
-use Rattle.std.proofs.Common.{◌≡◌, ◌≢◌, ◌<◌, ◌+◌, ◌-◌, get_or, ℕ, suc, List, [], ◌∷◌, ◌++◌, map, length, Bool, true, false, Option, Some, None, Ok, codes, not, refl, sym, ap, ◌∙◌, arith, bytes_eq, Less, nat_cmp, nat_lt, cond}
+use Rattle.std.proofs.Common.{◌≡◌, ◌≢◌, ◌<◌, ◌+◌, ◌-◌, get_or, ℕ, suc, List, [], ◌∷◌, ◌++◌, map, length, Bool, true}
+use Rattle.std.proofs.Common.{false, Option, Some, None, Ok, codes, not, refl, sym, ap, ◌∙◌, arith, bytes_eq, Less}
+use Rattle.std.proofs.Common.{nat_cmp, nat_lt, cond}
+use Rattle.std.proofs.Math.Bool.{and-false}
 use Rattle.std.specs.Prelude.{◌||◌, ◌&&◌, position}
 use Rattle.std.proofs.lemmas.Bool.Decides.{nat_tests}
 use Rattle.std.proofs.lemmas.List.{length-append, length-map}
@@ -13,16 +16,16 @@ use Rattle.roster_values.specs.declared.kind.Kind.{Kind}
 use Rattle.roster_values.specs.declared.kind.Kind.TheVariants.{Orgs}
 use Rattle.roster_values.specs.declared.mode.Mode.{Mode}
 use Rattle.roster_values.specs.Table.{Info, info_in, table}
-use Rattle.std.proofs.lemmas.Bool.{and_parts}
+use Rattle.std.proofs.lemmas.Bool.{and_parts, or_parts}
 use Rattle.roster_texts.specs.Texts.{has_plain_ends}
 use Rattle.roster_values.proofs.CellLaws.{id_plain}
 use Rattle.roster_values.proofs.TrimLaws.{filled_long, last_append, last_of_plain, plain_text_from, trimmed_same}
 use Rattle.roster_values.specs.Lists.{is_filled}
 use Rattle.csv_sets.specs.declared.header.MetadataColumn.{MetadataColumn}
 use Rattle.csv_sets.specs.declared.keys.MetadataKey.{MetadataKey}
-use Rattle.csv_sets.specs.Headers.{Header, columns_checked, columns_of, has_column, header_from, header_of, is_metadata, is_read, key_in, metadata_from, metadata_key, place_of, required_checked}
+use Rattle.csv_sets.specs.Headers.{Header, columns_checked, columns_of, has_column, header_from, header_of, is_metadata}
+use Rattle.csv_sets.specs.Headers.{is_read, key_in, metadata_from, metadata_key, place_of, required_checked}
 use Rattle.csv_sets.specs.Written.{written_header}
-use Rattle.csv_sets.proofs.FileSteps.{neither}
 use Rattle.csv_sets.proofs.KeyLaws.{less_differ, numbered, same_bytes}
 
 abbrev pub columns : Kind → List (List ℕ)
@@ -54,10 +57,6 @@ unfolding trimmed columns_checked required_checked
 plain Orgs = record { trims = refl; other = refl; once = refl; whole = refl; places = refl }
 plain _ = record { trims = refl; other = refl; once = refl; whole = refl; places = refl }
 
-and_false : (a : Bool) → (a && false) ≡ false
-and_false true = refl
-and_false false = refl
-
 -- the names of metadata columns
 key_is_metadata : (k : MetadataKey) → is_metadata (key_column k) ≡ true
 key_is_metadata k = refl
@@ -79,7 +78,7 @@ AllNew before ks = AllByRecursion (λ k. has_column before (key_column k) ≡ fa
 new_columns : (cs : List (List ℕ)) (k : MetadataKey) → list_any is_metadata cs ≡ false → has_column cs (key_column k) ≡ false
 new_columns [] k h = refl
 new_columns (c ∷ cs) k h =
-    let parts = neither (is_metadata c) (list_any is_metadata cs) h in
+    let parts = or_parts (is_metadata c) (list_any is_metadata cs) h in
     rw (not_metadata c k parts.0) (new_columns cs k parts.1)
 
 -- the columns that were checked, with those before them
@@ -90,7 +89,7 @@ onto (c ∷ cs) before = onto cs (c ∷ before)
 any_onto : (cs before : List (List ℕ)) → list_any is_metadata cs ≡ false → list_any is_metadata before ≡ false → list_any is_metadata (onto cs before) ≡ false
 any_onto [] before h g = g
 any_onto (c ∷ cs) before h g =
-    let parts = neither (is_metadata c) (list_any is_metadata cs) h in
+    let parts = or_parts (is_metadata c) (list_any is_metadata cs) h in
     any_onto cs (c ∷ before) parts.1 (rw parts.0 g)
 
 checked_on : (kind : Kind) (before : List (List ℕ)) (cs more : List (List ℕ)) → columns_checked kind before cs ≡ Ok true → columns_checked kind before (cs ++ more) ≡ columns_checked kind (onto cs before) more
@@ -114,7 +113,7 @@ keys_checked : (kind : Kind) (before : List (List ℕ)) (ks : List MetadataKey) 
 unfolding columns_checked IsStrictlySortedBy
 keys_checked kind before [] good rise fresh = refl
 keys_checked kind before (k ∷ ks) good rise fresh =
-    rw (fresh.0, good.0, and_false (is_read kind (key_column k))) (keys_checked kind (key_column k ∷ before) ks good.1 rise.1 (new_on k.key before ks rise.0 fresh.1))
+    rw (fresh.0, good.0, and-false (is_read kind (key_column k))) (keys_checked kind (key_column k ∷ before) ks good.1 rise.1 (new_on k.key before ks rise.0 fresh.1))
 
 has_on : (cs more : List (List ℕ)) (name : List ℕ) → has_column cs name ≡ true → has_column (cs ++ more) name ≡ true
 has_on [] more name h = cc h
@@ -130,7 +129,7 @@ unfolding required_checked
 required_on kind mode cs more place [] h = refl
 required_on kind mode cs more place (i ∷ is) h =
     let parts = and_parts (has_column cs i.column) (all_there cs is) h in
-    rw (has_on cs more i.column parts.0, and_false (info_in mode place i).required) (required_on kind mode cs more (place + 1) is parts.1)
+    rw (has_on cs more i.column parts.0, and-false (info_in mode place i).required) (required_on kind mode cs more (place + 1) is parts.1)
 
 -- a place is that of the first columns, whatever stands behind them
 len_on : (p : List ℕ → Bool) (xs more : List (List ℕ)) → position_or_len p xs < length xs → position_or_len p (xs ++ more) ≡ position_or_len p xs
@@ -169,7 +168,7 @@ behind_others : (place : ℕ) (cs more : List (List ℕ)) → list_any is_metada
 unfolding metadata_from
 behind_others place [] more h = ap (λ n. metadata_from n more) (omega arith)
 behind_others place (c ∷ cs) more h =
-    let parts = neither (is_metadata c) (list_any is_metadata cs) h in
+    let parts = or_parts (is_metadata c) (list_any is_metadata cs) h in
     rw parts.0 (behind_others (place + 1) cs more parts.1 ∙ ap (λ n. metadata_from n more) (omega arith))
 
 keys_numbered : (place : ℕ) (ks : List MetadataKey) → metadata_from place (map key_column ks) ≡ numbered place ks

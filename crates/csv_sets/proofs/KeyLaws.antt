@@ -1,5 +1,7 @@
 -- Metadata that is written under keys in order is read back.
-use Rattle.std.proofs.Common.{◌≡◌, ◌+◌, ◌⊎◌, inl, inr, ℕ, zero, suc, List, [], ◌∷◌, ◌++◌, map, drop, length, Bool, true, false, Some, Less, Equal, Greater, Ordering, nat_cmp, is_eq, bytes_eq, refl, sym, ap, ◌∙◌, subst, add-one}
+use Rattle.std.proofs.Common.{◌≡◌, ◌+◌, ◌⊎◌, inl, inr, ℕ, zero, suc, List, [], ◌∷◌, ◌++◌, map, drop, length, Bool, true}
+use Rattle.std.proofs.Common.{false, Some, Less, Equal, Greater, Ordering, nat_cmp, is_eq, bytes_eq, refl, sym, ap, ◌∙◌}
+use Rattle.std.proofs.Common.{subst, add-one}
 use Rattle.std.proofs.lemmas.Bool.{and_parts, ne_eqb}
 use Rattle.std.proofs.lemmas.Cmp.{nat_list_cmp_total}
 use Rattle.std.proofs.lemmas.Map.Text.{is_eq-slice_cmp}
@@ -27,9 +29,6 @@ use Rattle.csv_sets.specs.Written.{all_keys, entry_key, key_in, keys_of, metadat
 pub less_differ : (t u : List ℕ) → slice_cmp nat_cmp t u ≡ Less → bytes_eq t u ≡ false
 less_differ t u e = sym (is_eq-slice_cmp t u) ∙ ap is_eq e
 
-pub eq_itself : (t : List ℕ) → bytes_eq t t ≡ true
-eq_itself t = (bytes_eq-Decides t t).1 refl
-
 pub same_bytes : (t u : List ℕ) → bytes_eq t u ≡ true → t ≡ u
 same_bytes t u e = (bytes_eq-Decides t u).0 e
 
@@ -37,7 +36,7 @@ pub differ_back : (t u : List ℕ) → bytes_eq t u ≡ false → bytes_eq u t �
 differ_back t u e = by (bytes_eq u t) refl
   where
     by : (b : Bool) → bytes_eq u t ≡ b → bytes_eq u t ≡ false
-    by true q = cc (sym e ∙ ap (bytes_eq t) (same_bytes u t q) ∙ eq_itself t)
+    by true q = cc (sym e ∙ ap (bytes_eq t) (same_bytes u t q) ∙ (bytes_eq-Decides t t).1 refl)
     by false q = q
 
 -- a key among others
@@ -158,7 +157,7 @@ metadata_back cells n [] (k ∷ ks) p r plain d =
     blank_skipped (record { key = k.key; place = n }) (numbered (n + 1) ks) cells c.0 ∙ metadata_back cells (n + 1) [] ks (none_picked ks) r.1 refl c.1
 metadata_back cells n (e ∷ es) (k ∷ ks) (inl p) r plain d =
     let parts = and_parts (has_plain_text e) (list_all has_plain_text es) plain in
-    let here : metadata_cell (e ∷ es) k.key ≡ e.text = rw (p.0, eq_itself k.key) refl in
+    let here : metadata_cell (e ∷ es) k.key ≡ e.text = rw (p.0, (bytes_eq-Decides k.key k.key).1 refl) refl in
     let c = cell_from cells n e.text (map (λ k2. metadata_cell es k2.key) ks) (d ∙ rw (here, cells_behind e es ks (subst (λ t. KeysAbove t ks) (sym p.0) r.0)) refl) in
     plain_read k.key n (numbered (n + 1) ks) cells e c.0 p.0 parts.0 ∙ ap (λ more. e ∷ more) (metadata_back cells (n + 1) es ks p.1 r.1 parts.1 c.1)
 metadata_back cells n (e ∷ es) (k ∷ ks) (inr p) r plain d =
@@ -204,7 +203,7 @@ in_front q (x ∷ xs) ys h = or_true (bytes_eq x.key q) (has_key q (xs ++ ys)) (
 
 own_keys : (es : List Entry) (more keys : List MetadataKey) → ((q : List ℕ) → has_key q (map entry_key es ++ more) ≡ true → has_key q keys ≡ true) → AllHave keys es
 own_keys [] more keys h = tt
-own_keys (e ∷ es) more keys h = (h e.key (rw (eq_itself e.key) refl), own_keys es more keys (λ q k. h q (or_true (bytes_eq e.key q) _ k)))
+own_keys (e ∷ es) more keys h = (h e.key (rw ((bytes_eq-Decides e.key e.key).1 refl) refl), own_keys es more keys (λ q k. h q (or_true (bytes_eq e.key q) _ k)))
 
 all_have : (rows : List Record) (keys : List MetadataKey) → ((q : List ℕ) → has_key q (all_keys rows) ≡ true → has_key q keys ≡ true) → AllByRecursion (λ r. AllHave keys r.metadata) rows
 unfolding all_keys

@@ -1,5 +1,6 @@
 -- The lines of a file that is written, one by one.
-use Rattle.std.proofs.Common.{◌≡◌, ◌≤◌, ◌<◌, ◌+◌, ℕ, List, [], ◌∷◌, ◌++◌, length, drop, take, map, get_or, Option, None, refl, sym, ap, ◌∙◌, append_assoc, String, Vec, Global, string_bytes}
+use Rattle.std.proofs.Common.{◌≡◌, ◌≤◌, ◌<◌, ◌+◌, ℕ, List, [], ◌∷◌, ◌++◌, length, drop, take, map, get_or, Option, None}
+use Rattle.std.proofs.Common.{refl, sym, ap, ◌∙◌, append_assoc, String, Vec, Global, string_bytes}
 use Rattle.std.proofs.lemmas.List.{append-nil, drop_all, map_push, take_more}
 use Rattle.std.proofs.lemmas.List.Elements.{All-nil, All-push}
 use Rattle.std.proofs.lemmas.Str.{IsUtf8-string_bytes}

@@ -1,5 +1,7 @@
 -- A file is read to its rows exactly where its header is good, each record spells its row, and the ids differ.
-use Rattle.std.proofs.Common.{◌≡◌, ◌+◌, ℕ, List, [], ◌∷◌, ◌++◌, append_assoc, append-nil, bytes_eq, cond, length, map, nat_lt, Bool, true, false, not, Result, Ok, Err, IfOk, Vec, Global, refl, sym, ap, ◌∙◌, subst, arith}
+use Rattle.std.proofs.Common.{◌≡◌, ◌+◌, ℕ, List, [], ◌∷◌, ◌++◌, append_assoc, append-nil, bytes_eq, cond, length, map}
+use Rattle.std.proofs.Common.{nat_lt, Bool, true, false, not, Result, Ok, Err, IfOk, Vec, Global, refl, sym, ap, ◌∙◌}
+use Rattle.std.proofs.Common.{subst, arith}
 use Rattle.std.proofs.lemmas.Bool.Decides.{nat_tests}
 use Rattle.std.specs.List.{AllByRecursion, AllZip, IsDistinct}
 use Rattle.std.specs.Prelude.{if◌then◌else◌}

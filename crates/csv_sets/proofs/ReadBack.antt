@@ -1,8 +1,11 @@
 -- What a file is written of is read back from it.
-use Rattle.std.proofs.Common.{◌≡◌, ◌≤◌, ◌+◌, ◌==◌, ℕ, suc, List, [], ◌∷◌, ◌++◌, map, drop, length, Bool, true, false, Option, Some, None, Result, Ok, Err, not, refl, sym, ap, ◌∙◌, append_assoc, arith, bytes_eq, codes, nat_lt, Global, Vec, IfOk}
+use Rattle.std.proofs.Common.{◌≡◌, ◌≤◌, ◌+◌, ◌==◌, ℕ, List, [], ◌∷◌, ◌++◌, map, drop, length, Bool, true, false, Option}
+use Rattle.std.proofs.Common.{Some, None, Result, Ok, Err, not, refl, sym, ap, ◌∙◌, append_assoc, arith, bytes_eq}
+use Rattle.std.proofs.Common.{codes, nat_lt, Global, Vec, IfOk}
 use Rattle.std.proofs.lemmas.Bool.{and_parts, eq-eqb}
 use Rattle.std.proofs.lemmas.Bool.Decides.{nat_tests}
 use Rattle.std.proofs.lemmas.List.{append-nil, length-append, length-map, map_push}
+use Rattle.std.proofs.lemmas.List.Elements.{recursion_from_All}
 use Rattle.std.proofs.lemmas.List.Folds.{list_any-append}
 use Rattle.roster_types.proofs.Fitting.{table-common}
 use Rattle.std.proofs.lemmas.Str.{is_utf8-from_IsUtf8}
@@ -32,7 +35,8 @@ use Rattle.csv_sets.specs.declared.keys.MetadataKey.{MetadataKey}
 use Rattle.csv_sets.specs.Files.{file_of, has_id, largest, rows_after, rows_of}
 use Rattle.csv_sets.specs.Left.{AllRowsText}
 use Rattle.csv_sets.specs.Rows.{row_at, values_at}
-use Rattle.csv_sets.specs.Written.{dated, field_cell, keys_of, lines_text, metadata_cell, written_cells, written_header, written_records, written_text}
+use Rattle.csv_sets.specs.Written.{dated, field_cell, keys_of, lines_text, metadata_cell, written_cells, written_header}
+use Rattle.csv_sets.specs.Written.{written_records, written_text}
 use Rattle.csv_sets.proofs.HeaderBack.{count_from, header_back, read_header}
 use Rattle.csv_sets.proofs.KeyLaws.{AllHave, cell_from, metadata_back, picks, rows_have}
 use Rattle.csv_sets.proofs.TextBack.{AllFilled, lines_read, lines_utf8, no_mark}
@@ -113,10 +117,6 @@ rows_back kind mode ks front (r ∷ rows) number rise kinds good have differ fre
     let more = rows_back kind mode ks (front ++ r ∷ []) rows (number + 1) rise kinds.1 good.1 have.1 differ.1 (other_ids front r rows fresh.1 differ.0) in
     rw (record_back kind mode ks r kinds.0 good.0 rise have.0, fresh.0, ← map_push dated front r) (more ∙ ap (λ rs. Ok (map dated rs)) (append_assoc front (r ∷ []) rows))
 
-each : {X : Type 0} (P : X → Type 0) (xs : List X) → All P xs → AllByRecursion P xs
-each P [] h = tt
-each P (x ∷ xs) h = (h 0 x (omega arith), each P xs (λ k d lt. h (suc k) d (omega (arith, lt))))
-
 none_before : (rows : List Record) → AllByRecursion (λ (r : Record). has_id r.id [] ≡ false) rows
 none_before [] = tt
 none_before (r ∷ rows) = (refl, none_before rows)
@@ -144,8 +144,8 @@ read_back kind mode rows plain good rise are kinds differ short =
     let first = starts kind ks in
     let utf8 = is_utf8-from_IsUtf8 (lines_text (written_records kind rows)) (lines_utf8 (written_records kind rows) plain) in
     let recs = records_back (written_header kind ks) first.0 (map (written_cells ks) rows) first.1 (filled_rows ks rows) in
-    let whole = rows_back kind mode ks [] rows 2 rise (each _ rows kinds) (each _ rows are) (rows_have rows) differ (none_before rows) in
-    rw (small (length (lines_text (written_records kind rows))) short, utf8, recs, header_back kind mode ks (each _ ks good) rise) whole
+    let whole = rows_back kind mode ks [] rows 2 rise (recursion_from_All _ rows kinds) (recursion_from_All _ rows are) (rows_have rows) differ (none_before rows) in
+    rw (small (length (lines_text (written_records kind rows))) short, utf8, recs, header_back kind mode ks (recursion_from_All _ ks good) rise) whole
 
 pub given_back : (kind : Kind) (rows : List Record) (t : List ℕ) (r : Result (Vec ℕ Global) NoMemory) → IfOk r (λ v. v.items ≡ t) → ((mode : Mode) → length t ≤ largest → file_of kind mode t ≡ Ok (map dated rows))
     → IfOk r (λ v. (mode : Mode) → length v.items ≤ largest → file_of kind mode v.items ≡ Ok (map dated rows))

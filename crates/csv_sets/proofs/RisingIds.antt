@@ -1,5 +1,6 @@
 -- Rows whose ids rise.
-use Rattle.std.proofs.Common.{◌≡◌, ◌++◌, ◌∙◌, ℕ, false, List, [], ◌∷◌, None, Less, nat_cmp, is_eq, append_assoc, bytes_eq, map, refl, sym, ap, subst}
+use Rattle.std.proofs.Common.{◌≡◌, ◌++◌, ◌∙◌, ℕ, false, List, [], ◌∷◌, None, Less, nat_cmp, is_eq, append_assoc}
+use Rattle.std.proofs.Common.{bytes_eq, map, refl, sym, ap, subst}
 use Rattle.std.proofs.lemmas.Map.Text.{is_eq-slice_cmp}
 use Rattle.std.specs.Cmp.Lexicographic.{slice_cmp}
 use Rattle.std.specs.List.{AllByRecursion}

@@ -1,5 +1,7 @@
 -- A whole set, file by file.
-use Rattle.std.proofs.Common.{◌≡◌, ◌≤◌, ◌+◌, ℕ, List, [], ◌∷◌, ◌++◌, length, drop, map, Bool, true, false, Option, Some, None, Result, Ok, Err, IfOk, refl, sym, ap, ◌∙◌, subst, append_assoc, inl, inr, IsUtf8, Vec, Global}
+use Rattle.std.proofs.Common.{◌≡◌, ◌≤◌, ◌+◌, ℕ, List, [], ◌∷◌, ◌++◌, length, drop, map, Bool, true, false, Option, Some}
+use Rattle.std.proofs.Common.{None, Result, Ok, Err, IfOk, refl, sym, ap, ◌∙◌, subst, append_assoc, inl, inr, IsUtf8}
+use Rattle.std.proofs.Common.{Vec, Global}
 use Rattle.std.specs.Prelude.{IfSome}
 use Rattle.std.proofs.lemmas.List.{append-nil, drop_all, map_push}
 use Rattle.std.proofs.lemmas.List.Elements.{All-nil, All-push}
@@ -25,7 +27,8 @@ use Rattle.csv_sets.specs.Folders.{FaultOf, ReadsFolder}
 use Rattle.csv_sets.specs.Manifests.{RisingFiles, manifest_of}
 use Rattle.csv_sets.specs.Files.{file_of}
 use Rattle.roster_types.specs.declared.set_row.SetRow.{SetRow}
-use Rattle.csv_sets.specs.Sets.{AreListed, AreSpelled, IsSpelled, all_stand, bytes_at, bytes_of, in_manifest, listed_as, listed_in, manifest_at, part_at, parts_at, stands_at}
+use Rattle.csv_sets.specs.Sets.{AreListed, AreSpelled, IsSpelled, all_stand, bytes_at, bytes_of, in_manifest, listed_as}
+use Rattle.csv_sets.specs.Sets.{listed_in, manifest_at, part_at, parts_at, stands_at}
 use Rattle.csv_sets.proofs.FaultLaws.{from_given, no_file, no_listed, told}
 
 pub text_listed : (bytes text : List ℕ) (r : Result Manifest (Refusal SetFault)) → text ≡ bytes → IsUtf8 bytes → Gives (λ m. m.files) r (in_manifest (manifest_of (records default_config (strip_bom text)))) → Gives (λ m. m.files) r (listed_in bytes)

@@ -1,5 +1,6 @@
 -- Lines that are written are read back as their cells, and are text where their cells are.
-use Rattle.std.proofs.Common.{◌≡◌, ◌<◌, ◌==◌, ℕ, List, [], ◌∷◌, ◌++◌, Bool, true, false, Some, None, codes, refl, ap, ◌∙◌, append_assoc, arith, IsUtf8}
+use Rattle.std.proofs.Common.{◌≡◌, ◌<◌, ◌==◌, ℕ, List, [], ◌∷◌, ◌++◌, Bool, true, false, Some, None, codes, refl, ap}
+use Rattle.std.proofs.Common.{◌∙◌, append_assoc, arith, IsUtf8}
 use Rattle.std.specs.Prelude.{if◌then◌else◌, ⊤}
 use Rattle.std.specs.List.{list_any}
 use Rattle.std.proofs.lemmas.Bool.{eqb-true}
@@ -9,7 +10,8 @@ use Rattle.csv.proofs.RoundTrip.{read-write}
 use Rattle.csv.specs.Machine.{next_record}
 use Rattle.csv.specs.Reading.{default_config, strip_bom}
 use Rattle.csv.specs.Records.{AllText}
-use Rattle.csv.specs.Writing.{default_writer, escaped, field_text, fields_text, is_blank, needs_byte, row_body, row_text}
+use Rattle.csv.specs.Writing.{default_writer, escaped, field_text, fields_text, is_blank, needs_byte, row_body}
+use Rattle.csv.specs.Writing.{row_text}
 use Rattle.csv.specs.declared.parser.State.TheVariants as st
 use Rattle.csv_sets.specs.Left.{AllRowsText, records_of_text}
 use Rattle.csv_sets.specs.Written.{lines_text}

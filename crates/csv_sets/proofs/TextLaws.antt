@@ -1,10 +1,13 @@
 -- A record of a text in UTF-8 has cells in UTF-8, since the bytes that part cells are ASCII.
-use Rattle.std.proofs.Common.{◌≡◌, ◌≤◌, ◌<◌, ◌+◌, ◌⊎◌, inl, inr, ℕ, zero, suc, List, [], ◌∷◌, ◌++◌, length, get_or, take, drop, Bool, true, false, Option, Some, None, refl, sym, ◌∙◌, arith, append_assoc, IsUtf8}
+use Rattle.std.proofs.Common.{◌≡◌, ◌≤◌, ◌<◌, ◌+◌, ◌⊎◌, inl, inr, ℕ, zero, suc, List, [], ◌∷◌, ◌++◌, length, get_or}
+use Rattle.std.proofs.Common.{take, drop, Bool, true, false, Option, Some, None, refl, sym, ◌∙◌, arith, append_assoc}
+use Rattle.std.proofs.Common.{IsUtf8}
 use Rattle.std.specs.Prelude.{encode_utf8, if◌then◌else◌, ◌==◌, ◌||◌, ◌&&◌}
-use Rattle.std.proofs.lemmas.Bool.{and_parts}
+use Rattle.std.proofs.lemmas.Bool.{and_parts, eqb-true}
 use Rattle.std.proofs.lemmas.Grind.{common_steps}
 use Rattle.std.proofs.lemmas.List.{append-nil}
-use Rattle.std.proofs.lemmas.Str.{IsUtf8-append, IsUtf8-nil, IsUtf8-take, IsUtf8-drop, IsUtf8-past_char, IsCharBoundary-before_ascii, IsCharBoundary-after_ascii}
+use Rattle.std.proofs.lemmas.Str.{IsUtf8-append, IsUtf8-nil, IsUtf8-take, IsUtf8-drop, IsUtf8-past_char}
+use Rattle.std.proofs.lemmas.Str.{IsCharBoundary-before_ascii, IsCharBoundary-after_ascii}
 use Rattle.csv.proofs.RecordFacts.{text-more}
 use Rattle.csv.specs.Machine.{Read, next_record, ends_at_end, step, in_field, start_field, start_record}
 use Rattle.csv.specs.Reading.{default_config, records, records_from, records_next, strip_bom, is_bom}
@@ -145,15 +148,12 @@ unfolding records_from AllText
 rows_text zero s xs h u = tt
 rows_text (suc n) s xs h u = rows_next n (next_record default_config s [] [] xs) s xs (λ q e. text_next s [] [] xs q h tt u e) (rows_text n)
 
-same : (x n : ℕ) → (x == n) ≡ true → x ≡ n
-same x n e = grind (arith, common_steps)
-
 mark : (a b c : ℕ) (rest : List ℕ) → is_bom a b c ≡ true → a ∷ b ∷ c ∷ rest ≡ encode_utf8 0xFEFF ++ rest
 unfolding lib.Utf8.encode
 mark a b c rest e =
     let first = and_parts ((a == 0xEF) && (b == 0xBB)) (c == 0xBF) e in
     let second = and_parts (a == 0xEF) (b == 0xBB) first.0 in
-    rw (same a 0xEF second.0, same b 0xBB second.1, same c 0xBF first.1) refl
+    rw (eqb-true a 0xEF second.0, eqb-true b 0xBB second.1, eqb-true c 0xBF first.1) refl
 
 -- the mark is one character
 without_mark : (xs : List ℕ) → IsUtf8 xs → IsUtf8 (strip_bom xs)

@@ -1,5 +1,6 @@
 -- The steps by which a header is read.
-use Rattle.std.specs.Prelude.{◌≡◌, ◌&&◌, ◌||◌, ℕ, Bool, true, List, [], Option, None, Some, Result, Ok, Err, String, bytes_eq, map, not, if◌then◌else◌}
+use Rattle.std.specs.Prelude.{◌≡◌, ◌&&◌, ◌||◌, ℕ, Bool, true, List, [], Option, None, Some, Result, Ok, Err, String}
+use Rattle.std.specs.Prelude.{bytes_eq, map, not, if◌then◌else◌}
 use Rattle.std.specs.BTreeSet.{BTreeSet, contains_text}
 use Rattle.std.specs.declared.alloc.Global.{Global}
 use Rattle.roster_base.specs.Reading.{◌>>=◌}
@@ -10,13 +11,14 @@ use Rattle.roster_values.specs.Table.{table}
 use Rattle.csv_sets.specs.declared.fault.ColumnFault.TheVariants.{BadKey, Repeated}
 use Rattle.csv_sets.specs.declared.fault.SetFault.{SetFault}
 use Rattle.csv_sets.specs.declared.header.MetadataColumn.{MetadataColumn}
-use Rattle.csv_sets.specs.Headers.{columns_checked, in_file, is_metadata, is_read, key_in, metadata_from, place_of, required_checked}
+use Rattle.csv_sets.specs.Headers.{columns_checked, in_file, is_metadata, is_read, key_in, metadata_from, place_of}
+use Rattle.csv_sets.specs.Headers.{required_checked}
 
--- a column that is read may not stand twice
+-- a column that is read may not stand twice: `stood` says that it stands before
 unfoldable pub noted : Kind → Bool → List ℕ → Result Bool SetFault
 noted kind stood column = if is_read kind column && stood then Err (in_file kind column Repeated) else Ok true
 
--- a set of columns got one more, so far as columns are read
+-- one more column stands in the set of those before; of columns that aren't read nothing is said
 abbrev pub Notes : Kind → BTreeSet (String Global) → BTreeSet (String Global) → List ℕ → Type 0
 Notes kind old new column = (q : List ℕ) → is_read kind q ≡ true → contains_text new q ≡ (bytes_eq column q || contains_text old q)
 

@@ -1,5 +1,6 @@
 -- The rows of a file: those that its records spell, in their order, or the file's first fault.
-use Rattle.std.specs.Prelude.{◌≡◌, ◌≤◌, ◌+◌, ℕ, Bool, true, List, [], ◌∷◌, ◌++◌, Option, Some, None, Result, Ok, Err, ⊤, bytes_eq, drop, length, map, nat_lt, not, if◌then◌else◌}
+use Rattle.std.specs.Prelude.{◌≡◌, ◌≤◌, ◌+◌, ℕ, Bool, true, List, [], ◌∷◌, ◌++◌, Option, Some, None, Result, Ok, Err, ⊤}
+use Rattle.std.specs.Prelude.{bytes_eq, drop, length, map, nat_lt, not, if◌then◌else◌}
 use Rattle.std.specs.List.{AllZip, IsDistinct, list_any}
 use Rattle.std.specs.Str.{is_utf8}
 use Rattle.csv.specs.Reading.{default_config, records, strip_bom}

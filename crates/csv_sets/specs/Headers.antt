@@ -1,5 +1,6 @@
 -- The header of a file: a finite map from column names to places.
-use Rattle.std.specs.Prelude.{◌+◌, ◌&&◌, ◌||◌, ℕ, Bool, true, List, [], ◌∷◌, Option, Result, Ok, Err, bytes_eq, codes, drop, length, map, nat_eq, not, position, if◌then◌else◌}
+use Rattle.std.specs.Prelude.{◌+◌, ◌&&◌, ◌||◌, ℕ, Bool, true, List, [], ◌∷◌, Option, Result, Ok, Err, bytes_eq, codes}
+use Rattle.std.specs.Prelude.{drop, length, map, nat_eq, not, position, if◌then◌else◌}
 use Rattle.std.specs.List.{list_any, starts_with}
 use Rattle.roster_base.specs.Order.{in_order}
 use Rattle.roster_base.specs.Reading.{◌>>=◌}

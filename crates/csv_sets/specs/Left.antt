@@ -1,7 +1,8 @@
 -- The records that a reader has left.
 use Rattle.std.specs.Prelude.{◌≡◌, ◌+◌, ℕ, List, [], ◌∷◌, length, Bool, true, false, Option, Some, None, ⊤}
 use Rattle.csv.specs.Records.{AllText}
-use Rattle.csv.specs.Reading.{Ready, default_config, is_flexible, has_failed, reader_config, reader_state, reader_trim, records_from, source_of}
+use Rattle.csv.specs.Reading.{Ready, default_config, is_flexible, has_failed, reader_config, reader_state, reader_trim}
+use Rattle.csv.specs.Reading.{records_from, source_of}
 use Rattle.csv.specs.declared.parser.State.{State}
 use Rattle.csv.specs.declared.reader.Reader.{Reader}
 use Rattle.csv.specs.declared.reader.Trim.TheVariants as trim

@@ -1,5 +1,6 @@
 -- A manifest: which kinds a set has files of, and how each is to be read.
-use Rattle.std.specs.Prelude.{◌+◌, ◌==◌, ◌&&◌, ℕ, Bool, true, List, [], ◌∷◌, ◌++◌, Option, None, Some, Result, Ok, Err, bytes_eq, codes, find, length, map, not, option_and_then, if◌then◌else◌}
+use Rattle.std.specs.Prelude.{◌+◌, ◌==◌, ◌&&◌, ℕ, Bool, true, List, [], ◌∷◌, ◌++◌, Option, None, Some, Result, Ok, Err}
+use Rattle.std.specs.Prelude.{bytes_eq, codes, find, length, map, not, option_and_then, if◌then◌else◌}
 use Rattle.std.specs.List.{list_any}
 use Rattle.std.specs.List.Sorted.{IsStrictlySortedBy}
 use Rattle.std.specs.Ordering.{nat_cmp}
@@ -11,7 +12,8 @@ use Rattle.roster_values.specs.Kinds.{all_kinds, place_of_kind}
 use Rattle.csv_sets.specs.declared.manifest.ListedFile.{ListedFile}
 use Rattle.csv_sets.specs.declared.manifest.Said.{Said}
 use Rattle.csv_sets.specs.declared.fault.ManifestFault.{ManifestFault}
-use Rattle.csv_sets.specs.declared.fault.ManifestFault.TheVariants.{Header, Missing, Repeated, UnknownMode, Version, Width}
+use Rattle.csv_sets.specs.declared.fault.ManifestFault.TheVariants.{Header, Missing, Repeated, UnknownMode, Version}
+use Rattle.csv_sets.specs.declared.fault.ManifestFault.TheVariants.{Width}
 use Rattle.csv_sets.specs.declared.property.Property.{Property}
 use Rattle.csv_sets.specs.declared.property.Property.TheVariants.{FileOf, ManifestVersion, OneRosterVersion}
 use Rattle.csv_sets.specs.Cells.{text_at}

@@ -1,5 +1,6 @@
 -- The row that a record spells under a header, or what is wrong with it first.
-use Rattle.std.specs.Prelude.{◌+◌, ◌==◌, ℕ, Bool, List, [], ◌∷◌, Option, None, Some, Result, Ok, Err, codes, length, not, if◌then◌else◌}
+use Rattle.std.specs.Prelude.{◌+◌, ◌==◌, ℕ, Bool, List, [], ◌∷◌, Option, None, Some, Result, Ok, Err, codes, length}
+use Rattle.std.specs.Prelude.{not, if◌then◌else◌}
 use Rattle.roster_base.specs.Reading.{◌>>=◌}
 use Rattle.roster_texts.specs.declared.fault.ValueFault.{ValueFault}
 use Rattle.roster_texts.specs.declared.fault.ValueFault.TheVariants.{TooLong, Width}

@@ -1,6 +1,7 @@
 //! The rows of a file.
 
-ghost use Rattle.std.specs.Prelude.{◌≡◌, ◌≤◌, ◌<◌, ◌+◌, ◌^◌, ◌++◌, ◌∷◌, [], List, Ok, Err, bytes_eq, length, map, true, IfOk, IfSome, OnOk};
+ghost use Rattle.std.specs.Prelude.{◌≡◌, ◌≤◌, ◌<◌, ◌+◌, ◌^◌, ◌++◌, ◌∷◌, [], List, Ok, Err, bytes_eq, length, map, true};
+ghost use Rattle.std.specs.Prelude.{IfOk, IfSome, OnOk};
 ghost use Rattle.std.specs.List.{All, IsDistinct};
 ghost use Rattle.csv.specs.Reading.{default_config, records, strip_bom};
 ghost use Rattle.csv.specs.Records.{AllText, fields_of};
@@ -9,7 +10,8 @@ ghost use Rattle.roster_base.specs.Reading.{Gives};
 ghost use Rattle.roster_types.specs.Sets.{IsDatedOrZero};
 ghost use Rattle.roster_values.specs.Table.{table};
 ghost use Rattle.roster_types.specs.declared.set_row.SetRow.{SetRow as SetRows};
-ghost use Rattle.csv_sets.specs.Files.{AreRowsIn, Finds, file_of, first_repeat, id_in, in_record, largest, repeat_first, rows_after, rows_of};
+ghost use Rattle.csv_sets.specs.Files.{AreRowsIn, Finds, file_of, first_repeat, id_in, in_record, largest};
+ghost use Rattle.csv_sets.specs.Files.{repeat_first, rows_after, rows_of};
 ghost use Rattle.csv_sets.specs.Left.{AllRowsText};
 ghost use Rattle.csv_sets.specs.declared.fault.SetFault.TheVariants.{RepeatedId};
 ghost use Rattle.csv_sets.specs.declared.fault.SetFile.TheVariants.{RowsOf};
@@ -31,7 +33,6 @@ pub const LARGEST: usize = 67_108_864;
 
 // The row of a record, whose number goes into a fault.
 fn row_in(
-    alloc: Global,
     kind: Kind,
     mode: Mode,
     header: &Header,
@@ -43,7 +44,7 @@ fn row_in(
     requires text { AllText (fields_of cells.now) }
     ensures { Gives (λ r. r) result (in_record kind number (row_at kind mode header.now (fields_of cells.now))) }
 {
-    match read_row(alloc, kind, mode, header, cells, values) {
+    match read_row(*values.allocator(), kind, mode, header, cells, values) {
         Ok(row) => Ok(row),
         Err(Refusal::Fault(fault)) => Err(Refusal::Fault(SetFault::Row {
             file: SetFile::RowsOf(kind),
@@ -80,7 +81,6 @@ fn add(rows: &mut Vec<SetRow>, rise: &mut bool, row: SetRow) -> Result<(), NoMem
 // Reads the rows of the records below the header up to the first at fault, and minds whether their ids all rise, but not
 // whether one repeats.
 fn read_rows(
-    alloc: Global,
     kind: Kind,
     mode: Mode,
     header: &Header,
@@ -96,11 +96,12 @@ fn read_rows(
     ensures rise { rise.new ≡ true → RiseBy id_in rows.new.items }
     ensures few { length rows.new.items ≤ length reader.old }
 {
+    let alloc = *rows.allocator();
     let mut cells = ByteRecord::new(alloc);
     let mut values = Vec::new(alloc);
     let mut number = 2;
     while reader.read(&mut cells)? {
-        let row = row_in(alloc, kind, mode, header, number, &cells, &mut values)?;
+        let row = row_in(kind, mode, header, number, &cells, &mut values)?;
         add(rows, rise, row)?;
         number += 1;
     }
@@ -193,7 +194,7 @@ fn rows_under(
 {
     let mut rows = Vec::new(alloc);
     let mut rise = true;
-    match read_rows(alloc, kind, mode, header, reader, &mut rows, &mut rise) {
+    match read_rows(kind, mode, header, reader, &mut rows, &mut rise) {
         Ok(()) => checked_rows(alloc, kind, rows, rise),
         Err(Refusal::Fault(fault)) => first_fault(alloc, kind, &rows, rise, fault),
         Err(Refusal::NoMemory) => Err(Refusal::NoMemory),

@@ -1,6 +1,6 @@
 //! The header of a file.
 
-ghost use Rattle.std.specs.Prelude.{◌≡◌, bytes_eq, Some, None, Ok, true, IfOk, OnOk, option_map, if◌then◌else◌};
+ghost use Rattle.std.specs.Prelude.{◌≡◌, bytes_eq, Some, None, true, IfOk, OnOk, option_map, if◌then◌else◌};
 ghost use Rattle.std.specs.BTreeSet.{contains_text};
 ghost use Rattle.std.specs.List.{list_any};
 ghost use Rattle.csv.specs.Records.{AllText, fields_of};
@@ -8,7 +8,8 @@ ghost use Rattle.roster_base.specs.Reading.{Gives};
 ghost use Rattle.roster_texts.specs.Trim.{trimmed};
 ghost use Rattle.csv_sets.specs.Cells.{cell_at};
 ghost use Rattle.csv_sets.specs.Columns.{Notes, metadata_column, metadata_of, noted, places_of};
-ghost use Rattle.csv_sets.specs.Headers.{columns_of, header_of, in_file, is_known, is_metadata, is_read, key_in, place_of};
+ghost use Rattle.csv_sets.specs.Headers.{columns_of, header_of, in_file, is_known, is_metadata, is_read, key_in};
+ghost use Rattle.csv_sets.specs.Headers.{place_of};
 
 use crate::cells::cell_at;
 use crate::fault::{ColumnFault, SetError, SetFault, SetFile};

@@ -1,6 +1,6 @@
 //! The row that a record spells.
 
-ghost use Rattle.std.specs.Prelude.{◌≡◌, None, true, IfOk, OnOk, length};
+ghost use Rattle.std.specs.Prelude.{◌≡◌, true, IfOk, OnOk, length};
 ghost use Rattle.csv.specs.Records.{AllText, fields_of};
 ghost use Rattle.roster_base.specs.Order.{RiseBy};
 ghost use Rattle.roster_base.specs.Reading.{Gives};

@@ -1,6 +1,6 @@
 //! Whole sets.
 
-ghost use Rattle.std.specs.Prelude.{◌≡◌, ◌==◌, Ok, is_some, map, true, IfOk};
+ghost use Rattle.std.specs.Prelude.{◌≡◌, Ok, is_some, map, true, IfOk};
 ghost use Rattle.std.specs.List.{All};
 ghost use Rattle.csv.specs.Reading.{default_config, records, strip_bom};
 ghost use Rattle.csv_sets.specs.declared.fault.SetFile.TheVariants.{RowsOf};

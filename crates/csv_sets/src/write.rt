@@ -1,6 +1,7 @@
 //! Files that are written.
 
-ghost use Rattle.std.specs.Prelude.{◌≡◌, ◌≤◌, ◌++◌, [], Ok, Some, bytes_eq, codes, length, map, slice_get, slice_index_or, string_bytes, true, IfOk, OnOk};
+ghost use Rattle.std.specs.Prelude.{◌≡◌, ◌≤◌, ◌++◌, Ok, Some, bytes_eq, codes, length, map, slice_get, slice_index_or};
+ghost use Rattle.std.specs.Prelude.{string_bytes, true, IfOk, OnOk};
 ghost use Rattle.std.specs.List.{All, IsDistinct};
 ghost use Rattle.csv.specs.Records.{AllText};
 ghost use Rattle.csv.specs.Writing.{default_writer, row_text};
@@ -12,7 +13,8 @@ ghost use Rattle.csv_sets.specs.Files.{file_of, largest};
 ghost use Rattle.roster_values.specs.declared.mode.Mode.{Mode};
 ghost use Rattle.csv_sets.specs.Left.{AllRowsText};
 ghost use Rattle.csv_sets.specs.Lines.{IsFresh, text_in};
-ghost use Rattle.csv_sets.specs.Written.{dated, field_cell, keys_of, lines_text, metadata_cell, written_cells, written_header, written_text};
+ghost use Rattle.csv_sets.specs.Written.{dated, field_cell, lines_text, metadata_cell, written_cells, written_header};
+ghost use Rattle.csv_sets.specs.Written.{written_text};
 
 use crate::keys::{MetadataKey, keys_of};
 use csv::{Writer, WriterBuilder};

@@ -1,8 +1,9 @@
 -- What differs of given ids, one after another.
-use Rattle.std.proofs.Common.{◌≡◌, ◌==◌, ℕ, ◌+◌, List, [], ◌∷◌, ◌++◌, true, cond, filter, length, Option, None, Some, refl, ap, subst, ◌∙◌, arith}
+use Rattle.std.proofs.Common.{◌≡◌, ◌==◌, ℕ, ◌+◌, List, [], ◌∷◌, ◌++◌, cond, filter, length, Option, None, Some, refl}
+use Rattle.std.proofs.Common.{ap, subst, ◌∙◌, arith}
+use Rattle.std.proofs.lemmas.Bool.{eq-eqb}
 use Rattle.std.specs.Prelude.{option_and_then}
 use Rattle.std.specs.Option.{option_to_list}
-use Rattle.std.proofs.lemmas.Bool.Decides.{nat_tests}
 use Rattle.delta_parts.proofs.Optional.{count_turn, part_turn}
 use Rattle.row_walks.proofs.Parting.{Parts, part_end, part_start}
 use Rattle.delta_parts.proofs.Walking.{of_kind}
@@ -23,12 +24,9 @@ use Rattle.row_deltas.specs.declared.entry.DeltaEntry.{DeltaEntry}
 pub kind_look_up : (kind : Kind) (id : List ℕ) (rows : List Record) → Ascends row_key rows → look_up row_key (id_key kind id) (filter (is_of_kind kind) rows) ≡ look_up row_key (id_key kind id) rows
 kind_look_up kind id rows up = look_up-filter row_key (is_of_kind kind) (id_key kind id) rows up ∙ by (look_up row_key (id_key kind id) rows) refl
   where
-    same : (n : ℕ) → (n == n) ≡ true
-    same n = grind (arith, nat_tests)
-
     by : (o : Option Record) → look_up row_key (id_key kind id) rows ≡ o → option_and_then (if_kept row_key (is_of_kind kind)) o ≡ o
     by None e = refl
-    by (Some row) e = ap (λ b. cond b (Some row) None) (ap (λ (k : Key). k.0 == place_of_kind kind) (found_key row_key (id_key kind id) rows row e) ∙ same (place_of_kind kind))
+    by (Some row) e = ap (λ b. cond b (Some row) None) (ap (λ (k : Key). k.0 == place_of_kind kind) (found_key row_key (id_key kind id) rows row e) ∙ eq-eqb (place_of_kind kind) (place_of_kind kind) refl)
 
 -- what is found so far, with what differs of the ids that are left, is the part of the whole
 pub record Lists (kind : Kind) (old new : List Record) (limit offset : ℕ) (whole : List DeltaEntry) (count : ℕ) (found : List DeltaEntry) (left : List (List ℕ)) : Type 0 where

@@ -1,28 +1,23 @@
 -- A delta, turn by turn.
-use Rattle.std.proofs.Common.{◌≡◌, ◌+◌, ◌<◌, List, [], ◌∷◌, ◌++◌, Bool, true, false, cond, length, slice_get, None, Some, refl, ap, subst, ◌∙◌, arith}
+use Rattle.std.proofs.Common.{◌≡◌, ◌+◌, ◌<◌, List, [], ◌∷◌, ◌++◌, Bool, true, false, cond, length, slice_get, None}
+use Rattle.std.proofs.Common.{Some, refl, ap, subst, ◌∙◌, arith}
 use Rattle.std.proofs.lemmas.Bool.{and_from}
 use Rattle.std.specs.FinMap.Entries as entries
 use Rattle.std.specs.Option.{option_to_list}
-use Rattle.std.specs.Ordering.{is_lt, ordering_reverse}
+use Rattle.std.specs.Ordering.{is_lt}
 use Rattle.std.specs.declared.cmp.Ordering.TheVariants.{Equal, Greater, Less}
 use Rattle.delta_parts.specs.Turns.{TurnParts, passed, turn_of, turn_of_both}
-use Rattle.reference_rules.proofs.KeyOrder.{and_first, and_second, key_exact, key_total, less_from_is_lt}
-use Rattle.roster_types.specs.Keys.{Ascends, Key, key_cmp, keyed, row_key}
+use Rattle.reference_rules.proofs.KeyOrder.{and_first, and_second, key_exact}
+use Rattle.roster_types.specs.Keys.{Ascends, key_cmp, keyed, row_key}
 use Rattle.roster_types.specs.Records.{Record}
 use Rattle.roster_values.specs.declared.kind.Kind.{Kind}
 use Rattle.row_deltas.proofs.StepLemmas.{delta-both, delta-gone, delta-none, delta-put}
 use Rattle.row_deltas.specs.Deltas.{AreOf, delta_of}
+use Rattle.version_core.proofs.LookUps.{below_trans}
+use Rattle.version_core.proofs.Places.{less_from_greater}
 use Rattle.version_core.specs.Order.{by_order}
 use Rattle.row_deltas.specs.Sameness.{same_row}
 use Rattle.row_deltas.specs.declared.entry.DeltaEntry.TheVariants.{Put, Gone}
-
-below_further : (a b : Key) (rows : List Record) → key_cmp a b ≡ Less → entries.below_all key_cmp b (keyed row_key rows) ≡ true → entries.below_all key_cmp a (keyed row_key rows) ≡ true
-below_further a b [] less above = refl
-below_further a b (row ∷ rows) less above =
-    and_from _ _ (ap is_lt (key_total.trans a b (row_key row) less (less_from_is_lt _ (and_first _ _ above)))) (below_further a b rows less (and_second _ _ above))
-
-reversed : (a b : Key) → key_cmp a b ≡ Greater → key_cmp b a ≡ Less
-reversed a b greater = key_total.antisymm b a ∙ ap ordering_reverse greater
 
 -- a turn takes a row from one of the lists
 pub data Steps (kind : Kind) (olds news : List Record) (turn : TurnParts) : Type 0 where
@@ -38,12 +33,12 @@ module _ (kind : Kind) where
       (record { entry = cond (same_row n o) None (Some (Put n)); is_old = true; is_new = true })
       (record { entry = Some (Put n); is_old = false; is_new = true }))) [
         | Less ↦ λ less.
-            let above : entries.below_all key_cmp (row_key o) (keyed row_key (n ∷ news)) ≡ true = and_from _ _ (ap is_lt less) (below_further (row_key o) (row_key n) news less (and_first _ _ up')) in
+            let above : entries.below_all key_cmp (row_key o) (keyed row_key (n ∷ news)) ≡ true = and_from _ _ (ap is_lt less) (below_trans row_key (row_key o) (row_key n) news less (and_first _ _ up')) in
             Step (delta-gone kind o olds (n ∷ news) are_old are_new up up' above) (omega arith)
         | Equal ↦ λ same. Step (delta-both kind o n olds news are_old are_new up up' (key_exact (row_key o) (row_key n) same) ∙ outside (same_row n o)) (omega arith)
         | Greater ↦ λ greater.
-            let less = reversed (row_key o) (row_key n) greater in
-            let above : entries.below_all key_cmp (row_key n) (keyed row_key (o ∷ olds)) ≡ true = and_from _ _ (ap is_lt less) (below_further (row_key n) (row_key o) olds less (and_first _ _ up)) in
+            let less = less_from_greater (row_key o) (row_key n) greater in
+            let above : entries.below_all key_cmp (row_key n) (keyed row_key (o ∷ olds)) ≡ true = and_from _ _ (ap is_lt less) (below_trans row_key (row_key n) (row_key o) olds less (and_first _ _ up)) in
             Step (delta-put kind n (o ∷ olds) news are_old are_new up up' above) (omega arith)
       ] refl
     where

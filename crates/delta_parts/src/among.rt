@@ -6,7 +6,7 @@ ghost use Rattle.delta_parts.specs.Turns.{entry_shown};
 ghost use Rattle.roster_types.specs.Keys.{Ascends, count_of, is_of_kind};
 ghost use Rattle.row_deltas.specs.Deltas.{Cover, delta_of, difference, id_key};
 
-use crate::part::{DeltaPart, add_within, parted};
+use crate::part::{DeltaPart, Paging, add_within, parted};
 use crate::turn::{EntryRef, changed};
 use roster_base::NoMemory;
 use roster_texts::Id;
@@ -27,20 +27,20 @@ fn difference<'r>(old: Option<&'r Row>, new: Option<&'r Row>) -> Option<EntryRef
     }
 }
 
-/// The same part, where the rows that differ are among those with these ids. Only they are looked at.
+/// The part that is asked for of what differs between the rows of a kind before and after, where all rows that differ have one of these
+/// ids. Only the rows with these ids are looked at.
 pub fn delta_part_among<A: Refs, B: Refs>(
     alloc: Global,
     before: &A,
     after: &B,
     kind: Kind,
     ids: &[&Id],
-    offset: u64,
-    limit: u64,
+    paging: Paging,
 ) -> Result<DeltaPart, NoMemory>
     requires few { count_of kind (A.rows before.now) + count_of kind (B.rows after.now) + 1 < 2 ^ 64 }
     requires order { Ascends (id_key kind) (map (λ id. id.now) ids.now) }
     requires cover { Cover kind (filter (is_of_kind kind) (A.rows before.now)) (filter (is_of_kind kind) (B.rows after.now)) (map (λ id. id.now) ids.now) }
-    ensures { IfOk result (λ p. p ≡ part_of_delta limit offset (delta_of kind (filter (is_of_kind kind) (A.rows before.now)) (filter (is_of_kind kind) (B.rows after.now)))) }
+    ensures { IfOk result (λ p. p ≡ part_of_delta paging.limit paging.offset (delta_of kind (filter (is_of_kind kind) (A.rows before.now)) (filter (is_of_kind kind) (B.rows after.now)))) }
 {
     // For the order of the rows.
     before.ascend();
@@ -49,7 +49,7 @@ pub fn delta_part_among<A: Refs, B: Refs>(
     let mut total: u64 = 0;
     for id in ids {
         let entry = difference(before.row(kind, id), after.row(kind, id));
-        total = add_within(alloc, offset, limit, total, entry, &mut found)?;
+        total = add_within(paging, total, entry, &mut found)?;
     }
     let part = parted(alloc, found, total)?;
     Ok(part)

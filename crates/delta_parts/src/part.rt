@@ -16,13 +16,20 @@ use row_deltas::DeltaEntry;
 use row_walks::Steps;
 use std::alloc::Global;
 
-/// The entries of a delta from an offset on, at most a limit of them: the rows that are put and the ids that are gone; and how many
-/// entries the whole delta has.
+/// The entries of a delta from an offset on, up to a limit: the rows that are put and the ids that are gone; and how many entries the
+/// whole delta has.
 #[derive(Drop)]
 pub struct DeltaPart {
     pub rows: Items<Row>,
     pub gone: Items<Id>,
     pub total: u64,
+}
+
+/// Which entries of a list are asked for: at most `limit` of them, behind the first `offset`.
+#[derive(Clone, Copy)]
+pub struct Paging {
+    pub limit: u64,
+    pub offset: u64,
 }
 
 fn owned(alloc: Global, entry: EntryRef<'_>) -> Result<DeltaEntry, NoMemory>
@@ -36,22 +43,20 @@ fn owned(alloc: Global, entry: EntryRef<'_>) -> Result<DeltaEntry, NoMemory>
 
 /// Adds an entry, before which so many stand, where it is asked for, and tells how many stand before the next.
 pub fn add_within(
-    alloc: Global,
-    offset: u64,
-    limit: u64,
+    paging: Paging,
     before: u64,
     entry: Option<EntryRef<'_>>,
     found: &mut Vec<DeltaEntry>,
 ) -> Result<u64, NoMemory>
     requires { before + 1 < 2 ^ 64 }
-    ensures found { OnOk result (found.new.items ≡ with_option limit offset before (option_map entry_shown entry.entry) found.old.items) }
+    ensures found { OnOk result (found.new.items ≡ with_option paging.limit paging.offset before (option_map entry_shown entry.entry) found.old.items) }
     ensures count { IfOk result (λ n. n ≡ count_on before (option_map entry_shown entry.entry)) }
 {
     let Some(entry) = entry else {
         return Ok(before);
     };
-    if offset <= before && (found.len() as u64) < limit {
-        found.push(owned(alloc, entry)?)?;
+    if paging.offset <= before && (found.len() as u64) < paging.limit {
+        found.push(owned(*found.allocator(), entry)?)?;
     }
     Ok(before + 1)
 }
@@ -81,18 +86,17 @@ pub fn delta_part<A: Steps, B: Steps>(
     before: &A,
     after: &B,
     kind: Kind,
-    offset: u64,
-    limit: u64,
+    paging: Paging,
 ) -> Result<DeltaPart, NoMemory>
     requires { count_of kind (A.rows before.now) + count_of kind (B.rows after.now) + 1 < 2 ^ 64 }
-    ensures { IfOk result (λ p. p ≡ part_of_delta limit offset (delta_of kind (filter (is_of_kind kind) (A.rows before.now)) (filter (is_of_kind kind) (B.rows after.now)))) }
+    ensures { IfOk result (λ p. p ≡ part_of_delta paging.limit paging.offset (delta_of kind (filter (is_of_kind kind) (A.rows before.now)) (filter (is_of_kind kind) (B.rows after.now)))) }
 {
     let mut found = Vec::new(alloc);
     let mut total: u64 = 0;
     let mut old = Cursor::new(before, kind);
     let mut new = Cursor::new(after, kind);
     while let Some(turn) = next_turn(old.head(), new.head()) {
-        total = add_within(alloc, offset, limit, total, turn.entry, &mut found)?;
+        total = add_within(paging, total, turn.entry, &mut found)?;
         old = old.advanced(turn.is_old);
         new = new.advanced(turn.is_new);
     }

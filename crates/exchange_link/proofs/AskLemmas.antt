@@ -1,7 +1,9 @@
 -- How a run of exchanges goes on.
-use Rattle.std.proofs.Common.{◌≡◌, ◌≢◌, ◌<◌, ◌≤◌, ◌⊎◌, inl, inr, ⊎_elim, ℕ, ℤ, List, [], ◌∷◌, ◌++◌, Some, Ok, Err, refl, sym, ◌∙◌, ap, subst, arith, append_assoc}
+use Rattle.std.proofs.Common.{◌≡◌, ◌≢◌, ◌<◌, ◌≤◌, ◌⊎◌, inl, inr, ⊎_elim, ℕ, ℤ, List, [], ◌∷◌, ◌++◌, Some, Ok, Err, refl}
+use Rattle.std.proofs.Common.{sym, ◌∙◌, ap, subst, arith, append_assoc}
 use Rattle.std.specs.Prelude.{Result}
 use Rattle.std.proofs.lemmas.List.Elements.{All-append, All-cons, All-nil, All-weaker}
+use Rattle.std.proofs.lemmas.Option.{same_Some}
 use Rattle.exchange_link.specs.Agreement.{NotSent}
 use Rattle.exchange_link.specs.Exchanges.{AnswersRequest, Exchanged, IsLate, IsOwn, SentAs, Told, wanted_by}
 use Rattle.hub_spec.proofs.Growing.{Grew-refl, Grew-trans, step_goes}
@@ -21,27 +23,32 @@ use Rattle.exchange_link.specs.Owning.{Answers, Broke, Gives, IsLateRead, IsOwnR
 use Rattle.roster_base.specs.Faults.{Rose}
 use Rattle.status_info.specs.Causes.{status_of}
 use Rattle.exchange_link.specs.Requests.{Adds, AllSpent, Asks, IfOwn, IsReady, Moved}
-use Rattle.exchange_link.specs.Causes.{IsLast}
+use Rattle.exchange_link.specs.Causes.{IsLast, ToldCause}
+use Rattle.exchange_link.specs.declared.answer.SyncAnswer.{SyncAnswer}
+use Rattle.exchange_link.specs.declared.answer.SyncAnswer.TheVariants as answer
 use Rattle.exchange_link.specs.declared.asking.Outcome.{Outcome}
 use Rattle.exchange_link.specs.declared.asking.Outcome.TheVariants as outcome
 use Rattle.exchange_link.proofs.TextLemmas.{text_read, text_seen}
-
-pub grew_refl : (h : HubState) → Grew h h
-grew_refl h = Grew-refl h
 
 pub grew_on : {a b c : HubState} → Grew a b → Grew b c → Grew a c
 grew_on {a} {b} {c} x y = Grew-trans a b c x y
 
 pub moved_refl : (t : Told) → Moved t t
-moved_refl t = record { grew = grew_refl t.hub; counts = omega arith }
+moved_refl t = record { grew = Grew-refl t.hub; counts = omega arith }
 
 pub moved_on : {a b c : Told} → Moved a b → Moved b c → Moved a c
 moved_on {a} {b} {c} x y = record { grew = grew_on x.grew y.grew; counts = omega (arith, x.counts, y.counts) }
 
--- ---- what one exchange brings
+-- what an answer tells, from an earlier state on
+pub cause_more : (token : List ℕ) (z a b : Told) (s : SyncAnswer) → Moved z a → ToldCause token a b s → ToldCause token z b s
+cause_more token z a b (answer.TooLarge kind total) m x = x
+cause_more token z a b (answer.BadReply kind offset) m x = x
+cause_more token z a b answer.HubFault m x = omega (arith, x, m.counts)
+cause_more token z a b (answer.PinGone pin oldest) m x = (x.0, grew_on m.grew x.1, x.2, x.3, x.4, x.5)
+cause_more token z a b answer.UnknownToken m x = (x.0, grew_on m.grew x.1, x.2, x.3)
+cause_more token z a b s m x = tt
 
-some_echo : {a b : Echo} → Some a ≡ Some b → a ≡ b
-some_echo e = cc
+-- ---- what one exchange brings
 
 same_reply : {a b : Reply} → Replied a ≡ Replied b → a ≡ b
 same_reply e = cc
@@ -126,7 +133,7 @@ ready_more run n m q before after e eq lt h = subst (λ s. IsReady run m s) (sym
 })
   where
     is : (k : Echo) → q.echo ≡ Some k → k ≡ record { run = run; count = m }
-    is k ek = some_echo (sym ek ∙ eq)
+    is k ek = same_Some _ _ (sym ek ∙ eq)
 
 ready_kept : (run n m : ℕ) (before after : List Request) → after ≡ before → n ≤ m → IsReady run n before → IsReady run m after
 ready_kept run n m before after e le h = subst (λ s. IsReady run m s) (sym e) (record { differ = h.differ; spent = spent_more run n m before le h.spent })
@@ -183,7 +190,7 @@ own_step run from n m may q a b c w eq lt x ready echo y = ⊎_elim
       gives = gives_more (λ rose. omega (arith, rose, x.moved.counts)) own.gives;
     })
     (λ (late : IsLateRead b.sent w). absurd (not_sent run n (record { run = run; count = m }) b.sent refl lt (x.ready ready).spent
-    (subst (λ k. SentAs k b.sent) (some_echo (sym late.echo ∙ echo)) late.was_sent)))
+    (subst (λ k. SentAs k b.sent) (same_Some _ _ (sym late.echo ∙ echo)) late.was_sent)))
     y
 
 pub own_on : (run from n m : ℕ) (may : Request → Type 0) (q : Request) (result : Outcome) (a b c : Told) → q.echo ≡ Some (record { run = run; count = m }) → n < m

@@ -1,5 +1,7 @@
 -- What the hub answers to a request for a page, as the consumer reads it.
-use Rattle.std.proofs.Common.{◌≡◌, ℕ, ℤ, zero, suc, ◌<◌, ◌≤◌, ◌==◌, ◌⊎◌, inl, inr, Bool, true, false, cond, List, [], ◌∷◌, drop, filter, get_or, map, max, take, Option, None, Some, Ok, refl, sym, ap, subst, ◌∙◌, arith}
+use Rattle.std.proofs.Common.{◌≡◌, ℕ, ℤ, ◌<◌, ◌==◌, ◌⊎◌, inl, inr, Bool, true, false, cond, List, [], ◌∷◌, drop, filter}
+use Rattle.std.proofs.Common.{get_or, max, Option, None, Some, Ok, refl, sym, ap, subst, ◌∙◌, arith}
+use Rattle.std.proofs.lemmas.Bool.{cases_lt}
 use Rattle.std.specs.List.{AllByRecursion}
 use Rattle.std.specs.Option.{option_map_or}
 use Rattle.std.specs.Prelude.{is_some}
@@ -29,6 +31,7 @@ use Rattle.roster_types.specs.Rows.{IsRow}
 use Rattle.roster_values.specs.Kinds.{all_kinds, place_of_kind}
 use Rattle.roster_values.specs.declared.kind.Kind.{Kind}
 pub use Rattle.hub_spec.proofs.AgreeLemmas.{reads_keep}
+use Rattle.hub_spec.proofs.CutDeltas.{none_at}
 use Rattle.row_json.proofs.RowBack.{collection-back}
 use Rattle.row_json.specs.Json.{collection_text}
 use Rattle.row_json.specs.Reading.{IsHeld, rows_of as rows_in_text}
@@ -37,6 +40,7 @@ use Rattle.status_info.specs.Causes.{status_of}
 use Rattle.status_info.specs.declared.cause.Cause.TheVariants as cause
 use Rattle.status_info.specs.declared.reply.Reply.{Reply}
 use Rattle.status_info.specs.declared.request.Echo.{Echo}
+use Rattle.version_core.proofs.HistoryLemmas.{all_drop, all_take}
 use Rattle.version_core.specs.Changes.{rows_of}
 use Rattle.version_core.specs.Grants.{grant_of}
 use Rattle.version_core.specs.HubStates.{HubState, newest_number, oldest_number}
@@ -87,11 +91,6 @@ cut_rows : (grant : Grant) (rows : List Record) (kind : Kind) → AreRows rows �
 unfolding kind_cut
 cut_rows grant rows kind all = chosen kind (opens grant.scopes kind Read) _ (of_kind kind (seen grant.schools rows) (kept_rows (sees_row grant.schools rows) rows all))
 
-none_at : (kinds : List Kind) (place : ℕ) → (let none : Kind → List Record = λ kind. [] in get_or (map none kinds) place [] ≡ [])
-none_at [] place = refl
-none_at (kind ∷ kinds) zero = refl
-none_at (kind ∷ kinds) (suc place) = none_at kinds place
-
 rows_for : (by : Option GrantRow) (rows : List Record) (kind : Kind) → AreRows rows
     → AllByRecursion (IsOf kind) (get_or (option_map_or (λ (row : GrantRow). cut_of row.grant rows) by no_rows) (place_of_kind kind) [])
 rows_for None rows kind all = subst (AllByRecursion (IsOf kind)) (sym (none_at all_kinds (place_of_kind kind))) tt
@@ -99,16 +98,6 @@ rows_for (Some by) rows kind all = subst (AllByRecursion (IsOf kind)) (sym (kind
 
 pub list_rows : (version : BaseVersion) → HoldsRows version → (token : List ℕ) (kind : Kind) → AllByRecursion (IsOf kind) (list_in version token kind)
 list_rows version holds token kind = rows_for (grant_of token version.grants) (rows_of version.rows) kind (held_rows version.rows holds)
-
-dropped : (P : Record → Type 0) (n : ℕ) (rows : List Record) → AllByRecursion P rows → AllByRecursion P (drop n rows)
-dropped P zero rows all = all
-dropped P (suc n) [] all = tt
-dropped P (suc n) (row ∷ rows) all = dropped P n rows all.1
-
-taken : (P : Record → Type 0) (n : ℕ) (rows : List Record) → AllByRecursion P rows → AllByRecursion P (take n rows)
-taken P zero rows all = tt
-taken P (suc n) [] all = tt
-taken P (suc n) (row ∷ rows) all = (all.0, taken P n rows all.1)
 
 pub are_held : (kind : Kind) (rows : List Record) → AllByRecursion (IsOf kind) rows → AllByRecursion IsHeld rows
 are_held kind [] all = tt
@@ -128,13 +117,8 @@ read_back kind rows text all is text_is =
 below_max : (n a b : ℕ) → n < max a b → (n < a) ⊎ (n < b)
 below_max n a b lt = below n a b lt
   where
-    split : (n a : ℕ) → (n < a) ⊎ (a ≤ n)
-    split n zero = inr (omega arith)
-    split zero (suc a) = inl (omega arith)
-    split (suc n) (suc a) = elim (split n a) as (λ _. (suc n < suc a) ⊎ (suc a ≤ suc n)) [ inl lt ↦ inl (omega arith) | inr le ↦ inr (omega arith) ]
-
     below : (n a b : ℕ) → n < max a b → (n < a) ⊎ (n < b)
-    below n a b lt = elim (split n a) as (λ _. (n < a) ⊎ (n < b)) [ inl here ↦ inl here | inr le ↦ inr (omega arith) ]
+    below n a b lt = elim (cases_lt n a) as (λ _. (n < a) ⊎ (n < b)) [ inl here ↦ inl here | inr le ↦ inr (omega arith) ]
 
 pub outside : (pin oldest since newest : ℕ) → (pin < max oldest since) ⊎ (newest < pin) → (pin < oldest) ⊎ ((pin < since) ⊎ (newest < pin))
 outside pin oldest since newest (inl lt) = elim (below_max pin oldest since lt) as (λ _. (pin < oldest) ⊎ ((pin < since) ⊎ (newest < pin))) [ inl a ↦ inl a | inr b ↦ inr (inl b) ]
@@ -161,7 +145,7 @@ module _ (state : HubState) (hub : IsHub state) (page : Page) where
       let rows = list_in (version_at state version) page.token page.kind in
       let lt = (read_at by version found read).standing in
       let holds : HoldsRows (version_at state version) = all_at HoldsRows version state.published hub.rows lt in
-      let part = taken (IsOf page.kind) page.limit (drop page.offset rows) (dropped (IsOf page.kind) page.offset rows (list_rows (version_at state version) holds page.token page.kind)) in
+      let part = all_take (IsOf page.kind) (drop page.offset rows) page.limit (all_drop (IsOf page.kind) rows page.offset (list_rows (version_at state version) holds page.token page.kind)) in
       Listed version (read_at by version found read) (ap status_of is) at total
       (read_back page.kind (slice page.limit page.offset rows) (body_text reply) part (body_is reply is whole ∙ body) utf8)
 

@@ -1,5 +1,6 @@
 -- How many exchanges a synchronisation makes.
-use Rattle.std.specs.Prelude.{◌≡◌, ◌⊎◌, ℕ, ◌+◌, ◌-◌, ◌*◌, ◌/◌, ◌≤◌, List, [], ◌∷◌, length, drop, Option, Some, None, IsSomeAnd}
+use Rattle.std.specs.Prelude.{◌≡◌, ◌⊎◌, ℕ, ◌+◌, ◌-◌, ◌*◌, ◌/◌, ◌≤◌, List, [], ◌∷◌, length, drop, Option, Some, None}
+use Rattle.std.specs.Prelude.{IsSomeAnd}
 use Rattle.keeper_memory.specs.copy.Copies.{Copy, Stage}
 use Rattle.keeper_memory.specs.declared.copy.state.StageState.{StageState}
 use Rattle.hub_spec.specs.rules.Checks.{version_at}

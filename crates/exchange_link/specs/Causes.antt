@@ -1,5 +1,6 @@
 -- Why a synchronisation answers as it does.
-use Rattle.std.specs.Prelude.{◌≡◌, ◌≢◌, ◌⊎◌, ℕ, ◌+◌, ◌-◌, ◌<◌, ◌≤◌, ◌^◌, false, List, [], ◌∷◌, length, min, Option, Some, None, Ok, IsErr}
+use Rattle.std.specs.Prelude.{◌≡◌, ◌≢◌, ◌⊎◌, ℕ, ◌+◌, ◌-◌, ◌<◌, ◌≤◌, ◌^◌, false, List, [], ◌∷◌, length, min, Option}
+use Rattle.std.specs.Prelude.{Some, None, Ok, IsErr}
 use Rattle.keeper_memory.specs.copy.Lists.{ascends}
 use Rattle.keeper_memory.specs.declared.copy.state.StageState.{StageState}
 use Rattle.keeper_memory.specs.declared.copy.state.TheConstants.{LAST}

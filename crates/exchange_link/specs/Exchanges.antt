@@ -1,5 +1,6 @@
 -- What one exchange over a link does.
-use Rattle.std.specs.Prelude.{◌≡◌, ◌⊎◌, ◌≤◌, ℕ, ℤ, ◌+◌, ◌-◌, ◌^◌, true, List, [], ◌∷◌, Option, Some, Result, Err, OnOk, min}
+use Rattle.std.specs.Prelude.{◌≡◌, ◌⊎◌, ◌≤◌, ℕ, ℤ, ◌+◌, ◌-◌, ◌^◌, true, List, [], ◌∷◌, Option, Some, Result, Err, OnOk}
+use Rattle.std.specs.Prelude.{min}
 use Rattle.std.specs.Str.{is_utf8}
 use Rattle.http_wire.specs.Answers.{IsReplyText}
 use Rattle.http_wire.specs.Replies.{body_text, reply_text}
@@ -79,13 +80,15 @@ pub record IsLate (sent : List Request) (text : List ℕ) : Type 0 where
 abbrev pub Sends : Request → Result (Unit {0}) IoError → List Request → List Request → Type 0
 Sends q result before after = (after ≡ q ∷ before) ⊎ ((result ≡ Err io_error.NoMemory) × (after ≡ before))
 
+-- what an exchange makes of what a link tells; `rose` says that the count of faults rose. An answer that comes is the own reply, or,
+-- where the count rose, one to an earlier request
 pub record Exchanged (q : Request) (result : Result (Unit {0}) IoError) (rose : Type 0) (kept : List ℕ) (before after : Told) : Type 0 where
   pub grew : Grew before.hub after.hub
   pub sent : Sends q result before.sent after.sent
   pub counts : before.hub_faults ≤ after.hub_faults
   pub replies : OnOk result (IsOwn before after q kept ⊎ (rose × IsLate before.sent kept))
 
--- the exchanges at which the count rose, one behind the other
+-- the count of exchanges in a row at which the count of faults rose: one more where it rose, and else none
 pub record Misses (rose : Type 0) (before after : ℕ) : Type 0 where
   pub again : rose → after ≡ min (before + 1) (2 ^ 64 - 1)
   pub none : (rose → ⊥) → after ≡ 0

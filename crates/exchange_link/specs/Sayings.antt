@@ -1,5 +1,6 @@
 -- What the hub's answer to a request for a page tells a consumer.
-use Rattle.std.specs.Prelude.{◌≡◌, ◌<◌, ◌⊎◌, ℕ, Bool, true, false, List, [], length, take, drop, get_or, is_some, max, Some, Ok, unwrap_or}
+use Rattle.std.specs.Prelude.{◌≡◌, ◌<◌, ◌⊎◌, ℕ, Bool, true, false, List, [], length, take, drop, get_or, is_some, max}
+use Rattle.std.specs.Prelude.{Some, Ok, unwrap_or}
 use Rattle.http_wire.specs.declared.reply_reading.WireReply.{WireReply}
 use Rattle.hub_spec.specs.rules.Checks.{version_at}
 use Rattle.hub_spec.specs.rules.Verdicts.{newest_in}

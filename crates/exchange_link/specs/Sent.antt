@@ -1,5 +1,6 @@
 -- What sending the entries leaves.
-use Rattle.std.specs.Prelude.{◌≡◌, ◌⊎◌, ℕ, ◌+◌, ◌≤◌, List, [], ◌∷◌, length, Option, Some, None, IfSome, IsSomeAnd, filter, is_none, ⊤}
+use Rattle.std.specs.Prelude.{◌≡◌, ◌⊎◌, ℕ, ◌+◌, ◌≤◌, List, [], ◌∷◌, length, Option, Some, None, IfSome, IsSomeAnd}
+use Rattle.std.specs.Prelude.{filter, is_none, ⊤}
 use Rattle.keeper_memory.specs.copy.Changes.{settled_first}
 use Rattle.keeper_memory.specs.copy.Copies.{Copy, first_unsettled}
 use Rattle.keeper_memory.specs.declared.copy.entry.OutEntry.{OutEntry}

@@ -1,5 +1,6 @@
 -- What a synchronisation leaves.
-use Rattle.std.specs.Prelude.{◌≡◌, ◌⊎◌, ℕ, ◌+◌, ◌<◌, ◌≤◌, ◌++◌, true, List, [], ◌∷◌, length, get_or, Option, Some, None, bytes_eq, if◌then◌else◌}
+use Rattle.std.specs.Prelude.{◌≡◌, ◌⊎◌, ℕ, ◌+◌, ◌<◌, ◌≤◌, ◌++◌, true, List, [], ◌∷◌, length, get_or, Option, Some, None}
+use Rattle.std.specs.Prelude.{bytes_eq, if◌then◌else◌}
 use Rattle.keeper_memory.specs.copy.Changes.{held_of}
 use Rattle.keeper_memory.specs.copy.Copies.{Copy, Held, Stage}
 use Rattle.keeper_memory.specs.copy.Lists.{kind_count}

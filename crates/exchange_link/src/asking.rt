@@ -1,6 +1,6 @@
 //! One request, tried until its own reply comes.
 
-ghost use Rattle.std.specs.Prelude.{◌≡◌, ◌≢◌, ◌+◌, ◌-◌, ◌*◌, ◌<◌, ◌≤◌, None, Some};
+ghost use Rattle.std.specs.Prelude.{◌≡◌, ◌≢◌, ◌+◌, ◌-◌, ◌*◌, ◌<◌, ◌≤◌, Some};
 ghost use Rattle.exchange_link.specs.Exchanges.{IsTextOf, Misses, Told};
 ghost use Rattle.http_wire.specs.Answers.{IsNoReply, IsReplyText};
 ghost use Rattle.http_wire.specs.Sending.{CanSend, IsSentEcho};

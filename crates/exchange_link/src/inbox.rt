@@ -15,7 +15,7 @@ use outside_ports::IoError;
 use roster_base::NoMemory;
 use std::alloc::Global;
 
-// The answer of the last exchange, empty where it failed, and the counts.
+/// The answer of the last exchange, empty where it failed, and the counts.
 #[derive(Drop)]
 pub(crate) struct Inbox {
     pub(crate) kept: Came,
@@ -23,6 +23,7 @@ pub(crate) struct Inbox {
 }
 
 impl Inbox {
+    /// Nothing was exchanged yet.
     pub(crate) fn new(alloc: Global) -> Inbox {
         Inbox {
             kept: Came::nothing(alloc),
@@ -64,7 +65,7 @@ impl Inbox {
         }
     }
 
-    // Takes what came of an exchange: bytes, or an error.
+    /// Takes what came of an exchange: bytes, or an error.
     pub(crate) fn take(
         &mut self,
         alloc: Global,
@@ -86,7 +87,7 @@ impl Inbox {
         }
     }
 
-    // Takes the reply that is kept, where the bytes are one and it wasn't taken. A clause sees no change.
+    /// Takes the reply that was read from the kept bytes, where they are one and it wasn't taken yet. A clause sees no change.
     pub(crate) fn take_reply(&mut self) -> Option<WireReply>
         ensures same { self.new ≡ self.old }
         ensures reads { IfSome result (λ w. IsReplyText self.old.kept w) }

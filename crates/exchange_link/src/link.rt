@@ -9,8 +9,9 @@ use http_wire::WireReply;
 use outside_ports::IoError;
 use std::alloc::Global;
 
-/// Carries a consumer's requests to its hub, and the replies back. Requests and replies may get lost, and older ones may come late. What
-/// a link tells of its hub after an exchange is told by what it told before it; one that tells nothing has no such value.
+/// Carries a consumer's requests to its hub, and the replies back. Requests and replies may get lost, and older replies may come late. A
+/// link *tells* of its hub where the hub is known to the proof, as one in the same program is. One over a socket tells nothing: clauses
+/// that speak of what is told say nothing of it.
 pub trait Link {
     ghost use Rattle.exchange_link.specs.Exchanges.{Carries, Exchanged, IsTextOf, IsSentText, Misses, Told};
     ghost use Rattle.http_wire.specs.Answers.{IsReplyText};
@@ -19,7 +20,7 @@ pub trait Link {
     /// The number of exchanges, up to the end of `u64`.
     ghost asked: { Self → ℕ };
 
-    /// The number of exchanges since the last one at which the count of faults didn't rise.
+    /// The number of exchanges in a row, up to the last one, at which the count of faults rose.
     ghost missed: { Self → ℕ };
 
     /// The answer of the last exchange; nothing before the first one and after an error.
@@ -28,13 +29,14 @@ pub trait Link {
     /// How many exchanges failed, or brought another reply than the own one. The count stays at the end of `u64`.
     ghost fault_count: { Self → ℕ };
 
-    /// What it tells of its hub, where it tells.
+    /// What it tells of its hub; nothing is told over a socket.
     ghost tells: { Self → Told → Type 0 };
 
     /// What exchanges, one behind another, may make of a link.
     ghost leads: { Self → Self → Type 0 };
 
-    /// Sends the text of a request with its number, and keeps the answer.
+    /// Sends the text of a request with its number, and keeps the answer. It fails where no answer came or memory ran out; then nothing
+    /// is kept.
     fn exchange(&mut self, alloc: Global, request: &[u8]) -> Result<(), IoError>
         requires { IsSentText request.now }
         ensures asked { asked self.new ≡ min (asked self.old + 1) (2 ^ 64 - 1) }
@@ -50,11 +52,12 @@ pub trait Link {
             → (before : Told) × tells self.old before
             × Exchanged q result (Rose (fault_count self.old) (fault_count self.new)) (kept self.new) before after };
 
-    /// The answer that is kept; no memory is taken.
+    /// The bytes of the answer that is kept; no memory is taken.
     fn reply(&self) -> &[u8]
         ensures { result.now ≡ kept self.now };
 
-    /// Takes the reply that the kept answer is, where the link has read it and it wasn't taken. A clause sees no change.
+    /// Takes the reply that was read from the kept answer, where the link has read it and it wasn't taken yet. The answer stays as it is,
+    /// so that a clause sees no change.
     fn take_parsed(&mut self) -> Option<WireReply>
         ensures same { self.new ≡ self.old }
         ensures reads { IfSome result (λ w. IsReplyText (kept self.old) w) }
@@ -62,7 +65,7 @@ pub trait Link {
         None
     }
 
-    /// The number of exchanges since the last one at which the count of faults didn't rise.
+    /// The number of exchanges in a row, up to the last one, at which the count of faults rose.
     fn missed(&self) -> u64
         ensures { result ≡ missed self.now };
 
@@ -70,12 +73,12 @@ pub trait Link {
     fn faults(&self) -> u64
         ensures { result ≡ fault_count self.now };
 
-    /// What it tells is a state that a hub can have.
+    /// What it tells of its hub is a state that a hub can have.
     ghost is_hub: { (link : Self) (told : Told) → tells link told → IsHub told.hub };
 
     /// A link leads to itself.
     ghost stays: { (link : Self) → leads link link };
 
-    /// One behind another.
+    /// What leads from one link to a second, and on from there to a third, leads from the first to the third.
     ghost leads_on: { (one two three : Self) → leads one two → leads two three → leads one three };
 }

@@ -4,7 +4,7 @@ ghost use Rattle.std.specs.Prelude.{◌≡◌, ◌≤◌, ◌+◌, ◌-◌, ◌^
 ghost use Rattle.exchange_link.specs.Exchanges.{Misses};
 ghost use Rattle.roster_base.specs.Faults.{Rose};
 
-/// How many exchanges were made, how many of them since the last at which the count of faults didn't rise, and how many failed or brought
+/// How many exchanges were made, how many in a row up to the last one raised the count of faults, and how many failed or brought
 /// another reply. The counts stay at the end of `u64`.
 #[derive(Drop)]
 pub struct Tally {

@@ -18,6 +18,7 @@ pub enum Unreached {
 }
 
 impl Unreached {
+    /// What an error of a call over a socket says.
     pub(crate) fn by(kind: ErrorKind) -> Unreached {
         match kind {
             ErrorKind::ConnectionRefused => Unreached::Refused,

@@ -1,5 +1,6 @@
 -- How the bytes of a form are decoded, one by one.
-use Rattle.std.proofs.Common.{◌≡◌, ◌≢◌, ℕ, ◌+◌, ◌*◌, ◌<◌, ◌≤◌, false, List, [], ◌∷◌, length, get_or, drop, map, sym, refl, ap, ◌∙◌, arith}
+use Rattle.std.proofs.Common.{◌≡◌, ◌≢◌, ℕ, ◌+◌, ◌*◌, ◌<◌, ◌≤◌, false, List, [], ◌∷◌, length, get_or, drop, map, sym}
+use Rattle.std.proofs.Common.{refl, ap, ◌∙◌, arith}
 use Rattle.std.specs.Borrow.{Bor}
 use Rattle.std.specs.Char.{digit_value}
 use Rattle.std.specs.Prelude.{Option, None, Some, MatchOption, unwrap_or}
@@ -8,7 +9,8 @@ use Rattle.std.proofs.lemmas.Bool.Decides.{nat_tests}
 use Rattle.filter_grammar.specs.Escapes.{begins_with_code}
 use Rattle.form_urlencoded.specs.Form.{decode, plus_to_space}
 use Rattle.percent_encoding.specs.Percent.{percent_decode}
-use Rattle.percent_encoding.proofs.PercentLemmas.{percent_decode-nil, percent_decode_escape, percent_decode_not_percent, KeepsFirst_from_no_escape}
+use Rattle.percent_encoding.proofs.PercentLemmas.{percent_decode-nil, percent_decode_escape, percent_decode_not_percent}
+use Rattle.percent_encoding.proofs.PercentLemmas.{KeepsFirst_from_no_escape}
 
 pub decode-nil : decode [] ≡ []
 decode-nil = percent_decode-nil

@@ -21,4 +21,4 @@ pub use fault::{QueryError, QueryFault};
 pub use filter::{Comparison, Filter, Joint, Predicate};
 pub use numbers::number_of_text;
 pub use query::{Order, Query, pin_of, read_query};
-pub use rows::{SortKey, passes};
+pub use rows::{SortKey, joined, passes};

@@ -6,5 +6,5 @@ pub mod sort_key;
 mod subject_value;
 mod texts;
 
-pub use filtering::passes;
+pub use filtering::{joined, passes};
 pub use sort_key::SortKey;

@@ -1,5 +1,6 @@
 -- A verdict by what is held under the mark, and what a new version's change keeps.
-use Rattle.std.proofs.Common.{◌≡◌, ℕ, ℤ, List, Option, None, Some, Result, Ok, Err, IfOk, option_and_then, sym, ap, subst, ◌∙◌}
+use Rattle.std.proofs.Common.{◌≡◌, ℕ, ℤ, List, Option, None, Some, Result, Ok, Err, IfOk, option_and_then, sym, ap}
+use Rattle.std.proofs.Common.{subst, ◌∙◌}
 use Rattle.gradebook_core.specs.Judging.{IsNewlyMade, MayLead, RepeatsAlone, RepeatsOneOf, verdict_of}
 use Rattle.gradebook_core.specs.declared.judgement.Judgement.{Judgement}
 use Rattle.gradebook_core.specs.declared.judgement.Judgement.TheVariants as judgement

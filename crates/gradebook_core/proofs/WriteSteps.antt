@@ -1,11 +1,13 @@
 -- What is made of a judgement is what its verdict leads to.
-use Rattle.std.proofs.Common.{◌≡◌, ◌≤◌, ◌&&◌, ◌==◌, ℕ, ℤ, ◌-◌, Bool, true, false, cond, nat_le, inl, inr, List, [], ◌∷◌, length, length-append, Option, None, Some, Ok, Err, refl, sym, ap, subst, ◌∙◌, arith}
+use Rattle.std.proofs.Common.{◌≡◌, ◌≤◌, ◌&&◌, ◌==◌, ℕ, ℤ, ◌-◌, Bool, true, false, cond, nat_le, inl, inr, List, [], ◌∷◌}
+use Rattle.std.proofs.Common.{length, length-append, Option, None, Some, Ok, Err, refl, sym, ap, subst, ◌∙◌, arith}
 use Rattle.std.proofs.lemmas.Bool.{and_parts, eqb-true, leb-true, or_cases}
 use Rattle.std.specs.List.{AllByRecursion}
 use Rattle.std.specs.Option.{ForSome}
 use Rattle.gradebook_core.specs.Judging.{MayLead, RepeatsOneOf, verdict_of}
 use Rattle.gradebook_core.specs.Outcomes.{check_number}
-use Rattle.gradebook_core.specs.Writing.{MayCommit, LedBy, Writes, change_in, commit_of, number_after, refused_as, told_of, written_as, written_of}
+use Rattle.gradebook_core.specs.Writing.{MayCommit, LedBy, Writes, change_in, commit_of, number_after, refused_as}
+use Rattle.gradebook_core.specs.Writing.{told_of, written_as, written_of}
 use Rattle.gradebook_core.specs.declared.judgement.Judgement.{Judgement}
 use Rattle.gradebook_core.specs.declared.judgement.Judgement.TheVariants as judgement
 use Rattle.gradebook_core.specs.declared.outcome.Check.{Check}

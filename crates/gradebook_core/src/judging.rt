@@ -102,11 +102,19 @@ fn new_judged(
     body_judged(alloc, table, by, write, at)
 }
 
-// The mark of this number that the caller has.
+// What is kept under the caller's mark of this number, if anything is.
 fn held_mark<'a>(marks: &'a Marks, caller: &Name, mark: Option<u64>) -> Option<&'a MarkRow>
     ensures { option_copied result ≡ option_and_then (λ number. mark_at (caller.now, number) marks.now.marks) mark }
 {
     marks.get(caller, mark?)
+}
+
+/// Who asks for a write, under which mark, and when.
+#[derive(Clone, Copy)]
+pub struct Asking<'a> {
+    pub by: &'a GrantRow,
+    pub mark: Option<u64>,
+    pub at: Moment,
 }
 
 /// What becomes of the write of a caller with a grant, under a mark if it has one, by the newest version of the table and the
@@ -116,20 +124,18 @@ pub fn judge(
     alloc: Global,
     table: &Table,
     marks: &Marks,
-    by: &GrantRow,
-    mark: Option<u64>,
+    asking: &Asking<'_>,
     write: &Write,
-    at: Moment,
 ) -> Result<Judgement, NoMemory>
     ensures verdict { (state : HubState) → spec.newest_in state ≡ newest_of table.now → state.marks ≡ marks.now.marks
-        → IfOk result (λ made. spec.Judges state by.now mark write.now at (verdict_of (newest_of table.now) made)) }
+        → IfOk result (λ made. spec.Judges state asking.now.by.now asking.now.mark write.now asking.now.at (verdict_of (newest_of table.now) made)) }
     ensures leads { IfOk result (MayLead (newest_of table.now)) }
     ensures repeats { IfOk result (RepeatsOneOf marks.now.marks) }
 {
     // Read for what it keeps.
     let _ = table.newest_rows();
-    match held_mark(marks, &by.caller, mark) {
+    match held_mark(marks, &asking.by.caller, asking.mark) {
         Some(held) => Ok(repeated(held, write)),
-        None => new_judged(alloc, table, by, write, at),
+        None => new_judged(alloc, table, asking.by, write, asking.at),
     }
 }

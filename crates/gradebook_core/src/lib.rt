@@ -13,7 +13,7 @@ mod writing;
 mod written;
 
 pub use judgement::Judgement;
-pub use judging::judge;
+pub use judging::{Asking, judge};
 pub use outcome::{Check, Outcome};
 pub use query_pages as pages;
 pub use writing::write;

@@ -7,13 +7,11 @@ ghost use Rattle.hub_core.specs.Steps.{CountsFault, Installs, LeavesOpen, Refuse
 ghost use Rattle.hub_core.specs.Works.{Works};
 ghost use Rattle.keeper_memory.specs.Kept.{KeptState};
 
-use crate::judging::judge;
+use crate::judging::{Asking, judge};
 use crate::written::{Written, commit_of, told_of};
 use hub_core::{Hub, HubError};
 use keeper_memory::{HubCommit, HubKeeper};
-use roster_texts::Moment;
 use std::alloc::Global;
-use version_core::grant_row::GrantRow;
 use version_core::mark::Write;
 
 // Hands a commit to the keeper, unless it has nothing.
@@ -48,15 +46,13 @@ pub fn write<H: HubKeeper>(
     alloc: Global,
     hub: &mut Hub,
     keeper: &mut H,
-    by: &GrantRow,
-    mark: Option<u64>,
+    asking: &Asking<'_>,
     write: Write,
-    at: Moment,
 ) -> Result<Written, HubError>
     requires fits { KeeperFits (H.stands_for keeper.old) hub.old }
     requires settled { hub.old.is_open ≡ false }
     ensures fits { KeeperFits (H.stands_for keeper.new) hub.new }
-    ensures told { (after : KeptState) → IsStanding hub.new after → (H.stands_for keeper.new after → H.stands_for keeper.old hub.old.kept) × Writes by.now mark write at result hub.old.kept after }
+    ensures told { (after : KeptState) → IsStanding hub.new after → (H.stands_for keeper.new after → H.stands_for keeper.old hub.old.kept) × Writes asking.now.by.now asking.now.mark write asking.now.at result hub.old.kept after }
     // What is told is the number of an outcome.
     ensures outcome { IfOk result (λ written. written.outcome ≤ 9) }
     // What it made is the last commit, if anything.
@@ -67,9 +63,10 @@ pub fn write<H: HubKeeper>(
     ensures refused { RefusesNothing result }
 {
     let table = hub.table();
-    let judgement = judge(alloc, table, hub.marks(), by, mark, &write, at)?;
+    let judgement = judge(alloc, table, hub.marks(), asking, &write)?;
+    let (caller, mark) = (&asking.by.caller, asking.mark);
     let written = told_of(table, mark, &write, &judgement);
-    let due = commit_of(alloc, &by.caller, mark, write, judgement, written.version)?;
+    let due = commit_of(alloc, caller, mark, write, judgement, written.version)?;
     match commit(alloc, hub, keeper, due) {
         Ok(()) => Ok(written),
         Err(error) => Err(error),

@@ -1,5 +1,6 @@
 -- The records of a file of grants, one by one.
-use Rattle.std.proofs.Common.{◌≡◌, ◌≤◌, ◌<◌, ◌+◌, ℕ, suc, zero, Bool, true, false, List, [], ◌∷◌, ◌++◌, Result, Ok, Err, IsUtf8, bytes_eq, length, map, nat_lt, not, take, refl, sym, ap, ◌∙◌, arith}
+use Rattle.std.proofs.Common.{◌≡◌, ◌≤◌, ◌<◌, ◌+◌, ℕ, suc, zero, Bool, true, false, List, [], ◌∷◌, ◌++◌, Result, Ok, Err}
+use Rattle.std.proofs.Common.{IsUtf8, bytes_eq, length, map, nat_lt, not, take, refl, sym, ap, ◌∙◌, arith}
 use Rattle.std.proofs.lemmas.Cmp.{nat_list_eq_equiv}
 use Rattle.std.proofs.lemmas.Bool.Decides.{nat_tests}
 use Rattle.std.proofs.lemmas.List.{length-take, length_push, map_push, take-append-le, take_all}
@@ -12,7 +13,8 @@ use Rattle.csv.specs.Reading.{default_config, records, strip_bom}
 use Rattle.csv_sets.proofs.RecordSteps.{text_behind}
 use Rattle.csv_sets.specs.Left.{AllRowsText}
 use Rattle.grant_files.specs.declared.fault.GrantFault.{GrantFault}
-use Rattle.grant_files.specs.Grants.{entries_after, entries_below, entries_of, entries_with, entry_of, few, grants_of, new_in, stands_in}
+use Rattle.grant_files.specs.Grants.{entries_after, entries_below, entries_of, entries_with, entry_of, few, grants_of}
+use Rattle.grant_files.specs.Grants.{new_in, stands_in}
 use Rattle.grant_files.specs.declared.fault.GrantFault.TheVariants.{NotUtf8, TooMany}
 use Rattle.grant_files.specs.declared.known.Known.{Known}
 use Rattle.grant_files.specs.Known.{Knows, Stands}

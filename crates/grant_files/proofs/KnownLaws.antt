@@ -1,5 +1,6 @@
 -- The texts that stood in earlier records.
-use Rattle.std.proofs.Common.{◌≡◌, ◌||◌, ℕ, Bool, true, false, List, [], ◌∷◌, ◌++◌, BTreeSet, Global, String, bytes_eq, cond, map, string_bytes, string_cmp, refl, ◌∙◌}
+use Rattle.std.proofs.Common.{◌≡◌, ◌||◌, ℕ, Bool, true, false, List, [], ◌∷◌, ◌++◌, BTreeSet, Global, String, bytes_eq}
+use Rattle.std.proofs.Common.{cond, map, string_bytes, string_cmp, refl, ◌∙◌}
 use Rattle.std.proofs.lemmas.Cmp.{nat_list_eq_equiv}
 use Rattle.std.proofs.lemmas.List.{map_push}
 use Rattle.std.proofs.lemmas.List.Folds.{list_any-append}

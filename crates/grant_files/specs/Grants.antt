@@ -1,11 +1,14 @@
 -- A file of grants, record by record.
-use Rattle.std.specs.Prelude.{ℕ, ◌+◌, ◌==◌, ◌&&◌, Bool, true, false, List, [], ◌∷◌, ◌++◌, Result, Ok, Err, bytes_eq, codes, length, map, nat_lt, not, if◌then◌else◌}
+use Rattle.std.specs.Prelude.{ℕ, ◌+◌, ◌==◌, ◌&&◌, Bool, true, false, List, [], ◌∷◌, ◌++◌, Result, Ok, Err, bytes_eq}
+use Rattle.std.specs.Prelude.{codes, length, map, nat_lt, not, if◌then◌else◌}
 use Rattle.std.specs.List.{list_any}
 use Rattle.std.specs.Str.{is_utf8}
 use Rattle.csv.specs.Reading.{default_config, records, strip_bom}
 use Rattle.csv_sets.specs.Cells.{text_at}
 use Rattle.grant_files.specs.declared.fault.GrantFault.{GrantFault}
-use Rattle.grant_files.specs.declared.fault.GrantFault.TheVariants.{BadName, BadSchools, BadScope, BadToken, Header, NotUtf8, RepeatedCaller, RepeatedToken, TooMany, Width}
+use Rattle.grant_files.specs.declared.fault.GrantFault.TheVariants.{BadName, BadSchools, BadScope, BadToken, Header}
+use Rattle.grant_files.specs.declared.fault.GrantFault.TheVariants.{NotUtf8, RepeatedCaller, RepeatedToken, TooMany}
+use Rattle.grant_files.specs.declared.fault.GrantFault.TheVariants.{Width}
 use Rattle.grant_files.specs.Schools.{schools_of}
 use Rattle.grant_scopes.specs.declared.entry.GrantEntry.{GrantEntry}
 use Rattle.grant_scopes.specs.Entries.{entry_caller, entry_token, grant_limit}

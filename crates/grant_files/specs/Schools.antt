@@ -1,5 +1,6 @@
 -- The schools of a cell.
-use Rattle.std.specs.Prelude.{ℕ, ◌==◌, List, Option, None, Some, Result, Ok, Err, bytes_eq, codes, length, if◌then◌else◌}
+use Rattle.std.specs.Prelude.{ℕ, ◌==◌, List, Option, None, Some, Result, Ok, Err, bytes_eq, codes, length}
+use Rattle.std.specs.Prelude.{if◌then◌else◌}
 use Rattle.grant_files.specs.declared.schools.School.{School}
 use Rattle.grant_scopes.specs.declared.schools.Schools.{Schools}
 use Rattle.grant_scopes.specs.declared.schools.Schools.TheVariants.{All, Listed}

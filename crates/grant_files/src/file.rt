@@ -23,9 +23,10 @@ use std::alloc::Global;
 /// How many grants a file may ask for.
 pub const GRANT_LIMIT: usize = 10_000;
 
-// The number behind that of the last record of so many grants, the header being the first.
-const LAST_NUMBER: u64 = 10_002;
+// The number of the record behind the header and as many grants as a file may ask for: the header is record 1.
+const END_NUMBER: u64 = 10_002;
 
+// Whether a record is the header of a file of grants.
 fn is_header(cells: &ByteRecord) -> bool
     requires { AllText (fields_of cells.now) }
     ensures { result ≡ is_header (fields_of cells.now) }
@@ -87,7 +88,7 @@ fn entries_below(
         add_record(alloc, &mut entries, &mut known, number, &cells)?;
         number += 1;
     }
-    if number > LAST_NUMBER {
+    if number > END_NUMBER {
         return Err(Refusal::Fault(GrantFault::TooMany));
     }
     Ok(entries)

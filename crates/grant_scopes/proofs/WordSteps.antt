@@ -1,5 +1,6 @@
 -- The words of a text that names scopes.
-use Rattle.std.proofs.Common.{◌≡◌, ◌&&◌, ◌||◌, ℕ, Bool, true, false, List, [], ◌∷◌, Option, None, Some, MatchOption, bytes_eq, drop, length, map, not, refl, sym, subst, ap, ◌∙◌}
+use Rattle.std.proofs.Common.{◌≡◌, ◌&&◌, ◌||◌, ℕ, Bool, true, false, List, [], ◌∷◌, Option, None, Some, MatchOption}
+use Rattle.std.proofs.Common.{bytes_eq, drop, length, map, not, refl, sym, subst, ap, ◌∙◌}
 use Rattle.std.specs.Borrow.{Bor}
 use Rattle.std.specs.List.{filter, list_all, list_any, starts_with}
 use Rattle.std.specs.Prelude.{nat_eq, option_copied, if◌then◌else◌}

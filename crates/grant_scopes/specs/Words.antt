@@ -1,5 +1,6 @@
 -- Texts of scopes: words between spaces.
-use Rattle.std.specs.Prelude.{ℕ, ◌+◌, ◌*◌, Bool, List, [], ◌∷◌, Option, None, Some, bytes_eq, codes, drop, length, map, nat_eq, unwrap_or, if◌then◌else◌}
+use Rattle.std.specs.Prelude.{ℕ, ◌+◌, ◌*◌, Bool, List, [], ◌∷◌, Option, None, Some, bytes_eq, codes, drop, length, map}
+use Rattle.std.specs.Prelude.{nat_eq, unwrap_or, if◌then◌else◌}
 use Rattle.std.specs.List.{filter, list_all, list_any, slice_split, starts_with}
 use Rattle.roster_texts.specs.Trim.{is_space}
 use Rattle.roster_values.specs.Lists.{is_filled}

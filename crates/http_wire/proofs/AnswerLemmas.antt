@@ -1,14 +1,18 @@
 -- The text of one reply, and bytes that are none.
-use Rattle.std.proofs.Common.{◌≡◌, ◌<◌, ◌≤◌, inl, inr, ℕ, ◌+◌, ◌-◌, min, List, [], ◌∷◌, ◌++◌, length, take, drop, map, Bool, true, false, Ok, Err, if◌then◌else◌, nat_lt, refl, sym, ap, ◌∙◌, subst, arith, append_assoc, length-append}
+use Rattle.std.proofs.Common.{◌≡◌, ◌<◌, ◌≤◌, inl, inr, ℕ, ◌+◌, ◌-◌, min, List, [], ◌∷◌, ◌++◌, length, take, drop, map}
+use Rattle.std.proofs.Common.{Bool, true, false, Ok, Err, if◌then◌else◌, nat_lt, refl, sym, ap, ◌∙◌, subst, arith}
+use Rattle.std.proofs.Common.{append_assoc, length-append}
 use Rattle.std.specs.Prelude.{◌≢◌}
 use Rattle.std.proofs.lemmas.Grind.{common_steps}
 use Rattle.std.proofs.lemmas.List.{take-append-drop, take-append-le, take_all, length-drop, length-take, length-map}
 use Rattle.std.proofs.lemmas.List.Elements.{All-weaker}
 use Rattle.std.proofs.Math.Seq.{drop-append_seam, take-append-add}
 use Rattle.httparse.specs.Grammar.{ResponseHead, HasNoResponse, MayBecomeResponse, NeverHasResponse, print_response}
-use Rattle.httparse.specs.Spans.{IsHeaderWithin, IsResponseOf, IsResponseWithin, ResponseOverflows, header_bytes, name_and_value}
+use Rattle.httparse.specs.Spans.{IsHeaderWithin, IsResponseOf, IsResponseWithin, ResponseOverflows, header_bytes}
+use Rattle.httparse.specs.Spans.{name_and_value}
 use Rattle.httparse.specs.declared.Error.{Error}
-use Rattle.httparse.specs.declared.Error.TheVariants.{HeaderName, HeaderValue, NewLine, Status, Token, TooManyHeaders, Version}
+use Rattle.httparse.specs.declared.Error.TheVariants.{HeaderName, HeaderValue, NewLine, Status, Token, TooManyHeaders}
+use Rattle.httparse.specs.declared.Error.TheVariants.{Version}
 use Rattle.httparse.specs.declared.spans.HeaderSpan.{HeaderSpan}
 use Rattle.httparse.specs.declared.spans.ResponseSpans.{ResponseSpans}
 use Rattle.httparse.proofs.GrammarLemmas.{response_prefix_free, response_unique}
@@ -17,7 +21,9 @@ use Rattle.http_wire.specs.declared.fault.WireFault.TheVariants as fault
 use Rattle.http_wire.specs.declared.reply_reading.WireReply.{WireReply}
 use Rattle.http_wire.specs.Heads.{length_of, max_fields}
 use Rattle.http_wire.specs.Reading.{end_fault, refusal_of}
-use Rattle.http_wire.specs.Answers.{BeginsReply, FindsAnswer, HasAnswerHead, IsNoReply, IsReplyText, NeverReply, Refuses, StatesFault, Told, answered, max_reply_body, max_reply_head, missing_length, part_fault, told_at, told_by, told_length}
+use Rattle.http_wire.specs.Answers.{BeginsReply, FindsAnswer, HasAnswerHead, IsNoReply, IsReplyText, NeverReply}
+use Rattle.http_wire.specs.Answers.{Refuses, StatesFault, Told, answered, max_reply_body, max_reply_head}
+use Rattle.http_wire.specs.Answers.{missing_length, part_fault, told_at, told_by, told_length}
 use Rattle.http_wire.proofs.FrontLemmas.{IsLengthFault, front_whole, length_fault, length_in_limit}
 
 -- ---- the head

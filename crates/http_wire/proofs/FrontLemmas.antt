@@ -1,22 +1,28 @@
 -- The head at the front of some bytes, and what follows from it.
-use Rattle.std.proofs.Common.{◌≡◌, ◌<◌, ◌≤◌, inl, inr, ℕ, ◌+◌, ◌-◌, min, List, ◌++◌, length, take, drop, map, Bool, true, false, Option, Some, None, Ok, Err, if◌then◌else◌, nat_lt, refl, sym, ap, ◌∙◌, subst, arith, append_assoc, length-append}
+use Rattle.std.proofs.Common.{◌≡◌, ◌<◌, ◌≤◌, inl, inr, ℕ, ◌+◌, ◌-◌, min, List, ◌++◌, length, take, drop, map, Bool}
+use Rattle.std.proofs.Common.{true, false, Option, Some, None, Ok, Err, if◌then◌else◌, nat_lt, refl, sym, ap, ◌∙◌}
+use Rattle.std.proofs.Common.{subst, arith, append_assoc, length-append}
 use Rattle.std.specs.Prelude.{◌≢◌, codes, is_some}
 use Rattle.std.proofs.lemmas.List.{take-append-drop, length-take, length-map, length-drop, drop-drop}
 use Rattle.std.proofs.lemmas.List.Elements.{All-weaker}
 use Rattle.std.proofs.lemmas.Grind.{common_steps}
 use Rattle.std.proofs.Math.Seq.{drop-append_seam}
 use Rattle.httparse.specs.Grammar.{RequestHead, HasNoRequest, NeverHasRequest, print_request}
-use Rattle.httparse.specs.Spans.{IsHeaderWithin, IsRequestOf, IsRequestWithin, RequestOverflows, header_bytes, name_and_value}
+use Rattle.httparse.specs.Spans.{IsHeaderWithin, IsRequestOf, IsRequestWithin, RequestOverflows, header_bytes}
+use Rattle.httparse.specs.Spans.{name_and_value}
 use Rattle.httparse.specs.declared.Error.{Error}
-use Rattle.httparse.specs.declared.Error.TheVariants.{HeaderName, HeaderValue, NewLine, Status, Token, TooManyHeaders, Version}
+use Rattle.httparse.specs.declared.Error.TheVariants.{HeaderName, HeaderValue, NewLine, Status, Token, TooManyHeaders}
+use Rattle.httparse.specs.declared.Error.TheVariants.{Version}
 use Rattle.httparse.specs.declared.spans.HeaderSpan.{HeaderSpan}
 use Rattle.httparse.specs.declared.spans.RequestSpans.{RequestSpans}
 use Rattle.httparse.proofs.GrammarLemmas.{request_unique}
 use Rattle.status_info.specs.declared.request.Request.{Request}
 use Rattle.http_wire.specs.declared.fault.WireFault.{WireFault}
 use Rattle.http_wire.specs.declared.fault.WireFault.TheVariants as fault
-use Rattle.http_wire.specs.Heads.{Said, said_by, said_at, asked, body_length, length_of, allowed_length, stated_length, value_of, max_head, max_body, max_fields}
-use Rattle.http_wire.specs.Reading.{BeginsWith, BeginsWithNone, HasHead, HasFaultyLength, Explains, FindsHead, refusal_of, IsHeadTooLong}
+use Rattle.http_wire.specs.Heads.{Said, said_by, said_at, asked, body_length, length_of, allowed_length, stated_length}
+use Rattle.http_wire.specs.Heads.{value_of, max_head, max_body, max_fields}
+use Rattle.http_wire.specs.Reading.{BeginsWith, BeginsWithNone, HasHead, HasFaultyLength, Explains, FindsHead}
+use Rattle.http_wire.specs.Reading.{refusal_of, IsHeadTooLong}
 
 -- ---- the length that a head states
 

@@ -1,5 +1,4 @@
 pub mod TextLemmas
-pub mod TokenLemmas
 pub mod FrontLemmas
 pub mod ReaderLemmas
 pub mod StreamLemmas

@@ -1,6 +1,8 @@
 -- A number that is written is read again.
-use Rattle.std.proofs.Common.{◌≡◌, ◌<◌, ◌≤◌, ℕ, ◌+◌, ◌-◌, ◌*◌, ◌^◌, Bool, true, false, List, [], ◌∷◌, length, Some, if◌then◌else◌, ◌==◌, nat_le, nat_lt, refl, sym, ap, ◌∙◌, subst, arith, get_or, take, drop, zero, suc}
-use Rattle.std.proofs.lemmas.Bool.{and_parts}
+use Rattle.std.proofs.Common.{◌≡◌, ◌<◌, ◌≤◌, ℕ, ◌+◌, ◌-◌, ◌*◌, ◌^◌, Bool, true, false, List, [], ◌∷◌, length, Some}
+use Rattle.std.proofs.Common.{if◌then◌else◌, ◌==◌, nat_le, nat_lt, refl, sym, ap, ◌∙◌, subst, arith, get_or, take, drop}
+use Rattle.std.proofs.Common.{zero, suc}
+use Rattle.std.proofs.lemmas.Bool.{and_parts, le-ltb}
 use Rattle.std.specs.Prelude.{codes, decimal, ◌&&◌, ◌++◌}
 use Rattle.std.specs.List.{after_first, before_first, position_or_len, prefix_len}
 use Rattle.std.proofs.Math.Seq.{drop-append-add, take-append_seam}
@@ -11,7 +13,8 @@ use Rattle.std.proofs.lemmas.Str.{digit_value_digit}
 use Rattle.std.proofs.lemmas.Str.Parse.{digit_from_value}
 use Rattle.std.proofs.lemmas.Bool.Decides.{nat_tests}
 use Rattle.roster_texts.specs.Texts.{is_padding, is_token, is_token_byte, token_body}
-use Rattle.http_wire.specs.Texts.{count_of, digits_after, digits_of, has_leading_zero, echo_of, is_dot, number_of, last_number, skip_spaces, token_of}
+use Rattle.http_wire.specs.Texts.{count_of, digits_after, digits_of, has_leading_zero, echo_of, is_dot, number_of}
+use Rattle.http_wire.specs.Texts.{last_number, skip_spaces, token_of}
 
 is_digit : (c : ℕ) → 48 ≤ c → c ≤ 57 → is_ascii_digit c ≡ true
 is_digit c low high = grind (arith, nat_tests)
@@ -28,16 +31,13 @@ digits_read n (c ∷ cs) all =
 pub not_zero : (k : ℕ) → 0 < k → (k == 0) ≡ false
 not_zero k some = grind (arith, nat_tests)
 
-pub not_more : (a b : ℕ) → b ≤ a → nat_lt a b ≡ false
-not_more a b le = grind (arith, nat_tests)
-
 no_zero_first : (ds : List ℕ) → 48 < get_or ds 0 0 → has_leading_zero ds ≡ false
 no_zero_first ds first = grind (arith, nat_tests)
 
 -- 0 is written by itself, and any other number begins with another digit
 no_leading_zero : (n : ℕ) → n < 2 ^ 64 → has_leading_zero (decimal n) ≡ false
 no_leading_zero zero bound =
-    let short : length (decimal 0) ≤ 1 = length-decimal-le 1 0 (omega arith) (omega arith) bound in rw (not_more 1 (length (decimal 0)) short) refl
+    let short : length (decimal 0) ≤ 1 = length-decimal-le 1 0 (omega arith) (omega arith) bound in rw (le-ltb 1 (length (decimal 0)) short) refl
 no_leading_zero (suc n) bound = no_zero_first (decimal (suc n)) (first_decimal (suc n) (omega arith) bound)
 
 pub digits_of_decimal : (n : ℕ) → n < 10 ^ 18 → digits_of (decimal n) ≡ Some n
@@ -47,7 +47,7 @@ digits_of_decimal n small =
     let (numeral, value) = decimal_is_IsNumeral n bound in
     let short : length (decimal n) ≤ 18 = length-decimal-le 18 n (omega arith) small bound in
     let whole : digits_after 0 (decimal n) ≡ Some n = digits_read 0 (decimal n) numeral.1 ∙ ap (λ (k : ℕ). Some k) value in
-    simp (not_zero (length (decimal n)) numeral.0, not_more 18 (length (decimal n)) short) whole
+    simp (not_zero (length (decimal n)) numeral.0, le-ltb 18 (length (decimal n)) short) whole
 
 -- a number from 0 to most
 pub count_again : (most n : ℕ) → most < 10 ^ 18 → n ≤ most → count_of most (decimal n) ≡ Some n
@@ -55,7 +55,7 @@ unfolding count_of
 count_again most n limit most_of =
     let small : n < 10 ^ 18 = omega arith in
     let bound : n < 2 ^ 64 = omega arith in
-    simp (no_leading_zero n bound, digits_of_decimal n small, not_more most n most_of) refl
+    simp (no_leading_zero n bound, digits_of_decimal n small, le-ltb most n most_of) refl
 
 -- a number from 1 to most
 pub number_again : (most n : ℕ) → most < 10 ^ 18 → 1 ≤ n → n ≤ most → number_of most (decimal n) ≡ Some n

@@ -1,6 +1,8 @@
 -- What is sent is read as the same request.
-use Rattle.std.proofs.Common.{◌≡◌, ◌<◌, ◌≤◌, ℕ, ◌+◌, ◌^◌, List, [], ◌∷◌, ◌++◌, length, Bool, true, false, Option, Some, None, refl, sym, ap, ◌∙◌, subst, arith, append_assoc, length-append, codes, reverse, take, drop, map, if◌then◌else◌, ◌==◌, Ok}
-use Rattle.std.proofs.lemmas.Bool.{and_parts}
+use Rattle.std.proofs.Common.{◌≡◌, ◌<◌, ◌≤◌, ℕ, ◌+◌, ◌^◌, List, [], ◌∷◌, ◌++◌, length, Bool, true, false, Option, Some}
+use Rattle.std.proofs.Common.{None, refl, sym, ap, ◌∙◌, subst, arith, append_assoc, length-append, codes, reverse, take}
+use Rattle.std.proofs.Common.{drop, map, if◌then◌else◌, Ok}
+use Rattle.std.proofs.lemmas.Bool.{and_parts, eq-eqb, le-ltb}
 use Rattle.std.specs.Prelude.{All, IsTrue, decimal, option_map}
 use Rattle.std.specs.List.{flat_map, list_all, position_or_len}
 use Rattle.std.proofs.Math.Seq.{drop-append-add, take-append_seam}
@@ -13,13 +15,16 @@ use Rattle.std.proofs.lemmas.Bool.Decides.{nat_tests}
 use Rattle.std.proofs.lemmas.Str.Parse.{digit_from_value}
 use Rattle.std.proofs.lemmas.Fmt.{decimal_is_IsNumeral, length-decimal-le}
 use Rattle.httparse.proofs.TrimLemmas.{trim_ows_space}
-use Rattle.http_wire.proofs.TokenLemmas.{AllPlain, IsPlain, plain_is_text, token_plain}
-use Rattle.http_wire.proofs.NumberLemmas.{digits_of_decimal, echo_again, not_more, not_zero, number_again, token_again}
+use Rattle.roster_texts.proofs.TokenLemmas.{AllPlain, IsPlain, plain_is_text, token_plain}
+use Rattle.http_wire.proofs.NumberLemmas.{digits_of_decimal, echo_again, not_zero, number_again, token_again}
 use Rattle.httparse.specs.Spans.{name_and_value}
-use Rattle.http_wire.specs.Heads.{asked, body_length, is_close, is_number, length_of, lengths_are, max_body, max_fields, max_head, said_by, value_of}
-use Rattle.http_wire.specs.Texts.{digits_of, echo_at, echo_of, is_question_mark, last_number, mark_of, mark_or_bad, number_of, path_of, query_of, token_at, token_of, verb_of}
+use Rattle.http_wire.specs.Heads.{asked, body_length, is_close, is_number, length_of, lengths_are, max_body, max_fields}
+use Rattle.http_wire.specs.Heads.{max_head, said_by, value_of}
+use Rattle.http_wire.specs.Texts.{digits_of, echo_at, echo_of, is_question_mark, last_number, mark_of, mark_or_bad}
+use Rattle.http_wire.specs.Texts.{number_of, path_of, query_of, token_at, token_of, verb_of}
 use Rattle.http_wire.specs.Reading.{BeginsWith}
-use Rattle.httparse.specs.Grammar.{AllPass, Field, RequestHead, crlf, IsField, IsToken, is_ows, is_token_byte, print_field, is_uri_byte, is_value_byte, print_request, skip_ows, trim_ows}
+use Rattle.httparse.specs.Grammar.{AllPass, Field, RequestHead, crlf, IsField, IsToken, is_ows, is_token_byte}
+use Rattle.httparse.specs.Grammar.{print_field, is_uri_byte, is_value_byte, print_request, skip_ows, trim_ows}
 use Rattle.status_info.specs.declared.request.Request.{Request}
 use Rattle.status_info.specs.declared.request.Echo.{Echo}
 use Rattle.status_info.specs.declared.request.Verb.{Verb}
@@ -27,7 +32,8 @@ use Rattle.status_info.specs.declared.request.Verb.TheVariants as verb
 use Rattle.status_info.specs.declared.request.MarkField.{MarkField}
 use Rattle.status_info.specs.declared.request.MarkField.TheVariants as mark
 use Rattle.http_wire.specs.Replies.{echo_text, number_line}
-use Rattle.http_wire.specs.Sending.{CanSend, IsSentEcho, IsSentMark, is_sent_byte, IsSentVerb, mark_number, path_text, put_length, query_mark, query_text, request_text, token_text, verb_text, verb_word}
+use Rattle.http_wire.specs.Sending.{CanSend, IsSentEcho, IsSentMark, is_sent_byte, IsSentVerb, mark_number, path_text}
+use Rattle.http_wire.specs.Sending.{put_length, query_mark, query_text, request_text, token_text, verb_text, verb_word}
 
 -- a field as it is sent
 abbrev pub line : List ℕ → List ℕ → Field
@@ -331,9 +337,6 @@ mark_plain (q ∷ query) x = rw (mark_some q query) ((omega arith, omega arith),
 
 -- ---- the body
 
-pub same_number : (n : ℕ) → (n == n) ≡ true
-same_number n = grind (arith, nat_tests)
-
 agree : (t : List ℕ) (m : MarkField) (run count : ℕ) (body : List ℕ)
     → lengths_are (length body) (told verb.Put t m run count body)
     ≡ (if is_number (length body) (digits_of (trim_ows (32 ∷ decimal (length body)))) then true else false)
@@ -348,7 +351,7 @@ length_told verb.Put t m run count body can =
     let l = looks verb.Put t m run count body in
     let digits : digits_of (trim_ows (32 ∷ decimal (length body))) ≡ Some (length body) =
     ap digits_of (decimal_trim (length body) (omega (arith, can))) ∙ digits_of_decimal (length body) (omega (arith, can)) in
-    rw (l.stated, l.chunked, digits, agree t m run count body, digits, same_number (length body), not_more max_body (length body) can) refl
+    rw (l.stated, l.chunked, digits, agree t m run count body, digits, eq-eqb (length body) (length body) refl, le-ltb max_body (length body) can) refl
 length_told verb.Delete t m run count body can = let l = looks verb.Delete t m run count body in rw (l.stated, l.chunked, can) refl
 length_told verb.Head t m run count body can = absurd can
 length_told verb.Other t m run count body can = absurd can

@@ -1,5 +1,6 @@
 -- A stream has one list of requests, whatever follows the bytes that show it.
-use Rattle.std.proofs.Common.{◌≡◌, ◌≤◌, inl, inr, ℕ, ◌+◌, ◌-◌, List, [], ◌∷◌, ◌++◌, length, take, Bool, true, false, Option, Some, None, Result, Ok, Err, refl, sym, ap, ◌∙◌, subst, arith, append_assoc}
+use Rattle.std.proofs.Common.{◌≡◌, ◌≤◌, inl, inr, ℕ, ◌+◌, ◌-◌, List, [], ◌∷◌, ◌++◌, length, take, Bool, true, false}
+use Rattle.std.proofs.Common.{Option, Some, None, Result, Ok, Err, refl, sym, ap, ◌∙◌, subst, arith, append_assoc}
 use Rattle.std.specs.Prelude.{MatchOption, MatchBool}
 use Rattle.std.specs.Io.KnownBytes.{Consumes, prepend_known}
 use Rattle.std.proofs.lemmas.List.{append-nil, take-append-le}
@@ -11,7 +12,8 @@ use Rattle.http_wire.specs.declared.fault.WireFault.{WireFault}
 use Rattle.http_wire.specs.declared.fault.WireFault.TheVariants as fault
 use Rattle.http_wire.specs.Lasting.{lasting}
 use Rattle.http_wire.specs.Heads.{said_by, asked, body_length, max_head}
-use Rattle.http_wire.specs.Reading.{AreRequests, BeginsWith, BeginsWithNone, Causes, Explains, Fails, FailsAgain, HasFaultyLength, HasHead, Held, NextGives, OnStream}
+use Rattle.http_wire.specs.Reading.{AreRequests, BeginsWith, BeginsWithNone, Causes, Explains, Fails, FailsAgain}
+use Rattle.http_wire.specs.Reading.{HasFaultyLength, HasHead, Held, NextGives, OnStream}
 use Rattle.http_wire.proofs.FrontLemmas.{head_unique}
 
 -- what follows the bytes changes no request at their front

@@ -1,12 +1,14 @@
 -- Writes, one behind the other.
-use Rattle.std.proofs.Common.{◌≡◌, ◌<◌, ℕ, ◌+◌, List, [], ◌∷◌, ◌++◌, length, take, drop, get_or, Option, sym, ap, ◌∙◌, subst, append_assoc, refl, Result}
+use Rattle.std.proofs.Common.{◌≡◌, ◌<◌, ℕ, ◌+◌, List, [], ◌∷◌, ◌++◌, length, take, drop, get_or, Option, sym, ap, ◌∙◌}
+use Rattle.std.proofs.Common.{subst, append_assoc, refl, Result}
 use Rattle.std.specs.Io.KnownBytes.{Appends}
 use Rattle.std.specs.List.{flat_map}
 use Rattle.std.proofs.lemmas.List.{append-nil, take-append-drop, take_more}
 use Rattle.std.proofs.lemmas.List.Concat.{flat_map-append}
 use Rattle.outside_ports.specs.Written.{AppendsPart, Writes}
 use Rattle.status_info.specs.declared.reply.Reply.{Reply}
-use Rattle.http_wire.specs.Replies.{body_text, end_text, front_text, head_text, links_line, reply_text, versions_text, warning_line}
+use Rattle.http_wire.specs.Replies.{body_text, end_text, front_text, head_text, links_line, reply_text, versions_text}
+use Rattle.http_wire.specs.Replies.{warning_line}
 use Rattle.outside_ports.proofs.Appending.{part_behind, part_front}
 
 -- the same of bytes that are known

@@ -1,6 +1,8 @@
 -- What is written of a reply is read as the same reply.
-use Rattle.std.proofs.Common.{◌≡◌, inl, inr, Err, Result, ◌<◌, ◌≤◌, ℕ, ◌+◌, ◌^◌, List, [], ◌∷◌, ◌++◌, length, Bool, true, false, Option, Some, None, refl, sym, ap, ◌∙◌, arith, append_assoc, length-append, codes, map, if◌then◌else◌, ◌==◌, Ok}
-use Rattle.std.proofs.lemmas.Bool.{and_parts}
+use Rattle.std.proofs.Common.{◌≡◌, inl, inr, Err, Result, ◌<◌, ◌≤◌, ℕ, ◌+◌, ◌^◌, List, [], ◌∷◌, ◌++◌, length, Bool}
+use Rattle.std.proofs.Common.{true, false, Option, Some, None, refl, sym, ap, ◌∙◌, arith, append_assoc, length-append}
+use Rattle.std.proofs.Common.{codes, map, if◌then◌else◌, ◌==◌, Ok}
+use Rattle.std.proofs.lemmas.Bool.{and_parts, eq-eqb, le-ltb}
 use Rattle.std.specs.Prelude.{◌⊎◌, All, IfSome, IsTrue, decimal, nat_lt, option_map}
 use Rattle.std.specs.List.{flat_map, list_all}
 use Rattle.std.specs.Str.{str_eq_ignore_ascii_case}
@@ -12,7 +14,8 @@ use Rattle.std.proofs.lemmas.List.Elements.{All-append, All-cons, All-head, All-
 use Rattle.std.proofs.lemmas.List.Concat.{flat_map-append}
 use Rattle.std.proofs.lemmas.List.Sums.{AllPass-from_list_all}
 use Rattle.std.proofs.lemmas.Bool.Decides.{nat_tests}
-use Rattle.httparse.specs.Grammar.{AllPass, Field, IsField, ResponseHead, crlf, is_token, is_token_byte, is_value_byte, print_field, print_response, status_code, trim_ows}
+use Rattle.httparse.specs.Grammar.{AllPass, Field, IsField, ResponseHead, crlf, is_token, is_token_byte, is_value_byte}
+use Rattle.httparse.specs.Grammar.{print_field, print_response, status_code, trim_ows}
 use Rattle.httparse.specs.Spans.{name_and_value}
 use Rattle.status_info.specs.Bodies.{status_body}
 use Rattle.status_info.specs.Causes.{status_of}
@@ -26,15 +29,20 @@ use Rattle.status_info.specs.declared.request.Echo.{Echo}
 use Rattle.http_wire.specs.declared.reply_reading.WireReply.{WireReply}
 use Rattle.http_wire.specs.declared.fault.WireFault.{WireFault}
 use Rattle.http_wire.specs.declared.fault.WireFault.TheVariants as fault
-use Rattle.http_wire.specs.Answers.{HasAnswerHead, IsReplyText, ReadsReply, answered, count_at, max_reply_body, missing_length, number_at, told_by, told_length}
+use Rattle.http_wire.specs.Answers.{HasAnswerHead, IsReplyText, ReadsReply, answered, count_at, max_reply_body}
+use Rattle.http_wire.specs.Answers.{missing_length, number_at, told_by, told_length}
 use Rattle.http_wire.specs.Heads.{is_number, length_of, lengths_are, value_of}
-use Rattle.http_wire.specs.Replies.{allow_line, body_text, challenge_line, close_line, echo_line, end_text, front_text, further_link, joined, length_line, length_of_body, link_text, links_line, more_links, number_line, phrase_of, rel_word, reply_text, some_links, start_text, target_text, type_line, versions_text, warning_line}
+use Rattle.http_wire.specs.Replies.{allow_line, body_text, challenge_line, close_line, echo_line, end_text, front_text}
+use Rattle.http_wire.specs.Replies.{further_link, joined, length_line, length_of_body, link_text, links_line}
+use Rattle.http_wire.specs.Replies.{more_links, number_line, phrase_of, rel_word, reply_text, some_links, start_text}
+use Rattle.http_wire.specs.Replies.{target_text, type_line, versions_text, warning_line}
 use Rattle.http_wire.specs.Seen.{CanRead, IsVisible, IsVisibleLink, seen_of}
 use Rattle.http_wire.specs.Sending.{IsSentEcho}
 use Rattle.http_wire.specs.Texts.{count_of, digits_of, echo_at, last_number, number_of}
 use Rattle.http_wire.proofs.AnswerLemmas.{one_answer}
-use Rattle.http_wire.proofs.NumberLemmas.{count_again, digits_of_decimal, not_more, number_again}
-use Rattle.http_wire.proofs.SendLemmas.{and_dot, decimal_plain, decimal_trim, echo_is, echo_told, is_field, line, name_is, plain_value, same_number, value_byte}
+use Rattle.http_wire.proofs.NumberLemmas.{count_again, digits_of_decimal, number_again}
+use Rattle.http_wire.proofs.SendLemmas.{and_dot, decimal_plain, decimal_trim, echo_is, echo_told, is_field, line}
+use Rattle.http_wire.proofs.SendLemmas.{name_is, plain_value, value_byte}
 
 -- ---- a head of parts: each is a name, and a value where the reply has one
 
@@ -390,7 +398,7 @@ one_stated : (missing : Option ℕ) (fields : List (List ℕ × List ℕ)) (v : 
     → value_of (codes "transfer-encoding") fields ≡ None → digits_of v ≡ Some n → lengths_are n fields ≡ true → n ≤ max_reply_body
     → length_of max_reply_body missing fields ≡ Ok n
 unfolding length_of
-one_stated missing fields v n one whole digits same short = rw (one, whole, digits, same, not_more max_reply_body n short) refl
+one_stated missing fields v n one whole digits same short = rw (one, whole, digits, same, le-ltb max_reply_body n short) refl
 
 length_told : (r : Reply) → CanRead r → told_length (told_by (head_of r)) ≡ Ok (length (body_text r))
 unfolding length_of_body
@@ -410,7 +418,7 @@ length_told r can = by (status_of r.cause == 204) refl
         let one : value_of (codes "content-length") (told (parts_of r)) ≡ Some (trim_ows (32 ∷ decimal n)) =
         value_told (codes "content-length") (parts_of r) ∙ ap (λ (o : Option ℕ). trimmed (or_else (option_map decimal o) None)) said in
         let digits : digits_of (trim_ows (32 ∷ decimal n)) ≡ Some n = ap digits_of (decimal_trim n (omega (arith, can.body))) ∙ digits_of_decimal n (omega (arith, can.body)) in
-        let fit : fits n (Some (decimal n)) ≡ true = rw (digits, same_number n) refl in
+        let fit : fits n (Some (decimal n)) ≡ true = rw (digits, eq-eqb n n refl) refl in
         let same : lengths_are n (told (parts_of r)) ≡ true =
         lengths_agree n (parts_of r) ∙ ap (λ (o : Option ℕ). if fits n (option_map decimal o) then true else false) said ∙ ap (λ (b : Bool). if b then true else false) fit in
         one_stated (missing_length (status_code (head_of r))) (told (parts_of r)) (trim_ows (32 ∷ decimal n)) n one (value_told (codes "transfer-encoding") (parts_of r)) digits same can.body

@@ -1,6 +1,8 @@
 -- What the text of one reply says, and why bytes are none.
-use Rattle.std.specs.Prelude.{◌≡◌, ◌<◌, ◌≤◌, ◌⊎◌, ◌+◌, ◌++◌, ℕ, List, [], length, drop, take, map, All, Option, Some, None, Result, Ok, Err, if◌then◌else◌, ◌==◌, codes, nat_lt, ⊤}
-use Rattle.httparse.specs.Grammar.{HasNoResponse, MayBecomeResponse, NeverHasResponse, ReadsResponse, ResponseHead, print_response, status_code}
+use Rattle.std.specs.Prelude.{◌≡◌, ◌<◌, ◌≤◌, ◌⊎◌, ◌+◌, ◌++◌, ℕ, List, [], length, drop, take, map, All, Option, Some}
+use Rattle.std.specs.Prelude.{None, Result, Ok, Err, if◌then◌else◌, ◌==◌, codes, nat_lt, ⊤}
+use Rattle.httparse.specs.Grammar.{HasNoResponse, MayBecomeResponse, NeverHasResponse, ReadsResponse, ResponseHead}
+use Rattle.httparse.specs.Grammar.{print_response, status_code}
 use Rattle.httparse.specs.Spans.{IsHeaderWithin, ResponseOverflows, header_bytes, name_and_value}
 use Rattle.httparse.specs.declared.spans.HeaderSpan.{HeaderSpan}
 use Rattle.httparse.specs.declared.spans.ResponseSpans.{ResponseSpans}

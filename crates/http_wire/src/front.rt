@@ -39,7 +39,7 @@ fn behind_head(
     Ok(Some((request, spans.len + length)))
 }
 
-// The fault of bytes that the parser refused.
+/// The fault of bytes that the parser refused.
 pub(crate) fn head_fault(error: Error) -> WireFault
     ensures { result ≡ refusal_of error }
 {

@@ -5,7 +5,7 @@ ghost use Rattle.std.specs.Prelude.{◌≡◌, []};
 use outside_ports::{Failed, Sink};
 use std::alloc::Global;
 
-// A text that grows; a write fails where memory runs out.
+/// A text that grows; a write fails where memory runs out.
 #[derive(Drop)]
 pub(crate) struct GrowingText {
     pub(crate) bytes: Vec<u8>,
@@ -13,6 +13,7 @@ pub(crate) struct GrowingText {
 }
 
 impl GrowingText {
+    /// The empty text.
     pub(crate) fn new(alloc: Global) -> GrowingText
         ensures { result.bytes.items ≡ [] }
     {

@@ -3,7 +3,8 @@
 ghost use Rattle.std.specs.Prelude.{◌≡◌, ◌==◌, ◌||◌, All, IfOk, IsUtf8, length, map, option_map};
 ghost use Rattle.httparse.specs.Spans.{IsHeaderWithin, IsWithin, header_bytes, span_bytes};
 ghost use Rattle.http_wire.specs.Texts.{echo_at, token_at};
-ghost use Rattle.http_wire.specs.Heads.{allows_length, asked, has_name, is_close, length_of, lengths_are, one_length, said_at, value_of};
+ghost use Rattle.http_wire.specs.Heads.{allows_length, asked, has_name, is_close, length_of, lengths_are, one_length};
+ghost use Rattle.http_wire.specs.Heads.{said_at, value_of};
 
 use crate::fault::WireFault;
 use crate::text::{digits, echo, mark, split_target, token, verb};
@@ -35,7 +36,7 @@ fn allows(bytes: &[u8], header: HeaderSpan, number: u64) -> bool
     }
 }
 
-// The value of the first field of a name, in any letter case.
+/// The value of the first field of a name, in any letter case.
 pub(crate) fn value<'b>(bytes: &'b [u8], headers: &[HeaderSpan], name: &[u8]) -> Option<&'b [u8]>
     requires { All (IsHeaderWithin (length bytes.now)) headers.now }
     ensures { option_map (λ v. v.now) result ≡ value_of name.now (map (header_bytes bytes.now) headers.now) }
@@ -100,7 +101,7 @@ pub(crate) fn length_of_body(
     Ok(length)
 }
 
-// The echo of a value of `X-Hub-Exchange`.
+/// The echo of a value of `X-Hub-Exchange`.
 pub(crate) fn echo_in(value: Option<&[u8]>) -> Option<Echo>
     ensures { result ≡ echo_at (option_map (λ v. v.now) value.entry) }
 {

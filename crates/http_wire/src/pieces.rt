@@ -9,7 +9,7 @@ use itoa::Buffer;
 use outside_ports::{Failed, Sink};
 use status_info::Echo;
 
-// Writes pieces, one behind the other.
+/// Writes pieces, one behind the other.
 pub(crate) fn write_pieces<W: Sink>(sink: &mut W, pieces: &[&str]) -> Result<(), Failed>
     ensures bytes { Writes (W.written sink.old) (W.written sink.new) (flat_map (λ p. p.now) pieces.now) result }
     ensures cause { HasCause (W.faults sink.old) (W.faults sink.new) result }
@@ -20,7 +20,7 @@ pub(crate) fn write_pieces<W: Sink>(sink: &mut W, pieces: &[&str]) -> Result<(),
     Ok(())
 }
 
-// A field with a number, where there is one.
+/// A field with a number, where there is one.
 #[tactic(auto, unfolding(crate::specs::Replies::number_line))]
 pub(crate) fn write_number_line<W: Sink>(
     sink: &mut W,
@@ -56,6 +56,7 @@ fn write_echo<W: Sink>(sink: &mut W, run: u64, count: u64) -> Result<(), Failed>
     )
 }
 
+/// The field with the number of the exchange, where the request had one.
 pub(crate) fn write_echo_line<W: Sink>(sink: &mut W, echo: Option<Echo>) -> Result<(), Failed>
     ensures bytes { Writes (W.written sink.old) (W.written sink.new) (echo_line echo) result }
     ensures cause { HasCause (W.faults sink.old) (W.faults sink.new) result }

@@ -3,7 +3,8 @@
 ghost use Rattle.std.specs.Prelude.{◌≡◌, ◌≤◌, ◌<◌, ◌++◌, ℕ, List, [], None, drop, length, vec_len, IfOk, OnOk};
 ghost use Rattle.std.specs.Io.KnownBytes.{Consumes, prepend_known};
 ghost use Rattle.status_info.specs.declared.request.Request.{Request};
-ghost use Rattle.http_wire.specs.Reading.{AreRequests, bytes_due, end_fault, Fills, Leaves, NextGives, OnStream, SourceCause};
+ghost use Rattle.http_wire.specs.Reading.{AreRequests, bytes_due, end_fault, Fills, Leaves, NextGives, OnStream};
+ghost use Rattle.http_wire.specs.Reading.{SourceCause};
 
 use crate::fault::WireFault;
 use crate::front::read_front;
@@ -54,7 +55,7 @@ fn fill<S: Source>(buffer: &mut Vec<u8>, source: &mut S) -> Result<usize, WireFa
     Ok(count)
 }
 
-// The fault where the input ends behind these bytes.
+/// The fault where the input ends behind these bytes.
 pub(crate) fn fault_at_end(kept: &[u8]) -> WireFault
     ensures { result ≡ end_fault kept.now }
 {

@@ -8,7 +8,8 @@ ghost use Rattle.http_wire.specs.Seen.{CanRead, seen_of};
 ghost use Rattle.http_wire.specs.declared.reply_reading.WireReply.{WireReply};
 ghost use Rattle.http_wire.specs.declared.fault.WireFault.{WireFault};
 ghost use Rattle.http_wire.specs.declared.fault.WireFault.TheVariants as fault;
-ghost use Rattle.http_wire.specs.Answers.{FindsAnswer, IsReplyText, ReadsReply, TellsLength, answered, count_at, missing_length, number_at, part_fault, told_at, told_length};
+ghost use Rattle.http_wire.specs.Answers.{FindsAnswer, IsReplyText, ReadsReply, TellsLength, answered, count_at};
+ghost use Rattle.http_wire.specs.Answers.{missing_length, number_at, part_fault, told_at, told_length};
 
 use crate::fault::WireFault;
 use crate::front::{MAX_FIELDS, head_fault};
@@ -30,13 +31,17 @@ pub const MAX_REPLY_BODY: u64 = 83_886_080;
 /// A reply as the consumer sees it. A field whose value is no number of its range counts as absent.
 #[derive(Drop)]
 pub struct WireReply {
+    /// The three digits of the status line.
     pub status: u16,
     /// `X-Total-Count`, the number of rows of the whole collection.
     pub total: Option<u64>,
+    /// `X-Hub-Version`, the version that was read, or else the newest one: of a write, that when it was judged.
     pub version: Option<u64>,
-    /// The oldest version that the caller may ask for.
+    /// `X-Hub-Oldest`, the oldest version that the caller may ask for.
     pub oldest: Option<u64>,
+    /// `X-Hub-Mark`, the mark of the write that is answered.
     pub mark: Option<u64>,
+    /// `X-Hub-Exchange`, the number of the exchange.
     pub echo: Option<Echo>,
     pub body: Bytes,
 }

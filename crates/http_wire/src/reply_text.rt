@@ -13,7 +13,7 @@ use itoa::Buffer;
 use outside_ports::{Failed, Sink};
 use status_info::{Cause, LinkItem, Rel, Reply, Warnings};
 
-// The phrase of a status.
+// The phrase behind the status in the status line.
 #[tactic(auto, unfolding(crate::specs::Replies::phrase_of))]
 fn phrase(status: u16) -> &'static str
     requires { IsStatusCode status }
@@ -90,7 +90,7 @@ fn word_of_rel<'a>(rel: Rel) -> &'a str
     }
 }
 
-// The status line, and the fields that the cause brings.
+// The status line, and the fields that follow from the cause: the type of the body, the challenge and the allowed methods.
 #[tactic(auto, unfolding(crate::specs::Replies::start_text))]
 fn write_start<W: Sink>(sink: &mut W, cause: Cause, allow_write: bool) -> Result<(), Failed>
     ensures bytes { Writes (W.written sink.old) (W.written sink.new) (spec.start_text cause allow_write) result }
@@ -113,7 +113,7 @@ fn write_start<W: Sink>(sink: &mut W, cause: Cause, allow_write: bool) -> Result
     )
 }
 
-// A target and what it is.
+// The target of a link, and which page it is.
 #[tactic(auto, unfolding(crate::specs::Replies::target_text))]
 fn write_target<W: Sink>(sink: &mut W, target: &str, rel: Rel) -> Result<(), Failed>
     ensures bytes { Writes (W.written sink.old) (W.written sink.new) (spec.target_text target.now rel) result }
@@ -129,7 +129,7 @@ fn write_link<W: Sink>(sink: &mut W, link: &LinkItem) -> Result<(), Failed>
     write_target(sink, link.target.as_str(), link.rel)
 }
 
-// A further link.
+// A link behind another one in the field `Link`.
 fn write_next_link<W: Sink>(sink: &mut W, link: &LinkItem) -> Result<(), Failed>
     ensures bytes { Writes (W.written sink.old) (W.written sink.new) (spec.further_link link.now) result }
     ensures cause { HasCause (W.faults sink.old) (W.faults sink.new) result }
@@ -148,7 +148,7 @@ fn write_more_links<W: Sink>(sink: &mut W, links: &[LinkItem]) -> Result<(), Fai
     Ok(())
 }
 
-// The field Link, of one link and those behind it.
+// The field `Link` with one link and those behind it.
 fn write_some_links<W: Sink>(
     sink: &mut W,
     first: &LinkItem,
@@ -227,7 +227,7 @@ fn write_end<W: Sink>(sink: &mut W, reply: &Reply) -> Result<(), Failed>
     sink.write_all(b"\r\n")
 }
 
-// The length of the body, where the head says it.
+// The length of the body. The head of a 204 has none.
 #[tactic(auto, unfolding(crate::specs::Replies::length_of_body))]
 fn stated_length(reply: &Reply) -> Option<u64>
     ensures { result ≡ spec.length_of_body reply.now }
@@ -260,6 +260,7 @@ fn write_status_body<W: Sink>(sink: &mut W, cause: Cause) -> Result<(), Failed>
     sink.write_all(cause.status_body().as_bytes())
 }
 
+/// Writes the body: what was read, or the text that tells the cause. A 204 and a reply to HEAD have none.
 #[tactic(auto, unfolding(crate::specs::Replies::body_text))]
 pub(crate) fn write_body<W: Sink>(sink: &mut W, reply: &Reply) -> Result<(), Failed>
     ensures bytes { Writes (W.written sink.old) (W.written sink.new) (spec.body_text reply.now) result }
@@ -275,7 +276,7 @@ pub(crate) fn write_body<W: Sink>(sink: &mut W, reply: &Reply) -> Result<(), Fai
     }
 }
 
-// Writes all that stands in front of the body.
+/// Writes all that stands in front of the body.
 pub(crate) fn write_head<W: Sink>(sink: &mut W, reply: &Reply) -> Result<(), Failed>
     ensures bytes { Writes (W.written sink.old) (W.written sink.new) (spec.head_text reply.now) result }
     ensures cause { HasCause (W.faults sink.old) (W.faults sink.new) result }
@@ -287,7 +288,7 @@ pub(crate) fn write_head<W: Sink>(sink: &mut W, reply: &Reply) -> Result<(), Fai
     write_end(sink, reply)
 }
 
-/// Writes the text of a reply, and takes no memory.
+/// Writes the text of a reply: its head and its body. It takes no memory, and fails where the sink does.
 pub fn write_reply<W: Sink>(sink: &mut W, reply: &Reply) -> Result<(), Failed>
     ensures bytes { Writes (W.written sink.old) (W.written sink.new) (spec.reply_text reply.now) result }
     ensures cause { HasCause (W.faults sink.old) (W.faults sink.new) result }

@@ -6,7 +6,8 @@ ghost use Rattle.outside_ports.specs.Written.{Writes};
 ghost use Rattle.status_info.specs.declared.request.Request.{Request};
 ghost use Rattle.http_wire.specs.Reading.{BeginsWith};
 ghost use Rattle.http_wire.specs.Replies.{number_line};
-ghost use Rattle.http_wire.specs.Sending.{CanSend, mark_number, put_length, path_text, query_mark, query_text, request_text, token_line, token_text, verb_text, verb_word};
+ghost use Rattle.http_wire.specs.Sending.{CanSend, mark_number, put_length, path_text, query_mark, query_text};
+ghost use Rattle.http_wire.specs.Sending.{request_text, token_line, token_text, verb_text, verb_word};
 
 use crate::growing_text::GrowingText;
 use crate::pieces::{write_echo_line, write_number_line, write_pieces};

@@ -1,16 +1,18 @@
 //! The texts of values in a head.
 
-ghost use Rattle.std.specs.Prelude.{◌≡◌, ◌<◌, ◌≤◌, ◌^◌, ◌*◌, ◌++◌, ◌∷◌, ℕ, List, Some, None, true, codes, decimal, option_map, if◌then◌else◌, IfOk};
+ghost use Rattle.std.specs.Prelude.{◌≡◌, ◌<◌, ◌≤◌, ◌^◌, ◌*◌, ◌++◌, ◌∷◌, ℕ, List, Some, None, true, codes, decimal};
+ghost use Rattle.std.specs.Prelude.{option_map, if◌then◌else◌, IfOk};
 ghost use Rattle.std.specs.List.{before_first, after_first, position_or_len};
 ghost use Rattle.roster_texts.specs.Texts.{is_token};
-ghost use Rattle.http_wire.specs.Texts.{count_of, digits_of, echo_of, is_dot, last_number, mark_of, number_of, path_of, query_of, skip_spaces, token_of, verb_of};
+ghost use Rattle.http_wire.specs.Texts.{count_of, digits_of, echo_of, is_dot, last_number, mark_of, number_of, path_of};
+ghost use Rattle.http_wire.specs.Texts.{query_of, skip_spaces, token_of, verb_of};
 
 use roster_base::{LAST_NUMBER, NoMemory};
 use roster_texts::Token;
 use status_info::{Echo, MarkField, Verb};
 use std::alloc::Global;
 
-// The number that 1 to 18 digits write.
+/// The number that 1 to 18 digits write.
 #[tactic(auto, unfolding(crate::specs::Texts::digits_of))]
 pub(crate) fn digits(bytes: &[u8]) -> Option<u64>
     ensures { result ≡ digits_of bytes.now }
@@ -46,7 +48,7 @@ pub(crate) fn count(bytes: &[u8], most: u64) -> Option<u64>
     Some(number)
 }
 
-/// The same from 1 on.
+/// A number from 1 to `most`, with no zero before its first digit.
 #[tactic(auto, unfolding(crate::specs::Texts::number_of))]
 pub(crate) fn number(bytes: &[u8], most: u64) -> Option<u64>
     ensures { result ≡ number_of most bytes.now }
@@ -146,17 +148,6 @@ fn without_spaces(bytes: &[u8]) -> &[u8]
     rest
 }
 
-// A text that is a token, as one.
-#[tactic(auto, using(crate::proofs::TokenLemmas::token_is_text))]
-fn token_of_bytes(alloc: Global, bytes: &[u8]) -> Result<Option<Token>, NoMemory>
-    ensures { IfOk result (λ t. t ≡ (if is_token bytes.now then Some bytes.now else None)) }
-{
-    match str::from_utf8(bytes) {
-        Ok(text) => Token::read(alloc, text),
-        Err(_) => Ok(None),
-    }
-}
-
 /// The token of a value of `Authorization`.
 #[tactic(auto, unfolding(crate::specs::Texts::token_of))]
 pub(crate) fn token(alloc: Global, bytes: &[u8]) -> Result<Option<Token>, NoMemory>
@@ -168,7 +159,7 @@ pub(crate) fn token(alloc: Global, bytes: &[u8]) -> Result<Option<Token>, NoMemo
     if !bytes[..7].eq_ignore_ascii_case(b"Bearer ") {
         return Ok(None);
     }
-    token_of_bytes(alloc, without_spaces(&bytes[7..]))
+    Token::from_bytes(alloc, without_spaces(&bytes[7..]))
 }
 
 /// A number, an echo and a token that were written are read again.

@@ -1,7 +1,8 @@
 -- The errors of a cascade, by those of the calls that it makes.
 use Rattle.std.proofs.Common.{◌≡◌, ℕ, Bool, true, false, Option, None, Some, Ok, Err, Result, ap, refl}
 use Rattle.std.specs.Prelude.{is_some}
-use Rattle.hub_cascade.specs.Answers.{CountsCopy, CountsHub, LeavesOpen, MakesCascade, TellsHeld, answer_of, error_of_copy}
+use Rattle.hub_cascade.specs.Answers.{CountsCopy, CountsHub, LeavesOpen, MakesCascade, TellsHeld, answer_of}
+use Rattle.hub_cascade.specs.Answers.{error_of_copy}
 use Rattle.hub_cascade.specs.Held.{HoldNothing, HoldSomething}
 use Rattle.hub_cascade.specs.Steps.{ReadsHeld}
 use Rattle.hub_cascade.specs.declared.error.CascadeError.{CascadeError}

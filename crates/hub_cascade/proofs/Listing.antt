@@ -1,12 +1,14 @@
 -- The parts of a set that list what a copy holds.
-use Rattle.std.proofs.Common.{◌≡◌, ℕ, ◌==◌, Bool, true, false, ◌&&◌, ◌||◌, List, [], ◌∷◌, ◌++◌, bytes_eq, map, None, refl, sym, ap, subst, ◌∙◌}
+use Rattle.std.proofs.Common.{◌≡◌, ℕ, ◌==◌, true, ◌&&◌, ◌||◌, List, [], ◌∷◌, ◌++◌, bytes_eq, map, None, refl, sym, ap}
+use Rattle.std.proofs.Common.{subst, ◌∙◌}
+use Rattle.std.proofs.Math.Bool.{and-true}
 use Rattle.std.proofs.lemmas.List.{map-append}
 use Rattle.std.proofs.lemmas.List.Elements.{All-from_recursion, All-head, All-tail}
 use Rattle.std.specs.List.{All, AllByRecursion, IsDistinct, flat_map, list_any}
 use Rattle.std.specs.List.Sorted.{IsStrictlySortedBy}
 use Rattle.std.specs.Ordering.{nat_cmp}
 use Rattle.std.specs.declared.cmp.Ordering.TheVariants.{Less}
-use Rattle.hub_cascade.proofs.Ordering.{IsAbove, each_append, list_above, list_first}
+use Rattle.hub_cascade.proofs.Ordering.{IsAbove, list_above, list_first}
 use Rattle.hub_cascade.specs.Steps.{AreHeldParts, IsHeldPart, ListsHeld, dated, held_part, part_of}
 use Rattle.keeper_memory.proofs.DistinctIds.{distinct_ids}
 use Rattle.keeper_memory.specs.copy.Copies.{Copy, held_list}
@@ -21,6 +23,7 @@ use Rattle.roster_values.specs.Kinds.{all_kinds, place_of_kind}
 use Rattle.roster_values.specs.declared.kind.Kind.{Kind}
 use Rattle.roster_values.specs.declared.kind.Kind.TheVariants.{Orgs}
 use Rattle.version_changes.specs.sets.Applying.{is_bulk, is_whole}
+use Rattle.version_core.proofs.PutLemmas.{all_append}
 
 -- ---- part by part
 
@@ -70,12 +73,8 @@ whole kind [] (p ∷ ps) are = absurd are
 whole kind (k ∷ ks) [] are = absurd are
 whole kind (k ∷ ks) (p ∷ ps) are =
     let here : ((place_of_kind p.kind == place_of_kind kind) && is_bulk p.mode) ≡ (place_of_kind k == place_of_kind kind) =
-    ap (λ (q : SetPart). (place_of_kind q.kind == place_of_kind kind) && is_bulk q.mode) are.0.is ∙ and_all (place_of_kind k == place_of_kind kind) in
+    ap (λ (q : SetPart). (place_of_kind q.kind == place_of_kind kind) && is_bulk q.mode) are.0.is ∙ and-true (place_of_kind k == place_of_kind kind) in
     λ i. here i || whole kind ks ps are.1 i
-  where
-    and_all : (b : Bool) → (b && true) ≡ b
-    and_all true = refl
-    and_all false = refl
 
 -- ---- they are parts of a set
 
@@ -127,7 +126,7 @@ all_above n [] (p ∷ ps) are up = absurd are
 all_above n (k ∷ ks) [] are up = absurd are
 all_above n (k ∷ ks) (p ∷ ps) are up =
     subst (λ (rs : List Record). AllByRecursion (IsAbove n) (rs ++ all_rows ps)) (sym (rows_are k p are.0))
-    (each_append (IsAbove n) are.0.rows (all_rows ps) (list_above n k are.0.rows up.0 are.0.list) (all_above n ks ps are.1 up.1))
+    (all_append (IsAbove n) are.0.rows (all_rows ps) (list_above n k are.0.rows up.0 are.0.list) (all_above n ks ps are.1 up.1))
 
 ascend : (kinds : List Kind) (parts : List SetPart) → AreHeldParts kinds parts → IsStrictlySortedBy nat_cmp (map place_of_kind kinds) → Ascends row_key (all_rows parts)
 unfolding IsStrictlySortedBy

@@ -8,11 +8,12 @@ use Rattle.std.specs.List.{All, AllByRecursion}
 use Rattle.std.specs.Ordering.{is_lt, nat_cmp, ordering_then}
 use Rattle.std.specs.declared.cmp.Ordering.TheVariants.{Less}
 use Rattle.keeper_memory.specs.copy.Lists.{IsList, ascends}
-use Rattle.reference_rules.proofs.KeyOrder.{and_first, and_second, key_total, less_from_is_lt, same_kind}
+use Rattle.reference_rules.proofs.KeyOrder.{and_first, and_second, less_from_is_lt, same_kind}
 use Rattle.roster_types.specs.Keys.{Ascends, Key, is_after, key_cmp, keyed, row_key}
 use Rattle.roster_types.specs.Records.{Record}
 use Rattle.roster_values.specs.Kinds.{place_of_kind}
 use Rattle.roster_values.specs.declared.kind.Kind.{Kind}
+use Rattle.version_core.proofs.LookUps.{below_trans}
 
 abbrev OfPlace : ℕ → Record → Type 0
 OfPlace n row = place_of_kind row.kind ≡ n
@@ -30,11 +31,6 @@ of_place kind [] all = tt
 of_place kind (row ∷ rows) all =
     (ap place_of_kind (All-head (λ (r : Record). r.kind ≡ kind) row rows all), of_place kind rows (All-tail (λ (r : Record). r.kind ≡ kind) row rows all))
 
-below_trans : (k l : Key) (rows : List Record) → key_cmp k l ≡ Less → IsBelowAll l rows → IsBelowAll k rows
-below_trans k l [] less below = refl
-below_trans k l (row ∷ rows) less below =
-    and_from _ _ (ap is_lt (key_total.trans k l (row_key row) less (less_from_is_lt _ (and_first _ _ below)))) (below_trans k l rows less (and_second _ _ below))
-
 module _ (n : ℕ) where
   less_key : (a : List ℕ) (row : Record) → OfPlace n row → is_after (Some a) row.id ≡ true → key_cmp (n, a) (row_key row) ≡ Less
   less_key a row of above = (λ i. key_cmp (n, a) (of i, row.id)) ∙ same_kind n a row.id ∙ less_from_is_lt _ above
@@ -44,7 +40,7 @@ module _ (n : ℕ) where
   below_ids a (row ∷ rows) of up =
       let less = less_key a row of.0 (and_first _ _ up) in
       let rest = subst (λ m. IsBelowAll (m, row.id) rows) (sym of.0) (below_ids row.id rows of.1 (and_second _ _ up)) in
-      and_from _ _ (ap is_lt less) (below_trans (n, a) (row_key row) rows less rest)
+      and_from _ _ (ap is_lt less) (below_trans row_key (n, a) (row_key row) rows less rest)
 
   -- ---- and rows of later kinds stand behind them
 
@@ -79,7 +75,3 @@ list_above n kind rows less is = by rows (of_place kind rows is.kinds)
     by : (rs : List Record) → AllByRecursion (OfPlace (place_of_kind kind)) rs → AllByRecursion (IsAbove n) rs
     by [] of = tt
     by (r ∷ rs) of = (ap (nat_cmp n) of.0 ∙ less, by rs of.1)
-
-pub each_append : (P : Record → Type 0) (xs ys : List Record) → AllByRecursion P xs → AllByRecursion P ys → AllByRecursion P (xs ++ ys)
-each_append P [] ys all all' = all'
-each_append P (x ∷ xs) ys all all' = (all.0, each_append P xs ys all.1 all')

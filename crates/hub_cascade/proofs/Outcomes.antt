@@ -1,8 +1,10 @@
 -- What held rows make of a version, by what the set that lists them changes; and that it is one thing.
-use Rattle.std.proofs.Common.{◌≡◌, ℕ, ℤ, ◌+◌, ◌&&◌, cond, List, [], ◌∷◌, Option, None, Some, inl, map, option_map, refl, sym, ap, subst, ◌∙◌}
+use Rattle.std.proofs.Common.{◌≡◌, ℕ, ℤ, ◌+◌, ◌&&◌, cond, List, [], ◌∷◌, Option, None, Some, inl, map, option_map, refl}
+use Rattle.std.proofs.Common.{sym, ap, subst, ◌∙◌}
 use Rattle.std.specs.List.{AllByRecursion}
 use Rattle.std.specs.Option.{option_or}
-use Rattle.hub_cascade.specs.Cascading.{AreCascaded, Cascades, cascaded, fault_of_owner, owned_by_other, refusal_of, unheld}
+use Rattle.hub_cascade.specs.Cascading.{AreCascaded, Cascades, cascaded, fault_of_owner, owned_by_other, refusal_of}
+use Rattle.hub_cascade.specs.Cascading.{unheld}
 use Rattle.hub_cascade.specs.Steps.{LeadsWith, ListsAll, dated}
 use Rattle.roster_types.specs.Keys.{Key, look_up, row_key}
 use Rattle.roster_types.specs.Records.{Record}
@@ -11,7 +13,8 @@ use Rattle.roster_values.specs.Kinds.{all_kinds}
 use Rattle.version_changes.proofs.Outcomes.{ChangesOf, makes_next, makes_no_more, makes_nothing, makes_on, one_made}
 use Rattle.version_changes.specs.declared.sets.publish_fault.PublishFault.{PublishFault}
 use Rattle.version_changes.specs.declared.sets.publish_fault.PublishFault.TheVariants.{LastVersion}
-use Rattle.version_changes.specs.sets.Applying.{Becomes, Leads, Makes, Outcome, Refuses, Unchanged, is_active, is_own, marked, owned_by, rows_in, set_key, too_many, unlisted}
+use Rattle.version_changes.specs.sets.Applying.{Becomes, Leads, Makes, Outcome, Refuses, Unchanged, is_active, is_own}
+use Rattle.version_changes.specs.sets.Applying.{marked, owned_by, rows_in, set_key, too_many, unlisted}
 use Rattle.version_changes.specs.sets.Applying as applying
 use Rattle.version_changes.specs.sets.Steps.{ChangesAt}
 use Rattle.version_core.proofs.LookUps.{look_up-map}

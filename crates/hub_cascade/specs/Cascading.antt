@@ -1,5 +1,6 @@
 -- What becomes of a version where the rows that a copy holds are made those of a feed.
-use Rattle.std.specs.Prelude.{◌≡◌, ℕ, ℤ, ◌&&◌, option_map, filter, if◌then◌else◌, Bool, List, [], ◌∷◌, Option, Some, None}
+use Rattle.std.specs.Prelude.{◌≡◌, ℕ, ℤ, ◌&&◌, option_map, filter, if◌then◌else◌, Bool, List, [], ◌∷◌, Option, Some}
+use Rattle.std.specs.Prelude.{None}
 use Rattle.std.specs.Option.{option_or}
 use Rattle.roster_types.specs.Keys.{Key, look_up, row_key}
 use Rattle.roster_types.specs.Records.{Record}

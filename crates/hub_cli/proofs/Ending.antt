@@ -1,5 +1,6 @@
 -- What an answer's status says, and answers for want of memory.
-use Rattle.std.proofs.Common.{◌≡◌, ◌≢◌, ◌⊎◌, ℕ, ℤ, List, [], ◌++◌, Option, Some, None, Result, Ok, Err, IsErr, append-nil, length, refl, sym, ap, subst, ◌∙◌, inl, inr}
+use Rattle.std.proofs.Common.{◌≡◌, ◌≢◌, ◌⊎◌, ℕ, ℤ, List, [], ◌++◌, Option, Some, None, Result, Ok, Err, IsErr}
+use Rattle.std.proofs.Common.{append-nil, length, refl, sym, ap, subst, ◌∙◌, inl, inr}
 use Rattle.script_runs.specs.Below.Consumers.{CopyRun, LinkRun}
 use Rattle.script_runs.specs.Below.SyncLines.{sync_status, sync_text}
 use Rattle.script_runs.specs.Below.Deltas.{IsDeltaOf}
@@ -40,8 +41,10 @@ use Rattle.script_runs.specs.Below.Answers.{IsPrinted, status_of, text_of}
 use Rattle.script_runs.specs.Below.Cascades.{IsCascadeAnswer}
 use Rattle.script_runs.specs.Below.ConsumerAnswers.{IsDeltaAnswer, IsListAnswer, IsSyncAnswer, ReadEnds}
 use Rattle.script_runs.specs.Below.Follows.{IsFollowAnswer}
-use Rattle.script_runs.specs.Below.ExportAnswers.{ExportEnds, HasTooMany, IsChangesExport, IsExport, IsExportAnswer, IsManifestAnswer, IsSinceAnswer, RefusesExport, earlier_feed, rows_in}
-use Rattle.script_runs.specs.Below.OutboxAnswers.{IsEnterAnswer, IsEntered, IsOutboxAnswer, IsSendAnswer, IsWriteOf, ReadsWrite, or_bad_row, put_in}
+use Rattle.script_runs.specs.Below.ExportAnswers.{ExportEnds, HasTooMany, IsChangesExport, IsExport, IsExportAnswer}
+use Rattle.script_runs.specs.Below.ExportAnswers.{IsManifestAnswer, IsSinceAnswer, RefusesExport, earlier_feed, rows_in}
+use Rattle.script_runs.specs.Below.OutboxAnswers.{IsEnterAnswer, IsEntered, IsOutboxAnswer, IsSendAnswer, IsWriteOf}
+use Rattle.script_runs.specs.Below.OutboxAnswers.{ReadsWrite, or_bad_row, put_in}
 use Rattle.script_runs.specs.Below.Outside.{HaveRisen, HaveStood, NothingFailed, Outside}
 use Rattle.script_runs.specs.Below.Runs.{IsShowAnswer, LeadsFrom, WantsMemory}
 use Rattle.hub_cli.specs.Runs.{ConsumerRests, IsAnswer, IsCommandAnswer}
@@ -53,7 +56,9 @@ use Rattle.script_runs.specs.Below.End.{End}
 use Rattle.script_runs.specs.Below.End.TheVariants as ends
 use Rattle.hub_words.specs.declared.task.Feed.{Feed}
 use Rattle.hub_words.specs.declared.words.Command.{Command}
-use Rattle.hub_words.specs.declared.words.Command.TheVariants.{Ask, Cascade, Enter, Export, ExportManifest, ExportSince, Follow, Grant, ListHeld, Make, Outbox, Publish, Rehearse, Send, Show, Sync, SyncDelta}
+use Rattle.hub_words.specs.declared.words.Command.TheVariants.{Ask, Cascade, Enter, Export, ExportManifest, ExportSince}
+use Rattle.hub_words.specs.declared.words.Command.TheVariants.{Follow, Grant, ListHeld, Make, Outbox, Publish, Rehearse}
+use Rattle.hub_words.specs.declared.words.Command.TheVariants.{Send, Show, Sync, SyncDelta}
 use Rattle.hub_words.specs.declared.words.EnterTask.{EnterTask}
 use Rattle.hub_words.specs.declared.words.EnterTask.TheVariants.{Delete, Put}
 use Rattle.hub_words.specs.declared.words.Parsed.{Parsed}
@@ -191,31 +196,22 @@ module _ (o : Outside) where
   show-says kind a (inr (inl shown)) = subst (λ (x : Answer). Says o x.end) (sym shown.0.is) (file-says kind shown.0.at shown.0.file)
   show-says kind a (inr (inr wants)) = says_memory a.end wants.1
 
+same_end : {a b : End} → (let r : Result Write End = Err a in r ≡ Err b) → a ≡ b
+same_end e = cc
+
 -- what refuses the file of a body
 or-bad-row : (name : List ℕ) (object : Object) (body : List ℕ) (r : Result Record JsonFault) (end : End) → or_bad_row name object body r ≡ Err end → status_of end ≡ 4
 or-bad-row name object body (Ok row) end e = absurd (cc e)
-or-bad-row name object body (Err fault) end e = ap status_of (other (sym e))
-  where
-    other : {a b : End} → (let r : Result Write End = Err a in r ≡ Err b) → a ≡ b
-    other e = cc
+or-bad-row name object body (Err fault) end e = ap status_of (same_end (sym e))
 
 put-refused : (object : Object) (at : ℤ) (name : List ℕ) (read : FileRead) (end : End) → put_in object at name read ≡ Err end → status_of end ≡ 4
-put-refused object at name Absent end e = ap status_of (other (sym e))
-  where
-    other : {a b : End} → (let r : Result Write End = Err a in r ≡ Err b) → a ≡ b
-    other e = cc
-put-refused object at name TooLong end e = ap status_of (other (sym e))
-  where
-    other : {a b : End} → (let r : Result Write End = Err a in r ≡ Err b) → a ≡ b
-    other e = cc
+put-refused object at name Absent end e = ap status_of (same_end (sym e))
+put-refused object at name TooLong end e = ap status_of (same_end (sym e))
 put-refused object at name (Bytes bytes) end e =
     elim (is_utf8 bytes) as (λ b. (if b then or_bad_row name object bytes (put_of object.kind object.id at bytes) else Err (ends.FileNotUtf8 name)) ≡ Err end → status_of end ≡ 4) [
       | true ↦ λ same. or-bad-row name object bytes (put_of object.kind object.id at bytes) end same
-      | false ↦ λ same. ap status_of (other (sym same))
+      | false ↦ λ same. ap status_of (same_end (sym same))
     ] e
-  where
-    other : {a b : End} → (let r : Result Write End = Err a in r ≡ Err b) → a ≡ b
-    other e = cc
 
 write-refused : (files : Option (List Stored)) (moment : Option ℤ) (task : EnterTask) (end : End) → IsWriteOf files moment task (Err end) → status_of end ≡ 4
 write-refused files moment (Put object file) end (read, at, is, reads, same) = put-refused object at file read end same

@@ -13,7 +13,9 @@ use Rattle.script_runs.specs.Below.Runs.{IsPublishAnswer, IsShowAnswer, WantsMem
 use Rattle.script_runs.specs.Below.Answer.{Answer}
 use Rattle.script_runs.specs.Below.End.TheVariants.{BadWord}
 use Rattle.hub_words.specs.declared.words.Command.{Command}
-use Rattle.hub_words.specs.declared.words.Command.TheVariants.{Ask, Cascade, Enter, Export, ExportManifest, ExportSince, Follow, Grant, ListHeld, Make, Outbox, Publish, Rehearse, Send, Show, Sync, SyncDelta}
+use Rattle.hub_words.specs.declared.words.Command.TheVariants.{Ask, Cascade, Enter, Export, ExportManifest, ExportSince}
+use Rattle.hub_words.specs.declared.words.Command.TheVariants.{Follow, Grant, ListHeld, Make, Outbox, Publish, Rehearse}
+use Rattle.hub_words.specs.declared.words.Command.TheVariants.{Send, Show, Sync, SyncDelta}
 use Rattle.hub_words.specs.declared.words.Parsed.{Parsed}
 use Rattle.keeper_memory.specs.Kept.{KeptState}
 use Rattle.script_runs.specs.Makings.{IsMakeAnswer}

@@ -33,7 +33,7 @@ use script_runs::commands::cascade::cascade;
 use script_runs::commands::delta::delta;
 use script_runs::commands::enter::enter;
 use script_runs::commands::export::{export, export_since, manifest};
-use script_runs::commands::follow::follow;
+use script_runs::commands::follow::{FollowWords, follow};
 use script_runs::commands::grant::grant;
 use script_runs::commands::list::list;
 use script_runs::commands::outbox::outbox;
@@ -84,11 +84,10 @@ fn run_command<F: Folder, H: HubKeeper, C: CopyKeeper, L: Link, K: Clock, O: Sin
         Command::Sync { task } => tell(alloc, sync(alloc, task, copy, link), out),
         Command::SyncDelta { task } => tell(alloc, delta(alloc, task, copy, link), out),
         Command::Cascade { feed } => tell(alloc, cascade(alloc, feed, keeper, copy, clock), out),
-        Command::Follow { task, feed } => tell(
-            alloc,
-            follow(alloc, task, feed, keeper, copy, link, clock),
-            out,
-        ),
+        Command::Follow { task, feed } => {
+            let words = FollowWords { sync: task, feed };
+            tell(alloc, follow(alloc, &words, keeper, copy, link, clock), out)
+        }
         Command::Enter { task } => tell(alloc, enter(alloc, task, folder, copy, clock), out),
         Command::Send { task } => tell(alloc, send(alloc, task, copy, link), out),
         Command::Outbox => tell(alloc, outbox(alloc, copy), out),

@@ -1,8 +1,10 @@
 -- The answer of `ask`, from what was made of the stream of a file's bytes.
 use Rattle.std.specs.Prelude.{◌==◌, ◌&&◌}
-use Rattle.std.proofs.Common.{◌≡◌, ◌≢◌, ◌⊎◌, inl, inr, ℕ, ℤ, ◌+◌, Bool, false, List, [], ◌∷◌, ◌++◌, length, Option, Some, None, Ok, Err, refl, sym, ap, ◌∙◌, subst, arith}
+use Rattle.std.proofs.Common.{◌≡◌, ◌≢◌, ◌⊎◌, inl, inr, ℕ, ℤ, ◌+◌, Bool, false, List, [], ◌∷◌, ◌++◌, length, Option}
+use Rattle.std.proofs.Common.{Some, None, Ok, Err, refl, sym, ap, ◌∙◌, subst, arith}
 use Rattle.std.proofs.lemmas.Bool.{ne_eqb}
 use Rattle.std.proofs.lemmas.List.{append-nil, length-map}
+use Rattle.std.proofs.lemmas.Option.{same_Some}
 use Rattle.std.specs.Io.KnownBytes.{Appends}
 use Rattle.http_wire.specs.Lasting.{lasting}
 use Rattle.http_wire.specs.Reading.{AreRequests}
@@ -28,16 +30,18 @@ use Rattle.roster_base.specs.Faults.{Rose}
 use Rattle.hub_commands.proofs.Leading.{leads-nowhere, leads-on, leads-standing}
 use Rattle.hub_commands.proofs.Publishing.{Says, rose}
 use Rattle.hub_commands.specs.Answers.{IsPrinted, end_text}
-use Rattle.hub_commands.specs.AskAnswers.{AsksBytes, IsAskAnswer, IsBytesOf, IsToldOf, ReadsBytes, StopsAsking, StreamEnds, ask_end, bytes_in, closed_end}
+use Rattle.hub_commands.specs.AskAnswers.{AsksBytes, IsAskAnswer, IsBytesOf, IsToldOf, ReadsBytes, StopsAsking}
+use Rattle.hub_commands.specs.AskAnswers.{StreamEnds, ask_end, bytes_in, closed_end}
 use Rattle.hub_commands.specs.Outside.{Faults, Outside, faults_of, outside_of}
 use Rattle.hub_commands.specs.Runs.{LeadsFrom, Writes}
 use Rattle.hub_commands.specs.Steps.{end_of_error}
 use Rattle.hub_commands.specs.declared.answer.Answer.{Answer}
 use Rattle.hub_commands.specs.declared.answer.End.{End}
-use Rattle.hub_commands.specs.declared.answer.End.TheVariants.{BadRow, BadWord, CopyFailed, DeltaSynced, Done, ExportTooLarge, FileNotUtf8, FileTooLarge, FolderFailed, GrantsRefused, HubFailed, MissingFile, NoMemory, NotEntered, NothingHeld, NotPublished, Refused, RequestRefused, ScriptRefused, Sent, Synced}
-
-some_same : {A : Type 0} {x y : A} → Some x ≡ Some y → x ≡ y
-some_same is = cc is
+use Rattle.hub_commands.specs.declared.answer.End.TheVariants.{BadRow, BadWord, CopyFailed, DeltaSynced, Done}
+use Rattle.hub_commands.specs.declared.answer.End.TheVariants.{ExportTooLarge, FileNotUtf8, FileTooLarge, FolderFailed}
+use Rattle.hub_commands.specs.declared.answer.End.TheVariants.{GrantsRefused, HubFailed, MissingFile, NoMemory}
+use Rattle.hub_commands.specs.declared.answer.End.TheVariants.{NotEntered, NothingHeld, NotPublished, Refused}
+use Rattle.hub_commands.specs.declared.answer.End.TheVariants.{RequestRefused, ScriptRefused, Sent, Synced}
 
 -- ---- how the bytes end
 
@@ -153,21 +157,21 @@ module _ (bytes left : List ℕ) (written written' : Option (List ℕ)) (sink si
     }
 
     told_at : (stop : Option WireFault) → IsServed old new (requests_of xs) (replies_text xs) stop kept → (end : End) → ask_end (end_at stop (length xs) (length kept)) (length left) ≡ Some end → Told xs end
-    told_at None served end is = subst (Told xs) (some_same is) (closed None served refl served.read (inl served.stops))
-    told_at (Some fault.End) served end is = subst (Told xs) (some_same is) (closed (Some fault.End) served refl (served.read.1 refl) (inr (served.cause.0, served.cause.2)))
-    told_at (Some fault.NoMemory) served end is = subst (Told xs) (some_same is) (record {
+    told_at None served end is = subst (Told xs) (same_Some _ _ is) (closed None served refl served.read (inl served.stops))
+    told_at (Some fault.End) served end is = subst (Told xs) (same_Some _ _ is) (closed (Some fault.End) served refl (served.read.1 refl) (inr (served.cause.0, served.cause.2)))
+    told_at (Some fault.NoMemory) served end is = subst (Told xs) (same_Some _ _ is) (record {
       done = replies_text xs ++ [];
       ends = (kept, left, [], first_taken bytes (kept ++ left) (requests_of xs) served.read.0, inl refl, refl);
       wrote = served.written;
       stood = served.sink;
     })
     told_at (Some fault.Source) served end is = absurd (omega (arith, served.source))
-    told_at (Some fault.Cut) served end is = subst (Told xs) (some_same is) (wire fault.Cut served refl tt)
-    told_at (Some fault.Head) served end is = subst (Told xs) (some_same is) (wire fault.Head served refl tt)
-    told_at (Some fault.HeadTooLong) served end is = subst (Told xs) (some_same is) (wire fault.HeadTooLong served refl tt)
-    told_at (Some fault.Length) served end is = subst (Told xs) (some_same is) (wire fault.Length served refl tt)
-    told_at (Some fault.BodyTooLong) served end is = subst (Told xs) (some_same is) (wire fault.BodyTooLong served refl tt)
-    told_at (Some fault.Chunked) served end is = subst (Told xs) (some_same is) (wire fault.Chunked served refl tt)
+    told_at (Some fault.Cut) served end is = subst (Told xs) (same_Some _ _ is) (wire fault.Cut served refl tt)
+    told_at (Some fault.Head) served end is = subst (Told xs) (same_Some _ _ is) (wire fault.Head served refl tt)
+    told_at (Some fault.HeadTooLong) served end is = subst (Told xs) (same_Some _ _ is) (wire fault.HeadTooLong served refl tt)
+    told_at (Some fault.Length) served end is = subst (Told xs) (same_Some _ _ is) (wire fault.Length served refl tt)
+    told_at (Some fault.BodyTooLong) served end is = subst (Told xs) (same_Some _ _ is) (wire fault.BodyTooLong served refl tt)
+    told_at (Some fault.Chunked) served end is = subst (Told xs) (same_Some _ _ is) (wire fault.Chunked served refl tt)
 
   ended : (xs : List Exchange) (stop : Option WireFault) (kept : List ℕ) (result : StreamEnd) → result ≡ end_at stop (length (requests_of xs)) (length kept)
       → ask_end result (length left) ≡ ask_end (end_at stop (length xs) (length kept)) (length left)

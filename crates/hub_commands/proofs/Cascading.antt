@@ -22,7 +22,11 @@ use Rattle.hub_commands.specs.Cascades.{CascadesCopy, IsCascadeAnswer, TellsCasc
 use Rattle.hub_commands.specs.ConsumerAnswers.{CopyStays}
 use Rattle.hub_commands.specs.declared.answer.Answer.{Answer}
 use Rattle.hub_commands.specs.declared.answer.End.{End}
-use Rattle.hub_commands.specs.declared.answer.End.TheVariants.{BadRow, BadWord, CopyFailed, DeltaSynced, Done, ExportTooLarge, FileNotUtf8, FileTooLarge, FolderFailed, GrantsRefused, HubFailed, MissingFile, NoMemory, NotEntered, NothingHeld, NotPublished, Refused, RequestRefused, ScriptRefused, Sent, Synced}
+use Rattle.hub_commands.specs.declared.answer.End.TheVariants.{BadRow, BadWord, CopyFailed, DeltaSynced, Done}
+use Rattle.hub_commands.specs.declared.answer.End.TheVariants.{ExportTooLarge, FileNotUtf8, FileTooLarge, FolderFailed}
+use Rattle.hub_commands.specs.declared.answer.End.TheVariants.{GrantsRefused, HubFailed, MissingFile, NoMemory}
+use Rattle.hub_commands.specs.declared.answer.End.TheVariants.{NotEntered, NothingHeld, NotPublished, Refused}
+use Rattle.hub_commands.specs.declared.answer.End.TheVariants.{RequestRefused, ScriptRefused, Sent, Synced}
 use Rattle.hub_commands.specs.Outside.{Faults, HaveRisen, faults_of}
 use Rattle.hub_commands.specs.Publishes.{IsTold}
 use Rattle.hub_commands.specs.Runs.{LeadsFrom}

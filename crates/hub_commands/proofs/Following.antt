@@ -1,11 +1,13 @@
 -- A copy brought up to date with another hub, and cascaded into one.
-use Rattle.std.proofs.Common.{◌≡◌, ◌≢◌, ◌⊎◌, ◌+◌, ◌≤◌, ℕ, ℤ, List, [], Option, Result, Ok, Err, false, true, refl, sym, ap, subst, ◌∙◌, inl, inr, arith}
+use Rattle.std.proofs.Common.{◌≡◌, ◌≢◌, ◌⊎◌, ◌+◌, ◌≤◌, ℕ, ℤ, List, [], Option, Result, Ok, Err, false, true, refl, sym}
+use Rattle.std.proofs.Common.{ap, subst, ◌∙◌, inl, inr, arith}
 use Rattle.std.specs.Prelude.{min, ◌-◌, ◌^◌, ⊤}
 use Rattle.consumer_commands.specs.Consumers.{CopyRun, LinkRun, copy_between, link_between}
 use Rattle.consumer_commands.proofs.Below.DeltaDoneLemmas.{cause_fails}
 use Rattle.consumer_commands.proofs.Below.DeltaStopLemmas.{halts_end}
 use Rattle.consumer_commands.specs.Below.DeltaCauses.{DeltaCause}
-use Rattle.consumer_commands.specs.Below.DeltaCauses.DeltaCause.{Broke as BrokeBeside, Halted, OutOfRuns, Swapped, Unbased, Wants as WantsAlone}
+use Rattle.consumer_commands.specs.Below.DeltaCauses.DeltaCause.{Broke as BrokeBeside, Halted, OutOfRuns, Swapped}
+use Rattle.consumer_commands.specs.Below.DeltaCauses.DeltaCause.{Unbased, Wants as WantsAlone}
 use Rattle.consumer_commands.specs.Below.DeltaFilling.{Halts}
 use Rattle.consumer_commands.specs.Below.DeltaFilling.Halts.{Broke, Merging, Stopped, Wants as WantsBeside}
 use Rattle.consumer_commands.specs.Below.DeltaGathering.Stops.{Given, NoReply, NoneCame, Wants as WantsFirst}
@@ -40,7 +42,8 @@ use Rattle.hub_commands.proofs.Leading.{leads-nowhere, leads-on, leads-standing}
 use Rattle.hub_commands.proofs.Publishing.{rose}
 use Rattle.hub_commands.specs.Answers.{status_of}
 use Rattle.hub_commands.specs.Cascades.{TellsCascade, end_of_cascade, or_ended}
-use Rattle.hub_commands.specs.Follows.{IsCaughtUp, IsFollowAnswer, IsUnbased, MissCause, MissTold, TellsEnd, TellsFollow, TellsVersion}
+use Rattle.hub_commands.specs.Follows.{IsCaughtUp, IsFollowAnswer, IsUnbased, MissCause, MissTold, TellsEnd}
+use Rattle.hub_commands.specs.Follows.{TellsFollow, TellsVersion}
 use Rattle.hub_commands.specs.declared.answer.Answer.{Answer}
 use Rattle.hub_commands.specs.declared.answer.End.{End}
 use Rattle.hub_commands.specs.declared.answer.End.TheVariants.{DeltaSynced, Done, HubFailed, NoMemory, Synced}

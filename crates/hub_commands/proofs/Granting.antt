@@ -1,5 +1,6 @@
 -- The grants of a file, set in a hub.
-use Rattle.std.proofs.Common.{◌≡◌, ◌≢◌, ◌⊎◌, ℕ, ℤ, List, [], Option, Result, Ok, Err, codes, false, refl, sym, subst, inl, inr}
+use Rattle.std.proofs.Common.{◌≡◌, ◌≢◌, ◌⊎◌, ℕ, ℤ, List, [], Option, Result, Ok, Err, codes, false, refl, sym, subst}
+use Rattle.std.proofs.Common.{inl, inr}
 use Rattle.std.specs.Bool.{⊤}
 use Rattle.csv_sets.specs.Files.{largest}
 use Rattle.version_changes.specs.grants.Granting.{GrantsMake}
@@ -22,8 +23,13 @@ use Rattle.hub_commands.proofs.Publishing.{Says, rose}
 use Rattle.rest_provider.specs.Moments.{IsMomentOf}
 use Rattle.hub_commands.specs.declared.answer.Answer.{Answer}
 use Rattle.hub_commands.specs.declared.answer.End.{End}
-use Rattle.hub_commands.specs.declared.answer.End.TheVariants.{BadRow, BadWord, CopyFailed, DeltaSynced, Done, ExportTooLarge, FileNotUtf8, FileTooLarge, FolderFailed, GrantsRefused, HubFailed, MissingFile, NoMemory, NotEntered, NothingHeld, NotPublished, Refused, RequestRefused, ScriptRefused, Sent, Synced}
-use Rattle.hub_commands.specs.GrantAnswers.{GivesGrants, GrantsFile, IsGrantAnswer, IsGrantsOf, ReadsGrants, SetsGrants, StopsGrant, grants_in, or_refused}
+use Rattle.hub_commands.specs.declared.answer.End.TheVariants.{BadRow, BadWord, CopyFailed, DeltaSynced, Done}
+use Rattle.hub_commands.specs.declared.answer.End.TheVariants.{ExportTooLarge, FileNotUtf8, FileTooLarge, FolderFailed}
+use Rattle.hub_commands.specs.declared.answer.End.TheVariants.{GrantsRefused, HubFailed, MissingFile, NoMemory}
+use Rattle.hub_commands.specs.declared.answer.End.TheVariants.{NotEntered, NothingHeld, NotPublished, Refused}
+use Rattle.hub_commands.specs.declared.answer.End.TheVariants.{RequestRefused, ScriptRefused, Sent, Synced}
+use Rattle.hub_commands.specs.GrantAnswers.{GivesGrants, GrantsFile, IsGrantAnswer, IsGrantsOf, ReadsGrants, SetsGrants}
+use Rattle.hub_commands.specs.GrantAnswers.{StopsGrant, grants_in, or_refused}
 use Rattle.hub_commands.specs.Outside.{Faults, HaveStood, Outside, faults_of, outside_of}
 use Rattle.hub_commands.specs.Publishes.{IsTold}
 use Rattle.hub_commands.specs.Runs.{LeadsFrom}

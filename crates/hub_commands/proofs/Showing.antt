@@ -1,5 +1,6 @@
 -- The answer to what a read gave is the answer over the file.
-use Rattle.std.proofs.Common.{◌≡◌, ◌<◌, ◌∷◌, ◌∙◌, [], ℕ, ℤ, zero, suc, List, Option, Some, None, Ok, true, IfSome, length, nat_lt, refl, sym, arith}
+use Rattle.std.proofs.Common.{◌≡◌, ◌<◌, ◌∷◌, ◌∙◌, [], ℕ, ℤ, zero, suc, List, Option, Some, None, Ok, true, IfSome}
+use Rattle.std.proofs.Common.{length, nat_lt, refl, sym, arith}
 use Rattle.std.proofs.lemmas.Bool.{lt-ltb}
 use Rattle.csv_sets.specs.declared.fault.SetFault.TheVariants as fault
 use Rattle.csv_sets.specs.declared.fault.SetFile.TheVariants.{RowsOf}

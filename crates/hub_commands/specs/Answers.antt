@@ -5,8 +5,14 @@ use Rattle.consumer_commands.specs.SendLines.{enter_status, enter_text, send_sta
 use Rattle.consumer_commands.specs.SyncLines.{place_text, sync_status, sync_text}
 use Rattle.hub_commands.specs.declared.answer.Answer.{Answer}
 use Rattle.hub_commands.specs.declared.answer.End.{End}
-use Rattle.hub_commands.specs.declared.answer.End.TheVariants.{BadRow, BadWord, CopyFailed, DeltaSynced, Done, ExportTooLarge, FileNotUtf8, FileTooLarge, FolderFailed, GrantsRefused, HubFailed, MissingFile, NoMemory, NotEntered, NothingHeld, NotPublished, Refused, RequestRefused, ScriptRefused, Sent, Synced}
-use Rattle.hub_commands.specs.Lines.{bad_word_text, copy_failed, fault_text, folder_failed, grants_fault_text, hub_failed, named_file_text, no_memory, nothing_held, publish_fault_text, request_text, script_text}
+use Rattle.hub_commands.specs.declared.answer.End.TheVariants.{BadRow, BadWord, CopyFailed, DeltaSynced, Done}
+use Rattle.hub_commands.specs.declared.answer.End.TheVariants.{ExportTooLarge, FileNotUtf8, FileTooLarge, FolderFailed}
+use Rattle.hub_commands.specs.declared.answer.End.TheVariants.{GrantsRefused, HubFailed, MissingFile, NoMemory}
+use Rattle.hub_commands.specs.declared.answer.End.TheVariants.{NotEntered, NothingHeld, NotPublished, Refused}
+use Rattle.hub_commands.specs.declared.answer.End.TheVariants.{RequestRefused, ScriptRefused, Sent, Synced}
+use Rattle.hub_commands.specs.Lines.{bad_word_text, copy_failed, fault_text, folder_failed, grants_fault_text}
+use Rattle.hub_commands.specs.Lines.{hub_failed, named_file_text, no_memory, nothing_held, publish_fault_text}
+use Rattle.hub_commands.specs.Lines.{request_text, script_text}
 
 abbrev pub status_of : End → ℕ
 status_of Done = 0

@@ -1,5 +1,6 @@
 -- What `ask` answers: the replies to the requests in a file, and how the stream of its bytes ends.
-use Rattle.std.specs.Prelude.{◌≡◌, ◌⊎◌, ◌++◌, ◌+◌, ◌<◌, ◌==◌, ◌&&◌, ⊤, ℕ, ℤ, Bool, true, false, List, [], Option, Some, None, Result, Ok, Err, length}
+use Rattle.std.specs.Prelude.{◌≡◌, ◌⊎◌, ◌++◌, ◌+◌, ◌<◌, ◌==◌, ◌&&◌, ⊤, ℕ, ℤ, Bool, true, false, List, [], Option, Some}
+use Rattle.std.specs.Prelude.{None, Result, Ok, Err, length}
 use Rattle.csv_sets.specs.Files.{largest}
 use Rattle.http_wire.specs.Reading.{AreRequests, Causes}
 use Rattle.http_wire.specs.declared.fault.WireFault.{WireFault}
@@ -14,7 +15,8 @@ use Rattle.outside_ports.specs.declared.folder.FileRead.{FileRead}
 use Rattle.outside_ports.specs.declared.folder.FileRead.TheVariants.{Absent, Bytes, TooLong}
 use Rattle.outside_ports.specs.Files.{ReadsFile, Stored}
 use Rattle.hub_commands.specs.declared.answer.End.{End}
-use Rattle.hub_commands.specs.declared.answer.End.TheVariants.{Done, FileTooLarge, FolderFailed, HubFailed, MissingFile, NoMemory, RequestRefused}
+use Rattle.hub_commands.specs.declared.answer.End.TheVariants.{Done, FileTooLarge, FolderFailed, HubFailed, MissingFile}
+use Rattle.hub_commands.specs.declared.answer.End.TheVariants.{NoMemory, RequestRefused}
 use Rattle.rest_provider.specs.declared.request_fault.RequestFault.{RequestFault}
 use Rattle.rest_provider.specs.declared.request_fault.RequestFault.TheVariants.{AfterClose, Unreadable}
 use Rattle.hub_commands.specs.Outside.{Faults, HaveRisen, HaveStood, NothingFailed, Outside}

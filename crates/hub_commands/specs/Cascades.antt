@@ -12,7 +12,8 @@ use Rattle.roster_base.specs.Faults.{Rose}
 use Rattle.hub_commands.specs.ConsumerAnswers.{CopyStays}
 use Rattle.hub_commands.specs.declared.answer.Answer.{Answer}
 use Rattle.hub_commands.specs.declared.answer.End.{End}
-use Rattle.hub_commands.specs.declared.answer.End.TheVariants.{CopyFailed, Done, HubFailed, NoMemory, NothingHeld, NotPublished}
+use Rattle.hub_commands.specs.declared.answer.End.TheVariants.{CopyFailed, Done, HubFailed, NoMemory, NothingHeld}
+use Rattle.hub_commands.specs.declared.answer.End.TheVariants.{NotPublished}
 use Rattle.hub_commands.specs.Outside.{Faults, HaveRisen, HaveStood}
 use Rattle.hub_commands.specs.Publishes.{told_text}
 

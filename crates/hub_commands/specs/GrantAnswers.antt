@@ -16,7 +16,8 @@ use Rattle.outside_ports.specs.declared.folder.FileRead.TheVariants.{Absent, Byt
 use Rattle.outside_ports.specs.Files.{ReadsFile, Stored}
 use Rattle.rest_provider.specs.Moments.{IsMomentOf}
 use Rattle.hub_commands.specs.declared.answer.End.{End}
-use Rattle.hub_commands.specs.declared.answer.End.TheVariants.{Done, FileTooLarge, FolderFailed, GrantsRefused, HubFailed, MissingFile, NoMemory, NotPublished}
+use Rattle.hub_commands.specs.declared.answer.End.TheVariants.{Done, FileTooLarge, FolderFailed, GrantsRefused}
+use Rattle.hub_commands.specs.declared.answer.End.TheVariants.{HubFailed, MissingFile, NoMemory, NotPublished}
 use Rattle.hub_commands.specs.Outside.{Faults, HaveRisen, HaveStood, NothingFailed, Outside}
 use Rattle.hub_commands.specs.Publishes.{told_text}
 

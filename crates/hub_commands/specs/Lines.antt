@@ -4,7 +4,8 @@ use Rattle.std.specs.List.{flat_map}
 use Rattle.csv_sets.specs.declared.fault.ColumnFault.{ColumnFault}
 use Rattle.csv_sets.specs.declared.fault.ColumnFault.TheVariants.{BadKey, Missing, Repeated}
 use Rattle.csv_sets.specs.declared.fault.SetFault.{SetFault}
-use Rattle.csv_sets.specs.declared.fault.SetFault.TheVariants.{Column, Folder, Manifest, MissingFile, NotUtf8, RepeatedId, Row, TooLarge, UnexpectedFile}
+use Rattle.csv_sets.specs.declared.fault.SetFault.TheVariants.{Column, Folder, Manifest, MissingFile, NotUtf8}
+use Rattle.csv_sets.specs.declared.fault.SetFault.TheVariants.{RepeatedId, Row, TooLarge, UnexpectedFile}
 use Rattle.csv_sets.specs.declared.fault.ManifestFault.{ManifestFault}
 use Rattle.csv_sets.specs.declared.fault.ManifestFault.TheVariants as manifest
 use Rattle.csv_sets.specs.Names.{name_of}
@@ -22,9 +23,11 @@ use Rattle.roster_types.specs.declared.owner.Owner.{Owner}
 use Rattle.roster_types.specs.declared.owner.Owner.TheVariants.{Caller, Feed}
 use Rattle.roster_values.specs.Kinds.{plural_of}
 use Rattle.version_changes.specs.declared.sets.publish_fault.PublishFault.{PublishFault}
-use Rattle.version_changes.specs.declared.sets.publish_fault.PublishFault.TheVariants.{LastVersion, OwnedByOther, TooManyRows, Unsound}
+use Rattle.version_changes.specs.declared.sets.publish_fault.PublishFault.TheVariants.{LastVersion, OwnedByOther}
+use Rattle.version_changes.specs.declared.sets.publish_fault.PublishFault.TheVariants.{TooManyRows, Unsound}
 use Rattle.roster_texts.specs.declared.fault.ValueFault.{ValueFault}
-use Rattle.roster_texts.specs.declared.fault.ValueFault.TheVariants.{BadDay, BadId, BadList, BadMoment, BadNumber, Empty, Fractional, NotInList, TooLong, Width}
+use Rattle.roster_texts.specs.declared.fault.ValueFault.TheVariants.{BadDay, BadId, BadList, BadMoment, BadNumber}
+use Rattle.roster_texts.specs.declared.fault.ValueFault.TheVariants.{Empty, Fractional, NotInList, TooLong, Width}
 
 abbrev pub column_word : ColumnFault → List ℕ
 column_word Repeated = codes "repeated"

@@ -22,7 +22,8 @@ use Rattle.version_core.specs.declared.mark.Write.{Write}
 use Rattle.hub_commands.specs.ConsumerAnswers.{CopyStays, ReadEnds}
 use Rattle.hub_commands.specs.declared.answer.Answer.{Answer}
 use Rattle.hub_commands.specs.declared.answer.End.{End}
-use Rattle.hub_commands.specs.declared.answer.End.TheVariants.{BadRow, Done, FileNotUtf8, FileTooLarge, FolderFailed, MissingFile, NoMemory, NotEntered, Sent}
+use Rattle.hub_commands.specs.declared.answer.End.TheVariants.{BadRow, Done, FileNotUtf8, FileTooLarge, FolderFailed}
+use Rattle.hub_commands.specs.declared.answer.End.TheVariants.{MissingFile, NoMemory, NotEntered, Sent}
 use Rattle.hub_words.specs.declared.words.EnterTask.{EnterTask}
 use Rattle.hub_words.specs.declared.words.EnterTask.TheVariants.{Delete, Put}
 use Rattle.hub_commands.specs.Outside.{HaveRisen, HaveStood, Outside}

@@ -15,7 +15,8 @@ use Rattle.version_changes.specs.sets.Applying.{Applies}
 use Rattle.rest_provider.specs.Moments.{IsMomentOf}
 use Rattle.hub_commands.specs.declared.answer.Answer.{Answer}
 use Rattle.hub_commands.specs.declared.answer.End.{End}
-use Rattle.hub_commands.specs.declared.answer.End.TheVariants.{Done, FolderFailed, HubFailed, NoMemory, NotPublished, Refused}
+use Rattle.hub_commands.specs.declared.answer.End.TheVariants.{Done, FolderFailed, HubFailed, NoMemory, NotPublished}
+use Rattle.hub_commands.specs.declared.answer.End.TheVariants.{Refused}
 use Rattle.hub_words.specs.declared.task.Feed.{Feed}
 use Rattle.hub_commands.specs.Lines.{published_text, unchanged_text}
 use Rattle.hub_commands.specs.Outside.{HaveRisen, NothingFailed, Outside}

@@ -1,5 +1,6 @@
 -- What `show` answers: the rows of one file, in order of id.
-use Rattle.std.specs.Prelude.{◌≡◌, ◌++◌, ℕ, ℤ, List, [], Option, None, Some, Result, Ok, Err, IfSome, codes, map, if◌then◌else◌}
+use Rattle.std.specs.Prelude.{◌≡◌, ◌++◌, ℕ, ℤ, List, [], Option, None, Some, Result, Ok, Err, IfSome, codes, map}
+use Rattle.std.specs.Prelude.{if◌then◌else◌}
 use Rattle.csv_sets.specs.declared.fault.SetFault.{SetFault}
 use Rattle.csv_sets.specs.declared.fault.SetFault.TheVariants.{MissingFile}
 use Rattle.csv_sets.specs.declared.fault.SetFile.TheVariants.{RowsOf}

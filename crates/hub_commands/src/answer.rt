@@ -99,7 +99,7 @@ impl Answer {
 }
 
 impl End {
-    /// The status of the process: 0, 2 to 17, or 19 to 21.
+    /// The status of the process: 0, 2 to 17, or 19 to 21. 1 is left to an output that couldn't be written, and 18 to a server.
     pub fn status(&self) -> u8
         ensures value { result ≡ answers.status_of self.now }
         ensures other { result ≢ 1 }

@@ -17,7 +17,7 @@ use hub_core::Hub;
 use keeper_memory::HubKeeper;
 use outside_ports::{Clock, FileRead, Folder, HeldSource, IoError, Sink};
 use rest_paths::PathRouter;
-use rest_provider::{RequestFault, StreamEnd, serve_stream};
+use rest_provider::{Desk, RequestFault, StreamEnd, serve_stream};
 use roster_base::{Bytes, NoMemory, Text, TryCopy};
 use std::alloc::Global;
 
@@ -88,26 +88,24 @@ pub fn print_end<O: Sink>(alloc: Global, end: Option<End>, out: &mut O) -> u8
 
 // Answers the requests of some bytes, in a hub that was opened.
 fn ask_bytes<H: HubKeeper, K: Clock, O: Sink>(
-    alloc: Global,
-    router: &PathRouter,
+    desk: &Desk<'_, K>,
     mut hub: Hub,
     bytes: Bytes,
     keeper: &mut H,
-    clock: &K,
     out: &mut O,
 ) -> u8
     requires fits { KeeperFits (H.stands_for keeper.old) hub }
     requires settled { hub.is_open ≡ false }
     requires kept { IsKept hub.kept }
     ensures { WritesBetween O.written O.faults out.old out.new result
-        (λ a. LeadsBetween H.stands_for keeper.old keeper.new (AsksBytes (K.moment clock.now) (faults_between H.fault_count keeper.old keeper.new) bytes a.done a.end)) }
+        (λ a. LeadsBetween H.stands_for keeper.old keeper.new (AsksBytes (K.moment desk.now.clock.now) (faults_between H.fault_count keeper.old keeper.new) bytes a.done a.end)) }
 {
-    let mut source = HeldSource::new(alloc, bytes.into_vec());
-    let end = serve_stream(alloc, router, &mut hub, keeper, &mut source, out, clock);
+    let mut source = HeldSource::new(desk.alloc, bytes.into_vec());
+    let end = serve_stream(desk, &mut hub, keeper, &mut source, out);
     let left = source.left();
     drop(source);
     drop(hub);
-    print_end(alloc, ask_end(end, left), out)
+    print_end(desk.alloc, ask_end(end, left), out)
 }
 
 // Answers the requests of a file's bytes, in a hub that was opened.
@@ -126,37 +124,18 @@ fn ask_opened<H: HubKeeper, K: Clock, O: Sink>(
         (λ a. LeadsBetween H.stands_for keeper.old keeper.new (AsksBytes (K.moment clock.now) (faults_between H.fault_count keeper.old keeper.new) bytes a.done a.end)) }
 {
     match PathRouter::new(alloc) {
-        Ok(router) => ask_bytes(alloc, &router, hub, bytes, keeper, clock, out),
+        Ok(router) => {
+            let desk = Desk {
+                alloc,
+                router: &router,
+                clock,
+            };
+            ask_bytes(&desk, hub, bytes, keeper, out)
+        }
         Err(NoMemory) => {
             drop(bytes);
             drop(hub);
             tell(alloc, Answer::nothing_done(alloc, End::NoMemory), out)
-        }
-    }
-}
-
-// Answers the requests of a file in a hub that was opened.
-fn ask_into<F: Folder, H: HubKeeper, K: Clock, O: Sink>(
-    alloc: Global,
-    hub: Hub,
-    file: &Text,
-    folder: &mut F,
-    keeper: &mut H,
-    clock: &K,
-    out: &mut O,
-) -> u8
-    requires fits { KeeperFits (H.stands_for keeper.old) hub }
-    requires settled { hub.is_open ≡ false }
-    requires kept { IsKept hub.kept }
-    ensures { WritesBetween O.written O.faults out.old out.new result
-        (λ a. LeadsBetween H.stands_for keeper.old keeper.new (IsAskAnswer
-        (outside_between F.files F.faults folder.old folder.new (K.moment clock.now) (faults_between H.fault_count keeper.old keeper.new)) file.now a.done a.end)) }
-{
-    match bytes_of(alloc, file, folder) {
-        Ok(bytes) => ask_opened(alloc, hub, bytes, keeper, clock, out),
-        Err(end) => {
-            drop(hub);
-            tell(alloc, Answer::nothing_done(alloc, end), out)
         }
     }
 }
@@ -174,8 +153,15 @@ pub fn ask<F: Folder, H: HubKeeper, K: Clock, O: Sink>(
         (λ a. LeadsBetween H.stands_for keeper.old keeper.new (IsAskAnswer
         (outside_between F.files F.faults folder.old folder.new (K.moment clock.now) (faults_between H.fault_count keeper.old keeper.new)) file.now a.done a.end)) }
 {
-    match Hub::open(alloc, keeper) {
-        Ok(hub) => ask_into(alloc, hub, file, folder, keeper, clock, out),
-        Err(error) => tell(alloc, Answer::nothing_done(alloc, end_of_error(error)), out),
+    let hub = match Hub::open(alloc, keeper) {
+        Ok(hub) => hub,
+        Err(error) => return tell(alloc, Answer::nothing_done(alloc, end_of_error(error)), out),
+    };
+    match bytes_of(alloc, file, folder) {
+        Ok(bytes) => ask_opened(alloc, hub, bytes, keeper, clock, out),
+        Err(end) => {
+            drop(hub);
+            tell(alloc, Answer::nothing_done(alloc, end), out)
+        }
     }
 }

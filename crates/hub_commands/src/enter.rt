@@ -6,7 +6,8 @@ ghost use Rattle.keeper_memory.specs.copy.Copies.{IsOutWrite, max_body};
 ghost use Rattle.outside_ports.specs.Files.{IsWithin};
 ghost use Rattle.row_json.specs.Puts.{put_of};
 ghost use Rattle.hub_commands.specs.Outside.{Faults, outside_between};
-ghost use Rattle.hub_commands.specs.OutboxAnswers.{GivesWrite, IsEnterAnswer, IsEntered, ReadsWrite, delete_write, or_bad_row, put_in, put_write};
+ghost use Rattle.hub_commands.specs.OutboxAnswers.{GivesWrite, IsEnterAnswer, IsEntered, ReadsWrite, delete_write};
+ghost use Rattle.hub_commands.specs.OutboxAnswers.{or_bad_row, put_in, put_write};
 ghost use Rattle.hub_words.specs.declared.words.EnterTask.TheVariants.{Put};
 
 use crate::answer::{Answer, End};

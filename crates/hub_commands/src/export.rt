@@ -2,7 +2,9 @@
 
 ghost use Rattle.std.specs.Prelude.{◌≡◌, IfOk};
 ghost use Rattle.consumer_commands.specs.Consumers.{copy_between};
-ghost use Rattle.hub_commands.specs.ExportAnswers.{ExportEnds, HasTooMany, IsChangesExport, IsExportAnswer, IsManifestAnswer, IsSinceAnswer, earlier_feed, end_of_export, file_answer, rows_in};
+ghost use Rattle.hub_commands.specs.ExportAnswers.{ExportEnds, HasTooMany, IsChangesExport, IsExportAnswer};
+ghost use Rattle.hub_commands.specs.ExportAnswers.{IsManifestAnswer, IsSinceAnswer, earlier_feed, end_of_export};
+ghost use Rattle.hub_commands.specs.ExportAnswers.{file_answer, rows_in};
 ghost use Rattle.hub_commands.specs.Outside.{Faults, faults_between, outside_between};
 ghost use Rattle.hub_commands.specs.Steps.{ReadsSet};
 

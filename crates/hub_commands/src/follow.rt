@@ -64,31 +64,37 @@ fn told_end(alloc: Global, feed: &Name, end: FollowAnswer) -> Answer
     }
 }
 
+/// What the words of `follow` say: the synchronisation, and the feed whose rows the copy's become.
+#[derive(Clone, Copy)]
+pub struct FollowWords<'a> {
+    pub sync: &'a SyncTask,
+    pub feed: &'a Name,
+}
+
 /// Brings a copy up to date with the hub behind a link, and makes its rows those of a feed, in the hub that a keeper keeps.
 pub fn follow<H: HubKeeper, C: CopyKeeper, L: Link, K: Clock>(
     alloc: Global,
-    task: &SyncTask,
-    feed: &Name,
+    words: &FollowWords<'_>,
     keeper: &mut H,
     copy: &mut C,
     link: &mut L,
     clock: &K,
 ) -> Answer
-    ensures { LeadsBetween H.stands_for keeper.old keeper.new (IsFollowAnswer task.now feed.now (K.moment clock.now) (faults_between H.fault_count keeper.old keeper.new)
+    ensures { LeadsBetween H.stands_for keeper.old keeper.new (IsFollowAnswer words.now.sync.now words.now.feed.now (K.moment clock.now) (faults_between H.fault_count keeper.old keeper.new)
         (copy_between C.stands_for C.fault_count copy.old copy.new) (link_between L.tells L.asked L.missed L.kept L.fault_count link.old link.new) result) }
 {
     match Hub::open(alloc, keeper) {
         Ok(mut hub) => {
             let task = FollowTask {
-                token: task.token(),
-                limit: task.limit(),
-                tries: task.tries(),
-                feed,
+                token: words.sync.token(),
+                limit: words.sync.limit(),
+                tries: words.sync.tries(),
+                feed: words.feed,
                 at: moment_of(clock),
             };
             let followed = follow_hub(alloc, &mut hub, keeper, copy, link, task);
             drop(hub);
-            told_end(alloc, feed, followed)
+            told_end(alloc, words.feed, followed)
         }
         Err(error) => Answer::nothing_done(alloc, end_of_error(error)),
     }

@@ -123,7 +123,6 @@ fn publish_feed<F: Folder, H: HubKeeper, K: Clock>(
 
 // Publishes the sets of feeds up to the first that isn't, and adds the lines that tell them.
 fn publish_feeds<F: Folder, H: HubKeeper, K: Clock>(
-    alloc: Global,
     hub: &mut Hub,
     keeper: &mut H,
     feeds: &[Feed],
@@ -138,6 +137,7 @@ fn publish_feeds<F: Folder, H: HubKeeper, K: Clock>(
         × IsRunOf
         (outside_between F.files F.faults folder.old folder.new (K.moment clock.now) (faults_between H.fault_count keeper.old keeper.new)) feeds.now more result before after) }
 {
+    let alloc = *done.allocator();
     for feed in feeds {
         let answer = match publish_feed(alloc, hub, keeper, feed, folder, clock) {
             Ok(answer) => answer,
@@ -166,7 +166,7 @@ fn publish_into<F: Folder, H: HubKeeper, K: Clock>(
         (outside_between F.files F.faults folder.old folder.new (K.moment clock.now) (faults_between H.fault_count keeper.old keeper.new)) feeds.now result.done result.end) }
 {
     let mut done = String::new(alloc);
-    let end = publish_feeds(alloc, &mut hub, keeper, feeds, folder, clock, &mut done);
+    let end = publish_feeds(&mut hub, keeper, feeds, folder, clock, &mut done);
     drop(hub);
     Answer {
         done: Text::from_string(done),

@@ -1,5 +1,6 @@
 -- What stands behind a hub.
-use Rattle.std.proofs.Common.{◌≡◌, ◌⊎◌, Bool, true, false, List, Option, None, Some, inl, inr, refl, sym, ap, subst, ◌∙◌, arith}
+use Rattle.std.proofs.Common.{◌≡◌, ◌⊎◌, Bool, true, false, List, Option, None, Some, inl, inr, refl, sym, ap, subst}
+use Rattle.std.proofs.Common.{◌∙◌, arith}
 use Rattle.std.proofs.Common.{cond}
 use Rattle.std.specs.List.{prefix_len}
 use Rattle.std.specs.Prelude.{IsSome, bytes_eq, is_some, ◌==◌}

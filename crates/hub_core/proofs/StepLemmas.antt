@@ -1,5 +1,6 @@
 -- What is due and what is published.
-use Rattle.std.proofs.Common.{◌≡◌, ℕ, ℤ, ◌≤◌, ◌⊎◌, false, true, List, [], ◌∷◌, Option, None, Some, Result, Ok, Err, bytes_eq, arith, inl, inr, refl, sym, ap, subst}
+use Rattle.std.proofs.Common.{◌≡◌, ℕ, ℤ, ◌≤◌, ◌⊎◌, false, true, List, [], ◌∷◌, Option, None, Some, Result, Ok, Err}
+use Rattle.std.proofs.Common.{bytes_eq, arith, inl, inr, refl, sym, ap, subst}
 use Rattle.std.specs.List.{AllByRecursion}
 use Rattle.std.specs.Prelude.{IfOk, is_ok}
 use Rattle.std.specs.Option.{ForSome}

@@ -1,5 +1,6 @@
 -- What is found on the way from a state to what a call makes of it.
-use Rattle.std.specs.Prelude.{◌≡◌, ◌⊎◌, Bool, false, Option, None, Some, Result, Ok, Err, if◌then◌else◌, is_some, nat_le}
+use Rattle.std.specs.Prelude.{◌≡◌, ◌⊎◌, Bool, false, Option, None, Some, Result, Ok, Err, if◌then◌else◌, is_some}
+use Rattle.std.specs.Prelude.{nat_le}
 use Rattle.version_core.specs.Marks.{mark_at, mark_key}
 use Rattle.version_core.specs.Version.{after}
 use Rattle.version_core.specs.declared.change.BaseVersion.{BaseVersion}

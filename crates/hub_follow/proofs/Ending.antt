@@ -7,7 +7,8 @@ use Rattle.exchange_link.specs.declared.answer.SyncAnswer.{SyncAnswer}
 use Rattle.exchange_link.specs.declared.answer.SyncAnswer.TheVariants as answer
 use Rattle.hub_cascade.specs.declared.error.CascadeError.{CascadeError}
 use Rattle.hub_core.specs.declared.published.Published.{Published}
-use Rattle.hub_follow.specs.Ends.{IfCascaded, IfDone, IsMiss, after_cascade, answer_of_miss, end_of_delta, end_of_sync, lacks_base, sync_of, synced}
+use Rattle.hub_follow.specs.Ends.{IfCascaded, IfDone, IsMiss, after_cascade, answer_of_miss, end_of_delta, end_of_sync}
+use Rattle.hub_follow.specs.Ends.{lacks_base, sync_of, synced}
 use Rattle.hub_follow.specs.declared.answer.Missed.{Missed}
 use Rattle.hub_follow.specs.declared.answer.Missed.TheVariants as missed
 

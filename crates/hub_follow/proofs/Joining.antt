@@ -1,5 +1,6 @@
 -- What an incremental synchronisation and a whole one behind it leave together.
-use Rattle.std.proofs.Common.{◌≡◌, ◌⊎◌, ⊎_elim, inl, inr, ◌+◌, ◌≤◌, ◌++◌, ℕ, Bool, true, false, List, [], ◌∷◌, length, Option, Some, None, refl, sym, subst, ap, ◌∙◌, arith, append_assoc}
+use Rattle.std.proofs.Common.{◌≡◌, ◌⊎◌, ⊎_elim, inl, inr, ◌+◌, ◌≤◌, ◌++◌, ℕ, Bool, true, false, List, [], ◌∷◌, length}
+use Rattle.std.proofs.Common.{Option, Some, None, refl, sym, subst, ap, ◌∙◌, arith, append_assoc}
 use Rattle.std.specs.Prelude.{IfSome, bytes_eq, if◌then◌else◌}
 use Rattle.std.proofs.lemmas.Slice.Eq.{bytes_eq-Decides}
 use Rattle.consumer_deltas.specs.DeltaAnswers.{DeltaLeaves}
@@ -7,12 +8,10 @@ use Rattle.consumer_deltas.specs.DeltaCalls.{AsksDeltas, DeltaHeld, DeltaSynchro
 use Rattle.consumer_deltas.specs.DeltaRequests.{IsDeltaUnder}
 use Rattle.consumer_deltas.specs.declared.answer.DeltaAnswer.{DeltaAnswer}
 use Rattle.consumer_deltas.specs.declared.answer.DeltaAnswer.TheVariants as delta
-use Rattle.exchange_link.proofs.AskLemmas.{grew_on}
 use Rattle.exchange_link.specs.Asked.{AreNumbered}
-use Rattle.exchange_link.specs.Causes.{ToldCause}
 use Rattle.exchange_link.specs.Exchanges.{Told}
-use Rattle.exchange_link.specs.Requests.{Moved}
-use Rattle.exchange_link.specs.Synchronised.{CompleteAt, HeldLaw, HeldTold, IsPinOf, Leaves, StageLaw, StageOn, Synchronised, own_stage}
+use Rattle.exchange_link.specs.Synchronised.{CompleteAt, HeldLaw, HeldTold, IsPinOf, Leaves, StageLaw, StageOn}
+use Rattle.exchange_link.specs.Synchronised.{Synchronised, own_stage}
 use Rattle.exchange_link.specs.declared.answer.SyncAnswer.{SyncAnswer}
 use Rattle.exchange_link.specs.declared.answer.SyncAnswer.TheVariants as answer
 use Rattle.hub_follow.proofs.Ending.{false_true, sync_delta, true_false}
@@ -133,14 +132,6 @@ module _ (token : List ℕ) (d : DeltaAnswer) (b : Copy) (t : Told) (m : Copy) (
   told_both a y = record { leaves = leaves_both token d a b m c e x.leaves y.leaves; agree = y.agree; held = told_held a y.held }
 
 -- ---- the causes, as told
-
-pub cause_more : (token : List ℕ) (z a b : Told) (s : SyncAnswer) → Moved z a → ToldCause token a b s → ToldCause token z b s
-cause_more token z a b (answer.TooLarge kind total) m x = x
-cause_more token z a b (answer.BadReply kind offset) m x = x
-cause_more token z a b answer.HubFault m x = omega (arith, x, m.counts)
-cause_more token z a b (answer.PinGone pin oldest) m x = (x.0, grew_on m.grew x.1, x.2, x.3, x.4, x.5)
-cause_more token z a b answer.UnknownToken m x = (x.0, grew_on m.grew x.1, x.2, x.3)
-cause_more token z a b s m x = tt
 
 -- ---- the first request
 

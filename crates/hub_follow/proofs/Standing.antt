@@ -1,5 +1,6 @@
 -- When following has to be done.
-use Rattle.std.proofs.Common.{◌≡◌, ◌≢◌, ◌⊎◌, ⊎_elim, inl, ◌+◌, ◌<◌, ◌≤◌, ℕ, Bool, true, false, List, Option, Some, None, Result, Ok, Err, refl, sym, subst, ap, ◌∙◌, arith, min, ◌-◌, ◌^◌}
+use Rattle.std.proofs.Common.{◌≡◌, ◌≢◌, ◌⊎◌, ⊎_elim, inl, ◌+◌, ◌<◌, ◌≤◌, ℕ, Bool, true, false, List, Option, Some, None}
+use Rattle.std.proofs.Common.{Result, Ok, Err, refl, sym, subst, ap, ◌∙◌, arith, min, ◌-◌, ◌^◌}
 use Rattle.std.specs.Prelude.{IfSome, bytes_eq, if◌then◌else◌, option_map}
 use Rattle.consumer_deltas.specs.DeltaAnswers.{BaseLaw, DeltaLeaves, LacksBase}
 use Rattle.consumer_deltas.specs.DeltaCalls.{DeltaSynchronised, IsDeltaDone}

@@ -15,10 +15,12 @@ use Rattle.hub_cascade.specs.Cascading.{active_rows}
 use Rattle.hub_cascade.specs.Held.{held_rows}
 use Rattle.hub_cascade.specs.declared.error.CascadeError.{CascadeError}
 use Rattle.hub_core.specs.declared.published.Published.{Published}
-use Rattle.hub_follow.proofs.Ending.{cascaded, done_cascade, done_miss, synced_cascade, synced_miss, true_false, uncascaded}
+use Rattle.hub_follow.proofs.Ending.{cascaded, done_cascade, done_miss, synced_cascade, synced_miss, true_false}
+use Rattle.hub_follow.proofs.Ending.{uncascaded}
 use Rattle.hub_follow.specs.Catching.{rows_seen}
 use Rattle.hub_follow.specs.Causes.{DeltaAnswers, IsBehind, KeeperView, LinkView, MissedBy, MissedTold, SyncAnswers}
-use Rattle.hub_follow.specs.Ends.{IfCascaded, IfDone, after_cascade, answer_of_miss, end_of_delta, end_of_sync, lacks_base, synced}
+use Rattle.hub_follow.specs.Ends.{IfCascaded, IfDone, after_cascade, answer_of_miss, end_of_delta, end_of_sync}
+use Rattle.hub_follow.specs.Ends.{lacks_base, synced}
 use Rattle.hub_follow.specs.declared.answer.FollowAnswer.{FollowAnswer}
 use Rattle.hub_follow.specs.declared.answer.Missed.{Missed}
 use Rattle.hub_spec.specs.rules.Checks.{version_at}

@@ -44,10 +44,7 @@ pub enum Missed {
 pub fn lacks_base(answer: DeltaAnswer) -> bool
     ensures { result ≡ lacks_base answer }
 {
-    match answer {
-        DeltaAnswer::NoBase | DeltaAnswer::BaseGone { .. } => true,
-        DeltaAnswer::Ended { .. } => false,
-    }
+    matches!(answer, DeltaAnswer::NoBase | DeltaAnswer::BaseGone { .. })
 }
 
 /// The version that a whole synchronisation brought.

@@ -1,8 +1,8 @@
 -- What edits do to each area.
-use Rattle.std.proofs.Common.{◌≡◌, ℕ, List, [], ◌∷◌, ◌++◌, ◌==◌, Bool, true, false, not, if◌then◌else◌, inl, inr, refl, sym, ap, ◌∙◌, subst}
+use Rattle.std.proofs.Common.{◌≡◌, ℕ, List, [], ◌∷◌, ◌++◌, ◌==◌, Bool, true, false, not, if◌then◌else◌, inl, inr, refl}
+use Rattle.std.proofs.Common.{sym, ap, ◌∙◌, subst}
 use Rattle.std.specs.FinMap.{FinMap, insert, retain_keys}
-use Rattle.std.proofs.lemmas.Bool.{cases_Bool}
-use Rattle.std.proofs.lemmas.Bool.Decides.{Decides-eqb}
+use Rattle.std.proofs.lemmas.Bool.{cases_Bool, eqb-true}
 use Rattle.item_maps.specs.Items.{Items, bytes_cmp, is_between}
 use Rattle.item_maps.specs.Edits.{after, after_edit}
 use Rattle.item_maps.specs.declared.item.Edit.{Edit}
@@ -60,9 +60,6 @@ puts_on k (e ∷ es) m area = puts_on k es (after_edit (put_at k e) m) area ∙ 
 pub puts_act : (k : ℕ) (es : List Entry) → Act (puts k es) (puts_map k es)
 puts_act k es = record { on = puts_on k es }
 
-number_is : (m n : ℕ) → (m == n) ≡ true → m ≡ n
-number_is m n is = (Decides-eqb m n).0 is
-
 -- a fact of all areas, by those that the format has
 pub by_area : (P : ℕ → Type 0) → P 0 → P 1 → P 2 → P 3 → P 4 → P 5 → P 6
     → ((a : ℕ) → (a == 0) ≡ false → (a == 1) ≡ false → (a == 2) ≡ false → (a == 3) ≡ false → (a == 4) ≡ false → (a == 5) ≡ false → (a == 6) ≡ false → P a)
@@ -72,6 +69,6 @@ by_area P p0 p1 p2 p3 p4 p5 p6 else_ a =
   where
     at : (k : ℕ) → P k → ((a == k) ≡ false → P a) → P a
     at k p other = elim (cases_Bool (a == k)) [
-      | inl is ↦ subst P (sym (number_is a k is)) p
+      | inl is ↦ subst P (sym (eqb-true a k is)) p
       | inr isnt ↦ other isnt
     ]

@@ -1,5 +1,6 @@
 -- What was written in front of a rest is found again.
-use Rattle.std.proofs.Common.{◌≡◌, ◌<◌, ◌^◌, ℕ, ℤ, pos, negsuc, List, [], ◌∷◌, ◌++◌, append_assoc, drop, length, None, Ok, Result, refl, sym, ap, ◌∙◌, subst, arith}
+use Rattle.std.proofs.Common.{◌≡◌, ◌<◌, ◌^◌, ℕ, ℤ, pos, negsuc, List, [], ◌∷◌, ◌++◌, append_assoc, drop, length, None}
+use Rattle.std.proofs.Common.{Ok, Result, refl, sym, ap, ◌∙◌, subst, arith}
 use Rattle.std.specs.Int.{cast_signed, cast_unsigned, w64}
 use Rattle.std.specs.Int.RustNames.{FitsSigned}
 use Rattle.std.specs.List.{AllByRecursion}
@@ -16,7 +17,8 @@ use Rattle.row_json.specs.declared.fault.JsonFault.{JsonFault}
 use Rattle.version_core.specs.declared.change.BaseVersion.{BaseVersion}
 use Rattle.version_core.specs.declared.row_change.RowChange.{RowChange}
 use Rattle.hub_format.specs.Format.{Entry, state_entry}
-use Rattle.hub_format.specs.Pieces.{AreSized, IsReadBack, IsSized, all_sized, moment, number, owner_bytes, owner_name, row_body, schools_bytes, sized}
+use Rattle.hub_format.specs.Pieces.{AreSized, IsReadBack, IsSized, all_sized, moment, number, owner_bytes, owner_name}
+use Rattle.hub_format.specs.Pieces.{row_body, schools_bytes, sized}
 use Rattle.hub_format.proofs.Orders.{same_number}
 
 -- beginnings that are as long are equal

@@ -1,7 +1,9 @@
 -- Lists of entries, and the maps that they give.
-use Rattle.std.proofs.Common.{◌≡◌, ℕ, List, [], ◌∷◌, ◌++◌, Bool, true, false, cond, filter, Option, None, Some, Equal, refl, sym, ap, ◌∙◌, subst}
+use Rattle.std.proofs.Common.{◌≡◌, ℕ, List, [], ◌∷◌, ◌++◌, Bool, true, false, cond, filter, Option, None, Some, Equal}
+use Rattle.std.proofs.Common.{refl, sym, ap, ◌∙◌, subst}
 use Rattle.std.specs.Prelude.{⊤}
-use Rattle.std.specs.FinMap.{FinMap, find, from_entries, get-from_entries, get-retain_keys, insert, retain_keys, same_map}
+use Rattle.std.specs.FinMap.{FinMap, find, from_entries, get-from_entries, get-retain_keys, insert, retain_keys}
+use Rattle.std.specs.FinMap.{same_map}
 use Rattle.std.specs.FinMap.Entries.{find-where_key}
 use Rattle.std.specs.List.{AllByRecursion}
 use Rattle.std.specs.Ordering.{eq_by_cmp}

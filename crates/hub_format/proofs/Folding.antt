@@ -1,5 +1,7 @@
 -- Tables whose oldest change went into the base.
-use Rattle.std.proofs.Common.{◌≡◌, ◌+◌, ◌≤◌, ◌<◌, ◌^◌, ℕ, List, [], ◌∷◌, ◌++◌, ◌==◌, Bool, true, false, cond, not, if◌then◌else◌, unwrap_or, Option, None, Some, Equal, refl, sym, ap, ◌∙◌, subst, append-nil, arith}
+use Rattle.std.proofs.Common.{◌≡◌, ◌+◌, ◌≤◌, ◌<◌, ◌^◌, ℕ, List, [], ◌∷◌, ◌++◌, ◌==◌, Bool, true, false, cond, not}
+use Rattle.std.proofs.Common.{if◌then◌else◌, unwrap_or, Option, None, Some, Equal, refl, sym, ap, ◌∙◌, subst}
+use Rattle.std.proofs.Common.{append-nil, arith}
 use Rattle.std.specs.FinMap.{from_entries, retain_keys}
 use Rattle.std.specs.FinMap.Entries.{find-where_key}
 use Rattle.std.specs.List.{AllByRecursion}
@@ -18,7 +20,8 @@ use Rattle.hub_format.specs.Edits.{moved}
 use Rattle.hub_format.specs.Format.{Entry, grants_under, of_changes, own_grants, rows_under, some_grants}
 use Rattle.hub_format.specs.Pieces.{caller_label, key_label, number}
 use Rattle.hub_format.proofs.Acts.{Act, Map, puts_act}
-use Rattle.hub_format.proofs.Finds.{Alike, alike_map, filled, filled_is, found, found-append, or_else, retained, where-append, where_all, where_label, where_none}
+use Rattle.hub_format.proofs.Finds.{Alike, alike_map, filled, filled_is, found, found-append, or_else, retained}
+use Rattle.hub_format.proofs.Finds.{where-append, where_all, where_label, where_none}
 use Rattle.hub_format.proofs.Labels.{grants_differ}
 use Rattle.hub_format.proofs.Orders.{of_other, of_version}
 

@@ -3,7 +3,8 @@ use Rattle.std.proofs.Common.{◌≡◌, ◌<◌, ◌^◌, ℕ, List, [], ◌∷
 use Rattle.grant_scopes.specs.declared.schools.Schools.TheVariants as schools
 use Rattle.version_core.specs.declared.grant_row.GrantRow.{GrantRow}
 use Rattle.hub_format.specs.Format.{FitsGrant}
-use Rattle.hub_format.specs.Pieces.{AreSized, HasNoZero, IsSized, all_sized, caller_label, grant_body, number, schools_bytes, sized}
+use Rattle.hub_format.specs.Pieces.{AreSized, HasNoZero, IsSized, all_sized, caller_label, grant_body, number}
+use Rattle.hub_format.specs.Pieces.{schools_bytes, sized}
 use Rattle.hub_format.proofs.Labels.{same_caller}
 use Rattle.hub_format.proofs.Unique.{same_grant}
 use Rattle.hub_format.proofs.Steps.{all_sized-push}

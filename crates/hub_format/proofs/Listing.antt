@@ -1,6 +1,8 @@
 -- What is listed of an area.
-use Rattle.std.proofs.Common.{◌≡◌, ◌+◌, ◌<◌, ◌^◌, ℕ, List, [], ◌∷◌, ◌++◌, Bool, true, false, T, refl, sym, ap, ◌∙◌, append-nil}
-use Rattle.std.specs.FinMap.{entries, entries-from_sorted, from_entries, from_sorted, get-from_entries, get-from_sorted, is_sorted, retain_keys, same_map}
+use Rattle.std.proofs.Common.{◌≡◌, ◌+◌, ◌<◌, ◌^◌, ℕ, List, [], ◌∷◌, ◌++◌, Bool, true, false, refl, sym, ap, ◌∙◌}
+use Rattle.std.proofs.Common.{append-nil}
+use Rattle.std.specs.FinMap.{entries, entries-from_sorted, from_entries, from_sorted, get-from_entries, get-from_sorted}
+use Rattle.std.specs.FinMap.{is_sorted, retain_keys, same_map}
 use Rattle.std.specs.FinMap.Entries.{below_all}
 use Rattle.std.specs.List.{AllByRecursion}
 use Rattle.std.specs.Ordering.{is_lt}
@@ -9,6 +11,7 @@ use Rattle.std.proofs.lemmas.Cmp.{nat_list_cmp_total}
 use Rattle.item_maps.proofs.ItemLemmas.{same_bytes}
 use Rattle.item_maps.specs.Items.{bytes_cmp, is_between}
 use Rattle.roster_types.specs.Keys.{key_cmp, keyed}
+use Rattle.version_core.proofs.OrderLemmas.{passes}
 use Rattle.version_core.specs.Changes.{AreChanges, change_key}
 use Rattle.version_core.specs.declared.change.Change.{Change}
 use Rattle.version_core.specs.declared.row_change.RowChange.{RowChange}
@@ -19,14 +22,10 @@ use Rattle.hub_format.proofs.Folding.{IsOf}
 use Rattle.hub_format.proofs.Labels.{ordered}
 use Rattle.hub_format.proofs.Orders.{of_other, of_version}
 
-truth : (b : Bool) → b ≡ true → T b
-truth true is = tt
-truth false is = absurd cc
-
 -- entries whose labels rise are listed as they stand
 pub listed_sorted : (es : List Entry) → is_sorted bytes_cmp es ≡ true → entries (from_entries {R = bytes_cmp} es) ≡ es
 listed_sorted es up =
-    let rises = truth (is_sorted bytes_cmp es) up in
+    let rises = passes (is_sorted bytes_cmp es) up in
     let same : from_entries {R = bytes_cmp} es ≡ from_sorted es =
     same_map nat_list_cmp_total same_bytes _ _ (λ q. get-from_entries nat_list_cmp_total es q ∙ sym (get-from_sorted bytes_cmp es q rises)) in
     ap entries same ∙ entries-from_sorted bytes_cmp es rises

@@ -1,11 +1,13 @@
 -- The order of labels.
-use Rattle.std.proofs.Common.{◌≡◌, ℕ, ◌+◌, ◌*◌, ◌/◌, ◌%◌, ◌^◌, ◌<◌, ◌≤◌, List, [], ◌∷◌, ◌++◌, Bool, true, false, length, ◌&&◌, Ordering, Less, Equal, Greater, inl, inr, refl, sym, ap, ap₂, ◌∙◌, subst, arith, div-add-mod', mod-lt, mul-le-mul_right, add-mul}
+use Rattle.std.proofs.Common.{◌≡◌, ℕ, ◌+◌, ◌*◌, ◌/◌, ◌%◌, ◌^◌, ◌<◌, ◌≤◌, List, [], ◌∷◌, ◌++◌, true, false, length, ◌&&◌}
+use Rattle.std.proofs.Common.{Ordering, Less, Equal, Greater, inl, inr, refl, sym, ap, ap₂, ◌∙◌, subst, arith}
+use Rattle.std.proofs.Common.{div-add-mod', mod-lt, mul-le-mul_right, add-mul}
 use Rattle.std.specs.Int.{w64, bytes_high_first, from_be_bytes}
 use Rattle.std.specs.Ordering.{MatchOrdering, is_ge, is_lt, nat_cmp, ordering_then}
 use Rattle.std.proofs.lemmas.Cmp.{nat_cmp_total, ranked, tied_itself}
 use Rattle.std.proofs.lemmas.Nat.{from_be_bytes-to_be_bytes_8}
 use native.Mathlib.Nat as nat
-use Rattle.std.proofs.lemmas.Bool.{and_from, cases_eq, cases_lt}
+use Rattle.std.proofs.lemmas.Bool.{and_from, and_right, cases_eq, cases_lt}
 use Rattle.item_maps.specs.Items.{bytes_cmp, is_between}
 use Rattle.hub_format.specs.Pieces.{number}
 
@@ -120,10 +122,6 @@ lt_not_ge Less h = absurd cc
 lt_not_ge Equal h = refl
 lt_not_ge Greater h = refl
 
-second_false : (x y : Bool) → y ≡ false → (x && y) ≡ false
-second_false true y is = is
-second_false false y is = refl
-
 -- the labels behind a version's number are those between it and the next
 pub of_version : (version : ℕ) (x : List ℕ) → version + 1 < 2 ^ 64 → is_between (number version) (number (version + 1)) (number version ++ x) ≡ true
 of_version version x fits =
@@ -135,7 +133,7 @@ of_other version other x fits others apart = elim (cases_lt other version) [
   | inl lt ↦
       let less = less_behind (number other) (number version) x refl (number_order other version others (omega arith) ∙ less_is other version lt) in
       ap (λ o. is_ge o && is_lt (bytes_cmp (number other ++ x) (number (version + 1)))) less
-  | inr ge ↦ second_false (is_ge (bytes_cmp (number other ++ x) (number version))) _ (elim (cases_eq other (version + 1)) [
+  | inr ge ↦ and_right (is_ge (bytes_cmp (number other ++ x) (number version))) _ (elim (cases_eq other (version + 1)) [
     | inl is ↦ subst (λ n. is_lt (bytes_cmp (number other ++ x) (number n)) ≡ false) is (lt_not_ge _ (longer (number other) x))
     | inr isnt ↦ ap is_lt (greater_behind (number other) (number (version + 1)) x refl (number_order other (version + 1) others fits ∙ greater_is other (version + 1) (above other version ge apart isnt)))
   ])

@@ -1,5 +1,6 @@
 -- What the items of tables tell, version by version.
-use Rattle.std.proofs.Common.{◌≡◌, ◌+◌, ◌≤◌, ◌<◌, ◌^◌, ℕ, List, [], ◌∷◌, ◌++◌, map, true, Option, None, Some, refl, ap, ◌∙◌, subst, append-nil, append_assoc, arith}
+use Rattle.std.proofs.Common.{◌≡◌, ◌+◌, ◌≤◌, ◌<◌, ◌^◌, ℕ, List, [], ◌∷◌, ◌++◌, map, true, Option, None, Some, refl, ap}
+use Rattle.std.proofs.Common.{◌∙◌, subst, append-nil, append_assoc, arith}
 use Rattle.std.specs.FinMap.{is_sorted}
 use Rattle.std.specs.List.{AllByRecursion}
 use Rattle.std.specs.Option.{ForSome}
@@ -21,7 +22,9 @@ use Rattle.version_core.specs.declared.hub_tables.HubTables.{HubTables}
 use Rattle.version_core.specs.declared.mark.MarkRow.{MarkRow}
 use Rattle.version_core.proofs.TableLemmas.{base_meets}
 use Rattle.version_core.proofs.VersionLemmas.{AllByRecursion-push}
-use Rattle.hub_format.specs.Format.{Entry, Fit, FitsChange, FitsGrant, FitsMark, format_entry, grants_under, items_of, mark_entry, of_changes, own_grants, own_rows, own_version, rows_under, some_grants, state_entry}
+use Rattle.hub_format.specs.Format.{Entry, Fit, FitsChange, FitsGrant, FitsMark, format_entry, grants_under, items_of}
+use Rattle.hub_format.specs.Format.{mark_entry, of_changes, own_grants, own_rows, own_version, rows_under, some_grants}
+use Rattle.hub_format.specs.Format.{state_entry}
 use Rattle.hub_format.specs.Pieces.{HasNoZero, mark_label, number}
 use Rattle.hub_format.proofs.Encodes.{rise_of}
 use Rattle.hub_format.proofs.Endings.{grants_rise, marks_rise}
@@ -100,7 +103,7 @@ pub record IsToldBy (m : Items) (change : Change) : Type 0 where
   pub rows : listed_of 4 change.version m ≡ own_rows change
   pub grants : listed_of 5 change.version m ≡ own_grants change
 
-small_from : (base : BaseVersion) (changes : List Change) → AllByRecursion IsVersion (versions_from base changes) → AreSmall changes
+pub small_from : (base : BaseVersion) (changes : List Change) → AllByRecursion IsVersion (versions_from base changes) → AreSmall changes
 small_from base [] are = tt
 small_from base (change ∷ changes) are = ((base_meets IsVersion (after base change) changes are.1).number, small_from (after base change) changes are.1)
 
@@ -195,7 +198,7 @@ pub state_told : (t : HubTables) → listed 1 [] (0 ∷ []) (items_of t) ≡ sta
 state_told t = listed_where (is_between [] (0 ∷ [])) (state_entry t.keep t.base ∷ []) (state_entry t.keep t.base ∷ []) refl refl
 
 -- the rows of the base lie below 255, where no kind has its place
-row_below : (kind : Kind) (id : List ℕ) → is_between [] (255 ∷ []) (place_of_kind kind ∷ id) ≡ true
+pub row_below : (kind : Kind) (id : List ℕ) → is_between [] (255 ∷ []) (place_of_kind kind ∷ id) ≡ true
 row_below Orgs id = refl
 row_below _ id = refl
 

@@ -1,5 +1,6 @@
 -- Items are those of one state at most.
-use Rattle.std.proofs.Common.{◌≡◌, ◌<◌, ◌^◌, ◌+◌, ◌++◌, ◌∷◌, [], ℕ, List, Bool, true, false, map, None, Ok, Option, Some, Result, drop, refl, sym, ap, ◌∙◌, subst, arith}
+use Rattle.std.proofs.Common.{◌≡◌, ◌<◌, ◌^◌, ◌+◌, ◌++◌, ◌∷◌, [], ℕ, List, Bool, true, false, map, None, Ok, Option}
+use Rattle.std.proofs.Common.{Some, Result, drop, refl, sym, ap, ◌∙◌, subst, arith}
 use Rattle.std.specs.FinMap.{entries}
 use Rattle.std.specs.List.{AllByRecursion}
 use Rattle.std.specs.Option.{ForSome}
@@ -21,8 +22,11 @@ use Rattle.version_core.specs.declared.hub_tables.HubTables.{HubTables}
 use Rattle.version_core.specs.declared.mark.MarkRow.{MarkRow}
 use Rattle.version_core.specs.declared.row_change.RowChange.{RowChange}
 use Rattle.version_core.proofs.TableLemmas.{base_meets}
-use Rattle.hub_format.specs.Format.{Entry, Fit, FitsChange, FitsGrant, FitsMark, Keep, grant_entry, grants_under, items_of, mark_entry, own_grants, own_rows, own_version, row_entry, rows_under, some_grants, state_entry, version_entry}
-use Rattle.hub_format.specs.Pieces.{IsReadBack, caller_label, change_body, flag, grant_body, has_grants, key_label, mark_body, mark_label, number, row_body, schools_bytes, sized}
+use Rattle.hub_format.specs.Format.{Entry, Fit, FitsChange, FitsGrant, FitsMark, Keep, grant_entry, grants_under}
+use Rattle.hub_format.specs.Format.{items_of, mark_entry, own_grants, own_rows, own_version, row_entry, rows_under}
+use Rattle.hub_format.specs.Format.{some_grants, state_entry, version_entry}
+use Rattle.hub_format.specs.Pieces.{IsReadBack, caller_label, change_body, flag, grant_body, has_grants, key_label}
+use Rattle.hub_format.specs.Pieces.{mark_body, mark_label, number, row_body, schools_bytes, sized}
 use Rattle.roster_values.proofs.KindLaws.{kind_from_place}
 use Rattle.hub_format.proofs.Back.{moment_back, owner_back, same_ends, schools_back, sized_back, state_back}
 use Rattle.hub_format.proofs.Endings.{marks_rise}
@@ -77,7 +81,7 @@ same_grant version x y fits_x fits_y same =
 same_grants : (version : ℕ) (xs ys : List GrantRow) → AllByRecursion FitsGrant xs → AllByRecursion FitsGrant ys → grants_under version xs ≡ grants_under version ys → xs ≡ ys
 same_grants version = same_list (grant_entry version) FitsGrant (same_grant version)
 
-same_flag : (a b : Bool) → flag a ≡ flag b → a ≡ b
+pub same_flag : (a b : Bool) → flag a ≡ flag b → a ≡ b
 same_flag true true same = refl
 same_flag true false same = absurd cc
 same_flag false true same = absurd cc
@@ -137,10 +141,10 @@ same_changes m n (x ∷ xs) (y ∷ ys) lead_x lead_y told_x told_y fits_x fits_y
     let rest = same_changes m x.version xs ys lead_x.1 (subst (λ v. LeadOn v ys) (sym numbers) lead_y.1) told_x.1 told_y.1 fits_x.1 fits_y.1 end_x (subst (λ v. listed_of 3 (newest_from v ys + 1) m ≡ []) (sym numbers) end_y) in
     λ i. first i ∷ rest i
 
-module _ (s t : HubTables) (are_s : AreTables s) (are_t : AreTables t) (fit_s : Fit s) (fit_t : Fit t) (same : items_of s ≡ items_of t) where
-  number_fits : (u : HubTables) → AreTables u → u.base.number < 2 ^ 64
-  number_fits u are = let le = (base_meets IsVersion u.base u.changes are.versions).number in omega (arith, le)
+pub number_fits : (u : HubTables) → AreTables u → u.base.number < 2 ^ 64
+number_fits u are = let le = (base_meets IsVersion u.base u.changes are.versions).number in omega (arith, le)
 
+module _ (s t : HubTables) (are_s : AreTables s) (are_t : AreTables t) (fit_s : Fit s) (fit_t : Fit t) (same : items_of s ≡ items_of t) where
   state_entries : state_entry s.keep s.base ≡ state_entry t.keep t.base
   state_entries =
       let both : state_entry s.keep s.base ∷ [] ≡ state_entry t.keep t.base ∷ [] =

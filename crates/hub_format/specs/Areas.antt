@@ -1,7 +1,8 @@
 -- The areas of a hub's store.
 use Rattle.std.specs.Prelude.{ℕ}
 use Rattle.hub_format.specs.declared.area.HubArea.{HubArea}
-use Rattle.hub_format.specs.declared.area.HubArea.TheVariants.{BaseRows, ChangeRows, Format, Grants, Marks, Names, Spans, State, Versions}
+use Rattle.hub_format.specs.declared.area.HubArea.TheVariants.{BaseRows, ChangeRows, Format, Grants, Marks, Names}
+use Rattle.hub_format.specs.declared.area.HubArea.TheVariants.{Spans, State, Versions}
 
 -- the number of an area
 abbrev pub area_number : HubArea → ℕ

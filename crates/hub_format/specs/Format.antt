@@ -18,7 +18,8 @@ use Rattle.version_core.specs.declared.grant_row.GrantRow.{GrantRow}
 use Rattle.version_core.specs.declared.hub_tables.HubTables.{HubTables}
 use Rattle.version_core.specs.declared.mark.MarkRow.{MarkRow}
 use Rattle.version_core.specs.declared.row_change.RowChange.{RowChange}
-use Rattle.hub_format.specs.Pieces.{AreSized, HasNoZero, IsReadBack, IsSized, caller_label, change_body, grant_body, key_label, mark_body, mark_label, moment, number, row_body}
+use Rattle.hub_format.specs.Pieces.{AreSized, HasNoZero, IsReadBack, IsSized, caller_label, change_body, grant_body}
+use Rattle.hub_format.specs.Pieces.{key_label, mark_body, mark_label, moment, number, row_body}
 
 -- version 0 alone
 abbrev pub new_tables : ℕ → HubTables

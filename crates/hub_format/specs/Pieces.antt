@@ -1,5 +1,6 @@
 -- What labels and bodies are made of.
-use Rattle.std.specs.Prelude.{◌≡◌, ◌<◌, ◌^◌, ℕ, ℤ, ⊤, Bool, List, [], ◌∷◌, ◌++◌, Option, None, Some, Ok, length, if◌then◌else◌}
+use Rattle.std.specs.Prelude.{◌≡◌, ◌<◌, ◌^◌, ℕ, ℤ, ⊤, Bool, List, [], ◌∷◌, ◌++◌, Option, None, Some, Ok, length}
+use Rattle.std.specs.Prelude.{if◌then◌else◌}
 use Rattle.std.specs.List.{AllByRecursion}
 use Rattle.std.specs.Int.{w64, cast_unsigned, to_be_bytes}
 use Rattle.grant_scopes.specs.declared.grant.Grant.{Grant}

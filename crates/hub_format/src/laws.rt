@@ -5,7 +5,8 @@ ghost use Rattle.item_maps.specs.Items.{Items, listed};
 ghost use Rattle.keeper_memory.specs.Kept.{KeptState};
 ghost use Rattle.version_core.specs.Tables.{AreTables};
 ghost use Rattle.version_core.specs.declared.hub_tables.HubTables.{HubTables};
-ghost use Rattle.hub_format.specs.Format.{Fit, Keep, format_entry, grants_under, items_of, mark_entry, rows_under, state_entry};
+ghost use Rattle.hub_format.specs.Format.{Fit, Keep, format_entry, grants_under, items_of, mark_entry, rows_under};
+ghost use Rattle.hub_format.specs.Format.{state_entry};
 ghost use Rattle.hub_format.specs.Pieces.{number};
 
 /// Items keep one state at most.

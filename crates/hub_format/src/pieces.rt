@@ -1,7 +1,8 @@
 //! What labels and bodies are made of, written at the end of bytes.
 
-ghost use Rattle.std.specs.Prelude.{◌≡◌, ◌++◌, ◌<◌, [], OnOk};
-ghost use Rattle.hub_format.specs.Pieces.{AreSized, IsSized, all_sized, caller_label, moment, number, owner_bytes, owner_name, schools_bytes, sized, HasNoZero};
+ghost use Rattle.std.specs.Prelude.{◌≡◌, ◌++◌, ◌<◌, OnOk};
+ghost use Rattle.hub_format.specs.Pieces.{AreSized, IsSized, all_sized, caller_label, moment, number, owner_bytes};
+ghost use Rattle.hub_format.specs.Pieces.{owner_name, schools_bytes, sized, HasNoZero};
 ghost use Rattle.std.specs.Int.{w64};
 ghost use Rattle.std.specs.Int.RustNames.{FitsSigned};
 ghost use Rattle.std.specs.List.{AllByRecursion};

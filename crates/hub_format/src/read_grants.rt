@@ -14,7 +14,6 @@ use item_maps::Item;
 use roster_base::{Items, NoMemory};
 use roster_texts::{Id, Token};
 use std::alloc::Global;
-use std::str;
 use version_core::grant_row::GrantRow;
 
 // The caller of a label that has no number in front.
@@ -39,7 +38,7 @@ pub fn id_at(alloc: Global, bytes: &[u8]) -> Result<Option<(Id, &[u8])>, NoMemor
     }
 }
 
-// So many ids in front, each behind its length, and what stands behind them.
+// The `count` ids in front, each behind its length, and what stands behind them.
 fn ids_at(alloc: Global, count: u64, bytes: &[u8]) -> Result<Option<(Vec<Id>, &[u8])>, NoMemory>
     ensures ids { IfOk result (λ o. IfSome o (λ p. bytes.now ≡ all_sized p.0.items ++ p.1.now)) }
     ensures count { IfOk result (λ o. IfSome o (λ p. length p.0.items ≡ count)) }
@@ -91,16 +90,6 @@ fn schools_at(alloc: Global, bytes: &[u8]) -> Result<Option<(Schools, &[u8])>, N
     }
 }
 
-// The token of these bytes, if they are one.
-fn token_of(alloc: Global, bytes: &[u8]) -> Result<Option<Token>, NoMemory>
-    ensures { IfOk result (λ o. IfSome o (λ token. token ≡ bytes.now)) }
-{
-    match str::from_utf8(bytes) {
-        Ok(text) => Token::read(alloc, text),
-        Err(_) => Ok(None),
-    }
-}
-
 // The token and the scopes in front of a grant's body, and what stands behind them.
 fn token_at(alloc: Global, body: &[u8]) -> Result<Option<(Token, Scopes, &[u8])>, NoMemory>
     ensures parts { IfOk result (λ o. IfSome o (λ p. body.now ≡ sized p.0 ++ (p.1 ∷ p.2.now))) }
@@ -115,7 +104,7 @@ fn token_at(alloc: Global, body: &[u8]) -> Result<Option<(Token, Scopes, &[u8])>
     let Some(scopes) = Scopes::from_bits(*bits) else {
         return Ok(None);
     };
-    match token_of(alloc, text)? {
+    match Token::from_bytes(alloc, text)? {
         Some(token) => Ok(Some((token, scopes, rest))),
         None => Ok(None),
     }

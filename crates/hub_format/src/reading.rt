@@ -57,7 +57,7 @@ pub fn sized_at(bytes: &[u8]) -> Option<(&[u8], &[u8])>
     rest.split_at_checked(len)
 }
 
-// The name in these bytes, if they are one.
+/// The name in these bytes, if they are one.
 pub(crate) fn name_of(alloc: Global, bytes: &[u8]) -> Result<Option<Name>, NoMemory>
     ensures { IfOk result (λ o. IfSome o (λ name. name ≡ bytes.now)) }
 {
@@ -67,7 +67,7 @@ pub(crate) fn name_of(alloc: Global, bytes: &[u8]) -> Result<Option<Name>, NoMem
     }
 }
 
-// The id in these bytes, if they are one.
+/// The id in these bytes, if they are one.
 pub(crate) fn id_of(alloc: Global, bytes: &[u8]) -> Result<Option<Id>, NoMemory>
     ensures { IfOk result (λ o. IfSome o (λ id. id ≡ bytes.now)) }
 {

@@ -6,7 +6,8 @@ ghost use Rattle.std.specs.Int.RustNames.{FitsSigned};
 ghost use Rattle.std.specs.List.{AllByRecursion};
 ghost use Rattle.hub_format.specs.Edits.{put_at, puts};
 ghost use Rattle.hub_format.specs.Format.{FitsGrant, FitsMark, grant_entry, grants_under, mark_entry, version_entry};
-ghost use Rattle.hub_format.specs.Pieces.{AreSized, HasNoZero, IsReadBack, IsSized, caller_label, change_body, grant_body, mark_body, mark_label, number, row_body};
+ghost use Rattle.hub_format.specs.Pieces.{AreSized, HasNoZero, IsReadBack, IsSized, caller_label, change_body};
+ghost use Rattle.hub_format.specs.Pieces.{grant_body, mark_body, mark_label, number, row_body};
 
 use crate::area::HubArea;
 use crate::pieces::{

@@ -1,6 +1,6 @@
 //! The writer's side: what is published, and the entry that waits.
 
-ghost use Rattle.std.specs.Prelude.{◌≡◌, ◌++◌, ◌<◌, [], drop, IfOk, MatchBool, None, Some, true};
+ghost use Rattle.std.specs.Prelude.{◌≡◌, ◌++◌, ◌<◌, [], drop, IfOk, MatchBool, None, Some};
 ghost use Rattle.left_right.specs.Sides.{view};
 ghost use Rattle.hub_history.specs.Histories.{CanEnter, EndsLegally, IsLegal, IsTableOf, state_after, waiting_list};
 ghost use Rattle.hub_history.specs.Published.{Appends, IsStage, NotedAs, history, none_waits, waiting_of};
@@ -18,7 +18,7 @@ use std::marker::Model;
 use std::sync::Wait;
 use version_core::table::Table;
 
-/// So long may a history grow.
+// The most entries of a history.
 const MOST: u64 = 1 << 60;
 
 /// The writer, and the entry that waits to be published. Contracts see the published entries and the one that waits.

@@ -1,5 +1,6 @@
 -- No answer of the hub's own says that its store failed.
-use Rattle.std.proofs.Common.{◌≡◌, ℕ, ℤ, zero, suc, List, [], ◌∷◌, Bool, true, false, Option, None, Some, Result, Ok, Err, cond, slice_index_or, refl, sym, ap, subst, ◌∙◌}
+use Rattle.std.proofs.Common.{◌≡◌, ℕ, ℤ, zero, suc, List, [], ◌∷◌, Bool, true, false, Option, None, Some, Result, Ok}
+use Rattle.std.proofs.Common.{Err, cond, slice_index_or, refl, sym, ap, subst, ◌∙◌}
 use Rattle.std.specs.Prelude.{⊤}
 use Rattle.filter_grammar.specs.Queries.{query_of}
 use Rattle.filter_grammar.specs.declared.fault.QueryFault.{QueryFault}
@@ -9,8 +10,10 @@ use Rattle.filter_grammar.specs.Causes.{cause_of as cause_of_query}
 use Rattle.grant_scopes.specs.Opens.{opens}
 use Rattle.hub_replies.proofs.Checking.{EitherIs, IfRefused, check_is, either_is, found_is, then_either, then_is}
 use Rattle.hub_spec.specs.requests.Requests.{query_for_path, query_or_cause, wanted_by}
-use Rattle.hub_spec.specs.rules.Answers.{Answered, Answers, Entered, Written, cause_of, causes, reply_to_write, write_of, write_result}
-use Rattle.hub_spec.specs.rules.Checks.{Entry, base_checked, base_refused, check, entry_of, grant_in, is_base, is_open, method_refused, pin_refused, query_or, refused, refused_at, version_read}
+use Rattle.hub_spec.specs.rules.Answers.{Answered, Answers, Entered, Written, cause_of, causes, reply_to_write}
+use Rattle.hub_spec.specs.rules.Answers.{write_of, write_result}
+use Rattle.hub_spec.specs.rules.Checks.{Entry, base_checked, base_refused, check, entry_of, grant_in, is_base, is_open}
+use Rattle.hub_spec.specs.rules.Checks.{method_refused, pin_refused, query_or, refused, refused_at, version_read}
 use Rattle.hub_spec.specs.rules.Reads.{Contents, contents_at, read_at, read_result}
 use Rattle.hub_spec.specs.rules.Runs.{Acts, Answer, Fails, Replied, Steps, Take, WantsMemory}
 use Rattle.hub_spec.specs.rules.Verdicts.{Leads, Refused, Repeat, Same, Verdict}

@@ -1,8 +1,10 @@
 -- What the first ending that isn't Done says of all jobs.
-use Rattle.std.proofs.Common.{◌≡◌, ◌⊎◌, ◌<◌, suc, ℕ, List, [], ◌∷◌, Option, Result, Ok, Err, IfOk, length, slice_index_or, inl, inr, arith}
+use Rattle.std.proofs.Common.{◌≡◌, ◌⊎◌, ◌<◌, suc, ℕ, List, [], ◌∷◌, Option, Result, Ok, Err, IfOk, length}
+use Rattle.std.proofs.Common.{slice_index_or, inl, inr, arith}
 use Rattle.std.specs.List.{AllZip}
 use Rattle.hub_server.specs.Jobs.{Does}
-use Rattle.hub_server.specs.Serving.{AllMean, AllServed, Ended, SomeRefused, SomeRose, acceptors_in, acceptors_of, ending_of_all, feeds_in, folders_in, folders_of}
+use Rattle.hub_server.specs.Serving.{AllMean, AllServed, Ended, SomeRefused, SomeRose, acceptors_in, acceptors_of}
+use Rattle.hub_server.specs.Serving.{ending_of_all, feeds_in, folders_in, folders_of}
 use Rattle.hub_server.specs.declared.ending.Ending.{Ending}
 use Rattle.hub_server.specs.declared.ending.Ending.TheVariants as ending
 use Rattle.hub_server.specs.declared.jobs.Job.{Job}

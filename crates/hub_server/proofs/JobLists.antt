@@ -1,7 +1,8 @@
 -- Lists of jobs, and of what they gave back, with one more at the end.
 use Rattle.std.proofs.Common.{◌≡◌, List, [], ◌∷◌, ◌++◌, refl, ap, ◌∙◌}
 use Rattle.hub_server.specs.Endings.{or_else}
-use Rattle.hub_server.specs.Serving.{acceptors_in, acceptors_of, ending_in, ending_of_all, feeds_in, folders_in, folders_of}
+use Rattle.hub_server.specs.Serving.{acceptors_in, acceptors_of, ending_in, ending_of_all, feeds_in, folders_in}
+use Rattle.hub_server.specs.Serving.{folders_of}
 use Rattle.hub_server.specs.declared.ending.Ending.{Ending}
 use Rattle.hub_server.specs.declared.ending.Ending.TheVariants as ending
 use Rattle.hub_server.specs.declared.jobs.AcceptorJob.{AcceptorJob}

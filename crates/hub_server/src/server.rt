@@ -3,7 +3,8 @@
 ghost use Rattle.std.specs.Prelude.{◌≡◌, ◌⊎◌, ◌<◌, ◌++◌, ◌∷◌, ℕ, IfOk, OnOk, [], false, length, slice_index_or};
 ghost use Rattle.hub_core.specs.Standing.{KeeperFits};
 ghost use Rattle.hub_server.specs.Endings.{or_else};
-ghost use Rattle.hub_server.specs.Serving.{ComesBy, Ended, acceptors_in, acceptors_of, ending_in, ending_of_all, feeds_in, folders_in, folders_of};
+ghost use Rattle.hub_server.specs.Serving.{ComesBy, Ended, acceptors_in, acceptors_of, ending_in, ending_of_all};
+ghost use Rattle.hub_server.specs.Serving.{feeds_in, folders_in, folders_of};
 ghost use Rattle.hub_server.specs.declared.jobs.Job.{Job};
 ghost use Rattle.hub_server.specs.declared.jobs.JobEnd.{JobEnd};
 ghost use Rattle.hub_core.specs.declared.hub_error.HubError.TheVariants as errors;
@@ -98,7 +99,7 @@ fn jobs_of<A: Drop, F: Drop>(
     Ok(jobs)
 }
 
-// So many seats, or as many as there are places.
+// `count` seats, or as many as there are places.
 fn seats_of<H: HubKeeper, N: Naming>(
     alloc: Global,
     shared: &mut SharedHub<H, N>,

@@ -1,5 +1,6 @@
 -- The three steps of a call put together.
-use Rattle.std.proofs.Common.{◌≡◌, ◌≢◌, ℕ, Bool, true, false, List, [], ◌∷◌, ◌++◌, Option, Some, None, Result, Ok, Err, refl, sym, ap, ◌∙◌, subst, inl, inr, arith}
+use Rattle.std.proofs.Common.{◌≡◌, ◌≢◌, ℕ, Bool, true, false, List, [], ◌∷◌, ◌++◌, Option, Some, None, Result, Ok, Err}
+use Rattle.std.proofs.Common.{refl, sym, ap, ◌∙◌, subst, inl, inr, arith}
 use Rattle.std.proofs.lemmas.List.{append-nil}
 use Rattle.hub_core.specs.Standing.{HeldHub, KeeperFits}
 use Rattle.hub_core.specs.Steps.{LeavesOpen, RefusesNothing}
@@ -10,10 +11,12 @@ use Rattle.hub_history.specs.declared.entry.Entry.TheVariants.{Commit, Fault}
 use Rattle.hub_history.specs.Histories.{state_after}
 use Rattle.hub_history.specs.Published.{Published, history, none_waits}
 use Rattle.hub_shared.specs.Reloads.{Reloads}
-use Rattle.hub_shared.specs.Standings.{FaultPublished, IsFound, IsOwn, Owned, Pushed, Receipted, Standing, Unfailed, Worked, entry_due, handed_out}
+use Rattle.hub_shared.specs.Standings.{FaultPublished, IsFound, IsOwn, Owned, Pushed, Receipted, Standing, Unfailed}
+use Rattle.hub_shared.specs.Standings.{Worked, entry_due, handed_out}
 use Rattle.hub_core.specs.declared.hub_error.HubError.{HubError}
 use Rattle.hub_core.specs.declared.hub_error.HubError.TheVariants as error
-use Rattle.hub_shared.proofs.Stands.{IsCommit, Outcome, added_stands, history_whole, last_out, left_out, log_whole, outcome, own_last, owned_busy, owned_told}
+use Rattle.hub_shared.proofs.Stands.{IsCommit, Outcome, added_stands, history_whole, last_out, left_out, log_whole}
+use Rattle.hub_shared.proofs.Stands.{outcome, own_last, owned_busy, owned_told}
 
 -- ---- the second step
 

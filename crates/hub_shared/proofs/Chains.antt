@@ -1,12 +1,15 @@
 -- A connection as far as it was served.
-use Rattle.std.proofs.Common.{◌≡◌, ℕ, ◌+◌, ◌-◌, ◌^◌, min, true, false, List, [], ◌∷◌, ◌++◌, length, Option, refl, sym, ap, ◌∙◌, subst}
+use Rattle.std.proofs.Common.{◌≡◌, ℕ, ◌+◌, ◌-◌, ◌^◌, min, true, false, List, [], ◌∷◌, ◌++◌, length, Option, refl, sym}
+use Rattle.std.proofs.Common.{ap, ◌∙◌, subst}
 use Rattle.std.proofs.lemmas.List.{append-nil, map-append}
 use Rattle.std.proofs.lemmas.List.Concat.{flat_map-append}
 use Rattle.std.specs.Io.KnownBytes.{Appends}
 use Rattle.http_wire.specs.Replies.{reply_text}
 use Rattle.http_wire.specs.declared.fault.WireFault.{WireFault}
 use Rattle.outside_ports.specs.Written.{AppendsPart}
-use Rattle.rest_provider.proofs.EndsProgress.{Progress, begins as wire_begins, breaks_off as wire_breaks, closes_at as wire_closes, goes_on as wire_goes, stops_at as wire_stops, wants_memory as wire_wants}
+use Rattle.rest_provider.proofs.EndsProgress.{Progress, begins as wire_begins, breaks_off as wire_breaks}
+use Rattle.rest_provider.proofs.EndsProgress.{closes_at as wire_closes, goes_on as wire_goes, stops_at as wire_stops}
+use Rattle.rest_provider.proofs.EndsProgress.{wants_memory as wire_wants}
 use Rattle.rest_provider.specs.Ends.{Ends, IsStopped, TellsStop}
 use Rattle.rest_provider.specs.declared.stream_end.StreamEnd.{StreamEnd}
 use Rattle.rest_provider.specs.declared.stream_end.StreamEnd.TheVariants as end

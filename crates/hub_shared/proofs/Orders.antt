@@ -6,7 +6,8 @@ use mathlib.Core.List.{IsPrefix}
 use Rattle.hub_history.proofs.Fronts.{prefix_self, prefix_trans}
 use Rattle.hub_history.specs.declared.entry.Entry.{Entry}
 use Rattle.hub_shared.specs.Seats.{SeatView}
-use Rattle.hub_shared.specs.Serving.{All, AnsweredAt, AreKnown, Exchange, InOrder, ReadsBySeat, TakesShared, WritesBySeat}
+use Rattle.hub_shared.specs.Serving.{All, AnsweredAt, AreKnown, Exchange, InOrder, ReadsBySeat, TakesShared}
+use Rattle.hub_shared.specs.Serving.{WritesBySeat}
 use Rattle.hub_spec.specs.rules.Wanted.{is_write}
 use Rattle.keeper_memory.specs.Kept.{KeptState}
 

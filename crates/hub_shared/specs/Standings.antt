@@ -1,5 +1,6 @@
 -- What a lock round the hub keeps, and what is done under it.
-use Rattle.std.specs.Prelude.{◌≡◌, ◌⊎◌, ◌+◌, ◌-◌, ◌^◌, ◌≤◌, ℕ, min, Bool, IsTrue, true, List, [], ◌∷◌, ◌++◌, Option, None, Some, option_map, if◌then◌else◌, ◌≢◌}
+use Rattle.std.specs.Prelude.{◌≡◌, ◌⊎◌, ◌+◌, ◌-◌, ◌^◌, ◌≤◌, ℕ, min, Bool, IsTrue, true, List, [], ◌∷◌, ◌++◌, Option}
+use Rattle.std.specs.Prelude.{None, Some, option_map, if◌then◌else◌, ◌≢◌}
 use Rattle.hub_core.specs.Made.{made_last}
 use Rattle.hub_core.specs.Standing.{HeldHub, KeeperFits}
 use Rattle.keeper_memory.specs.Kept.{KeptState}

@@ -1,6 +1,6 @@
 //! Seats, which read without waiting, and receipts.
 
-ghost use Rattle.std.specs.Prelude.{◌≡◌, ◌⊎◌, [], Some, false};
+ghost use Rattle.std.specs.Prelude.{◌≡◌, ◌⊎◌, [], false};
 ghost use mathlib.Core.List.{IsPrefix};
 ghost use Rattle.hub_spec.specs.requests.Requests.{wanted_by};
 ghost use Rattle.hub_spec.specs.rules.Wanted.{is_write};

@@ -1,5 +1,6 @@
 -- The agreement on marks is kept by all traffic, by new entries, and by settling an entry as its mark is shown.
-use Rattle.std.proofs.Common.{◌≡◌, ◌+◌, ◌≤◌, inl, inr, ⊎_elim, ℕ, Bool, true, false, cond, List, [], ◌∷◌, ◌++◌, Option, None, Some, refl, sym, ap, subst, ◌∙◌, arith}
+use Rattle.std.proofs.Common.{◌≡◌, ◌+◌, ◌≤◌, inl, inr, ⊎_elim, ℕ, Bool, true, false, cond, List, [], ◌∷◌, ◌++◌, Option}
+use Rattle.std.proofs.Common.{None, Some, refl, sym, ap, subst, ◌∙◌, arith}
 use Rattle.std.specs.Prelude.{IfSome, is_none, is_some}
 use Rattle.std.specs.List.{AllByRecursion}
 use Rattle.keeper_memory.specs.copy.Changes.{settled_first}
@@ -17,7 +18,8 @@ use Rattle.version_core.specs.Grants.{grant_of}
 use Rattle.version_core.specs.HubStates.{HubState}
 use Rattle.version_core.specs.declared.change.BaseVersion.{BaseVersion}
 use Rattle.version_core.specs.declared.mark.Write.{Write}
-use Rattle.hub_spec.specs.marks.Agreement.{AllCarried, AllShown, GivesOnly, IsCaller, IsCarried, IsOfEntry, IsShown, MarksAgree}
+use Rattle.hub_spec.specs.marks.Agreement.{AllCarried, AllShown, GivesOnly, IsCaller, IsCarried, IsOfEntry, IsShown}
+use Rattle.hub_spec.specs.marks.Agreement.{MarksAgree}
 use Rattle.hub_spec.specs.marks.Marked.{Marked, mark_of, marked_at, marked_by, marked_in}
 
 pub if_some : {X : Type 0} (P Q : X → Type 0) (o : Option X) → ((x : X) → P x → Q x) → IfSome o P → IfSome o Q

@@ -1,5 +1,6 @@
 -- Where nobody else marks writes for a caller, no mark is held behind the first entry that isn't settled.
-use Rattle.std.proofs.Common.{◌≡◌, ◌<◌, ◌⊎◌, inl, inr, ⊎_elim, ℕ, Bool, true, false, cond, List, [], ◌∷◌, Option, None, Some, refl, ap, subst, ◌∙◌, arith}
+use Rattle.std.proofs.Common.{◌≡◌, ◌<◌, ◌⊎◌, inl, inr, ⊎_elim, ℕ, Bool, true, false, cond, List, [], ◌∷◌, Option, None}
+use Rattle.std.proofs.Common.{Some, refl, ap, subst, ◌∙◌, arith}
 use Rattle.std.specs.Prelude.{IfSome, IsSomeAnd, is_none, is_some, not}
 use Rattle.std.specs.List.{AllByRecursion}
 use Rattle.keeper_memory.specs.copy.Copies.{NumbersRise, first_unsettled}

@@ -1,13 +1,16 @@
 -- A marked write is answered with one of four.
-use Rattle.std.proofs.Common.{◌≡◌, ◌≤◌, ℕ, ℤ, Bool, true, false, ◌&&◌, ◌==◌, cond, nat_lt, Option, None, Some, Ok, refl, sym, ap, subst, ◌∙◌, arith}
+use Rattle.std.proofs.Common.{◌≡◌, ◌≤◌, ℕ, ℤ, Bool, true, false, ◌&&◌, ◌==◌, cond, nat_lt, Option, None, Some, Ok, refl}
+use Rattle.std.proofs.Common.{sym, ap, subst, ◌∙◌, arith}
 use Rattle.std.proofs.lemmas.Bool.Decides.{nat_tests}
 use Rattle.grant_scopes.specs.Opens.{opens}
 use Rattle.rest_paths.specs.Paths.{PathParts as Path}
-use Rattle.hub_spec.specs.rules.Answers.{Answered, Answers, Entered, Written, reply_to_write, sent, write_of, write_result}
+use Rattle.hub_spec.specs.rules.Answers.{Answered, Answers, Entered, Written, reply_to_write, sent, write_of}
+use Rattle.hub_spec.specs.rules.Answers.{write_result}
 use Rattle.hub_spec.specs.rules.Checks.{Entry, check, grant_in, method_refused, refused, refused_at}
 use Rattle.hub_spec.specs.rules.Marked.{same_write}
 use Rattle.hub_spec.specs.rules.Verdicts.{Judged, Judges, Leads, Refused, Repeat, Same, Verdict, held_mark, newest_in}
-use Rattle.hub_spec.specs.rules.Wanted.{Wanted, access_of, allows, is_delete, is_good_mark, is_write, mark_number, takes_writes}
+use Rattle.hub_spec.specs.rules.Wanted.{Wanted, access_of, allows, is_delete, is_good_mark, is_write, mark_number}
+use Rattle.hub_spec.specs.rules.Wanted.{takes_writes}
 use Rattle.hub_spec.specs.rules.Written.{done_of, kept_mark, newest_after, outcome_of, state_after, with_kept}
 use Rattle.hub_spec.specs.views.Lists.{kind_of_path}
 use Rattle.reference_rules.proofs.KeyOrder.{and_first, and_second}

@@ -1,19 +1,22 @@
 -- The queries of a consumer's requests, which name numbers, read again.
-use Rattle.std.proofs.Common.{◌≡◌, ℕ, ◌<◌, ◌≤◌, ◌^◌, ◌==◌, List, [], ◌∷◌, ◌++◌, true, false, ◌&&◌, Option, None, Some, Result, Ok, map, min, refl, ap, ◌∙◌, codes, arith}
+use Rattle.std.proofs.Common.{◌≡◌, ℕ, ◌<◌, ◌≤◌, ◌^◌, ◌==◌, List, [], ◌∷◌, ◌++◌, true, false, ◌&&◌, Option, None, Some}
+use Rattle.std.proofs.Common.{Result, Ok, map, min, refl, ap, ◌∙◌, codes, arith}
 use Rattle.std.proofs.lemmas.Bool.Decides.{nat_tests}
 use Rattle.std.specs.Fmt.{decimal}
 use Rattle.std.specs.List.{AllByRecursion, list_all, list_any}
 use Rattle.std.specs.Prelude.{IfSome, count_by, find, is_none, is_some, nat_lt, option_and_then, option_map}
 use Rattle.filter_grammar.specs.Counts.{count_of}
 use Rattle.filter_grammar.specs.Parameters.{all_parameters, given, has_good_escapes, is_of, is_repeated, is_text_pair}
-use Rattle.filter_grammar.specs.Queries.{has_choice, has_unknown_sort, limit_of, offset_of, only_of, order_of, pin_in, query_of, since_of, test_of, version_of}
+use Rattle.filter_grammar.specs.Queries.{has_choice, has_unknown_sort, limit_of, offset_of, only_of, order_of, pin_in}
+use Rattle.filter_grammar.specs.Queries.{query_of, since_of, test_of, version_of}
 use Rattle.filter_grammar.specs.declared.fault.QueryFault.{QueryFault}
 use Rattle.filter_grammar.specs.declared.parameter.Parameter.{Parameter}
 use Rattle.filter_grammar.specs.declared.parameter.Parameter.TheVariants as parameter
 use Rattle.filter_grammar.specs.declared.query.Query.{Query}
 use Rattle.form_urlencoded.proofs.FormLemmas.{raw_pairs-nil}
 use Rattle.form_urlencoded.specs.Form as form
-use Rattle.hub_spec.proofs.QueryLemmas.{IsSafe, count_of-decimal, form_text, is_apart, number_safe, pair_first, pair_last, path_of-whole, plain_decode}
+use Rattle.hub_spec.proofs.QueryLemmas.{IsSafe, count_of-decimal, form_text, is_apart, number_safe, pair_first}
+use Rattle.hub_spec.proofs.QueryLemmas.{pair_last, path_of-whole, plain_decode}
 use Rattle.hub_spec.specs.requests.PageRequests.{CanAsk, page_path, page_request}
 use Rattle.hub_spec.specs.requests.Requests.{query_for_path, query_or_cause, wanted_by}
 use Rattle.hub_spec.specs.rules.Asking.{Asking, asking, query_for}

@@ -1,11 +1,13 @@
 -- Each request has an answer.
 use Rattle.std.proofs.Common.{ℕ, ℤ, inl, inr, Bool, true, false, Option, None, Some, Result, Ok, Err, refl}
 use Rattle.version_changes.proofs.Deciding.{deciding}
-use Rattle.hub_spec.specs.rules.Answers.{Answered, Answers, Entered, Written, either, reply_to_write, sent, write_of, write_result}
+use Rattle.hub_spec.specs.rules.Answers.{Answered, Answers, Entered, Written, either, reply_to_write, sent, write_of}
+use Rattle.hub_spec.specs.rules.Answers.{write_result}
 use Rattle.hub_spec.specs.rules.Checks.{Entry, entry_of}
 use Rattle.hub_spec.specs.rules.Reads.{read_result}
 use Rattle.hub_spec.specs.rules.Refusals.{delete_refusal, put_refusal, stored_at}
-use Rattle.hub_spec.specs.rules.Verdicts.{BodyJudged, Judged, Judges, NewJudged, PutJudged, PutMakes, Refused, Same, Verdict, delete_judged, held_mark, leads_with, newest_in, repeated}
+use Rattle.hub_spec.specs.rules.Verdicts.{BodyJudged, Judged, Judges, NewJudged, PutJudged, PutMakes, Refused, Same}
+use Rattle.hub_spec.specs.rules.Verdicts.{Verdict, delete_judged, held_mark, leads_with, newest_in, repeated}
 use Rattle.hub_spec.specs.rules.Wanted.{Wanted, is_write, mark_number}
 use Rattle.hub_spec.specs.rules.Written.{state_after}
 use Rattle.roster_types.specs.Records.{Record}

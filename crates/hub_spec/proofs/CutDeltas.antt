@@ -1,5 +1,6 @@
 -- What differs between two cuts leads from one to the other.
-use Rattle.std.proofs.Common.{◌≡◌, ℕ, zero, suc, List, [], ◌∷◌, Bool, true, false, cond, get_or, map, Option, None, Some, refl, sym, subst, ◌∙◌}
+use Rattle.std.proofs.Common.{◌≡◌, ℕ, zero, suc, List, [], ◌∷◌, Bool, true, false, cond, get_or, map, Option, None}
+use Rattle.std.proofs.Common.{Some, refl, sym, subst, ◌∙◌}
 use Rattle.std.specs.Option.{option_map_or}
 use Rattle.grant_scopes.specs.Opens.{opens}
 use Rattle.grant_scopes.specs.declared.access.Access.TheVariants.{Read}
@@ -22,7 +23,7 @@ use Rattle.version_core.specs.Version.{IsVersion}
 use Rattle.version_core.specs.declared.change.BaseVersion.{BaseVersion}
 use Rattle.version_core.specs.declared.grant_row.GrantRow.{GrantRow}
 
-none_at : (kinds : List Kind) (place : ℕ) → (let none : Kind → List Record = λ kind. [] in get_or (map none kinds) place [] ≡ [])
+pub none_at : (kinds : List Kind) (place : ℕ) → (let none : Kind → List Record = λ kind. [] in get_or (map none kinds) place [] ≡ [])
 none_at [] place = refl
 none_at (kind ∷ kinds) zero = refl
 none_at (kind ∷ kinds) (suc place) = none_at kinds place

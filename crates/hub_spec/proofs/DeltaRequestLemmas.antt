@@ -1,5 +1,6 @@
 -- A consumer's request for a page of what differs, read again, is what it asks for.
-use Rattle.std.proofs.Common.{◌≡◌, ℕ, ℤ, ◌<◌, ◌^◌, List, ◌++◌, Option, None, Some, refl, ap, append-nil, subst, ◌∙◌, codes}
+use Rattle.std.proofs.Common.{◌≡◌, ℕ, ℤ, ◌<◌, ◌^◌, List, ◌++◌, Option, None, Some, refl, ap, append-nil, subst, ◌∙◌}
+use Rattle.std.proofs.Common.{codes}
 use Rattle.std.specs.Fmt.{decimal}
 use Rattle.hub_spec.proofs.AskedQueries.{joined, numbers, read_again}
 use Rattle.hub_spec.proofs.DeltaSaying.{says_from}

@@ -1,5 +1,6 @@
 -- What the hub says to a consumer that holds a version.
-use Rattle.std.proofs.Common.{◌≡◌, ◌≤◌, arith, ℕ, ℤ, List, [], Bool, true, false, cond, filter, length, Option, None, Some, Ok, Err, refl, sym, ap, ◌∙◌}
+use Rattle.std.proofs.Common.{◌≡◌, ◌≤◌, arith, ℕ, ℤ, List, [], Bool, true, false, cond, filter, length, Option, None}
+use Rattle.std.proofs.Common.{Some, Ok, Err, refl, sym, ap, ◌∙◌}
 use Rattle.row_json.specs.Deltas.{delta_text}
 use Rattle.grant_scopes.specs.Opens.{opens}
 use Rattle.grant_scopes.specs.declared.access.Access.TheVariants.{Read}
@@ -7,8 +8,10 @@ use Rattle.hub_spec.proofs.Cutting.{known_at, rows_are_cut, since_newest}
 use Rattle.hub_spec.proofs.Saying.{closed_pin, newest_read, open_read, outside, within}
 use Rattle.hub_spec.specs.rules.Answers.{Answered, Answers, either, sent}
 use Rattle.hub_spec.specs.rules.Asking.{Asking, IsRead}
-use Rattle.hub_spec.specs.rules.Checks.{Entry, base_refused, check, first_open, is_base, is_open, pin_refused, refused, refused_at, version_at, version_read}
-use Rattle.hub_spec.specs.rules.DeltaAsking.{SaysFrom, NotKnown, PinGone, NotOpened, BaseGone, Differs, asking_from, query_from}
+use Rattle.hub_spec.specs.rules.Checks.{Entry, base_refused, check, first_open, is_base, is_open, pin_refused, refused}
+use Rattle.hub_spec.specs.rules.Checks.{refused_at, version_at, version_read}
+use Rattle.hub_spec.specs.rules.DeltaAsking.{SaysFrom, NotKnown, PinGone, NotOpened, BaseGone, Differs, asking_from}
+use Rattle.hub_spec.specs.rules.DeltaAsking.{query_from}
 use Rattle.hub_spec.specs.rules.Reads.{Contents, delta_shown, read_at, shown}
 use Rattle.hub_spec.specs.rules.States.{IsHub}
 use Rattle.hub_spec.specs.rules.Verdicts.{newest_in}

@@ -1,21 +1,18 @@
 -- A state with one version more is one that a hub can have.
-use Rattle.std.proofs.Common.{◌≡◌, ℕ, ◌+◌, List, [], ◌∷◌, ◌++◌, length, length-append, slice_get, Some, subst, ◌∙◌, arith}
+use Rattle.std.proofs.Common.{◌≡◌, List, [], ◌∷◌, ◌++◌, length, length-append, slice_get, Some, subst, ◌∙◌, arith}
 use Rattle.std.specs.List.{AllByRecursion}
 use Rattle.version_changes.proofs.Following.{KeepGrants-push, below}
 use Rattle.version_changes.specs.grants.Next.{IsNext}
 use Rattle.hub_spec.proofs.Versions.{newest_has, some_version}
 use Rattle.hub_spec.specs.rules.States.{HoldsRows, IsGranted, IsHub}
 use Rattle.hub_spec.specs.rules.Verdicts.{newest_in}
+use Rattle.version_core.proofs.TableLemmas.{AreVersionsFrom-push}
 use Rattle.version_core.proofs.VersionLemmas.{AllByRecursion-push}
-use Rattle.version_core.specs.HubStates.{AreVersionsFrom, HubState, newest_number}
+use Rattle.version_core.specs.HubStates.{HubState, newest_number}
 use Rattle.version_core.specs.Marks.{AreMarks}
-use Rattle.version_core.specs.Version.{IsVersion, empty_version}
+use Rattle.version_core.specs.Version.{empty_version}
 use Rattle.version_core.specs.declared.change.BaseVersion.{BaseVersion}
 use Rattle.version_core.specs.declared.mark.MarkRow.{MarkRow}
-
-pub run_push : (first : ℕ) (versions : List BaseVersion) (next : BaseVersion) → AreVersionsFrom first versions → next.number ≡ first + length versions → IsVersion next → AreVersionsFrom first (versions ++ next ∷ [])
-run_push first [] next run number is = (number ∙ omega arith, is, tt)
-run_push first (v ∷ vs) next run number is = (run.0, run.1, run_push (first + 1) vs next run.2 (number ∙ omega arith) is)
 
 first_of : (versions : List BaseVersion) (next : BaseVersion) → slice_get versions 0 ≡ Some empty_version → slice_get (versions ++ next ∷ []) 0 ≡ Some empty_version
 first_of [] next first = cc
@@ -32,7 +29,7 @@ module _ (state : HubState) (granted : IsGranted state) (next : BaseVersion) (is
   next_granted marks are = record {
     state = record {
       first = first_of state.published next granted.state.first;
-      run = run_push 0 state.published next granted.state.run (next_number ∙ omega arith) is.version;
+      run = AreVersionsFrom-push 0 state.published next granted.state.run (next_number ∙ omega arith) is.version;
       marks = subst (λ n. AreMarks n marks) (let e = length-append state.published (next ∷ []) in omega arith) are;
     };
     grants = KeepGrants-push state.published granted.grants next is (below 0 state.published next.number granted.state.run (omega (arith, next_number)));

@@ -1,19 +1,21 @@
 -- Each step lets a state grow, and a new mark is that of its request.
-use Rattle.std.proofs.Common.{◌≡◌, ℕ, ℤ, zero, suc, bytes_eq, find, ◌<◌, ◌≤◌, inl, inr, Bool, true, false, cond, List, [], ◌∷◌, ◌++◌, length, length-append, get_or, Option, None, Some, Result, Ok, Err, refl, sym, ap, subst, ◌∙◌, arith}
+use Rattle.std.proofs.Common.{◌≡◌, ℕ, ℤ, zero, suc, find, ◌<◌, ◌≤◌, inl, inr, Bool, true, false, cond, List, [], ◌∷◌}
+use Rattle.std.proofs.Common.{◌++◌, length, length-append, get_or, Option, None, Some, Result, Ok, Err, refl, sym, ap}
+use Rattle.std.proofs.Common.{subst, ◌∙◌, arith}
 use Rattle.std.proofs.Math.ListN.{get_or-append}
 use Rattle.hub_spec.specs.rules.Answers.{Answered, Answers, Entered, Written, write_of, write_result}
 use Rattle.hub_spec.specs.rules.Checks.{Entry, check, entry_of, grant_in, method_refused, refused}
 use Rattle.hub_spec.specs.rules.Growth.{Goes, Grew, IsMarkOf, IsNewMark, IsRunMark}
 use Rattle.hub_spec.specs.rules.Marked.{same_write}
-use Rattle.hub_spec.specs.rules.Runs.{Acts, ActedOrNot, Answer, Command, Does, Fails, Publish, Reopen, Runs, SetGrants, Step, Steps, Take, Wants, WantsMemory, end_of, state_with}
-use Rattle.hub_spec.specs.rules.Verdicts.{Judged, Judges, Leads, Refused, Repeat, Same, Verdict, held_mark, newest_in, repeated}
+use Rattle.hub_spec.specs.rules.Runs.{Acts, ActedOrNot, Answer, Command, Does, Fails, Publish, Reopen, Runs, SetGrants}
+use Rattle.hub_spec.specs.rules.Runs.{Step, Steps, Take, Wants, WantsMemory, end_of, state_with}
+use Rattle.hub_spec.specs.rules.Verdicts.{Judged, Judges, Leads, Refused, Repeat, Same, Verdict, held_mark, newest_in}
+use Rattle.hub_spec.specs.rules.Verdicts.{repeated}
 use Rattle.hub_spec.specs.rules.Wanted.{Wanted, allows, is_write, mark_number}
 use Rattle.hub_spec.specs.rules.Written.{kept_mark, newest_after, outcome_of, published_after, state_after, with_kept}
 use Rattle.rest_paths.specs.Paths.{PathParts as Path}
-use Rattle.version_changes.proofs.Finding.{same_text}
-use Rattle.reference_rules.proofs.KeyOrder.{and_first, and_second}
-use Rattle.std.proofs.lemmas.Bool.Decides.{nat_tests}
 use Rattle.std.specs.List.{insert, prefix_len}
+use Rattle.version_core.proofs.MarkLemmas.{from_same}
 use Rattle.version_core.specs.Marks.{is_below, mark_at, mark_key, same_mark, with_mark}
 use Rattle.roster_base.specs.Reading.{◌>>=◌}
 use Rattle.roster_texts.specs.Results.{found_or}
@@ -63,25 +65,19 @@ module _ {X : Type 0} (p : X → Bool) where
         | false ↦ λ e. find_it ys i x is e
       ] none
 
-same_key : (a b : List ℕ × ℕ) → same_mark a b ≡ true → a ≡ b
-same_key a b e =
-    let one = same_text a.0 b.0 (and_first (bytes_eq a.0 b.0) _ e) in
-    let two : a.1 ≡ b.1 = let f = and_second (bytes_eq a.0 b.0) _ e in grind (arith, nat_tests) in
-    λ i. (one i, two i)
-
 -- a mark that isn't held is added; the others stay, and it alone is new
 module _ (mark : MarkRow) (marks : List MarkRow) where
   pub others_stay : mark_at (mark_key mark) marks ≡ None → (key : List ℕ × ℕ) (held : MarkRow) → mark_at key marks ≡ Some held → mark_at key (with_mark mark marks) ≡ Some held
   others_stay none key held is =
       elim (same_mark key (mark_key mark)) as (λ b. same_mark key (mark_key mark) ≡ b → mark_at key (with_mark mark marks) ≡ Some held) [
-        | true ↦ λ e. let never : mark_at key marks ≡ None = subst (λ k. mark_at k marks ≡ None) (sym (same_key key (mark_key mark) e)) none in cc
+        | true ↦ λ e. let never : mark_at key marks ≡ None = subst (λ k. mark_at k marks ≡ None) (sym (from_same key (mark_key mark) e)) none in cc
         | false ↦ λ e. find_other (λ m. same_mark key (mark_key m)) marks (prefix_len (is_below mark) marks) mark e ∙ is
       ] refl
 
   pub new_is_it : (key : List ℕ × ℕ) (held : MarkRow) → mark_at key marks ≡ None → mark_at key (with_mark mark marks) ≡ Some held → (key ≡ mark_key mark) × (held ≡ mark)
   new_is_it key held none is =
       elim (same_mark key (mark_key mark)) as (λ b. same_mark key (mark_key mark) ≡ b → (key ≡ mark_key mark) × (held ≡ mark)) [
-        | true ↦ λ e. (same_key key (mark_key mark) e, let found = find_it (λ m. same_mark key (mark_key m)) marks (prefix_len (is_below mark) marks) mark e none in let same : held ≡ mark = cc in same)
+        | true ↦ λ e. (from_same key (mark_key mark) e, let found = find_it (λ m. same_mark key (mark_key m)) marks (prefix_len (is_below mark) marks) mark e none in let same : held ≡ mark = cc in same)
         | false ↦ λ e. let stays = find_other (λ m. same_mark key (mark_key m)) marks (prefix_len (is_below mark) marks) mark e in cc
       ] refl
 

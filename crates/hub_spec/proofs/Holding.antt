@@ -1,5 +1,6 @@
 -- What a version holds that a step leads to are rows, as in the version before.
-use Rattle.std.proofs.Common.{◌≡◌, ℕ, ℤ, suc, ◌+◌, ◌<◌, ◌==◌, inl, inr, Bool, true, false, cond, List, [], ◌∷◌, Option, Some, None, Result, Ok, Err, get_or, length, refl, sym, subst, arith}
+use Rattle.std.proofs.Common.{◌≡◌, ℕ, ℤ, suc, ◌+◌, ◌<◌, ◌==◌, inl, inr, Bool, true, false, cond, List, [], ◌∷◌, Option}
+use Rattle.std.proofs.Common.{Some, None, Result, Ok, Err, get_or, length, refl, sym, subst, arith}
 use Rattle.std.proofs.lemmas.Cmp.{tied_itself}
 use Rattle.std.specs.List.{AllByRecursion, list_all}
 use Rattle.std.specs.Ordering.{is_eq}
@@ -14,7 +15,8 @@ use Rattle.hub_spec.specs.rules.Marked.{same_write}
 use Rattle.row_json.specs.Puts.{put_of}
 use Rattle.hub_spec.specs.rules.Refusals.{delete_refusal, put_refusal, stored_at}
 use Rattle.hub_spec.specs.rules.States.{HoldsRows, ListsRows}
-use Rattle.hub_spec.specs.rules.Verdicts.{BodyJudged, Judged, Leads, NewJudged, PutJudged, PutMakes, Refused, Repeat, Same, delete_judged, delete_makes, leads_with}
+use Rattle.hub_spec.specs.rules.Verdicts.{BodyJudged, Judged, Leads, NewJudged, PutJudged, PutMakes, Refused, Repeat}
+use Rattle.hub_spec.specs.rules.Verdicts.{Same, delete_judged, delete_makes, leads_with}
 use Rattle.hub_spec.specs.rules.Wanted.{takes_writes, takes_writes_at}
 use Rattle.hub_spec.specs.views.Lists.{id_at}
 use Rattle.reference_rules.proofs.KeyOrder.{and_first, key_total}
@@ -30,7 +32,8 @@ use Rattle.roster_types.specs.declared.set_row.SetRow.{SetRow}
 use Rattle.roster_types.specs.declared.status.Status.TheVariants.{ToBeDeleted}
 use Rattle.row_json.specs.declared.fault.JsonFault.{JsonFault}
 use Rattle.version_changes.specs.sets.Applying as applying
-use Rattle.version_changes.specs.sets.Applying.{Applies, Becomes, Listed, dated, is_active, is_left_out, marked, rows_in, set_key, unlisted}
+use Rattle.version_changes.specs.sets.Applying.{Applies, Becomes, Listed, dated, is_active, is_left_out, marked}
+use Rattle.version_changes.specs.sets.Applying.{rows_in, set_key, unlisted}
 use Rattle.version_core.proofs.Places.{look_up-at}
 use Rattle.version_core.specs.Changes.{change_key}
 use Rattle.version_core.specs.Order.{by_order, put}

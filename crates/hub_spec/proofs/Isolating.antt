@@ -1,5 +1,6 @@
 -- A read's reply says no more than what the reader can tell of a state.
-use Rattle.std.proofs.Common.{◌≡◌, ℕ, ℤ, Bool, true, false, ◌&&◌, not, cond, List, Option, None, Some, Result, Ok, Err, max, nat_lt, refl, sym, ap, subst, ◌∙◌}
+use Rattle.std.proofs.Common.{◌≡◌, ℕ, ℤ, Bool, true, false, ◌&&◌, not, cond, List, Option, None, Some, Result, Ok, Err}
+use Rattle.std.proofs.Common.{max, nat_lt, refl, sym, ap, subst, ◌∙◌}
 use Rattle.hub_spec.proofs.Growing.{Enters, enters}
 use Rattle.hub_spec.specs.rules.Answers.{Answered, Answers, Entered, either, sent}
 use Rattle.filter_grammar.specs.declared.query.Query.{Query}
@@ -9,7 +10,8 @@ use Rattle.rest_paths.specs.declared.route.Route.TheVariants.{All}
 use Rattle.hub_spec.specs.views.Deltas.{kind_delta, page_of_delta}
 use Rattle.hub_spec.specs.views.Links.{base_for}
 use Rattle.status_info.specs.declared.cause.Cause.{Cause}
-use Rattle.hub_spec.specs.rules.Checks.{Entry, base_checked, check, entry_of, grant_in, method_refused, query_or, refused, refused_at, version_at, version_read}
+use Rattle.hub_spec.specs.rules.Checks.{Entry, base_checked, check, entry_of, grant_in, method_refused, query_or}
+use Rattle.hub_spec.specs.rules.Checks.{refused, refused_at, version_at, version_read}
 use Rattle.hub_spec.specs.rules.Reads.{Contents, contents_at, contents_of, delta_shown, read_at, read_result, shown}
 use Rattle.hub_spec.specs.rules.Views.{SameToReader}
 use Rattle.hub_spec.specs.rules.Wanted.{Wanted, access_of, allows, is_good_mark, is_write}

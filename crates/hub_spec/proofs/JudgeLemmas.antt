@@ -1,6 +1,7 @@
 -- The verdict on a write that no mark tells of is kept under its mark.
-use Rattle.std.proofs.Common.{◌≡◌, ℕ, ℤ, ◌+◌, ◌≤◌, inl, inr, Bool, true, false, ◌&&◌, ◌==◌, not, cond, List, [], ◌∷◌, Option, None, Some, Result, Ok, Err, bytes_eq, refl, sym, subst, arith}
-use Rattle.std.proofs.lemmas.Bool.{and_from}
+use Rattle.std.proofs.Common.{◌≡◌, ℕ, ℤ, ◌+◌, ◌≤◌, inl, inr, Bool, true, false, ◌&&◌, ◌==◌, not, cond, List, [], ◌∷◌}
+use Rattle.std.proofs.Common.{Option, None, Some, Result, Ok, Err, bytes_eq, refl, sym, subst, arith}
+use Rattle.std.proofs.lemmas.Bool.{and_from, eq-eqb}
 use Rattle.std.proofs.lemmas.Bool.Decides.{nat_tests}
 use Rattle.std.proofs.lemmas.Slice.Eq.{bytes_eq-Decides}
 use Rattle.std.specs.List.{prefix_len}
@@ -11,8 +12,10 @@ use Rattle.version_changes.specs.sets.Applying.{is_active, marked}
 use Rattle.hub_spec.proofs.Growing.{find_it}
 use Rattle.hub_spec.specs.views.Seen.{sees}
 use Rattle.hub_spec.specs.rules.Marked.{same_flag, same_write}
-use Rattle.hub_spec.specs.rules.Refusals.{delete_refusal, first_of, has_grading_period, is_of_other, is_one_too_many, is_within, put_refusal, refused_if, stored_at}
-use Rattle.hub_spec.specs.rules.Verdicts.{BodyJudged, Leads, NewJudged, PutJudged, PutMakes, Refused, Repeat, Same, Verdict, delete_judged, delete_makes, leads_with}
+use Rattle.hub_spec.specs.rules.Refusals.{delete_refusal, first_of, has_grading_period, is_of_other, is_one_too_many}
+use Rattle.hub_spec.specs.rules.Refusals.{is_within, put_refusal, refused_if, stored_at}
+use Rattle.hub_spec.specs.rules.Verdicts.{BodyJudged, Leads, NewJudged, PutJudged, PutMakes, Refused, Repeat, Same}
+use Rattle.hub_spec.specs.rules.Verdicts.{Verdict, delete_judged, delete_makes, leads_with}
 use Rattle.roster_types.specs.Records.{Record}
 use Rattle.roster_types.specs.declared.owner.Owner.TheVariants.{Caller}
 use Rattle.roster_values.specs.Kinds.{place_of_kind}
@@ -30,14 +33,8 @@ use Rattle.version_core.specs.declared.row_change.RowChange.{RowChange}
 
 -- ---- what is kept is found
 
-pub bytes_same : (xs : List ℕ) → bytes_eq xs xs ≡ true
-bytes_same xs = (bytes_eq-Decides xs xs).1 refl
-
-nat_same : (n : ℕ) → (n == n) ≡ true
-nat_same n = grind (arith, nat_tests)
-
 pub mark_found : (mark : MarkRow) (marks : List MarkRow) → mark_at (mark_key mark) marks ≡ None → mark_at (mark_key mark) (with_mark mark marks) ≡ Some mark
-mark_found mark marks none = find_it (λ m. same_mark (mark_key mark) (mark_key m)) marks (prefix_len (is_below mark) marks) mark (and_from _ _ (bytes_same mark.caller) (nat_same mark.number)) none
+mark_found mark marks none = find_it (λ m. same_mark (mark_key mark) (mark_key m)) marks (prefix_len (is_below mark) marks) mark (and_from _ _ ((bytes_eq-Decides mark.caller mark.caller).1 refl) (eq-eqb mark.number mark.number refl)) none
 
 -- ---- when two writes are one
 
@@ -56,7 +53,7 @@ write_same write =
     let flag = same_flag write.delete write.delete in
     let kind = place_of_kind write.kind == place_of_kind write.kind in
     let id = bytes_eq write.id write.id in
-    and_from (flag && kind && id) (bytes_eq write.body write.body) (and_from (flag && kind) id (and_from flag kind (flag_same write.delete) (nat_same (place_of_kind write.kind))) (bytes_same write.id)) (bytes_same write.body)
+    and_from (flag && kind && id) (bytes_eq write.body write.body) (and_from (flag && kind) id (and_from flag kind (flag_same write.delete) (eq-eqb (place_of_kind write.kind) (place_of_kind write.kind) refl)) ((bytes_eq-Decides write.id write.id).1 refl)) ((bytes_eq-Decides write.body write.body).1 refl)
 
 pub write_is : (one other : Write) → same_write one other ≡ true → one ≡ other
 write_is one other e =

@@ -1,20 +1,22 @@
 -- A verdict leads to a version that may stand behind the newest, and what is kept of it is a mark that may be held.
-use Rattle.std.proofs.Common.{◌≡◌, ℕ, ℤ, ◌+◌, ◌<◌, ◌≤◌, inl, inr, Bool, true, false, ◌&&◌, ◌==◌, not, cond, List, [], ◌∷◌, Option, None, Some, Result, Ok, Err, is_some, bytes_eq, codes, count_by, nat_lt, refl, sym, ap, subst, ◌∙◌, arith}
+use Rattle.std.proofs.Common.{◌≡◌, ℕ, ℤ, ◌+◌, ◌<◌, ◌≤◌, inl, inr, Bool, true, false, ◌&&◌, ◌==◌, not, cond, List, []}
+use Rattle.std.proofs.Common.{◌∷◌, Option, None, Some, Result, Ok, Err, is_some, bytes_eq, codes, count_by, nat_lt}
+use Rattle.std.proofs.Common.{refl, sym, ap, subst, ◌∙◌, arith}
 use Rattle.std.proofs.lemmas.Bool.Decides.{nat_tests}
 use Rattle.std.proofs.lemmas.List.Sums.{sum_by-cons}
-use Rattle.std.specs.Ordering.{is_eq}
-use Rattle.std.specs.declared.cmp.Ordering.{Ordering}
-use Rattle.std.specs.declared.cmp.Ordering.TheVariants.{Equal, Greater, Less}
 use Rattle.serde_json.specs.Data.{Data}
 use Rattle.version_changes.proofs.Following.{same_grants}
 use Rattle.hub_spec.specs.rules.Marked.{same_write}
+use Rattle.row_json.proofs.PutRows.{both_gave}
 use Rattle.row_json.specs.Puts.{id_field, member_value, put_in, put_of, put_under, status_field, unless_other}
 use Rattle.version_changes.specs.grants.Next.{IsNext}
-use Rattle.hub_spec.specs.rules.Refusals.{delete_refusal, first_of, has_grading_period, is_of_other, is_one_too_many, is_within, put_refusal, refused_if, stored_at}
-use Rattle.hub_spec.specs.rules.Verdicts.{BodyJudged, Judged, Leads, NewJudged, PutJudged, PutMakes, Refused, Repeat, Same, delete_judged, delete_makes, leads_with}
-use Rattle.reference_rules.proofs.KeyOrder.{and_first, key_exact}
+use Rattle.hub_spec.specs.rules.Refusals.{delete_refusal, first_of, has_grading_period, is_of_other, is_one_too_many}
+use Rattle.hub_spec.specs.rules.Refusals.{is_within, put_refusal, refused_if, stored_at}
+use Rattle.hub_spec.specs.rules.Verdicts.{BodyJudged, Judged, Leads, NewJudged, PutJudged, PutMakes, Refused, Repeat}
+use Rattle.hub_spec.specs.rules.Verdicts.{Same, delete_judged, delete_makes, leads_with}
+use Rattle.reference_rules.proofs.KeyOrder.{and_first, found_key}
 use Rattle.roster_base.specs.Reading.{◌>>=◌}
-use Rattle.roster_types.specs.Keys.{Key, count_of, is_of_kind, key_cmp, look_up}
+use Rattle.roster_types.specs.Keys.{Key, count_of, is_of_kind, look_up}
 use Rattle.roster_types.specs.Lengths.{row_length}
 use Rattle.roster_types.specs.Records.{Record, id_in, record_from}
 use Rattle.roster_types.specs.Rows.{longest, row_from}
@@ -51,30 +53,12 @@ bind_ok : {A B F : Type 0} (r : Result A F) (f : A → Result B F) (y : B) → (
 bind_ok (Ok x) f y e = (x, e)
 bind_ok (Err fault) f y e = cc
 
--- the row that is found under a key has it
-found_key : {X : Type 0} (key : X → Key) (k : Key) (xs : List X) (x : X) → look_up key k xs ≡ Some x → key x ≡ k
-found_key key k [] x e = cc
-found_key key k (y ∷ ys) x e =
-    elim (is_eq (key_cmp k (key y))) as (λ b. is_eq (key_cmp k (key y)) ≡ b → cond b (Some y) (look_up key k ys) ≡ Some x → key x ≡ k) [
-      | true ↦ λ tied is. let same : y ≡ x = cc in ap key (sym same) ∙ sym (key_exact k (key y) (tie _ tied))
-      | false ↦ λ _ later. found_key key k ys x later
-    ] refl e
-  where
-    tie : (o : Ordering) → is_eq o ≡ true → o ≡ Equal
-    tie Less e = cc
-    tie Equal e = refl
-    tie Greater e = cc
-
 fourth : (a b c d : Option ℕ) → first_of (a ∷ b ∷ c ∷ d ∷ []) ≡ None → d ≡ None
 fourth None None None None e = refl
 fourth None None None (Some n) e = e
 fourth None None (Some n) d e = cc
 fourth None (Some n) c d e = cc
 fourth (Some n) b c d e = cc
-
-bind_made : {A B F : Type 0} (r : Result A F) (f : A → Result B F) (y : B) → (r >>= f) ≡ Ok y → (x : A) × (r ≡ Ok x) × (f x ≡ Ok y)
-bind_made (Ok x) f y e = (x, refl, e)
-bind_made (Err fault) f y e = cc
 
 passed : (b : Bool) (n : ℕ) → refused_if b n ≡ None → b ≡ false
 passed true n e = cc
@@ -190,7 +174,7 @@ module _ (kind : Kind) (id : List ℕ) (at : ℤ) (d : Data) (row : Record) wher
       → (r >>= λ metadata. unless_long (row_from kind (Some (Id id) ∷ status ∷ Some (Moment at) ∷ values) metadata) >>= λ made. unless_other id named made) ≡ Ok row → Names kind id row
   from_metadata named status values (Err fault) e = cc
   from_metadata named status values (Ok metadata) e =
-      let made = bind_made (unless_long (row_from kind (Some (Id id) ∷ status ∷ Some (Moment at) ∷ values) metadata)) (unless_other id named) row e in
+      let made = both_gave (unless_long (row_from kind (Some (Id id) ∷ status ∷ Some (Moment at) ∷ values) metadata)) (unless_other id named) row e in
       other_names kind id named made.0 row made.2 (row_from_names kind id status (Some (Moment at)) values metadata made.0 made.1)
 
   metadata_of : Result (List Entry) JsonFault

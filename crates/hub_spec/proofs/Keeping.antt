@@ -1,5 +1,7 @@
 -- What is kept of a verdict may be held, so each step leads from a state that a hub can have to another.
-use Rattle.std.proofs.Common.{◌≡◌, ℕ, ℤ, ◌+◌, ◌-◌, ◌≤◌, inl, inr, Bool, true, false, ◌&&◌, ◌==◌, not, cond, List, [], ◌∷◌, ◌++◌, length, length-append, Option, None, Some, Result, Ok, Err, nat_le, refl, sym, ap, subst, ◌∙◌, arith}
+use Rattle.std.proofs.Common.{◌≡◌, ℕ, ℤ, ◌+◌, ◌-◌, ◌≤◌, inl, inr, Bool, true, false, ◌&&◌, ◌==◌, not, cond, List, []}
+use Rattle.std.proofs.Common.{◌∷◌, ◌++◌, length, length-append, Option, None, Some, Result, Ok, Err, nat_le, refl, sym}
+use Rattle.std.proofs.Common.{ap, subst, ◌∙◌, arith}
 use Rattle.std.proofs.lemmas.Bool.{and_from, or_right}
 use Rattle.std.proofs.lemmas.Bool.Decides.{nat_tests}
 use Rattle.std.specs.List.{AllByRecursion}
@@ -20,7 +22,8 @@ use Rattle.hub_spec.specs.rules.Answers.{Answered, Answers, Entered, Written, wr
 use Rattle.hub_spec.specs.rules.Checks.{Entry, entry_of}
 use Rattle.hub_spec.specs.rules.Marked.{same_write}
 use Rattle.row_json.specs.Puts.{put_of}
-use Rattle.hub_spec.specs.rules.Runs.{Acts, ActedOrNot, Answer, Command, Does, Fails, Publish, Reopen, Runs, SetGrants, Step, Steps, Take, Wants, WantsMemory, end_of, state_with}
+use Rattle.hub_spec.specs.rules.Runs.{Acts, ActedOrNot, Answer, Command, Does, Fails, Publish, Reopen, Runs, SetGrants}
+use Rattle.hub_spec.specs.rules.Runs.{Step, Steps, Take, Wants, WantsMemory, end_of, state_with}
 use Rattle.hub_spec.specs.rules.States.{AreCommands, HoldsRows, IsCommand, IsGranted, IsHub, ListsRows}
 use Rattle.version_core.proofs.VersionLemmas.{AllByRecursion-push}
 use Rattle.version_changes.proofs.Granted.{grants_next}
@@ -29,10 +32,14 @@ use Rattle.version_changes.specs.grants.Next.{IsNext}
 use Rattle.grant_scopes.specs.Entries.{AreEntries}
 use Rattle.grant_scopes.specs.declared.entry.GrantEntry.{GrantEntry}
 use Rattle.roster_types.specs.Sets.{SetRecord}
-use Rattle.hub_spec.specs.rules.Refusals.{delete_refusal, first_of, has_grading_period, is_of_other, is_one_too_many, is_within, put_refusal, refused_if, stored_at}
-use Rattle.hub_spec.specs.rules.Verdicts.{BodyJudged, Judged, Judges, Leads, NewJudged, PutJudged, PutMakes, Refused, Repeat, Same, Verdict, delete_judged, delete_makes, held_mark, leads_with, newest_in, repeated}
+use Rattle.hub_spec.specs.rules.Refusals.{delete_refusal, first_of, has_grading_period, is_of_other, is_one_too_many}
+use Rattle.hub_spec.specs.rules.Refusals.{is_within, put_refusal, refused_if, stored_at}
+use Rattle.hub_spec.specs.rules.Verdicts.{BodyJudged, Judged, Judges, Leads, NewJudged, PutJudged, PutMakes, Refused}
+use Rattle.hub_spec.specs.rules.Verdicts.{Repeat, Same, Verdict, delete_judged, delete_makes, held_mark, leads_with}
+use Rattle.hub_spec.specs.rules.Verdicts.{newest_in, repeated}
 use Rattle.hub_spec.specs.rules.Wanted.{Wanted, allows, is_delete, is_write, mark_number}
-use Rattle.hub_spec.specs.rules.Written.{done_of, kept_mark, newest_after, outcome_of, published_after, state_after, with_kept}
+use Rattle.hub_spec.specs.rules.Written.{done_of, kept_mark, newest_after, outcome_of, published_after, state_after}
+use Rattle.hub_spec.specs.rules.Written.{with_kept}
 use Rattle.roster_types.specs.Records.{Record}
 use Rattle.roster_types.specs.declared.owner.Owner.TheVariants.{Caller}
 use Rattle.row_json.specs.declared.fault.JsonFault.{JsonFault}

@@ -1,10 +1,12 @@
 -- A request has one answer at a state and a moment.
 use Rattle.std.proofs.Common.{◌≡◌, ℕ, ℤ, inl, inr, Bool, true, false, Option, None, Some, Result, Ok, Err, sym, ap, ◌∙◌}
-use Rattle.hub_spec.specs.rules.Answers.{Answered, Answers, Entered, Written, reply_to_write, sent, write_of, write_result}
+use Rattle.hub_spec.specs.rules.Answers.{Answered, Answers, Entered, Written, reply_to_write, sent, write_of}
+use Rattle.hub_spec.specs.rules.Answers.{write_result}
 use Rattle.hub_spec.specs.rules.Checks.{Entry, entry_of}
 use Rattle.row_json.specs.Puts.{put_of}
 use Rattle.hub_spec.specs.rules.Refusals.{put_refusal, stored_at}
-use Rattle.hub_spec.specs.rules.Verdicts.{BodyJudged, Judged, Judges, NewJudged, PutJudged, PutMakes, Verdict, held_mark, newest_in}
+use Rattle.hub_spec.specs.rules.Verdicts.{BodyJudged, Judged, Judges, NewJudged, PutJudged, PutMakes, Verdict}
+use Rattle.hub_spec.specs.rules.Verdicts.{held_mark, newest_in}
 use Rattle.hub_spec.specs.rules.Wanted.{Wanted, is_write, mark_number}
 use Rattle.hub_spec.specs.rules.Written.{state_after}
 use Rattle.roster_types.specs.Records.{Record}

@@ -1,5 +1,6 @@
 -- Pages joined, and what a cut looks at.
-use Rattle.std.proofs.Common.{◌≡◌, Some, option_map, ℕ, zero, suc, ◌+◌, ◌*◌, ◌≤◌, List, [], ◌∷◌, ◌++◌, drop, length, take, refl, sym, ap, ◌∙◌, arith}
+use Rattle.std.proofs.Common.{◌≡◌, Some, option_map, ℕ, zero, suc, ◌+◌, ◌*◌, ◌≤◌, List, [], ◌∷◌, ◌++◌, drop, length}
+use Rattle.std.proofs.Common.{take, refl, sym, ap, ◌∙◌, arith}
 use Rattle.std.proofs.lemmas.List.{take_all}
 use Rattle.std.specs.Option.{option_map_or}
 use Rattle.hub_spec.specs.views.Cuts.{cut, cut_of, no_rows}

@@ -1,5 +1,7 @@
 -- The path of a row that takes writes is read as that of the row.
-use Rattle.std.proofs.Common.{◌≡◌, ◌≢◌, ℕ, suc, ◌+◌, ◌*◌, ◌/◌, ◌%◌, ◌<◌, ◌≤◌, ◌==◌, Bool, true, false, ltb, ◌&&◌, ◌||◌, not, cond, List, [], ◌∷◌, ◌++◌, length, take, Option, None, Some, IsUtf8, refl, sym, ap, subst, ◌∙◌, arith, ⊎_elim}
+use Rattle.std.proofs.Common.{◌≡◌, ◌≢◌, ℕ, suc, ◌+◌, ◌*◌, ◌/◌, ◌%◌, ◌<◌, ◌≤◌, ◌==◌, Bool, true, false, ltb, ◌&&◌, ◌||◌}
+use Rattle.std.proofs.Common.{not, cond, List, [], ◌∷◌, ◌++◌, length, take, Option, None, Some, IsUtf8, refl, sym, ap}
+use Rattle.std.proofs.Common.{subst, ◌∙◌, arith, ⊎_elim}
 use Rattle.std.proofs.lemmas.Bool.{and_from, and_parts, cond_both}
 use Rattle.std.proofs.lemmas.Bool.Decides.{nat_tests}
 use Rattle.std.proofs.lemmas.Str.{IsUtf8-from_is_utf8}
@@ -19,7 +21,8 @@ use Rattle.rest_paths.specs.declared.route.Route.{Route}
 use Rattle.rest_paths.specs.declared.route.Route.TheVariants as route
 use Rattle.matchit.specs.Seek.{has_slash}
 use Rattle.version_core.proofs.PutLemmas.{all_append}
-use Rattle.percent_encoding.proofs.PercentLemmas.{percent_decode-nil, percent_decode-percent_encode_byte, percent_decode_not_percent}
+use Rattle.percent_encoding.proofs.PercentLemmas.{percent_decode-nil, percent_decode-percent_encode_byte}
+use Rattle.percent_encoding.proofs.PercentLemmas.{percent_decode_not_percent}
 use Rattle.percent_encoding.specs.Percent.{percent_decode, percent_encode_byte}
 use Rattle.roster_texts.specs.Digits.{◌>>=◌}
 use Rattle.roster_texts.specs.Texts.{is_id}

@@ -1,18 +1,14 @@
 -- What a set leads to is a version that may stand behind the newest.
-use Rattle.std.proofs.Common.{◌≡◌, ℤ, ◌+◌, ◌≤◌, true, false, cond, List, [], ◌∷◌, Option, None, Some, nat_lt, refl, sym, subst, arith}
-use Rattle.std.proofs.lemmas.Bool.Decides.{nat_tests}
-use Rattle.std.specs.List.{AllByRecursion}
+use Rattle.std.proofs.Common.{◌≡◌, ℤ, ◌+◌, ◌≤◌, Option, None, Some, refl, sym, subst, arith}
 use Rattle.std.specs.Option.{option_or}
 use Rattle.version_changes.proofs.Following.{same_grants}
+use Rattle.version_changes.proofs.Outcomes.{few_among}
 use Rattle.version_changes.specs.grants.Next.{IsNext}
 use Rattle.roster_types.specs.Keys.{count_of}
-use Rattle.roster_types.specs.Records.{Record}
 use Rattle.roster_types.specs.Sets.{SetRecord}
 use Rattle.roster_values.proofs.KindLaws.{each_kind}
 use Rattle.roster_values.specs.Kinds.{all_kinds}
-use Rattle.roster_values.specs.declared.kind.Kind.{Kind}
 use Rattle.version_changes.specs.sets.Applying.{Applies, Leads, owned_by_other, rows_in, too_many}
-use Rattle.version_changes.specs.declared.sets.publish_fault.PublishFault.TheVariants.{TooManyRows}
 use Rattle.version_core.proofs.GrantLemmas.{AreGrants-later}
 use Rattle.version_core.specs.Changes.{rows_of}
 use Rattle.version_core.specs.Version.{IsVersion, row_limit}
@@ -21,14 +17,6 @@ use Rattle.version_core.specs.declared.change.BaseVersion.{BaseVersion}
 pub none_of_both : {X : Type 0} (a b : Option X) → option_or a b ≡ None → (a ≡ None) × (b ≡ None)
 none_of_both None b e = (refl, e)
 none_of_both (Some x) b e = cc
-
-few_each : (rows : List Record) (kinds : List Kind) → too_many rows kinds ≡ None → AllByRecursion (λ kind. count_of kind rows ≤ row_limit) kinds
-few_each rows [] e = tt
-few_each rows (kind ∷ kinds) e =
-    elim (nat_lt row_limit (count_of kind rows)) as (λ b. nat_lt row_limit (count_of kind rows) ≡ b → cond b (Some (TooManyRows kind (count_of kind rows))) (too_many rows kinds) ≡ None → (count_of kind rows ≤ row_limit) × AllByRecursion (λ kind. count_of kind rows ≤ row_limit) kinds) [
-      | true ↦ λ _ e. cc
-      | false ↦ λ small e. (grind (arith, nat_tests), few_each rows kinds e)
-    ] refl e
 
 pub set_next : (version : BaseVersion) (set : SetRecord) (at : ℤ) (next : BaseVersion) → IsVersion version → Applies version set at (Leads next) → IsNext version next
 set_next version set at next is applies =
@@ -41,7 +29,7 @@ set_next version set at next is applies =
       version = record {
         number = omega arith;
         rows = applies.1.order;
-        few = each_kind (λ kind. count_of kind (rows_of new) ≤ row_limit) (few_each (rows_of new) all_kinds few);
+        few = each_kind (λ kind. count_of kind (rows_of new) ≤ row_limit) (few_among (rows_of new) all_kinds few);
         grants = AreGrants-later version.number (version.number + 1) version.grants (omega arith) is.grants;
       };
       grants = same_grants version is (version.number + 1);

@@ -1,5 +1,6 @@
 -- What the path and the query of a consumer's request for a page ask for.
-use Rattle.std.proofs.Common.{◌≡◌, ◌≢◌, ℕ, ◌<◌, ◌^◌, ◌==◌, List, [], ◌∷◌, ◌++◌, Bool, true, false, ◌&&◌, not, Option, Some, codes, length, length-append, refl, sym, ap, subst, ◌∙◌, arith, nat_lt, nat_le}
+use Rattle.std.proofs.Common.{◌≡◌, ◌≢◌, ℕ, ◌<◌, ◌^◌, ◌==◌, List, [], ◌∷◌, ◌++◌, Bool, true, false, ◌&&◌, not, Option}
+use Rattle.std.proofs.Common.{Some, codes, length, length-append, refl, sym, ap, subst, ◌∙◌, arith, nat_lt, nat_le}
 use Rattle.std.proofs.lemmas.Bool.{and_parts}
 use Rattle.std.proofs.lemmas.Bool.Decides.{nat_tests}
 use Rattle.std.proofs.lemmas.Fmt.{decimal_nonempty, digits_decimal, digits_value-decimal, length-decimal-le}
@@ -11,7 +12,8 @@ use Rattle.std.specs.List.{All, list_all}
 use Rattle.std.specs.Str.{is_utf8}
 use Rattle.filter_grammar.specs.Escapes.{has_whole_escapes, is_form_text}
 use Rattle.filter_grammar.specs.Counts.{count_of}
-use Rattle.form_urlencoded.proofs.FormLemmas.{decode_plain, raw_pairs-nil, raw_pairs_first, split_once_after_at, split_once_after_none, split_once_before_at, split_once_before_none}
+use Rattle.form_urlencoded.proofs.FormLemmas.{decode_plain, raw_pairs-nil, raw_pairs_first, split_once_after_at}
+use Rattle.form_urlencoded.proofs.FormLemmas.{split_once_after_none, split_once_before_at, split_once_before_none}
 use Rattle.form_urlencoded.specs.Form as form
 use Rattle.hub_spec.specs.views.Pages.{whole}
 use Rattle.rest_paths.proofs.FoundLemmas.{collection_found}

@@ -1,7 +1,11 @@
 -- What the hub says to a consumer's request.
-use Rattle.std.proofs.Common.{◌≡◌, ◌<◌, ◌≤◌, ◌⊎◌, inl, inr, arith, unwrap_or, nat_lt, not, ℕ, ℤ, List, [], Bool, true, false, ◌&&◌, cond, filter, length, Option, None, Some, option_map, Ok, Err, refl, sym, ap, ◌∙◌}
+use Rattle.std.proofs.Common.{◌≡◌, ◌<◌, ◌≤◌, ◌⊎◌, inl, inr, arith, unwrap_or, nat_lt, not, ℕ, ℤ, List, [], Bool, true}
+use Rattle.std.proofs.Common.{false, ◌&&◌, cond, filter, length, Option, None, Some, option_map, Ok, Err, refl, sym, ap}
+use Rattle.std.proofs.Common.{◌∙◌}
+use Rattle.std.proofs.lemmas.Bool.{ltb-false, not-true}
 use Rattle.hub_spec.specs.rules.Answers.{Answered, Answers, either, sent}
-use Rattle.hub_spec.specs.rules.Checks.{Entry, check, first_open, is_open, pin_refused, refused, refused_at, version_at, version_read}
+use Rattle.hub_spec.specs.rules.Checks.{Entry, check, first_open, is_open, pin_refused, refused, refused_at, version_at}
+use Rattle.hub_spec.specs.rules.Checks.{version_read}
 use Rattle.hub_spec.specs.rules.Reads.{contents_of, page_shown, read_at, shown}
 use Rattle.hub_spec.specs.rules.Asking.{Asking, IsRead, Says, Unknown, Gone, Shut, Listed, asking, query_for}
 use Rattle.hub_spec.specs.rules.States.{IsHub}
@@ -38,10 +42,7 @@ pub within : (pin low high : ℕ) → (not (nat_lt pin low) && not (nat_lt high 
 within pin low high e =
     let one = and_first (not (nat_lt pin low)) _ e in
     let two = and_second (not (nat_lt pin low)) _ e in
-    (not_below pin low one, not_below high pin two)
-  where
-    not_below : (n m : ℕ) → not (nat_lt n m) ≡ true → m ≤ n
-    not_below n m e = elim (nat_lt n m) as (λ b. nat_lt n m ≡ b → not b ≡ true → m ≤ n) [ true ↦ λ _ e. cc | false ↦ λ f _. grind (arith, nat_tests) ] refl e
+    (ltb-false pin low (not-true _ one), ltb-false high pin (not-true _ two))
 
 pub outside : (pin low high : ℕ) → (not (nat_lt pin low) && not (nat_lt high pin)) ≡ false → (pin < low) ⊎ (high < pin)
 outside pin low high e =

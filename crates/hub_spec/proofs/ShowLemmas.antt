@@ -1,5 +1,7 @@
 -- What an answer to a marked write shows of each later state.
-use Rattle.std.proofs.Common.{◌≡◌, ◌<◌, ◌≤◌, ℕ, zero, suc, false, List, length, Option, None, Some, refl, sym, ap, subst, ◌∙◌, arith}
+use Rattle.std.proofs.Common.{◌≡◌, ◌<◌, ◌≤◌, ℕ, zero, suc, false, List, length, Option, None, Some, refl, sym, ap}
+use Rattle.std.proofs.Common.{subst, ◌∙◌, arith}
+use Rattle.std.proofs.lemmas.Option.{same_Some}
 use Rattle.grant_scopes.specs.Opens.{opens}
 use Rattle.keeper_memory.specs.declared.copy.entry.OutEntry.{OutEntry}
 use Rattle.hub_spec.proofs.Cutting.{known_at}
@@ -17,7 +19,8 @@ use Rattle.version_core.specs.declared.change.BaseVersion.{BaseVersion}
 use Rattle.version_core.specs.declared.grant_row.GrantRow.{GrantRow}
 use Rattle.version_core.specs.declared.mark.MarkRow.{MarkRow}
 use Rattle.hub_spec.specs.marks.Agreement.{GivesOnly, IsShown}
-use Rattle.hub_spec.specs.marks.Answering.{CanSendWrite, SaysWrite, Shown, ShowsMark, Shut, Stranger, Taken, access_to, kept_status}
+use Rattle.hub_spec.specs.marks.Answering.{CanSendWrite, SaysWrite, Shown, ShowsMark, Shut, Stranger, Taken, access_to}
+use Rattle.hub_spec.specs.marks.Answering.{kept_status}
 use Rattle.hub_spec.specs.marks.Marked.{Marked, mark_of}
 
 -- ---- the statuses of kept outcomes
@@ -45,12 +48,6 @@ status_kept (suc (suc (suc (suc (suc (suc (suc (suc (suc zero))))))))) = Deleted
 status_kept (suc (suc (suc (suc (suc (suc (suc (suc (suc (suc n)))))))))) = Stored refl
 
 -- ---- callers
-
-some_number : {a b : ℕ} → Some a ≡ Some b → a ≡ b
-some_number e = cc
-
-some_row : {a b : GrantRow} → Some a ≡ Some b → a ≡ b
-some_row e = cc
 
 module _ (mid after : HubState) (hub : IsHub mid) (to : Grew mid after) where
   -- the newest version of a state stands in each later one
@@ -84,7 +81,7 @@ module _ (mid left after : HubState) (hub : IsHub mid) (step : Grew mid left) (o
       held = on.marks caller entry.number kept (ap (λ c. mark_at (c, entry.number) left.marks) (sym (caller_is mid after hub to token by caller known only)) ∙ held);
       write = shows.write;
       status = shows.status;
-      version = some_number (sym ev ∙ shows.version);
+      version = same_Some _ _ (sym ev ∙ shows.version);
     }
   ]
 
@@ -96,11 +93,11 @@ module _ (mid left after : HubState) (hub : IsHub mid) (step : Grew mid left) (o
       elim says as (λ _. (kept : MarkRow) × ShowsMark kept marked reply) [
         | Stranger unknown why none ↦ absurd (let e = stands in let u = unknown in cc)
         | Shut other known shut why none ↦ absurd (
-            let same : other ≡ by = some_row (sym known ∙ stands) in
+            let same : other ≡ by = same_Some _ _ (sym known ∙ stands) in
             let closed = subst (λ (x : GrantRow). opens x.grant.scopes marked.write.kind (access_to marked.write) ≡ false) same shut in
             let opened = can.opened in cc)
         | Taken other kept known held differs why none ↦ absurd (
-            let same : other ≡ by = some_row (sym known ∙ stands) in
+            let same : other ≡ by = same_Some _ _ (sym known ∙ stands) in
             differs (can.free kept (to.marks by.caller marked.number kept (subst (λ (x : GrantRow). mark_at (x.caller, marked.number) mid.marks ≡ Some kept) same held))))
         | Shown other kept known held shows ↦ (kept, shows)
       ]

@@ -1,5 +1,7 @@
 -- A stable sort gives rows as they are arranged.
-use Rattle.std.proofs.Common.{◌≡◌, ℕ, ℤ, pos, suc, ◌<◌, ◌≤◌, List, [], ◌∷◌, Bool, true, false, ◌&&◌, not, cond, filter, length, get_or, refl, sym, ap, subst, ◌∙◌, arith}
+use Rattle.std.proofs.Common.{◌≡◌, ℕ, ℤ, pos, suc, ◌<◌, ◌≤◌, List, [], ◌∷◌, Bool, true, false, ◌&&◌, not, cond, filter}
+use Rattle.std.proofs.Common.{length, get_or, refl, sym, ap, subst, ◌∙◌, arith}
+use Rattle.std.proofs.lemmas.Bool.{not-true}
 use Rattle.std.proofs.lemmas.Cmp.{int_cmp_total, nat_cmp_total, nat_list_cmp_total, on_total, then_total, tied_itself}
 use Rattle.std.proofs.lemmas.List.MinMax.{IsStrictWeakOrder-flip, ranks_by}
 use Rattle.std.proofs.lemmas.List.Sorted.{sorted_far}
@@ -39,11 +41,7 @@ module _ {X : Type 0} (lt : X → X → Bool) (o : IsStrictWeakOrder lt) where
   not_itself x = elim (lt x x) as (λ b. lt x x ≡ b → b ≡ false) [ true ↦ λ e. let f = o.one_way x x e in cc | false ↦ λ _. refl ] refl
 
   untied : (x y : X) → ties lt x y ≡ true → (lt x y ≡ false) × (lt y x ≡ false)
-  untied x y e = (flip (lt x y) (and_first (not (lt x y)) _ e), flip (lt y x) (and_second (not (lt x y)) _ e))
-    where
-      flip : (b : Bool) → not b ≡ true → b ≡ false
-      flip true e = cc
-      flip false e = refl
+  untied x y e = (not-true (lt x y) (and_first (not (lt x y)) _ e), not-true (lt y x) (and_second (not (lt x y)) _ e))
 
   tied : (x y : X) → lt x y ≡ false → lt y x ≡ false → ties lt x y ≡ true
   tied x y e f = λ i. not (e i) && not (f i)

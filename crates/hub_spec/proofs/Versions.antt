@@ -1,5 +1,7 @@
 -- The versions of a state by their numbers.
-use Rattle.std.proofs.Common.{◌≡◌, ℕ, zero, suc, ◌+◌, ◌-◌, ◌<◌, ◌≤◌, List, [], ◌∷◌, length, drop, get_or, length-drop, slice_get, Some, ◌⊎◌, inl, inr, refl, sym, ap, subst, ◌∙◌, arith}
+use Rattle.std.proofs.Common.{◌≡◌, ℕ, zero, suc, ◌+◌, ◌-◌, ◌<◌, ◌≤◌, List, [], ◌∷◌, length, drop, get_or, length-drop}
+use Rattle.std.proofs.Common.{slice_get, Some, inl, inr, refl, sym, ap, subst, ◌∙◌, arith}
+use Rattle.std.proofs.lemmas.Bool.{cases_lt}
 use Rattle.std.specs.List.{AllByRecursion}
 use Rattle.hub_spec.specs.rules.Checks.{version_at}
 use Rattle.hub_spec.specs.rules.States.{ReadsAs}
@@ -38,11 +40,6 @@ all_at P n [] all within = absurd (omega arith)
 all_at P zero (v ∷ vs) all within = all.0
 all_at P (suc n) (v ∷ vs) all within = all_at P n vs all.1 (omega arith)
 
-below_or_not : (n m : ℕ) → (n < m) ⊎ (m ≤ n)
-below_or_not n zero = inr (omega arith)
-below_or_not zero (suc m) = inl (omega arith)
-below_or_not (suc n) (suc m) = elim (below_or_not n m) as (λ _. (suc n < suc m) ⊎ (suc m ≤ suc n)) [ inl within ↦ inl (omega arith) | inr above ↦ inr (omega arith) ]
-
 has_first : (versions : List BaseVersion) → slice_get versions 0 ≡ Some empty_version → 0 < length versions
 has_first [] first = cc
 has_first (v ∷ vs) first = omega arith
@@ -69,7 +66,7 @@ module _ (state : HubState) (is : IsHubState state) where
 
   -- the rows of each version ascend
   pub rows_ascend : (n : ℕ) → AreChanges (version_at state n).rows
-  rows_ascend n = elim (below_or_not n (length state.published)) as (λ _. AreChanges (version_at state n).rows) [
+  rows_ascend n = elim (cases_lt n (length state.published)) as (λ _. AreChanges (version_at state n).rows) [
     | inl within ↦ (is_version_from 0 n state.published is.run within).rows
     | inr above ↦ subst (λ (v : BaseVersion). AreChanges v.rows) (sym (beyond n state.published above)) refl
   ]

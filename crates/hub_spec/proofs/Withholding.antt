@@ -1,30 +1,35 @@
 -- A write's reply says no more than what the writer can tell of a state.
-use Rattle.std.proofs.Common.{◌≡◌, ℕ, ℤ, ◌+◌, ◌-◌, ◌==◌, ◌&&◌, inl, inr, Bool, true, false, not, cond, codes, filter, is_some, List, [], ◌∷◌, ◌++◌, length, length-append, nat_lt, Option, None, Some, Result, Ok, Err, refl, sym, ap, subst, ◌∙◌, arith}
-use Rattle.std.specs.FinMap.Entries as entries
+use Rattle.std.proofs.Common.{◌≡◌, ℕ, ℤ, ◌+◌, ◌-◌, ◌==◌, ◌&&◌, inl, inr, Bool, true, false, not, cond, codes, is_some}
+use Rattle.std.proofs.Common.{List, [], ◌∷◌, ◌++◌, length, length-append, nat_lt, Option, None, Some, Result, Ok, Err}
+use Rattle.std.proofs.Common.{refl, sym, ap, subst, ◌∙◌, arith}
 use Rattle.std.specs.List.{list_all}
 use Rattle.std.specs.Option.{option_map_or}
-use Rattle.std.specs.Ordering.{is_eq}
 use Rattle.std.specs.Prelude.{option_and_then}
 use Rattle.grant_scopes.specs.declared.schools.Schools.{Schools}
 use Rattle.grant_scopes.specs.declared.schools.Schools.TheVariants as school
 use Rattle.grant_scopes.specs.Opens.{opens}
 use Rattle.hub_spec.proofs.Growing.{Enters, enters}
 use Rattle.hub_spec.proofs.Versions.{newest_has, newest_is, some_version}
-use Rattle.hub_spec.specs.rules.Answers.{Answered, Answers, Entered, Written, reply_to_write, sent, told, write_of, write_result}
+use Rattle.hub_spec.specs.rules.Answers.{Answered, Answers, Entered, Written, reply_to_write, sent, told, write_of}
+use Rattle.hub_spec.specs.rules.Answers.{write_result}
 use Rattle.hub_spec.specs.rules.Checks.{Entry, check, entry_of, method_refused, refused, refused_at}
-use Rattle.hub_spec.specs.rules.Refusals.{all_name_seen, delete_refusal, first_of, has_grading_period, is_grading_period, is_of, is_of_other, is_one_too_many, is_within, kind_named, names_seen, put_refusal, refused_if, stored_at}
-use Rattle.hub_spec.specs.rules.Verdicts.{BodyJudged, Judged, Judges, Leads, NewJudged, PutJudged, PutMakes, Refused, Repeat, Same, Verdict, delete_judged, delete_makes, held_mark, leads_with, newest_in}
+use Rattle.hub_spec.specs.rules.Refusals.{all_name_seen, delete_refusal, first_of, has_grading_period}
+use Rattle.hub_spec.specs.rules.Refusals.{is_grading_period, is_of, is_of_other, is_one_too_many, is_within, kind_named}
+use Rattle.hub_spec.specs.rules.Refusals.{names_seen, put_refusal, refused_if, stored_at}
+use Rattle.hub_spec.specs.rules.Verdicts.{BodyJudged, Judged, Judges, Leads, NewJudged, PutJudged, PutMakes, Refused}
+use Rattle.hub_spec.specs.rules.Verdicts.{Repeat, Same, Verdict, delete_judged, delete_makes, held_mark, leads_with}
+use Rattle.hub_spec.specs.rules.Verdicts.{newest_in}
 use Rattle.hub_spec.specs.rules.Views.{SameToWriter, own_rows}
 use Rattle.hub_spec.specs.rules.Wanted.{Wanted, access_of, allows, is_good_mark, is_write, mark_number}
 use Rattle.hub_spec.specs.rules.Written.{done_of}
 use Rattle.hub_spec.specs.views.Lists.{kind_of_path}
 use Rattle.hub_spec.specs.views.References.{row_at}
 use Rattle.hub_spec.specs.views.Seen.{seen, sees, sees_at, sees_row}
-use Rattle.reference_rules.proofs.KeyOrder.{and_first, and_second, equal_from_is_eq, key_exact, less_from_is_lt}
+use Rattle.reference_rules.proofs.KeyOrder.{found_key}
 use Rattle.roster_values.proofs.KindLaws.{kind_from_place}
 use Rattle.roster_base.specs.Reading.{◌>>=◌}
 use Rattle.roster_texts.specs.Results.{found_or}
-use Rattle.roster_types.specs.Keys.{Ascends, Key, key_cmp, keyed, look_up, row_key}
+use Rattle.roster_types.specs.Keys.{Ascends, Key, look_up, row_key}
 use Rattle.roster_types.specs.Records.{Record, all_values}
 use Rattle.roster_types.specs.declared.owner.Owner.TheVariants.{Caller}
 use Rattle.roster_values.specs.Kinds.{place_of_kind}
@@ -37,6 +42,7 @@ use Rattle.row_json.specs.declared.fault.JsonFault.{JsonFault}
 use Rattle.version_changes.specs.sets.Applying.{is_active, marked}
 use Rattle.status_info.specs.declared.cause.Cause.TheVariants as cause
 use Rattle.status_info.specs.declared.reply.Reply.{Reply}
+use Rattle.version_core.proofs.LookUps.{if_kept, look_up-filter}
 use Rattle.version_core.proofs.RowsOf.{is_sorted-rows_of}
 use Rattle.version_core.specs.Changes.{AreChanges, change_key, rows_of}
 use Rattle.version_core.specs.HubStates.{HubState, IsHubState, newest_number}
@@ -49,54 +55,6 @@ use Rattle.version_core.specs.declared.mark.MarkRow.{MarkRow}
 use Rattle.version_core.specs.declared.mark.Write.{Write}
 use Rattle.version_core.specs.declared.row_change.RowChange.{RowChange}
 
--- ---- items that are left of items in order
-
-module _ {X : Type 0} (key : X → Key) (p : X → Bool) where
-  abbrev if_kept : X → Option X
-  if_kept x = cond (p x) (Some x) None
-
-  none_kept : (k : Key) (xs : List X) → look_up key k xs ≡ None → look_up key k (filter p xs) ≡ None
-  none_kept k [] none = refl
-  none_kept k (x ∷ xs) none =
-      elim (is_eq (key_cmp k (key x))) as (λ a. is_eq (key_cmp k (key x)) ≡ a → cond a (Some x) (look_up key k xs) ≡ None → look_up key k (cond (p x) (x ∷ filter p xs) (filter p xs)) ≡ None) [
-        | true ↦ λ _ impossible. cc
-        | false ↦ λ not_here later. elim (p x) as (λ b. look_up key k (cond b (x ∷ filter p xs) (filter p xs)) ≡ None) [
-          | true ↦ ap (λ a. cond a (Some x) (look_up key k (filter p xs))) not_here ∙ none_kept k xs later
-          | false ↦ none_kept k xs later
-        ]
-      ] refl none
-
-  none_above : (k : Key) (xs : List X) → entries.below_all key_cmp k (keyed key xs) ≡ true → look_up key k xs ≡ None
-  none_above k [] above = refl
-  none_above k (x ∷ xs) above =
-      ap (λ o. cond (is_eq o) (Some x) (look_up key k xs)) (less_from_is_lt _ (and_first _ _ above)) ∙ none_above k xs (and_second _ _ above)
-
-  -- an item that is left is found as among all
-  look_up-kept : (k : Key) (xs : List X) → Ascends key xs → look_up key k (filter p xs) ≡ option_and_then if_kept (look_up key k xs)
-  look_up-kept k [] up = refl
-  look_up-kept k (x ∷ xs) up =
-      elim (is_eq (key_cmp k (key x))) as (λ a. is_eq (key_cmp k (key x)) ≡ a → look_up key k (cond (p x) (x ∷ filter p xs) (filter p xs)) ≡ option_and_then if_kept (cond a (Some x) (look_up key k xs))) [
-        | true ↦ λ here. elim (p x) as (λ b. look_up key k (cond b (x ∷ filter p xs) (filter p xs)) ≡ cond b (Some x) None) [
-          | true ↦ ap (λ a. cond a (Some x) (look_up key k (filter p xs))) here
-          | false ↦
-              let same : k ≡ key x = key_exact k (key x) (equal_from_is_eq _ here) in
-              none_kept k xs (none_above k xs (subst (λ l. entries.below_all key_cmp l (keyed key xs) ≡ true) (sym same) (and_first _ _ up)))
-        ]
-        | false ↦ λ other. elim (p x) as (λ b. look_up key k (cond b (x ∷ filter p xs) (filter p xs)) ≡ option_and_then if_kept (look_up key k xs)) [
-          | true ↦ ap (λ a. cond a (Some x) (look_up key k (filter p xs))) other ∙ look_up-kept k xs (and_second _ _ up)
-          | false ↦ look_up-kept k xs (and_second _ _ up)
-        ]
-      ] refl
-
--- the item that is found under a key has it
-key_found : {X : Type 0} (key : X → Key) (k : Key) (xs : List X) (x : X) → look_up key k xs ≡ Some x → key x ≡ k
-key_found key k [] x e = cc
-key_found key k (y ∷ ys) x e =
-    elim (is_eq (key_cmp k (key y))) as (λ b. is_eq (key_cmp k (key y)) ≡ b → cond b (Some y) (look_up key k ys) ≡ Some x → key x ≡ k) [
-      | true ↦ λ tied is. let same : y ≡ x = cc in ap key (sym same) ∙ sym (key_exact k (key y) (equal_from_is_eq _ tied))
-      | false ↦ λ _ later. key_found key k ys x later
-    ] refl e
-
 -- ---- rows that are seen
 
 module _ (schools : Schools) (rows : List Record) (up : Ascends row_key rows) where
@@ -107,7 +65,7 @@ module _ (schools : Schools) (rows : List Record) (up : Ascends row_key rows) wh
   -- a row is seen where it stands among those that are
   sees_among : (kind : Kind) (id : List ℕ) → sees schools rows kind id ≡ is_some (look_up row_key (place_of_kind kind, id) (seen schools rows))
   sees_among kind id =
-      test_kept (sees_row schools rows) (row_at rows kind id) ∙ ap is_some (sym (look_up-kept row_key (sees_row schools rows) (place_of_kind kind, id) rows up))
+      test_kept (sees_row schools rows) (row_at rows kind id) ∙ ap is_some (sym (look_up-filter row_key (sees_row schools rows) (place_of_kind kind, id) rows up))
 
   -- each session is seen
   sees_session : (row : Record) → row.kind ≡ AcademicSessions → sees_row schools rows row ≡ true
@@ -119,12 +77,12 @@ module _ (schools : Schools) (rows : List Record) (up : Ascends row_key rows) wh
       by_schools (school.Listed ids) = ap (λ kind. sees_at ids rows kind row) is
 
   session_kept : (id : List ℕ) → look_up row_key (place_of_kind AcademicSessions, id) (seen schools rows) ≡ look_up row_key (place_of_kind AcademicSessions, id) rows
-  session_kept id = look_up-kept row_key (sees_row schools rows) (place_of_kind AcademicSessions, id) rows up ∙ all_kept (look_up row_key (place_of_kind AcademicSessions, id) rows) refl
+  session_kept id = look_up-filter row_key (sees_row schools rows) (place_of_kind AcademicSessions, id) rows up ∙ all_kept (look_up row_key (place_of_kind AcademicSessions, id) rows) refl
     where
       all_kept : (o : Option Record) → look_up row_key (place_of_kind AcademicSessions, id) rows ≡ o → option_and_then (if_kept row_key (sees_row schools rows)) o ≡ o
       all_kept None e = refl
       all_kept (Some row) e =
-          let found = key_found row_key (place_of_kind AcademicSessions, id) rows row e in
+          let found = found_key row_key (place_of_kind AcademicSessions, id) rows row e in
           ap (λ b. cond b (Some row) None) (sees_session row (kind_from_place row.kind AcademicSessions (ap (λ (k : Key). k.0) found)))
 
 -- ---- verdicts without their versions
@@ -190,9 +148,9 @@ module _ (newest other : BaseVersion) (up : AreChanges newest.rows) (up' : AreCh
   -- what stands where the write goes is the same, unless it is another's
   same_stored : is_of_other by.caller (stored_at newest write) ≡ false → stored_at newest write ≡ stored_at other write
   same_stored mine =
-      sym (look_up-kept change_key (λ c. is_of by.caller c.owner) (place_of_kind write.kind, write.id) newest.rows up ∙ left (stored_at newest write) mine)
+      sym (look_up-filter change_key (λ c. is_of by.caller c.owner) (place_of_kind write.kind, write.id) newest.rows up ∙ left (stored_at newest write) mine)
       ∙ ap (look_up change_key (place_of_kind write.kind, write.id)) own
-      ∙ look_up-kept change_key (λ c. is_of by.caller c.owner) (place_of_kind write.kind, write.id) other.rows up' ∙ left (stored_at other write) (sym owner ∙ mine)
+      ∙ look_up-filter change_key (λ c. is_of by.caller c.owner) (place_of_kind write.kind, write.id) other.rows up' ∙ left (stored_at other write) (sym owner ∙ mine)
     where
       left : (o : Option RowChange) → is_of_other by.caller o ≡ false → option_and_then (if_kept change_key (λ c. is_of by.caller c.owner)) o ≡ o
       left None e = refl

@@ -1,5 +1,6 @@
 -- The feeds of words, one after another.
-use Rattle.std.proofs.Common.{◌≡◌, ◌+◌, ℕ, List, [], ◌∷◌, ◌++◌, None, Some, Ok, Err, String, Global, drop, length, map, string_bytes, refl, ap, ◌∙◌, append_assoc, arith}
+use Rattle.std.proofs.Common.{◌≡◌, ◌+◌, ℕ, List, [], ◌∷◌, ◌++◌, None, Some, Ok, Err, String, Global, drop, length, map}
+use Rattle.std.proofs.Common.{string_bytes, refl, ap, ◌∙◌, append_assoc, arith}
 use Rattle.std.proofs.lemmas.List.{append-nil, drop_all}
 use Rattle.hub_words.specs.Words.{feed_of, feed_words}
 use Rattle.hub_words.specs.declared.task.Feed.{Feed}

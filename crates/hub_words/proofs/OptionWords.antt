@@ -1,5 +1,6 @@
 -- The options of words, one after another.
-use Rattle.std.proofs.Common.{◌≡◌, ◌+◌, ℕ, List, [], ◌∷◌, None, Some, Err, Ok, String, Global, length, map, string_bytes, refl, sym, subst, arith}
+use Rattle.std.proofs.Common.{◌≡◌, ◌+◌, ℕ, List, [], ◌∷◌, None, Some, Err, Ok, String, Global, length, map}
+use Rattle.std.proofs.Common.{string_bytes, refl, sym, subst, arith}
 use Rattle.roster_base.specs.Reading.{◌>>=◌}
 use Rattle.hub_words.specs.Words.{option_of, option_words, set_option}
 use Rattle.hub_words.specs.declared.words.OptionWord.{OptionWord}

@@ -1,5 +1,7 @@
 -- The command that words spell, or the place of the first word that no command continues.
-use Rattle.std.specs.Prelude.{ℕ, ◌+◌, ◌==◌, ◌&&◌, ◌||◌, Bool, false, not, List, [], ◌∷◌, Option, None, Some, Result, Ok, Err, bytes_eq, codes, if◌then◌else◌, drop, is_none, is_some, length, nat_le, nat_lt, suc, take, true, unwrap_or, zero}
+use Rattle.std.specs.Prelude.{ℕ, ◌+◌, ◌==◌, ◌&&◌, ◌||◌, Bool, false, not, List, [], ◌∷◌, Option, None, Some, Result, Ok}
+use Rattle.std.specs.Prelude.{Err, bytes_eq, codes, if◌then◌else◌, drop, is_none, is_some, length, nat_le, nat_lt, suc}
+use Rattle.std.specs.Prelude.{take, true, unwrap_or, zero}
 use Rattle.std.specs.List.{after_first, before_first, list_any, prefix_len}
 use Rattle.hub_words.specs.Tasks.{Task}
 use Rattle.hub_words.specs.declared.task.Feed.{Feed}
@@ -13,7 +15,9 @@ use Rattle.roster_values.specs.Kinds.{kind_of_word}
 use Rattle.roster_values.specs.declared.kind.Kind.{Kind}
 use Rattle.roster_values.specs.declared.mode.Mode.TheVariants.{Bulk, Delta}
 use Rattle.hub_words.specs.declared.words.Command.{Command}
-use Rattle.hub_words.specs.declared.words.Command.TheVariants.{Ask, Cascade, Enter, Export, ExportManifest, ExportSince, Follow, Grant, ListHeld, Make, Outbox, Publish, Rehearse, Send, Show, Sync, SyncDelta}
+use Rattle.hub_words.specs.declared.words.Command.TheVariants.{Ask, Cascade, Enter, Export, ExportManifest, ExportSince}
+use Rattle.hub_words.specs.declared.words.Command.TheVariants.{Follow, Grant, ListHeld, Make, Outbox, Publish, Rehearse}
+use Rattle.hub_words.specs.declared.words.Command.TheVariants.{Send, Show, Sync, SyncDelta}
 use Rattle.hub_words.specs.declared.words.EnterTask.TheVariants.{Delete, Put}
 use Rattle.hub_words.specs.declared.words.OptionWord.{OptionWord}
 use Rattle.hub_words.specs.declared.words.OptionWord.TheVariants.{Folder, Keep, Peer, Store}

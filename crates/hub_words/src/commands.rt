@@ -5,7 +5,8 @@ ghost use Rattle.keeper_memory.specs.copy.Copies.{IsGradebook};
 ghost use Rattle.roster_base.specs.Reading.{Gives};
 ghost use Rattle.hub_words.specs.Words as spec;
 ghost use Rattle.hub_words.specs.declared.words.Command.{Command as CommandValue};
-ghost use Rattle.hub_words.specs.declared.words.Command.TheVariants.{Ask, Cascade, Grant, ListHeld, Rehearse, Show, Sync, SyncDelta};
+ghost use Rattle.hub_words.specs.declared.words.Command.TheVariants.{Ask, Cascade, Grant, ListHeld, Rehearse, Show};
+ghost use Rattle.hub_words.specs.declared.words.Command.TheVariants.{Sync, SyncDelta};
 
 use crate::task::{Feed, GradebookObject, MakeTask, SendTask, SyncTask, is_gradebook};
 use crate::words::{Command, EnterTask, WordError};
@@ -478,24 +479,25 @@ pub fn command_at(alloc: Global, place: usize, words: &[String]) -> Result<Comma
     requires { place + length words.now < 2 ^ 63 }
     ensures { Gives (λ c. c) result (spec.command_words place (map string_bytes words.now)) }
 {
-    match words.split_first() {
-        Some((word, words)) if word.as_str() == "show" => show(place + 1, words),
-        Some((word, words)) if word.as_str() == "publish" => publish(alloc, place + 1, words),
-        Some((word, words)) if word.as_str() == "grant" => grant(alloc, place + 1, words),
-        Some((word, words)) if word.as_str() == "ask" => ask(alloc, place + 1, words),
-        Some((word, words)) if word.as_str() == "sync" => sync(alloc, place + 1, words),
-        Some((word, words)) if word.as_str() == "delta" => delta(alloc, place + 1, words),
-        Some((word, words)) if word.as_str() == "cascade" => cascade(alloc, place + 1, words),
-        Some((word, words)) if word.as_str() == "follow" => follow(alloc, place + 1, words),
-        Some((word, words)) if word.as_str() == "enter" => enter(alloc, place + 1, words),
-        Some((word, words)) if word.as_str() == "send" => send(alloc, place + 1, words),
-        Some((word, words)) if word.as_str() == "outbox" => {
-            end(place + 1, Command::Outbox, words)
-        }
-        Some((word, words)) if word.as_str() == "list" => list(place + 1, words),
-        Some((word, words)) if word.as_str() == "export" => export(alloc, place + 1, words),
-        Some((word, words)) if word.as_str() == "rehearse" => rehearse(alloc, place + 1, words),
-        Some((word, words)) if word.as_str() == "make" => make(place + 1, words),
+    let Some((word, words)) = words.split_first() else {
+        return Err(Refusal::Fault(place));
+    };
+    match word.as_str() {
+        "show" => show(place + 1, words),
+        "publish" => publish(alloc, place + 1, words),
+        "grant" => grant(alloc, place + 1, words),
+        "ask" => ask(alloc, place + 1, words),
+        "sync" => sync(alloc, place + 1, words),
+        "delta" => delta(alloc, place + 1, words),
+        "cascade" => cascade(alloc, place + 1, words),
+        "follow" => follow(alloc, place + 1, words),
+        "enter" => enter(alloc, place + 1, words),
+        "send" => send(alloc, place + 1, words),
+        "outbox" => end(place + 1, Command::Outbox, words),
+        "list" => list(place + 1, words),
+        "export" => export(alloc, place + 1, words),
+        "rehearse" => rehearse(alloc, place + 1, words),
+        "make" => make(place + 1, words),
         _ => Err(Refusal::Fault(place)),
     }
 }

@@ -29,6 +29,7 @@ impl Model for SyncTask {
 }
 
 impl SyncTask {
+    /// A synchronisation under this token.
     pub fn new(token: Token, limit: u32, tries: u32) -> SyncTask
         requires limit { (0 < limit) × (limit ≤ 1000) }
         requires tries { (0 < tries) × (tries ≤ 100) }
@@ -41,6 +42,7 @@ impl SyncTask {
         }
     }
 
+    /// The token under which the rows are asked for.
     pub fn token(&self) -> &Token
         ensures { result.now ≡ self.now.token }
     {
@@ -83,6 +85,7 @@ impl Model for SendTask {
 }
 
 impl SendTask {
+    /// Sending under this token.
     pub fn new(token: Token, tries: u32) -> SendTask
         requires tries { (0 < tries) × (tries ≤ 100) }
         ensures { result ≡ record { token = token; tries = tries } }
@@ -90,6 +93,7 @@ impl SendTask {
         SendTask { token, tries }
     }
 
+    /// The token under which the writes are sent.
     pub fn token(&self) -> &Token
         ensures { result.now ≡ self.now.token }
     {
@@ -122,6 +126,7 @@ impl Model for MakeTask {
 }
 
 impl MakeTask {
+    /// The making of a district of so many schools.
     pub fn new(schools: u32) -> MakeTask
         requires { (0 < schools) × (schools ≤ 200) }
         ensures { result ≡ schools }
@@ -129,6 +134,7 @@ impl MakeTask {
         MakeTask { schools }
     }
 
+    /// How many schools the district has.
     pub fn schools(&self) -> u32
         ensures value { result ≡ self.now }
         ensures bounds { (0 < result) × (result ≤ 200) }
@@ -142,10 +148,7 @@ pub fn is_gradebook(kind: Kind) -> bool
     ensures value { result ≡ is_gradebook kind }
     ensures writes { result ≡ true → IsGradebook kind }
 {
-    match kind {
-        Kind::Categories | Kind::LineItems | Kind::Results => true,
-        _ => false,
-    }
+    matches!(kind, Kind::Categories | Kind::LineItems | Kind::Results)
 }
 
 /// An object that callers write: a kind of the gradebook, and an id.
@@ -167,6 +170,7 @@ impl Model for GradebookObject {
 }
 
 impl GradebookObject {
+    /// The object of this kind with this id.
     pub fn new(kind: Kind, id: Id) -> GradebookObject
         requires { IsGradebook kind }
         ensures { result ≡ record { kind = kind; id = id } }
@@ -174,6 +178,7 @@ impl GradebookObject {
         GradebookObject { kind, id }
     }
 
+    /// The kind of the object.
     pub fn kind(&self) -> Kind
         ensures value { result ≡ self.now.kind }
         ensures writes { IsGradebook result }
@@ -181,6 +186,7 @@ impl GradebookObject {
         self.kind
     }
 
+    /// The id of the object.
     pub fn id(&self) -> &Id
         ensures { result.now ≡ self.now.id }
     {

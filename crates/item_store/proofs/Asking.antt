@@ -1,5 +1,6 @@
 -- Statements asked one after another.
-use Rattle.std.proofs.Common.{◌≢◌, ℕ, pos, inl, inr, List, [], ◌∷◌, ◌++◌, Result, Ok, Err, Vec, IfOk, IfErr, refl, sym, subst}
+use Rattle.std.proofs.Common.{◌≢◌, ℕ, pos, inl, inr, List, [], ◌∷◌, ◌++◌, Result, Ok, Err, Vec, IfOk, IfErr, refl, sym}
+use Rattle.std.proofs.Common.{subst}
 use Rattle.std.specs.declared.alloc.Global.{Global}
 use Rattle.sqlite.specs.declared.error.Error.{Error}
 use Rattle.sqlite.specs.declared.error.Error.TheVariants.{SqliteFailure}

@@ -1,10 +1,11 @@
 -- What the DELETE leaves.
-use Rattle.std.proofs.Common.{◌≡◌, ℕ, ℤ, inl, inr, List, [], ◌∷◌, ◌==◌, Bool, true, false, not, cond, map, filter, Some, None, refl, sym, ap, ◌∙◌, subst}
+use Rattle.std.proofs.Common.{◌≡◌, ℕ, ℤ, inl, inr, List, [], ◌∷◌, ◌==◌, Bool, true, false, not, cond, map, filter, Some}
+use Rattle.std.proofs.Common.{None, refl, sym, ap, ◌∙◌, subst}
 use Rattle.std.specs.Ordering.{is_eq}
 use Rattle.std.specs.List.Sorted.{IsPermutation}
 use Rattle.std.specs.FinMap.{get, retain_keys, get-retain_keys}
 use Rattle.std.proofs.lemmas.List.Sorted.{Contains-permutation, IsPermutation-sym}
-use Rattle.std.proofs.lemmas.Bool.{false_from_ne_true, cases_Bool}
+use Rattle.std.proofs.lemmas.Bool.{false_from_ne_true, cases_Bool, not-true, eqb-true, eq-eqb, both_ways}
 use Rattle.std.proofs.lemmas.Cmp.{tied_itself}
 use Rattle.sqlite.specs.declared.types.Value.TheVariants.{Int}
 use Rattle.sqlite.specs.Order.{Row, column}
@@ -22,7 +23,8 @@ use Rattle.item_maps.specs.Items.{Items, is_between, cleared}
 use Rattle.item_store.specs.Items.{params_of, Holds, row_of}
 use Rattle.item_store.proofs.Texts.{delete_query}
 use Rattle.item_maps.proofs.ItemLemmas.{same_bytes}
-use Rattle.item_store.proofs.Range.{is_hit, hits, has_mapped, mapped_has, filtered_table, RowHit, row_hit, hit_from, same_number, own_number, passed}
+use Rattle.item_store.proofs.Range.{is_hit, hits, has_mapped, mapped_has, filtered_table, RowHit, row_hit, hit_from}
+use Rattle.item_store.proofs.Range.{passed}
 
 -- the rowids are those of the rows that pass
 pub record AreHits (params : Row) (rows : List Row) (gone : List ℤ) : Type 0 where
@@ -56,22 +58,15 @@ pub left_table : (ids : List ℤ) (rows : List Row) → IsTable rows → IsTable
 left_table [] rows up = up
 left_table (id ∷ ids) rows up = left_table ids (without_rowid id rows) (filtered_table _ rows up)
 
-not_true : (b : Bool) → not b ≡ true → b ≡ false
-not_true true e = absurd cc
-not_true false e = refl
-
 pub left_lacks : (ids : List ℤ) (rows : List Row) (x : Row) (id : ℤ) → Has (without_all rows ids) x → Has ids id → has_rowid id x ≡ false
 left_lacks [] rows x id h k = absurd k
 left_lacks (i ∷ ids) rows x id h (inl is) =
     let there = without_all_has ids (without_rowid i rows) x h in
-    subst (λ j. has_rowid j x ≡ false) (sym is) (not_true _ (has_filtered (λ r. not (has_rowid i r)) rows x there).1)
+    subst (λ j. has_rowid j x ≡ false) (sym is) (not-true _ (has_filtered (λ r. not (has_rowid i r)) rows x there).1)
 left_lacks (i ∷ ids) rows x id h (inr k) = left_lacks ids (without_rowid i rows) x id h k
 
 pub own_rowid : (id : ℤ) (area : ℕ) (label body : List ℕ) → has_rowid id (row_of id area label body) ≡ true
 own_rowid id area label body = ap is_eq (tied_itself value_cmp_total (Int id))
-
-pub differ : (b : Bool) → b ≡ true → b ≡ false → ⊥
-differ b p q = cc
 
 module _ (m : Items) (rows : List Row) (h : Holds rows m) (area : ℕ) (from to : List ℕ) (gone : List ℤ) (are : AreHits (params_of area from to []) rows gone) where
   abbrev here : List ℕ → Bool
@@ -85,18 +80,18 @@ module _ (m : Items) (rows : List Row) (h : Holds rows m) (area : ℕ) (from to 
   outside id label body there = false_from_ne_true _ (λ within.
       let hit = hit_from m rows h area from to [] id label body within in
       let k = are.complete (row_of id area label body) (without_all_has gone rows _ there) hit in
-      differ _ (own_rowid id area label body) (left_lacks gone rows _ id there k))
+      both_ways _ (left_lacks gone rows _ id there k) (own_rowid id area label body))
 
   -- what is stored afterwards was stored before
   pub cleared_from : (a : ℕ) (label body : List ℕ) → get (cleared area from to m a) label ≡ Some body → (get (m a) label ≡ Some body) × (a ≡ area → here label ≡ false)
   cleared_from a label body g = elim (cases_Bool (a == area)) [
-    | inl same ↦ let it = passed (not (here label)) (get (m a) label) body (sym (kept_get a label) ∙ rw same at g) in (it.1, λ _. not_true _ it.0)
-    | inr other ↦ (rw other at g, λ is. absurd (differ (a == area) (subst (λ n. (a == n) ≡ true) is (own_number a)) other))
+    | inl same ↦ let it = passed (not (here label)) (get (m a) label) body (sym (kept_get a label) ∙ rw same at g) in (it.1, λ _. not-true _ it.0)
+    | inr other ↦ (rw other at g, λ is. absurd (both_ways (a == area) other (subst (λ n. (a == n) ≡ true) is (eq-eqb a a refl))))
   ]
 
   pub cleared_keeps : (a : ℕ) (label body : List ℕ) → get (m a) label ≡ Some body → (a ≡ area → here label ≡ false) → get (cleared area from to m a) label ≡ Some body
   cleared_keeps a label body g out = elim (cases_Bool (a == area)) [
-    | inl same ↦ rw same (kept_get a label ∙ ap (λ t. cond (not t) (get (m a) label) None) (out (same_number a area same)) ∙ g)
+    | inl same ↦ rw same (kept_get a label ∙ ap (λ t. cond (not t) (get (m a) label) None) (out (eqb-true a area same)) ∙ g)
     | inr other ↦ rw other g
   ]
 
@@ -110,7 +105,7 @@ module _ (m : Items) (rows : List Row) (h : Holds rows m) (area : ℕ) (from to 
       let same : row_of id a label body ≡ row_of hit.id area hit.label hit.body = x.2 ∙ ap (row_at rows) named ∙ at in
       let area_is : a ≡ area = cc in
       let label_is : label ≡ hit.label = cc in
-      differ (here label) (subst (λ l. here l ≡ true) (sym label_is) hit.within) (out area_is)
+      both_ways (here label) (out area_is) (subst (λ l. here l ≡ true) (sym label_is) hit.within)
 
   pub clears : Holds (without_all rows gone) (cleared area from to m)
   clears = record {

@@ -5,7 +5,8 @@ use Rattle.roster_base.specs.declared.keeper.KeeperError.{KeeperError}
 use Rattle.roster_base.specs.declared.keeper.KeeperError.TheVariants.{Failed, NoMemory}
 use Rattle.item_store.specs.Asked.{IsRefused}
 use Rattle.item_store.specs.Stands.{StandsFor, GoesBackTo}
-use Rattle.std.proofs.Common.{Result, Ok, Err, OnOk, OnErr, ◌≡◌, ◌≢◌, ◌<◌, ◌≤◌, ℕ, zero, suc, ◌+◌, List, [], ◌∷◌, length, map, take, ◌++◌, ap₂, drop, get_or, refl, sym, ap, ◌∙◌, drop-cons, add-one, arith}
+use Rattle.std.proofs.Common.{Result, Ok, Err, OnOk, OnErr, ◌≡◌, ◌≢◌, ◌<◌, ◌≤◌, ℕ, zero, suc, ◌+◌, List, [], ◌∷◌}
+use Rattle.std.proofs.Common.{length, map, take, ◌++◌, ap₂, drop, get_or, refl, sym, ap, ◌∙◌, drop-cons, add-one, arith}
 use Rattle.sqlite.specs.Order.{Row}
 use Rattle.std.proofs.lemmas.List.{drop_all, length-map, map-append, take_more}
 use Rattle.item_store.proofs.Range.{got_mapped}

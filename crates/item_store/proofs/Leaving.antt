@@ -1,5 +1,6 @@
 -- What each statement leaves in the files.
-use Rattle.std.proofs.Common.{◌≡◌, ◌≢◌, ℕ, pos, ◌⊎◌, inl, inr, List, [], ◌∷◌, true, false, Some, None, Option, Ok, Err, Result, OnOk, OnErr, IfOk, IfErr, Vec, IsTrue, IsSome, refl, sym, ap, ◌∙◌, subst}
+use Rattle.std.proofs.Common.{◌≡◌, ◌≢◌, ℕ, pos, ◌⊎◌, inl, inr, List, [], ◌∷◌, true, false, Some, None, Option, Ok, Err}
+use Rattle.std.proofs.Common.{Result, OnOk, OnErr, IfOk, IfErr, Vec, IsTrue, IsSome, refl, sym, ap, ◌∙◌, subst}
 use Rattle.std.specs.declared.alloc.Global.{Global}
 use Rattle.sqlite.specs.declared.error.Error.{Error}
 use Rattle.sqlite.specs.declared.types.Value.TheVariants.{Int}
@@ -11,19 +12,23 @@ use Rattle.sqlite.specs.Source.TheVariants.{Values}
 use Rattle.sqlite.specs.Effect.{Database, IsDatabase}
 use Rattle.sqlite.specs.Does.{Tally, Does}
 use Rattle.sqlite.specs.Listing.{understood}
-use Rattle.sqlite.specs.State.{State, HasCleanDisk, Survives, Executes, IsStatement, CommitsBy, CommitsShowing, IsLive, Shown, FailsToQuery, mode_of, text_of}
+use Rattle.sqlite.specs.State.{State, HasCleanDisk, Survives, Executes, IsStatement, CommitsBy, CommitsShowing, IsLive}
+use Rattle.sqlite.specs.State.{Shown, FailsToQuery, mode_of, text_of}
 use Rattle.sqlite.specs.Clock.{timed}
 use Rattle.sqlite.proofs.Callers.{command_of, IsPlain, statement_of, runs_as}
 use Rattle.sqlite_resolve.specs.declared.compiled.Compiled.{Compiled}
 use Rattle.sqlite_schema.specs.declared.command.Command.{Command}
 use Rattle.sqlite_schema.specs.declared.command.Returning.{Returning}
 use Rattle.sqlite_schema.specs.declared.command.Conflict.TheVariants.{Abort}
-use Rattle.item_store.specs.Table.{no_schema, item_schema, make_text, begin_text, commit_text, rollback_text, delete_text, upsert_text, select_text, no_text}
+use Rattle.item_store.specs.Table.{no_schema, item_schema, make_text, begin_text, commit_text, rollback_text}
+use Rattle.item_store.specs.Table.{delete_text, upsert_text, select_text, no_text}
 use Rattle.item_maps.specs.Items.{Items, no_items}
 use Rattle.item_store.specs.Items.{Holds, params_of, put_params}
 use Rattle.item_store.specs.Left.{IsLeft, Leaves, WasOpen}
 use Rattle.item_store.specs.Stands.{IsTold, StandsFor, IsReady, IsWithin, GoesBackTo, Earlier}
-use Rattle.item_store.proofs.Texts.{begin_is, begin_plain, commit_is, commit_plain, delete_is, delete_query, make_first, make_first_plain, make_again, nothing_any, put_terms, rollback_is, select_plain, upsert, upsert_is}
+use Rattle.item_store.proofs.Texts.{begin_is, begin_plain, commit_is, commit_plain, delete_is, delete_query, make_first}
+use Rattle.item_store.proofs.Texts.{make_first_plain, make_again, nothing_any, put_terms, rollback_is, select_plain}
+use Rattle.item_store.proofs.Texts.{upsert, upsert_is}
 use Rattle.item_store.proofs.States.{Stops, execute_stops, on_err, query_stops, shown_open, stops_open}
 use Rattle.item_store.proofs.Steps.{clears_state, made_again, makes_db, makes_state, none_held, puts_state}
 

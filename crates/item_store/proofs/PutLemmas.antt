@@ -1,9 +1,11 @@
 -- What the upsert leaves.
-use Rattle.std.proofs.Common.{◌≡◌, ℕ, ℤ, pos, ◌⊎◌, inl, inr, List, [], ◌∷◌, ◌==◌, Bool, true, false, ◌&&◌, ◌||◌, cond, Some, refl, sym, ap, ap₂, ◌∙◌, subst, subst₂}
+use Rattle.std.proofs.Common.{◌≡◌, ℕ, ℤ, pos, ◌⊎◌, inl, inr, List, [], ◌∷◌, ◌==◌, Bool, true, false, ◌&&◌, ◌||◌, cond}
+use Rattle.std.proofs.Common.{Some, refl, sym, ap, ap₂, ◌∙◌, subst, subst₂}
 use Rattle.std.specs.Ordering.{is_eq, eq_by_cmp}
 use Rattle.std.specs.FinMap.{get, get-insert}
-use Rattle.std.proofs.lemmas.Bool.{false_from_ne_true, cases_Bool, and_parts}
+use Rattle.std.proofs.lemmas.Bool.{false_from_ne_true, cases_Bool, and_parts, eqb-true, eq-eqb, both_ways}
 use Rattle.std.proofs.lemmas.Cmp.{tied_itself, nat_list_cmp_total}
+use Rattle.std.proofs.lemmas.Option.{same_Some}
 use Rattle.sqlite.specs.declared.types.Value.{Value}
 use Rattle.sqlite.specs.declared.types.Value.TheVariants.{Null, Int, Blob}
 use Rattle.sqlite.specs.Order.{Row, value_cmp}
@@ -18,7 +20,7 @@ use Rattle.sqlite.specs.Ops.{unary}
 use Rattle.sqlite_trees.proofs.TreeLemmas.{IsTable-put_row}
 use Rattle.sqlite_rules.proofs.TableLemmas.{put_all_has, put_all_adds, put_all_keeps, without_all_has}
 use Rattle.sqlite_rules.proofs.PlaceLemmas.{left_or_taken, row_at_is}
-use Rattle.item_store.proofs.ClearLemmas.{differ, left_table, left_lacks, own_rowid}
+use Rattle.item_store.proofs.ClearLemmas.{left_table, left_lacks, own_rowid}
 use Rattle.sqlite_rules.specs.Keys.{conflicts}
 use Rattle.sqlite_rules.specs.Lists.{Has}
 use Rattle.sqlite_value.specs.Keys.{first_key}
@@ -28,34 +30,31 @@ use Rattle.item_maps.specs.Items.{Items, bytes_cmp, put}
 use Rattle.item_store.specs.Items.{Holds, IsItem, row_of}
 use Rattle.item_store.proofs.Tests.{truth_is, same_area}
 use Rattle.item_maps.proofs.ItemLemmas.{same_bytes, equal_is}
-use Rattle.item_store.proofs.Range.{same_number, own_number, has_mapped}
+use Rattle.item_store.proofs.Range.{has_mapped}
 
 -- the row is no item of that area with that label
 abbrev pub Apart : ℕ → List ℕ → Row → Type 0
 Apart area label x = (id : ℤ) (body : List ℕ) → x ≡ row_of id area label body → ⊥
 
-same_some : {X : Type 0} (x y : X) → Some x ≡ Some y → x ≡ y
-same_some x y e = cc
-
 module _ (m : Items) (area : ℕ) (label body : List ℕ) where
   put_same : get (put area label body m area) label ≡ Some body
-  put_same = rw (own_number area) (get-insert nat_list_cmp_total (m area) label body label ∙ ap (λ o. cond (is_eq o) (Some body) (get (m area) label)) (tied_itself nat_list_cmp_total label))
+  put_same = rw (eq-eqb area area refl) (get-insert nat_list_cmp_total (m area) label body label ∙ ap (λ o. cond (is_eq o) (Some body) (get (m area) label)) (tied_itself nat_list_cmp_total label))
 
   -- elsewhere nothing changes
   put_other : (a : ℕ) (l : List ℕ) → (a ≡ area → l ≡ label → ⊥) → get (put area label body m a) l ≡ get (m a) l
   put_other a l apart = elim (cases_Bool (a == area)) [
     | inl same ↦ rw same (get-insert nat_list_cmp_total (m a) label body l
-        ∙ ap (λ t. cond t (Some body) (get (m a) l)) (false_from_ne_true _ (λ tie. apart (same_number a area same) (same_bytes l label (equal_is _ tie)))))
+        ∙ ap (λ t. cond t (Some body) (get (m a) l)) (false_from_ne_true _ (λ tie. apart (eqb-true a area same) (same_bytes l label (equal_is _ tie)))))
     | inr other ↦ rw other refl
   ]
 
   same_key : (a : ℕ) (l : List ℕ) → ((a ≡ area) × (l ≡ label)) ⊎ (a ≡ area → l ≡ label → ⊥)
   same_key a l = elim (cases_Bool (a == area)) [
     | inl same ↦ elim (cases_Bool (eq_by_cmp bytes_cmp l label)) [
-      | inl tie ↦ inl (same_number a area same, same_bytes l label (equal_is _ tie))
-      | inr other ↦ inr (λ _ is. differ _ (subst (λ k. eq_by_cmp bytes_cmp l k ≡ true) is (ap is_eq (tied_itself nat_list_cmp_total l))) other)
+      | inl tie ↦ inl (eqb-true a area same, same_bytes l label (equal_is _ tie))
+      | inr other ↦ inr (λ _ is. both_ways _ other (subst (λ k. eq_by_cmp bytes_cmp l k ≡ true) is (ap is_eq (tied_itself nat_list_cmp_total l))))
     ]
-    | inr other ↦ inr (λ is _. differ _ (subst (λ n. (a == n) ≡ true) is (own_number a)) other)
+    | inr other ↦ inr (λ is _. both_ways _ other (subst (λ n. (a == n) ≡ true) is (eq-eqb a a refl)))
   ]
 
   module _ (rows next : List Row) (h : Holds rows m) (id : ℤ) (up : IsTable next)
@@ -78,7 +77,7 @@ module _ (m : Items) (area : ℕ) (label body : List ℕ) where
     complete_put a l b g = elim (same_key a l) [
       | inl is ↦
           let at : get (put area label body m area) label ≡ Some b = subst₂ (λ (n : ℕ) (k : List ℕ). get (put area label body m n) k ≡ Some b) is.0 is.1 g in
-          let value : body ≡ b = same_some body b (sym put_same ∙ at) in
+          let value : body ≡ b = same_Some body b (sym put_same ∙ at) in
           (id, subst (λ c. Has next (row_of id a l c)) value (subst₂ (λ (n : ℕ) (k : List ℕ). Has next (row_of id n k body)) (sym is.0) (sym is.1) new))
       | inr apart ↦
           let at = h.complete a l b (sym (put_other a l apart) ∙ g) in
@@ -116,11 +115,11 @@ pub conflict_parts : (n : Value) (area : ℕ) (label body : List ℕ) (id : ℤ)
     → conflicts (Some (1 ∷ 2 ∷ [])) item_schema.indexes item_table (n ∷ Int (pos area) ∷ Blob label ∷ Blob body ∷ []) (row_of id a l b) ≡ true → (a ≡ area) × (l ≡ label)
 conflict_parts n area label body id a l b h =
     let parts = and_parts (a == area) (is_eq (bytes_cmp l label)) (sym (conflict_is n area label body id a l b) ∙ h) in
-    (same_number a area parts.0, same_bytes l label (equal_is _ parts.1))
+    (eqb-true a area parts.0, same_bytes l label (equal_is _ parts.1))
 
 pub own_conflict : (n : Value) (area : ℕ) (label body : List ℕ) (id : ℤ) (b : List ℕ)
     → conflicts (Some (1 ∷ 2 ∷ [])) item_schema.indexes item_table (n ∷ Int (pos area) ∷ Blob label ∷ Blob body ∷ []) (row_of id area label b) ≡ true
-own_conflict n area label body id b = conflict_is n area label body id area label b ∙ ap₂ (λ (e t : Bool). e && t) (own_number area) (ap is_eq (tied_itself nat_list_cmp_total label))
+own_conflict n area label body id b = conflict_is n area label body id area label b ∙ ap₂ (λ (e t : Bool). e && t) (eq-eqb area area refl) (ap is_eq (tied_itself nat_list_cmp_total label))
 
 -- ---- the row is new
 
@@ -177,7 +176,7 @@ module _ (m : Items) (rows : List Row) (h : Holds rows m) (area : ℕ) (label bo
           λ i b named.
               let there = subst (Has rows) named (without_all_has ids rows x left) in
               let one : i ≡ id = h.single area label i id b before there was in
-              differ _ (subst (λ (r : Row). has_rowid id r ≡ true) (sym (named ∙ ap (λ j. row_of j area label b) one)) (own_rowid id area label b)) (left_lacks ids rows x id left its),
+              both_ways _ (left_lacks ids rows x id left its) (subst (λ (r : Row). has_rowid id r ≡ true) (sym (named ∙ ap (λ j. row_of j area label b) one)) (own_rowid id area label b)),
         )
       ])
       (put_all_adds news (without_all rows ids) _ fresh new)

@@ -1,5 +1,7 @@
 -- What the SELECT shows.
-use Rattle.std.proofs.Common.{◌≡◌, ◌<◌, ℕ, ℤ, pos, inl, inr, List, [], ◌∷◌, ◌++◌, ◌==◌, Bool, true, false, ◌&&◌, cond, map, filter, flat_map, length, take, codes, Option, Some, None, Ordering, Less, Equal, Greater, refl, sym, ap, ap₂, ◌∙◌, subst, subst₂, ◌+◌, arith, get_or, suc, zero}
+use Rattle.std.proofs.Common.{◌≡◌, ◌<◌, ℕ, ℤ, pos, inl, inr, List, [], ◌∷◌, ◌++◌, ◌==◌, Bool, true, false, ◌&&◌, cond}
+use Rattle.std.proofs.Common.{map, filter, flat_map, length, take, codes, Option, Some, None, Ordering, Less, Equal}
+use Rattle.std.proofs.Common.{Greater, refl, sym, ap, ap₂, ◌∙◌, subst, subst₂, ◌+◌, arith, get_or, suc, zero}
 use Rattle.std.specs.Ordering.{is_lt, eq_by_cmp, ordering_then}
 use Rattle.std.specs.List.{IsDistinct, list_all}
 use Rattle.std.specs.List.Sorted.{IsSortedBy, IsPermutation, IsSorted}
@@ -8,8 +10,7 @@ use Rattle.std.proofs.lemmas.List.Sorted.{Contains-permutation, IsPermutation-sy
 use Rattle.std.proofs.lemmas.Map.Keys.{IsDistinct-IsPermutation}
 use Rattle.std.proofs.lemmas.Cmp.{nat_list_cmp_total, tied_itself, eq_by_cmp_equiv}
 use Rattle.std.proofs.lemmas.List.{length-map, take-map}
-use Rattle.std.proofs.lemmas.Bool.Decides.{nat_tests}
-use Rattle.std.proofs.lemmas.Bool.{false_from_ne_true, and_parts, cases_Bool}
+use Rattle.std.proofs.lemmas.Bool.{false_from_ne_true, and_parts, cases_Bool, eqb-true, eq-eqb}
 use Rattle.sqlite.specs.declared.types.Value.TheVariants.{Null, Int, Blob}
 use Rattle.sqlite.specs.Order.{Row, column, bytes, value_cmp}
 use Rattle.sqlite.specs.Term.{Env, holds}
@@ -105,12 +106,6 @@ label_of o = (entry_of o).0
 not_both : (o : Ordering) → o ≡ Less → o ≡ Equal → ⊥
 not_both o a b = cc
 
-pub same_number : (a b : ℕ) → (a == b) ≡ true → a ≡ b
-same_number a b h = grind (arith, nat_tests)
-
-pub own_number : (a : ℕ) → (a == a) ≡ true
-own_number a = grind (arith, nat_tests)
-
 pub cmp_out : (l b k c : List ℕ) → output_cmp select_query (out l b) (out k c) ≡ bytes_cmp l k
 cmp_out l b k c = then_equal _ ∙ value_cmp-Blob l k
 
@@ -138,10 +133,10 @@ module _ (m : Items) (rows : List Row) (h : Holds rows m) (area : ℕ) (from to 
   pub hit_parts : (id : ℤ) (a : ℕ) (label body : List ℕ) → is_hit given (row_of id a label body) ≡ true → (a ≡ area) × (is_between from to label ≡ true)
   hit_parts id a label body hit =
       let parts = and_parts (a == area) _ (sym (passes area from to more id a label body) ∙ hit) in
-      (same_number a area parts.0, (and_parts (is_between from to label) true parts.1).0)
+      (eqb-true a area parts.0, (and_parts (is_between from to label) true parts.1).0)
 
   pub hit_from : (id : ℤ) (label body : List ℕ) → is_between from to label ≡ true → is_hit given (row_of id area label body) ≡ true
-  hit_from id label body within = passes area from to more id area label body ∙ ap₂ (λ (x y : Bool). x && (y && true)) (own_number area) within
+  hit_from id label body within = passes area from to more id area label body ∙ ap₂ (λ (x y : Bool). x && (y && true)) (eq-eqb area area refl) within
 
   pub row_hit : (r : Row) → Has rows r → is_hit given r ≡ true → RowHit r
   row_hit r there hit =

@@ -1,17 +1,23 @@
 -- What the calls make of what a connection stands for.
-use Rattle.std.proofs.Common.{◌≡◌, ◌≤◌, Bool, ℕ, pos, ◌⊎◌, inl, inr, List, [], ◌∷◌, length, true, false, not, ◌&&◌, ◌||◌, cond, take, Option, Some, None, Ok, Err, Result, OnErr, IfOk, IfErr, Vec, IsTrue, map, is_some, IsSome, refl, sym, ap, ap₂, ◌∙◌, subst, subst₂, arith}
+use Rattle.std.proofs.Common.{◌≡◌, ◌≤◌, Bool, ℕ, pos, ◌⊎◌, inl, inr, List, [], ◌∷◌, length, true, false, not, ◌&&◌}
+use Rattle.std.proofs.Common.{◌||◌, cond, take, Option, Some, None, Ok, Err, Result, OnErr, IfOk, IfErr, Vec, IsTrue}
+use Rattle.std.proofs.Common.{map, is_some, IsSome, refl, sym, ap, ap₂, ◌∙◌, subst, subst₂, arith}
 use Rattle.std.proofs.lemmas.Bool.{cases_Bool}
 use Rattle.sqlite.specs.declared.error.Error.{Error}
 use Rattle.sqlite.specs.declared.types.Value.TheVariants.{Int}
 use Rattle.sqlite.specs.Order.{Row}
-use Rattle.sqlite.specs.Command.TheVariants.{Begin, Commit, Rollback, Select, Insert, InsertOr, Update, Delete, CreateTable, CreateIndex, DropTable, DropIndex, Savepoint, Release, RollbackTo, Nothing, CreateView, DropView, Rows}
+use Rattle.sqlite.specs.Command.TheVariants.{Begin, Commit, Rollback, Select, Insert, InsertOr, Update, Delete}
+use Rattle.sqlite.specs.Command.TheVariants.{CreateTable, CreateIndex, DropTable, DropIndex, Savepoint, Release}
+use Rattle.sqlite.specs.Command.TheVariants.{RollbackTo, Nothing, CreateView, DropView, Rows}
 use Rattle.sqlite.specs.Effect.{Database}
 use Rattle.sqlite.specs.Schema.{Schema}
 use Rattle.sqlite.specs.Clock.{timed}
 use Rattle.std.specs.declared.alloc.Global.{Global}
 use Rattle.sqlite_resolve.specs.declared.error.CompileError.{CompileError}
 use Rattle.sqlite.specs.Listing.{understood}
-use Rattle.sqlite.specs.State.{State, HasCleanDisk, Executes, ExecutesIn, Writes, IsUnchanged, IsRolledBack, IsNotRun, IsNoStatement, RunsAlone, RunsCommand, Runs, FailsToQuery, FailsToShow, shows_rows, Shown, ShowsRows, IsMisplaced, is_pragma, text_of}
+use Rattle.sqlite.specs.State.{State, HasCleanDisk, Executes, ExecutesIn, Writes, IsUnchanged, IsRolledBack, IsNotRun}
+use Rattle.sqlite.specs.State.{IsNoStatement, RunsAlone, RunsCommand, Runs, FailsToQuery, FailsToShow, shows_rows}
+use Rattle.sqlite.specs.State.{Shown, ShowsRows, IsMisplaced, is_pragma, text_of}
 use Rattle.sqlite.specs.Effect.{is_query}
 use Rattle.sqlite.specs.Calls.{IsWrite}
 use Rattle.sqlite_tied.specs.Compute.{everything}
@@ -19,10 +25,12 @@ use Rattle.sqlite_resolve.specs.declared.compiled.Compiled.{Compiled}
 use Rattle.sqlite_schema.specs.declared.command.Returning.{Returning}
 use Rattle.sqlite_schema.specs.declared.command.Command.{Command}
 use Rattle.sqlite.proofs.Callers.{runs_as}
-use Rattle.item_store.specs.Table.{item_schema, make_text, begin_text, commit_text, rollback_text, delete_text, upsert_text, select_text}
+use Rattle.item_store.specs.Table.{item_schema, make_text, begin_text, commit_text, rollback_text, delete_text}
+use Rattle.item_store.specs.Table.{upsert_text, select_text}
 use Rattle.item_maps.specs.Items.{Items, cleared, put, listed}
 use Rattle.item_store.specs.Items.{params_of, put_params, Holds, shown}
-use Rattle.item_store.specs.Stands.{IsTabled, IsTold, IsSettled, StandsFor, IsReady, IsInside, IsWithin, MayGoBack, GoesBackTo, Earlier}
+use Rattle.item_store.specs.Stands.{IsTabled, IsTold, IsSettled, StandsFor, IsReady, IsInside, IsWithin, MayGoBack}
+use Rattle.item_store.specs.Stands.{GoesBackTo, Earlier}
 use Rattle.item_store.proofs.Texts.{begin_is, begin_plain, commit_is, commit_plain}
 use Rattle.item_store.proofs.Range.{ranges}
 use Rattle.item_store.proofs.Steps.{puts_state, clears_state, makes_state, made_again, none_held}

@@ -1,5 +1,6 @@
 -- What each statement makes of a state.
-use Rattle.std.proofs.Common.{◌≡◌, ℕ, ℤ, inl, inr, List, [], ◌∷◌, false, Option, Some, None, Ok, refl, sym, ap, ◌∙◌, subst}
+use Rattle.std.proofs.Common.{◌≡◌, ℕ, ℤ, inl, inr, List, [], ◌∷◌, false, Option, Some, None, Ok, refl, sym, ap, ◌∙◌}
+use Rattle.std.proofs.Common.{subst}
 use Rattle.sqlite.specs.declared.types.Value.TheVariants.{Null}
 use Rattle.sqlite.specs.Order.{Row}
 use Rattle.sqlite.specs.Program.{overlay}
@@ -26,7 +27,8 @@ use Rattle.std.specs.FinMap.{get-empty}
 use Rattle.item_store.specs.Table.{no_schema, item_schema, item_table, upsert_text, delete_text, make_text}
 use Rattle.item_maps.specs.Items.{Items, put, cleared, no_items, bytes_cmp}
 use Rattle.item_store.specs.Items.{params_of, put_params, Holds, row_of}
-use Rattle.item_store.proofs.Texts.{upsert, put_terms, upsert_is, upsert_plain, delete_query, delete_is, delete_plain, make_first, make_first_plain, make_again, make_again_plain}
+use Rattle.item_store.proofs.Texts.{upsert, put_terms, upsert_is, upsert_plain, delete_query, delete_is, delete_plain}
+use Rattle.item_store.proofs.Texts.{make_first, make_first_plain, make_again, make_again_plain}
 use Rattle.item_store.proofs.ClearLemmas.{hits_of, clears}
 use Rattle.item_store.proofs.PutLemmas.{new_row, source_row}
 use Rattle.item_store.proofs.Upsert.{went, same_value, not_err, upserted}

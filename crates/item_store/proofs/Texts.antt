@@ -16,7 +16,8 @@ use Rattle.sqlite.specs.Compile.{table_defined_by}
 use Rattle.sqlite_tied.specs.Compute.{everything}
 use Rattle.sqlite.specs.Listing.{understood, reads_listing}
 use Rattle.sqlite.proofs.Callers.{command_of, IsPlain, statement_of}
-use Rattle.item_store.specs.Table.{no_schema, item_schema, make_text, select_text, delete_text, upsert_text, begin_text, commit_text, rollback_text, no_text, item_table}
+use Rattle.item_store.specs.Table.{no_schema, item_schema, make_text, select_text, delete_text, upsert_text, begin_text}
+use Rattle.item_store.specs.Table.{commit_text, rollback_text, no_text, item_table}
 
 -- the filter of a range: its parameters are the area and the two ends
 abbrev pub in_range_terms : List Term

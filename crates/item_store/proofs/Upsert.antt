@@ -1,5 +1,6 @@
 -- What the upsert makes of the trees.
-use Rattle.std.proofs.Common.{◌≡◌, ℕ, ℤ, pos, ◌⊎◌, inl, inr, List, [], ◌∷◌, ◌++◌, Bool, true, ◌&&◌, map, filter, drop, Option, Some, Ok, Err, Result, Ordering, Equal, refl, sym, ap, ap₂, ◌∙◌, subst}
+use Rattle.std.proofs.Common.{◌≡◌, ℕ, ℤ, pos, ◌⊎◌, inl, inr, List, [], ◌∷◌, ◌++◌, Bool, true, ◌&&◌, map, filter, drop}
+use Rattle.std.proofs.Common.{Option, Some, Ok, Err, Result, Ordering, Equal, refl, sym, ap, ap₂, ◌∙◌, subst}
 use Rattle.std.specs.Ordering.{is_eq, int_cmp}
 use Rattle.std.specs.List.{list_all}
 use Rattle.std.specs.List.Sorted.{IsPermutation}

@@ -1,13 +1,18 @@
 -- A change that may be made leads from a copy to a copy.
-use Rattle.std.proofs.Common.{◌≡◌, ◌+◌, ◌<◌, ◌≤◌, ℕ, zero, suc, Bool, true, false, List, [], ◌∷◌, ◌++◌, length, get_or, Option, Some, None, refl, sym, ◌∙◌, ap, subst, arith}
+use Rattle.std.proofs.Common.{◌≡◌, ◌+◌, ◌<◌, ◌≤◌, ℕ, zero, suc, Bool, true, false, List, [], ◌∷◌, ◌++◌, length, get_or}
+use Rattle.std.proofs.Common.{Option, Some, None, refl, sym, ◌∙◌, ap, subst, arith}
 use Rattle.std.proofs.lemmas.Bool.{and_from, and_parts}
-use Rattle.std.specs.Prelude.{slice_get, nat_lt, Result, Ok, Err, OnOk, OnErr, IfSome, find, is_none, is_some, if◌then◌else◌, option_map, MatchOption, ⊤}
+use Rattle.std.specs.Prelude.{slice_get, nat_lt, Result, Ok, Err, OnOk, OnErr, IfSome, find, is_none, is_some}
+use Rattle.std.specs.Prelude.{if◌then◌else◌, option_map, MatchOption, ⊤}
 use Rattle.std.specs.List.{All}
 use Rattle.std.specs.Option.{option_map_or}
 use Rattle.std.proofs.lemmas.Bool.Decides.{nat_tests}
 use Rattle.std.proofs.lemmas.List.Elements.{All-append, All-cons, All-head, All-nil, All-tail, All-weaker}
-use Rattle.keeper_memory.specs.copy.Changes.{AllDone, CanChange, CanPage, begun, copy_after, settled_first, stage_after, swapped}
-use Rattle.keeper_memory.specs.copy.Copies.{entry_after, held_list, AreEntries, Copy, Held, IsCopy, IsHeld, IsOutWrite, IsStage, NumbersRise, SettledFirst, Stage}
+use Rattle.std.proofs.lemmas.Option.{same_Some}
+use Rattle.keeper_memory.specs.copy.Changes.{AllDone, CanChange, CanPage, begun, copy_after, settled_first, stage_after}
+use Rattle.keeper_memory.specs.copy.Changes.{swapped}
+use Rattle.keeper_memory.specs.copy.Copies.{entry_after, held_list, AreEntries, Copy, Held, IsCopy, IsHeld, IsOutWrite}
+use Rattle.keeper_memory.specs.copy.Copies.{IsStage, NumbersRise, SettledFirst, Stage}
 use Rattle.keeper_memory.specs.copy.Lists.{AreLists, IsList, ascends, kind_count, last_from}
 use Rattle.keeper_memory.specs.copy.States.{CanBe, CanBeEntry, CanBeStage, small_part, state_of}
 use Rattle.keeper_memory.specs.copy.HeldCopy.{empty_copy}
@@ -30,10 +35,10 @@ ascends-append : (d : Option (List ℕ)) (xs ys : List Record) → ascends d xs 
 ascends-append d [] ys e f = f
 ascends-append d (x ∷ xs) ys e f = let b = and_parts (is_after d x.id) (ascends (Some x.id) xs) e in and_from _ _ b.0 (ascends-append (Some x.id) xs ys b.1 f)
 
-list_more : (kind : Kind) (xs ys : List Record) → IsList kind xs → All (λ row. row.kind ≡ kind) ys → ascends (last_from None xs) ys ≡ true → IsList kind (xs ++ ys)
+pub list_more : (kind : Kind) (xs ys : List Record) → IsList kind xs → All (λ row. row.kind ≡ kind) ys → ascends (last_from None xs) ys ≡ true → IsList kind (xs ++ ys)
 list_more kind xs ys x all up = record { kinds = All-append (λ row. row.kind ≡ kind) xs ys x.kinds all; ascend = ascends-append None xs ys x.ascend up }
 
-no_list : (kind : Kind) → IsList kind []
+pub no_list : (kind : Kind) → IsList kind []
 no_list kind = record { kinds = All-nil (λ row. row.kind ≡ kind); ascend = refl }
 
 lists_push : (kinds : List Kind) (lists : List (List Record)) (x : List Record) → length lists < length kinds → AreLists kinds lists
@@ -47,17 +52,14 @@ lists_few kinds [] are = omega arith
 lists_few [] (l ∷ ls) are = absurd are
 lists_few (k ∷ ks) (l ∷ ls) are = let le = lists_few ks ls are.1 in omega (arith, le)
 
-some_kind : {a b : Kind} → Some a ≡ Some b → a ≡ b
-some_kind e = cc
-
 nth_is : (kind other : Kind) (n : ℕ) → place_of_kind kind ≡ n → slice_get all_kinds n ≡ Some other → kind ≡ other
-nth_is kind other n e f = some_kind (sym (kind_there kind) ∙ ap (slice_get all_kinds) e ∙ f)
+nth_is kind other n e f = same_Some _ _ (sym (kind_there kind) ∙ ap (slice_get all_kinds) e ∙ f)
 
 -- the list of a kind that is held
 pub nth_list : (kinds : List Kind) (lists : List (List Record)) (n : ℕ) (kind : Kind) → AreLists kinds lists → slice_get kinds n ≡ Some kind → IsList kind (get_or lists n [])
 nth_list kinds [] n kind are e = no_list kind
 nth_list [] (l ∷ ls) n kind are e = absurd are
-nth_list (k ∷ ks) (l ∷ ls) zero kind are e = subst (λ x. IsList x l) (some_kind e) are.0
+nth_list (k ∷ ks) (l ∷ ls) zero kind are e = subst (λ x. IsList x l) (same_Some _ _ e) are.0
 nth_list (k ∷ ks) (l ∷ ls) (suc n) kind are e = nth_list ks ls n kind are.1 e
 
 pub held_is : (h : Held) (kind : Kind) → IsHeld h → IsList kind (get_or h.lists (place_of_kind kind) [])

@@ -1,5 +1,6 @@
 -- Rows in the order of their ids have different ids.
-use Rattle.std.proofs.Common.{◌≡◌, ℕ, Less, List, [], ◌∷◌, true, false, bytes_eq, is_eq, map, nat_cmp, Option, Some, sym, ap, ◌∙◌}
+use Rattle.std.proofs.Common.{◌≡◌, ℕ, Less, List, [], ◌∷◌, true, false, bytes_eq, is_eq, map, nat_cmp, Option, Some}
+use Rattle.std.proofs.Common.{sym, ap, ◌∙◌}
 use Rattle.std.proofs.lemmas.Bool.{and_parts}
 use Rattle.std.proofs.lemmas.Cmp.{nat_list_cmp_total}
 use Rattle.std.proofs.lemmas.Map.Text.{is_eq-slice_cmp}

@@ -1,22 +1,25 @@
 -- Lists of rows and of entries.
-use Rattle.std.proofs.Common.{◌≡◌, ◌+◌, ◌-◌, ◌<◌, ℕ, zero, suc, Bool, true, List, [], ◌∷◌, ◌++◌, length, take, drop, get_or, Option, Some, refl, sym, ◌∙◌, ap, arith}
+use Rattle.std.proofs.Common.{◌≡◌, ◌+◌, ◌-◌, ◌<◌, ℕ, zero, suc, Bool, true, List, [], ◌∷◌, ◌++◌, length, take, drop}
+use Rattle.std.proofs.Common.{get_or, Option, Some, refl, sym, ◌∙◌, ap, arith}
 use Rattle.std.specs.Prelude.{slice_get, is_none, is_some, not, if◌then◌else◌}
 use Rattle.std.proofs.Math.Seq.{set-append_seam}
 use Rattle.std.proofs.lemmas.List.{drop_more, length-take-le, take-append-drop}
 use Rattle.std.proofs.Math.ListN.{set}
+use Rattle.std.proofs.lemmas.Option.{same_Some}
 use Rattle.keeper_memory.specs.copy.Changes.{settled_first}
 use Rattle.keeper_memory.specs.copy.Lists.{last_from}
 use Rattle.keeper_memory.specs.declared.copy.entry.OutEntry.{OutEntry}
 use Rattle.keeper_memory.specs.declared.copy.entry.Settled.{Settled}
 use Rattle.roster_types.specs.Records.{Record}
 
-some_row : {a b : Record} → Some a ≡ Some b → a ≡ b
-some_row e = cc
+pub last_from-append : (d : Option (List ℕ)) (xs ys : List Record) → last_from d (xs ++ ys) ≡ last_from (last_from d xs) ys
+last_from-append d [] ys = refl
+last_from-append d (x ∷ xs) ys = last_from-append (Some x.id) xs ys
 
 -- the last of some rows is their last
 pub last_get : (last : Option (List ℕ)) (rows : List Record) (row : Record) → slice_get rows (length rows - 1) ≡ Some row → last_from last rows ≡ Some row.id
 last_get last [] row e = cc
-last_get last (x ∷ []) row e = ap (λ (r : Record). Some r.id) (some_row e)
+last_get last (x ∷ []) row e = ap (λ (r : Record). Some r.id) (same_Some _ _ e)
 last_get last (x ∷ y ∷ rows) row e =
     let next : suc (length (y ∷ rows) - 1) ≡ length (x ∷ y ∷ rows) - 1 = omega arith in
     last_get (Some x.id) (y ∷ rows) row (ap (slice_get (x ∷ y ∷ rows)) next ∙ e)

@@ -7,7 +7,8 @@ ghost use Rattle.version_core.specs.Tables.{AreTables};
 ghost use Rattle.version_core.specs.Version.{empty_version};
 ghost use Rattle.keeper_memory.specs.Commits.{CanCommit, Commits, with_commit};
 ghost use Rattle.keeper_memory.specs.Calls.{CallsLead, calls_on, calls_stay};
-ghost use Rattle.keeper_memory.specs.Failures.{KeepsPlan, after_read, fails_after, fails_before, planned, read_fails, with_listed};
+ghost use Rattle.keeper_memory.specs.Failures.{KeepsPlan, after_read, fails_after, fails_before, planned, read_fails};
+ghost use Rattle.keeper_memory.specs.Failures.{with_listed};
 ghost use Rattle.keeper_memory.specs.Kept.{KeptState, kept_by};
 
 use crate::failures::Failures;

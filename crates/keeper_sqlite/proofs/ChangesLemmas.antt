@@ -1,9 +1,10 @@
 -- The changes that a store tells, one place after another.
-use Rattle.std.proofs.Common.{◌≡◌, ◌+◌, ◌<◌, ◌≤◌, ℕ, zero, suc, pos, List, [], ◌∷◌, ◌++◌, None, Some, get_or, length, take, sym, ap, ◌∙◌, inl, inr, arith}
-use Rattle.std.specs.List.{AllByRecursion}
+use Rattle.std.proofs.Common.{◌≡◌, ◌+◌, ◌<◌, ◌≤◌, ℕ, zero, suc, pos, List, [], ◌∷◌, ◌++◌, None, Some, get_or, length}
+use Rattle.std.proofs.Common.{take, sym, ap, ◌∙◌, inl, inr, arith}
 use Rattle.std.proofs.lemmas.Bool.{cases_lt}
 use Rattle.std.proofs.lemmas.List.{take_all, take_more}
 use Rattle.item_maps.specs.Items.{Items}
+use Rattle.version_core.proofs.HistoryLemmas.{all_at}
 use Rattle.version_core.specs.Table.{LeadOn}
 use Rattle.version_core.specs.declared.change.Change.{Change}
 use Rattle.version_core.specs.declared.hub_tables.HubTables.{HubTables}
@@ -27,11 +28,6 @@ newest_is n (change ∷ changes) lead =
     let rest = newest_is change.version changes lead.1 in
     let next = lead.0 in
     omega (arith, rest, next)
-
-at_place : {X : Type 0} (P : X → Type 0) (xs : List X) (k : ℕ) (d : X) → AllByRecursion P xs → k < length xs → P (get_or xs k d)
-at_place P [] k d all lt = absurd (omega arith)
-at_place P (x ∷ xs) zero d all lt = all.0
-at_place P (x ∷ xs) (suc k) d all lt = at_place P xs k d all.1 (omega arith)
 
 abbrev no_change : Change
 no_change = record { version = 0; moment = pos 0; rows = []; grants = None }
@@ -59,15 +55,15 @@ module _ (stand : Items → Type 0) (tell : Items → Change → Type 0) (t : Hu
   stored_at : (k version : ℕ) → version ≡ t.base.number + 1 + k → k < length t.changes → IsStored tell m t k version
   stored_at k version is lt =
       let change = get_or t.changes k no_change in
-      let told : IsToldBy (items_of t) change = at_place (IsToldBy (items_of t)) t.changes k no_change (changes_told t has.tables.are has.tables.fit) lt in
+      let told : IsToldBy (items_of t) change = all_at (IsToldBy (items_of t)) t.changes k no_change (changes_told t has.tables.are has.tables.fit) lt in
       let same : version ≡ change.version = is ∙ sym (version_at t.base.number t.changes k no_change has.tables.are.lead lt) in
       record {
         change = change;
         more = take_more t.changes k no_change lt;
-        fits = at_place FitsChange t.changes k no_change has.tables.fit.changes lt;
+        fits = all_at FitsChange t.changes k no_change has.tables.fit.changes lt;
         number = same;
         own = alike version ∙ ap (λ v. listed_of 3 v (items_of t)) same ∙ told.version;
-        rows = at_place (tell m) t.changes k no_change has.rows lt;
+        rows = all_at (tell m) t.changes k no_change has.rows lt;
         grants = grants_alike version ∙ ap (λ v. listed_of 5 v (items_of t)) same ∙ told.grants;
       }
 

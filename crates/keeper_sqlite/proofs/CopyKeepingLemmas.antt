@@ -1,5 +1,6 @@
 -- Stores whose items keep a copy, before and after a call.
-use Rattle.std.proofs.Common.{◌≡◌, ◌<◌, ◌≤◌, ◌^◌, ℕ, List, [], ◌∷◌, get_or, Result, Ok, Err, inl, inr, sym, ap, subst, ◌∙◌, arith}
+use Rattle.std.proofs.Common.{◌≡◌, ◌<◌, ◌≤◌, ◌^◌, ℕ, List, [], ◌∷◌, get_or, Result, Ok, Err, inl, inr, sym, ap, subst}
+use Rattle.std.proofs.Common.{◌∙◌, arith}
 use Rattle.roster_base.specs.Faults.{CountsFailure}
 use Rattle.roster_base.specs.declared.keeper.KeeperError.{KeeperError}
 use Rattle.roster_base.specs.declared.keeper.KeeperError.TheVariants.{Failed, NoMemory}
@@ -17,7 +18,7 @@ use Rattle.copy_format.proofs.Once.{kept_once}
 use Rattle.copy_format.proofs.Told.{format_told}
 use Rattle.copy_format.specs.Edits.{first_edits, turn_edits}
 use Rattle.copy_format.specs.Format.{Keep, KeepOne}
-use Rattle.keeper_sqlite.proofs.HubKeepingLemmas.{none_listed}
+use Rattle.keeper_sqlite.proofs.HubKeepingLemmas.{none}
 use Rattle.keeper_sqlite.proofs.TellingLemmas.{Came}
 use Rattle.keeper_sqlite.specs.hub.Keeping.{Keeps, Stay}
 use Rattle.keeper_sqlite.specs.copy.Keeping.{AreEditsOf, HasCopy, KeepEither, KeepOrNew}
@@ -47,9 +48,6 @@ second items c keep = format_told 2 items keep.stored.format
 
 first : (items : Items) (c : Copy) → KeepOne items c → listed 0 [] (0 ∷ []) items ≡ format_entry 1 ∷ []
 first items c keep = format_told 1 items keep.stored.format
-
-none : (items : Items) → items ≡ no_items → listed 0 [] (0 ∷ []) items ≡ []
-none items is = ap (listed 0 [] (0 ∷ [])) is ∙ none_listed
 
 -- where neither format is told, there are no items
 pub is_new : (items : Items) (c : Copy) (told : List Entry) → KeepOrNew items c → told ≡ listed 0 [] (0 ∷ []) items → (told ≡ format_entry 1 ∷ [] → ⊥) → (told ≡ format_entry 2 ∷ [] → ⊥)

@@ -1,14 +1,15 @@
 -- The first entry above a number, by its item.
-use Rattle.std.proofs.Common.{◌≡◌, ◌<◌, ◌+◌, ◌^◌, ℕ, List, [], ◌∷◌, true, false, Option, None, Some, refl, sym, ap, ◌∙◌, arith}
+use Rattle.std.proofs.Common.{◌≡◌, ◌<◌, ◌+◌, ◌^◌, ℕ, List, [], ◌∷◌, true, false, Option, None, Some, refl, sym, ap, ◌∙◌}
+use Rattle.std.proofs.Common.{arith}
 use Rattle.std.specs.Prelude.{◌-◌, IfSome, IsSomeAnd, if◌then◌else◌, nat_lt, option_map, slice_get}
 use Rattle.std.specs.List.{AllByRecursion}
 use Rattle.std.proofs.lemmas.Bool.Decides.{nat_tests}
+use Rattle.std.proofs.lemmas.Option.{same_Some}
 use Rattle.keeper_memory.specs.copy.Copies.{Copy, IsCopy, Stage, entry_after, first_unsettled}
 use Rattle.keeper_memory.specs.copy.States.{state_of}
 use Rattle.keeper_memory.specs.declared.copy.entry.OutEntry.{OutEntry}
 use Rattle.keeper_memory.specs.declared.copy.state.StageState.{StageState}
 use Rattle.keeper_memory.specs.declared.copy.state.TheConstants.{LAST}
-use Rattle.hub_format.specs.Format.{Entry}
 use Rattle.hub_format.specs.Pieces.{number}
 use Rattle.item_maps.specs.Edits.{entry_of}
 use Rattle.item_maps.specs.Items.{Items, listed}
@@ -33,9 +34,6 @@ none_found : (o : Option OutEntry) → None ≡ option_map out_entry o → None 
 none_found None is = refl
 none_found (Some e) is = absurd cc
 
-same_entry : (a b : Entry) → Some a ≡ Some b → a ≡ b
-same_entry a b is = cc
-
 module _ (stand : Items → Type 0) (side : ℕ) (c : Copy) (has : HasCopy stand side c) (after : ℕ) (fits : after + 1 < 2 ^ 64) (item : Option Item)
     (first : option_map entry_of item ≡ slice_get (listed 3 (number (after + 1)) (number (LAST + 1)) has.items) 0) where
   told : option_map entry_of item ≡ option_map out_entry (entry_after after c.entries)
@@ -51,7 +49,7 @@ module _ (stand : Items → Type 0) (side : ℕ) (c : Copy) (has : HasCopy stand
     where
       go : (o : Option OutEntry) → IfSome o (IsAbove after) → Some (entry_of it) ≡ option_map out_entry o → Some read ≡ o
       go None is same = absurd cc
-      go (Some entry) is same = ap Some (shows entry is.0 is.1 (same_entry _ _ same))
+      go (Some entry) is same = ap Some (shows entry is.0 is.1 (same_Some _ _ same))
 
 -- the stage whose small part is this
 pub some_stage : (o : Option Stage) (st : StageState) → Some st ≡ option_map state_of o → (s : Stage) × (o ≡ Some s) × (st ≡ state_of s)

@@ -1,5 +1,6 @@
 -- What an open may find of a store, before a call and behind it.
-use Rattle.std.proofs.Common.{◌≡◌, ◌⊎◌, Bool, true, false, List, Result, Ok, Err, IsErr, OnErr, OnOk, inl, inr, IsTrue, refl, sym, subst, ◌∙◌, arith}
+use Rattle.std.proofs.Common.{◌≡◌, ◌⊎◌, Bool, true, false, List, Result, Ok, Err, IsErr, OnErr, OnOk, inl, inr, IsTrue}
+use Rattle.std.proofs.Common.{refl, sym, subst, ◌∙◌, arith}
 use Rattle.std.proofs.lemmas.Bool.{cases_Bool}
 use Rattle.sqlite.specs.State.{State, HasCleanDisk}
 use Rattle.roster_base.specs.declared.keeper.KeeperError.{KeeperError}

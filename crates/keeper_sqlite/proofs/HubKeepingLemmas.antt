@@ -1,5 +1,6 @@
 -- Stores whose items keep a state, before and after a call.
-use Rattle.std.proofs.Common.{◌≡◌, ◌+◌, ◌<◌, ◌^◌, ℕ, List, [], ◌∷◌, get_or, Result, Ok, Err, IfOk, OnOk, OnErr, inl, inr, map, refl, sym, ap, subst, ◌∙◌, arith}
+use Rattle.std.proofs.Common.{◌≡◌, ◌+◌, ◌<◌, ◌^◌, ℕ, List, [], ◌∷◌, get_or, Result, Ok, Err, OnOk, OnErr, inl, inr, map}
+use Rattle.std.proofs.Common.{refl, sym, ap, subst, ◌∙◌, arith}
 use Rattle.std.specs.List.{AllByRecursion}
 use Rattle.item_maps.specs.Edits.{after, entry_of}
 use Rattle.item_maps.specs.Items.{Items, is_between, listed, no_items}
@@ -29,18 +30,6 @@ use Rattle.span_format.proofs.Unique.{kept_once}
 use Rattle.keeper_sqlite.specs.declared.hub.rows.StoredRows.TheVariants.{Areas, Spans}
 use Rattle.keeper_sqlite.specs.hub.Keeping.{KeepEither, KeepOrNew, Keeps, Stay}
 use Rattle.keeper_sqlite.specs.hub.Rows.{HasRows, HasSpans, HasTables, TellChange}
-
-pub on_ok : {T E P Q : Type 0} (r : Result T E) → (P → Q) → OnOk r P → OnOk r Q
-on_ok (Ok x) f p = f p
-on_ok (Err e) f p = tt
-
-pub if_ok : {T E : Type 0} (r : Result T E) (P Q : T → Type 0) → ((x : T) → P x → Q x) → IfOk r P → IfOk r Q
-if_ok (Ok x) P Q f p = f x p
-if_ok (Err e) P Q f p = tt
-
-pub on_err : {T E P Q : Type 0} (r : Result T E) → (P → Q) → OnErr r P → OnErr r Q
-on_err (Ok x) f p = tt
-on_err (Err e) f p = f p
 
 pub on_each : {T E P : Type 0} (r : Result T E) → P → OnOk r P
 on_each (Ok x) p = p
@@ -151,7 +140,7 @@ second items state kept = ap (listed 0 [] (0 ∷ [])) kept.stored ∙ listed_whe
 first : (items : Items) (state : KeptState) → Keep items state → listed 0 [] (0 ∷ []) items ≡ format_entry 1 ∷ []
 first items state kept = ap (listed 0 [] (0 ∷ [])) kept.stored ∙ format_told kept.tables
 
-none : (items : Items) → items ≡ no_items → listed 0 [] (0 ∷ []) items ≡ []
+pub none : (items : Items) → items ≡ no_items → listed 0 [] (0 ∷ []) items ≡ []
 none items is = ap (listed 0 [] (0 ∷ [])) is ∙ none_listed
 
 -- where neither format is told, there are no items

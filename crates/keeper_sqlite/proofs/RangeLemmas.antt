@@ -1,5 +1,6 @@
 -- A front that is shorter than was asked for is the whole.
-use Rattle.std.proofs.Common.{◌≡◌, ◌<◌, ◌≤◌, ℕ, List, [], ◌∷◌, ◌++◌, None, Option, Some, inl, inr, length, length-append, map, refl, sym, take, ap, ◌∙◌, arith}
+use Rattle.std.proofs.Common.{◌≡◌, ◌<◌, ◌≤◌, ℕ, List, [], ◌∷◌, ◌++◌, None, Option, Some, inl, inr, length}
+use Rattle.std.proofs.Common.{length-append, map, refl, sym, take, ap, ◌∙◌, arith}
 use Rattle.std.specs.Prelude.{IsSome, option_map, option_to_list, slice_get}
 use Rattle.std.proofs.lemmas.Bool.{cases_lt}
 use Rattle.std.proofs.lemmas.List.{length-map, length-take, take_all}

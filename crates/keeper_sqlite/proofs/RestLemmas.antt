@@ -1,5 +1,7 @@
 -- What is listed of an area behind the first items of a range.
-use Rattle.std.proofs.Common.{◌≡◌, ◌-◌, ◌<◌, ℕ, zero, suc, List, [], ◌∷◌, ◌++◌, Bool, true, false, ◌&&◌, cond, Some, Ordering, Less, Equal, Greater, append-nil, append_assoc, drop, length, map, refl, sym, take, ap, subst, ◌∙◌, arith}
+use Rattle.std.proofs.Common.{◌≡◌, ◌-◌, ◌<◌, ℕ, zero, suc, List, [], ◌∷◌, ◌++◌, Bool, true, false, ◌&&◌, cond, Some}
+use Rattle.std.proofs.Common.{Ordering, Less, Equal, Greater, append-nil, append_assoc, drop, length, map, refl, sym}
+use Rattle.std.proofs.Common.{take, ap, subst, ◌∙◌, arith}
 use Rattle.std.specs.Prelude.{slice_get}
 use Rattle.std.specs.FinMap.{entries, entries_sorted, is_sorted, retain_keys}
 use Rattle.std.specs.FinMap.Entries.{below_all}
@@ -16,6 +18,7 @@ use Rattle.version_core.proofs.OrderLemmas.{passed as holds}
 use Rattle.hub_format.specs.Format.{Entry}
 use Rattle.hub_format.proofs.Finds.{where_all, where_label}
 use Rattle.hub_format.proofs.Orders.{greater_is}
+use Rattle.roster_base.proofs.Rising.{is_less}
 use Rattle.span_format.proofs.Told.{passed}
 use Rattle.keeper_sqlite.proofs.RangeLemmas.{whole_range}
 
@@ -98,15 +101,10 @@ one_of p (a ∷ first) e rest all = one_of p first e rest all.1
 above_from : (from k l : List ℕ) → is_ge (bytes_cmp k from) ≡ true → above k l ≡ true → is_ge (bytes_cmp l from) ≡ true
 above_from from k l ge lt = ap is_ge (nat_list_cmp_total.antisymm l from) ∙ ap (λ o. is_ge (ordering_reverse o)) (below (bytes_cmp k from) refl ge)
   where
-    less : (o : Ordering) → is_lt o ≡ true → o ≡ Less
-    less Less lt = refl
-    less Equal lt = absurd cc
-    less Greater lt = absurd cc
-
     below : (o : Ordering) → bytes_cmp k from ≡ o → is_ge o ≡ true → bytes_cmp from l ≡ Less
     below Less is ge = absurd cc
-    below Equal is ge = subst (λ x. bytes_cmp x l ≡ Less) (same_bytes k from is) (less (bytes_cmp k l) lt)
-    below Greater is ge = nat_list_cmp_total.trans from k l (nat_list_cmp_total.antisymm from k ∙ ap ordering_reverse is) (less (bytes_cmp k l) lt)
+    below Equal is ge = subst (λ x. bytes_cmp x l ≡ Less) (same_bytes k from is) (is_less (bytes_cmp k l) lt)
+    below Greater is ge = nat_list_cmp_total.trans from k l (nat_list_cmp_total.antisymm from k ∙ ap ordering_reverse is) (is_less (bytes_cmp k l) lt)
 
 same_range : (from to k : List ℕ) → is_ge (bytes_cmp k from) ≡ true → (l : List ℕ) → is_between (k ++ 0 ∷ []) to l ≡ (is_between from to l && above k l)
 same_range from to k ge l = ap (λ b. b && is_lt (bytes_cmp l to)) (from_behind k l) ∙ go (above k l) (is_ge (bytes_cmp l from)) (is_lt (bytes_cmp l to)) (above_from from k l ge)

@@ -1,5 +1,7 @@
 -- Rows where a store has them.
-use Rattle.std.proofs.Common.{◌≡◌, ◌≢◌, ◌<◌, ◌≤◌, ◌^◌, ◌&&◌, ℕ, List, [], ◌∷◌, ◌++◌, Bool, BTreeMap, true, false, map, refl, sym, ap, subst, ◌∙◌, append-nil, arith, inl, inr}
+use Rattle.std.proofs.Common.{◌≡◌, ◌≢◌, ◌<◌, ◌≤◌, ◌^◌, ◌&&◌, ℕ, List, [], ◌∷◌, ◌++◌, Bool, BTreeMap, false, map, refl}
+use Rattle.std.proofs.Common.{sym, ap, subst, ◌∙◌, append-nil, arith, inl, inr}
+use Rattle.std.proofs.Math.Bool.{and-false}
 use Rattle.std.specs.Prelude.{nat_le}
 use Rattle.std.specs.List.{AllByRecursion}
 use Rattle.std.proofs.lemmas.Bool.{cases_eq, cases_lt}
@@ -31,13 +33,9 @@ use Rattle.keeper_sqlite.specs.hub.Rows.{AreLaid, AreMade, HasChanges, TellBase,
 
 apart : (v n : ℕ) → (v ≡ n → ⊥) → (nat_le v n && nat_le n v) ≡ false
 apart v n other = elim (cases_lt v n) [
-  | inl lt ↦ let no : nat_le n v ≡ false = grind (arith, nat_tests) in rw no (and_none (nat_le v n))
+  | inl lt ↦ let no : nat_le n v ≡ false = grind (arith, nat_tests) in rw no (and-false (nat_le v n))
   | inr ge ↦ let no : nat_le v n ≡ false = grind (arith, nat_tests) in rw no refl
 ]
-  where
-    and_none : (b : Bool) → (b && false) ≡ false
-    and_none true = refl
-    and_none false = refl
 
 module _ (base : ℕ) (item : Item) (seen : List Entry) (old : BTreeMap ℕ (List Item)) (laid : AreLaid base seen old) where
   misses : (p : List ℕ → Bool) → p item.label ≡ false → where_label p seen ≡ where_label p (seen ++ entry_of item ∷ [])

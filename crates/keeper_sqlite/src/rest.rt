@@ -1,6 +1,6 @@
 //! The items of an area, read piece by piece, so that never more than a piece of them is in memory.
 
-ghost use Rattle.std.specs.Prelude.{◌≡◌, ◌∷◌, ◌++◌, [], IfOk, OnOk, false, map, take, true};
+ghost use Rattle.std.specs.Prelude.{◌≡◌, ◌∷◌, ◌++◌, [], IfOk, OnOk, false, map, take};
 ghost use Rattle.roster_base.specs.Faults.{CountsFailure};
 ghost use Rattle.item_maps.specs.Edits.{entry_of};
 ghost use Rattle.item_maps.specs.Items.{Items, listed};

@@ -40,8 +40,9 @@ pub trait StoredItems: Drop {
     /// How many calls failed. The count stays at the end of `u64`.
     ghost fault_count: { Self → ℕ };
 
-    /// All items of the area whose label is at least `from` and below `to`, in the order of label bytes. The items stay as they
-    /// are.
+    /// All items of the area whose label is at least `from` and below `to`, in the order of label bytes. From `[]` to `[0]` that is the
+    /// one without a label, and to `[255]` all of the area, since the keepers write no label that begins with 255. The items stay as
+    /// they are.
     fn all_of(
         &mut self,
         alloc: Global,

@@ -1,12 +1,14 @@
 -- The files of a district of so many schools.
-use Rattle.std.specs.Prelude.{ℕ, ◌++◌, ◌==◌, ◌%◌, Bool, true, false, List, [], ◌∷◌, codes, decimal, if◌then◌else◌, map, suc, zero}
+use Rattle.std.specs.Prelude.{ℕ, ◌++◌, ◌==◌, ◌%◌, Bool, true, false, List, [], ◌∷◌, codes, decimal, if◌then◌else◌, map}
+use Rattle.std.specs.Prelude.{suc, zero}
 use Rattle.std.specs.List.{flat_map}
 use Rattle.csv_sets.specs.Written.{written_text}
 use Rattle.outside_ports.specs.Files.{Stored}
 use Rattle.roster_texts.specs.Digits.{four, three}
 use Rattle.roster_values.specs.Kinds.{all_kinds, file_of}
 use Rattle.roster_values.specs.declared.kind.Kind.{Kind}
-use Rattle.roster_values.specs.declared.kind.Kind.TheVariants.{AcademicSessions, Categories, Classes, Courses, Enrollments, Orgs, Users}
+use Rattle.roster_values.specs.declared.kind.Kind.TheVariants.{AcademicSessions, Categories, Classes, Courses}
+use Rattle.roster_values.specs.declared.kind.Kind.TheVariants.{Enrollments, Orgs, Users}
 use Rattle.made_districts.specs.declared.rows.Part.{Part}
 use Rattle.made_districts.specs.declared.rows.Part.TheVariants as part
 

@@ -4,7 +4,7 @@ ghost use Rattle.std.specs.Prelude.{◌≡◌, ◌++◌, ◌≤◌, map, IfOk, O
 ghost use Rattle.made_districts.specs.Districts as districts;
 ghost use Rattle.outside_ports.specs.Files.{stored_of};
 
-use crate::rows::{Part, school_lines, with};
+use crate::rows::{Part, school_lines, with_lines};
 use csv_sets::write_file;
 use outside_ports::MemFolder;
 use roster_base::NoMemory;
@@ -54,7 +54,7 @@ fn by_school(alloc: Global, part: Part, head: &str, count: u16) -> Result<Vec<u8
     let mut text = begun;
     for place in 0..count {
         let lines = school_lines(alloc, part, place + 1)?;
-        text = with(text, lines)?;
+        text = with_lines(text, lines)?;
     }
     Ok(text.into_bytes())
 }

@@ -10,10 +10,15 @@ use std::alloc::Global;
 /// What stands in a file for each school.
 #[derive(Clone, Copy)]
 pub enum Part {
+    /// The school itself.
     Org,
+    /// Its one course.
     Course,
+    /// The two classes of the course.
     Classes,
+    /// Its one teacher, and its students.
     Users,
+    /// Each student in one of the classes, and the teacher in both.
     Enrollments,
 }
 
@@ -35,9 +40,9 @@ fn student_number(alloc: Global, number: u16) -> Result<String, NoMemory>
     requires { number < 1000 }
     ensures { IfOk result (λ t. string_bytes t ≡ districts.student_number number) }
 {
-    let mut id = String::new(alloc);
-    push_three(&mut id, number)?;
-    Ok(id)
+    let mut digits = String::new(alloc);
+    push_three(&mut digits, number)?;
+    Ok(digits)
 }
 
 // The pieces, one behind another.
@@ -90,8 +95,8 @@ fn class(alloc: Global, id: &str, number: &str) -> Result<String, NoMemory>
     )
 }
 
-/// One text, and then another.
-pub fn with(text: String, more: String) -> Result<String, NoMemory>
+/// The text with more lines behind it.
+pub fn with_lines(text: String, more: String) -> Result<String, NoMemory>
     ensures { IfOk result (λ t. string_bytes t ≡ string_bytes text ++ string_bytes more) }
 {
     let mut text = text;
@@ -105,7 +110,7 @@ fn classes(alloc: Global, id: &str) -> Result<String, NoMemory>
 {
     let first = class(alloc, id, "1")?;
     let second = class(alloc, id, "2")?;
-    with(first, second)
+    with_lines(first, second)
 }
 
 fn user(alloc: Global, school: &str, id: &str, role: &str) -> Result<String, NoMemory>
@@ -147,6 +152,7 @@ fn class_of(student: u16) -> &'static str
     if student % 2 == 1 { "1" } else { "2" }
 }
 
+// A student's enrollment in a class.
 fn enrolled(alloc: Global, school: &str, number: &str, class: &str) -> Result<String, NoMemory>
     ensures { IfOk result (λ t. string_bytes t ≡ districts.enrolled_line school.now number.now class.now) }
 {
@@ -171,6 +177,7 @@ fn enrolled(alloc: Global, school: &str, number: &str, class: &str) -> Result<St
     )
 }
 
+// The teacher's enrollment in a class.
 fn teaching(alloc: Global, school: &str, class: &str) -> Result<String, NoMemory>
     ensures { IfOk result (λ t. string_bytes t ≡ districts.teaching_line school.now class.now) }
 {
@@ -214,7 +221,7 @@ fn students(alloc: Global, school: &str, is_user: bool) -> Result<String, NoMemo
     let mut text = String::new(alloc);
     for place in 0..STUDENTS {
         let line = of_student(alloc, school, place + 1, is_user)?;
-        text = with(text, line)?;
+        text = with_lines(text, line)?;
     }
     Ok(text)
 }
@@ -224,23 +231,23 @@ fn users(alloc: Global, school: &str) -> Result<String, NoMemory>
 {
     let teacher = teacher(alloc, school)?;
     let students = students(alloc, school, true)?;
-    with(teacher, students)
+    with_lines(teacher, students)
 }
 
-fn both_classes(alloc: Global, school: &str) -> Result<String, NoMemory>
+fn both_teachings(alloc: Global, school: &str) -> Result<String, NoMemory>
     ensures { IfOk result (λ t. string_bytes t ≡ districts.teaching_lines school.now) }
 {
     let first = teaching(alloc, school, "1")?;
     let second = teaching(alloc, school, "2")?;
-    with(first, second)
+    with_lines(first, second)
 }
 
 fn enrollments(alloc: Global, school: &str) -> Result<String, NoMemory>
     ensures { IfOk result (λ t. string_bytes t ≡ districts.enrollment_lines school.now) }
 {
     let students = students(alloc, school, false)?;
-    let teacher = both_classes(alloc, school)?;
-    with(students, teacher)
+    let teachings = both_teachings(alloc, school)?;
+    with_lines(students, teachings)
 }
 
 /// The lines that stand in a file for the school of a number.

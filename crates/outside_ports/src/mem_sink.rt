@@ -1,6 +1,7 @@
 //! A sink in memory.
 
-ghost use Rattle.std.specs.Prelude.{◌≡◌, ◌++◌, ◌-◌, ◌<◌, ◌≤◌, ◌↔◌, ◌⊎◌, [], Some, IsErr, is_err, take, length, min, IsTrue, IfOk};
+ghost use Rattle.std.specs.Prelude.{◌≡◌, ◌++◌, ◌-◌, ◌<◌, ◌≤◌, ◌↔◌, ◌⊎◌, [], Some, IsErr, is_err, take, length, min};
+ghost use Rattle.std.specs.Prelude.{IsTrue, IfOk};
 ghost use Rattle.roster_base.specs.Faults.{HasCause};
 ghost use Rattle.outside_ports.specs.Calls.{after_answer, is_next_listed, no_calls};
 ghost use Rattle.outside_ports.specs.HeldBytes.{wanted, with_front};

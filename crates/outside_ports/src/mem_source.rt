@@ -1,6 +1,6 @@
 //! A source in memory.
 
-ghost use Rattle.std.specs.Prelude.{◌≡◌, ◌<◌, ◌≤◌, ◌↔◌, Some, IsErr, IsTrue, IfOk, drop, length, min, take};
+ghost use Rattle.std.specs.Prelude.{◌≡◌, ◌<◌, ◌≤◌, ◌↔◌, Some, IsErr, IsTrue, IfOk, drop, length, take};
 ghost use Rattle.roster_base.specs.Faults.{HasCause};
 ghost use Rattle.outside_ports.specs.Calls.{after_call, is_next_listed, no_calls};
 ghost use Rattle.outside_ports.specs.Given.{Reads, Spends};

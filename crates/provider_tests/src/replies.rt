@@ -56,12 +56,12 @@ fn compare<H: HubKeeper>(
     router: &PathRouter,
     hub: &mut Hub,
     keeper: &mut H,
-    text: &str,
-    want: &str,
+    case: &Case,
 ) -> Result<(), Fail>
     requires { KeeperFits (H.stands_for keeper.old) hub.old }
     ensures { KeeperFits (H.stands_for keeper.new) hub.new }
 {
+    let (text, want) = *case;
     let reply = reply_to(rt, alloc, router, hub, keeper, text)?;
     let sink = written(alloc, &reply);
     drop(reply);
@@ -210,8 +210,8 @@ fn compare_all<H: HubKeeper>(
     requires { KeeperFits (H.stands_for keeper.old) hub.old }
 {
     let router = PathRouter::new(alloc)?;
-    for (text, want) in cases {
-        compare(rt, alloc, &router, hub, keeper, text, want)?;
+    for case in cases {
+        compare(rt, alloc, &router, hub, keeper, case)?;
     }
     Ok(())
 }

@@ -8,7 +8,7 @@ use hub_core::Hub;
 use keeper_memory::{HubKeeper, MemHub};
 use outside_ports::{FixedClock, MemSink, MemSource};
 use rest_paths::PathRouter;
-use rest_provider::{StreamEnd, serve_stream};
+use rest_provider::{Desk, StreamEnd, serve_stream};
 use roster_base::NoMemory;
 use std::alloc::Global;
 use std::process::Abort;
@@ -67,7 +67,12 @@ fn served<H: HubKeeper>(
 {
     let mut sink = MemSink::new(alloc, 4096, Vec::new(alloc))?;
     let clock = FixedClock::at(SECOND);
-    let end = serve_stream(alloc, router, hub, keeper, &mut source, &mut sink, &clock);
+    let desk = Desk {
+        alloc,
+        router,
+        clock: &clock,
+    };
+    let end = serve_stream(&desk, hub, keeper, &mut source, &mut sink);
     drop(source);
     Ok((end, sink))
 }

@@ -10,7 +10,8 @@ use Rattle.filter_grammar.specs.Manners.{AsNumber, AsText, manner_of, number_of_
 use Rattle.filter_grammar.specs.Subjects.{OfTable, subject_of}
 use Rattle.filter_grammar.specs.declared.filter.Comparison.{Comparison}
 use Rattle.filter_grammar.specs.declared.filter.Predicate.{Predicate}
-use Rattle.filter_grammar.specs.declared.filter.Predicate.TheVariants.{Equal, NotEqual, Greater, GreaterEqual, Less, LessEqual, Contains}
+use Rattle.filter_grammar.specs.declared.filter.Predicate.TheVariants.{Equal, NotEqual, Greater, GreaterEqual, Less}
+use Rattle.filter_grammar.specs.declared.filter.Predicate.TheVariants.{LessEqual, Contains}
 use Rattle.filter_grammar.specs.rows.Filters.{comparison_passes, folded, subject_passes, value_passes}
 use Rattle.query_pages.specs.FilterTests.{is_of_order, number_passes, text_passes}
 use Rattle.roster_types.specs.Records.{Record, all_values, place_in}

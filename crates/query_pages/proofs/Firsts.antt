@@ -1,13 +1,14 @@
 -- The first rows of a list, found while its rows come.
-use Rattle.std.proofs.Common.{◌≡◌, ℕ, zero, suc, ◌+◌, ◌-◌, ◌^◌, ◌<◌, List, [], ◌∷◌, ◌++◌, append_assoc, append-nil, Bool, true, false, cond, drop, length, min, take, inl, inr, refl, sym, ap, ◌∙◌, arith}
+use Rattle.std.proofs.Common.{◌≡◌, ℕ, zero, suc, ◌+◌, ◌-◌, ◌^◌, ◌<◌, List, [], ◌∷◌, ◌++◌, append_assoc, append-nil}
+use Rattle.std.proofs.Common.{Bool, true, false, cond, drop, length, min, take, inl, inr, refl, sym, ap, ◌∙◌, arith}
 use Rattle.std.proofs.lemmas.Bool.{cases_lt}
 use Rattle.std.proofs.lemmas.List.{drop-take, take-take, take_all}
-use Rattle.std.specs.List.{AllByRecursion}
 use Rattle.filter_grammar.specs.rows.Orders.{Sorting, arranged, comes_before, put_in}
 use Rattle.hub_spec.proofs.Sorting.{Rises, arranged_rises, arranged_stable, same_sorted, sorting_orders}
 use Rattle.hub_spec.specs.views.Pages.{slice}
 use Rattle.query_pages.specs.Firsts.{first}
 use Rattle.roster_types.specs.Records.{Record}
+use Rattle.version_core.proofs.HistoryLemmas.{all_take}
 
 -- the row in front of those that it comes before
 abbrev put_behind : Sorting → Record → List Record → List Record
@@ -77,15 +78,10 @@ module _ (sorting : Sorting) where
       ∙ first_on k (one ++ row ∷ []) (other ++ row ∷ []) rows (first_more k one row ∙ ap (λ ws. take k (put_behind sorting row ws)) same ∙ sym (first_more k other row))
       ∙ ap (first k sorting) (append_assoc other (row ∷ []) rows)
 
-  all_first : (P : Record → Type 0) (k : ℕ) (rows : List Record) → AllByRecursion P rows → AllByRecursion P (take k rows)
-  all_first P zero rows all = tt
-  all_first P (suc k) [] all = tt
-  all_first P (suc k) (row ∷ rows) all = (all.0, all_first P k rows all.1)
-
   rises_first : (k : ℕ) (rows : List Record) → Rises lt rows → Rises lt (take k rows)
   rises_first zero rows up = tt
   rises_first (suc k) [] up = tt
-  rises_first (suc k) (row ∷ rows) up = (all_first (λ w. lt w row ≡ false) k rows up.0, rises_first k rows up.1)
+  rises_first (suc k) (row ∷ rows) up = (all_take (λ w. lt w row ≡ false) rows k up.0, rises_first k rows up.1)
 
   arranged_still : (rows : List Record) → Rises lt rows → arranged sorting rows ≡ rows
   arranged_still rows up =

@@ -1,5 +1,6 @@
 -- The rows of a list are of one kind.
-use Rattle.std.proofs.Common.{◌≡◌, ℕ, ◌≤◌, List, [], ◌∷◌, Bool, true, false, cond, filter, length, refl, sym, ap, ◌∙◌, arith, None, Some, Option}
+use Rattle.std.proofs.Common.{◌≡◌, ℕ, ◌≤◌, List, [], ◌∷◌, Bool, true, false, cond, filter, length, refl, sym, ap, ◌∙◌}
+use Rattle.std.proofs.Common.{arith, None, Some, Option}
 use Rattle.std.proofs.lemmas.Bool.{and_from}
 use Rattle.std.specs.List.{AllByRecursion}
 use Rattle.filter_grammar.specs.declared.query.Order.TheVariants.{Asc}

@@ -1,5 +1,6 @@
 -- A path, written object by object.
-use Rattle.std.proofs.Common.{◌≡◌, ℕ, List, [], ◌∷◌, ◌++◌, codes, length, refl, ap, sym, ◌∙◌, append_assoc, append-nil, arith}
+use Rattle.std.proofs.Common.{◌≡◌, ℕ, List, [], ◌∷◌, ◌++◌, codes, length, refl, ap, sym, ◌∙◌, append_assoc, append-nil}
+use Rattle.std.proofs.Common.{arith}
 use Rattle.std.specs.List.{flat_map}
 use Rattle.rest_paths.specs.Paths.{IsPath, PathParts}
 use Rattle.rest_paths.specs.Routes.{Object, Segment, Word, line_of, objects_in, segments_of, word_of}

@@ -1,5 +1,7 @@
 -- What a stable sort by key makes of rows.
-use Rattle.std.proofs.Common.{◌≡◌, ◌++◌, zero, suc, arith, IsPermutation, List, [], ◌∷◌, Bool, true, false, ◌&&◌, not, All, cond, filter, refl, sym, ap, ◌∙◌}
+use Rattle.std.proofs.Common.{◌≡◌, ◌++◌, zero, suc, arith, IsPermutation, List, [], ◌∷◌, Bool, true, false, ◌&&◌, not}
+use Rattle.std.proofs.Common.{cond, filter, refl, sym, ap, ◌∙◌}
+use Rattle.std.proofs.lemmas.List.Elements.{recursion_from_All}
 use Rattle.std.proofs.lemmas.List.Sorted.{All-permutation}
 use Rattle.std.specs.Cmp.{IsStrictWeakOrder}
 use Rattle.std.specs.List.{AllByRecursion}
@@ -12,10 +14,6 @@ use Rattle.query_pages.specs.declared.in_order.Placed.{Placed}
 use Rattle.roster_types.specs.Records.{Record}
 use Rattle.filter_grammar.specs.rows.Orders.{Sorting, arranged, comes_before, directed, sort_key_cmp}
 use Rattle.filter_grammar.specs.declared.rows.sort_key.SortKey.{SortKey}
-
-all_by_recursion : {X : Type 0} (P : X → Type 0) (xs : List X) → All P xs → AllByRecursion P xs
-all_by_recursion P [] all = tt
-all_by_recursion P (x ∷ xs) all = (all 0 x (omega arith), all_by_recursion P xs (λ k d lt. all (suc k) d (omega arith)))
 
 -- by the keys that stand beside the rows
 abbrev pub key_before : Order → SortKey → SortKey → Bool
@@ -76,7 +74,7 @@ module _ (sorting : Sorting) where
   pub placed_sorted : (old new : List Placed) → AreKeyed sorting old → IsPermutation old new → IsSortedBy lt new → IsStableBy lt old new → rows_placed new ≡ arranged sorting (rows_placed old)
   placed_sorted old new keyed moved sorted stable =
       let right = λ (p : Placed). p.key ≡ sorting.key p.row.now in
-      sorted_placed old new (all_by_recursion right old keyed) (all_by_recursion right new (All-permutation right old new moved keyed)) sorted stable
+      sorted_placed old new (recursion_from_All right old keyed) (recursion_from_All right new (All-permutation right old new moved keyed)) sorted stable
 
   pub placed_keyed : (old new : List Placed) → AreKeyed sorting old → IsPermutation old new → AreKeyed sorting new
   placed_keyed old new keyed moved = All-permutation (λ (p : Placed). p.key ≡ sorting.key p.row.now) old new moved keyed

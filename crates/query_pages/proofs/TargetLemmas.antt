@@ -1,8 +1,10 @@
 -- The target of a link, put together from its parts.
-use Rattle.std.proofs.Common.{◌≡◌, ℕ, List, ◌++◌, Option, Some, None, codes, decimal, option_map, refl, ap, sym, ◌∙◌, append_assoc}
+use Rattle.std.proofs.Common.{◌≡◌, ℕ, List, ◌++◌, Option, Some, None, codes, decimal, option_map, refl, ap, sym, ◌∙◌}
+use Rattle.std.proofs.Common.{append_assoc}
 use Rattle.filter_grammar.specs.declared.query.Query.{Query}
 use Rattle.rest_paths.specs.Paths.{PathParts}
-use Rattle.hub_spec.specs.views.Links.{base_for, base_parameter, given_parameter, number_parameter, order_word, path_text, target}
+use Rattle.hub_spec.specs.views.Links.{base_for, base_parameter, given_parameter, number_parameter, order_word}
+use Rattle.hub_spec.specs.views.Links.{path_text, target}
 use Rattle.query_pages.specs.Targets.{base_text, given_text, manner_text, paging_text}
 
 given_is : (name : List ℕ) (value : Option (List ℕ)) → given_text (codes "&" ++ name ++ codes "=") value ≡ given_parameter name value

@@ -1,5 +1,6 @@
 -- Chains of orgs upwards.
-use Rattle.std.proofs.Common.{◌≡◌, ℕ, zero, suc, ◌+◌, ◌<◌, ◌≤◌, ◌-◌, List, true, false, Some, None, bytes_eq, option_and_then, ap, ◌∙◌, arith, add-one, zero-add, suc-add}
+use Rattle.std.proofs.Common.{◌≡◌, ℕ, zero, suc, ◌+◌, ◌<◌, ◌≤◌, ◌-◌, List, true, false, Some, None, bytes_eq}
+use Rattle.std.proofs.Common.{option_and_then, ap, ◌∙◌, arith, add-one, zero-add, suc-add}
 use Rattle.std.proofs.lemmas.Bool.{or_left, or_right, or_from}
 use Rattle.hub_spec.specs.views.Seen.{leads_up}
 use Rattle.reference_rules.specs.Parents.{is_id, nth_parent, parent_of}

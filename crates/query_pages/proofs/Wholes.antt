@@ -1,5 +1,6 @@
 -- The rows of a kind from a place on.
-use Rattle.std.proofs.Common.{◌≡◌, ℕ, zero, suc, ◌-◌, ◌<◌, List, [], ◌∷◌, ◌++◌, append_assoc, drop, filter, length, slice_get, take, None, Some, Option, refl, sym, ap, ◌∙◌, arith}
+use Rattle.std.proofs.Common.{◌≡◌, ℕ, zero, suc, ◌-◌, ◌<◌, List, [], ◌∷◌, ◌++◌, append_assoc, drop, filter, length}
+use Rattle.std.proofs.Common.{slice_get, take, None, Some, Option, refl, sym, ap, ◌∙◌, arith}
 use Rattle.std.proofs.lemmas.List.{length-append}
 use Rattle.grant_scopes.specs.declared.schools.Schools.TheVariants as school
 use Rattle.hub_spec.specs.views.Seen.{sees_row}

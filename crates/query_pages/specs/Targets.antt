@@ -24,7 +24,7 @@ abbrev pub listed_text : Route → List ℕ
 listed_text (route.One c) = []
 listed_text r = codes "/" ++ word_of (line_of r).lists
 
--- a parameter so far as it is given, behind what stands in front of its value
+-- a parameter where it is given: its name with the signs around it, and its value
 abbrev pub given_text : List ℕ → Option (List ℕ) → List ℕ
 given_text name None = []
 given_text name (Some value) = name ++ byte_serialize value

@@ -132,6 +132,14 @@ fn both_name<R: Refs>(rows: &R, path: &Path, kind: Kind, field: &str, by: &str, 
     second_names(rows, path, kind, field) && names(row, by, id_at(path, 1))
 }
 
+// Whether a link of this kind leads from the path's object, which it names by a field, to the resource.
+fn is_resource_of<R: Refs>(rows: &R, path: &Path, links: Kind, by: &str, resource: &Row) -> bool
+    requires { length path.now.ids ≡ 1 }
+    ensures { result ≡ is_named_by (names by.now (spec.id_at path.now 0)) (R.rows rows.now) links (codes "resource") resource.now }
+{
+    is_named_under(rows, links, "resource", by, id_at(path, 0), resource)
+}
+
 // Whether the rule of the path's route holds for the row.
 #[tactic(auto, unfolding(hub_spec::specs::views::Rules::rule_of))]
 fn rule_holds<R: Refs>(rows: &R, path: &Path, row: &Row) -> bool
@@ -165,25 +173,9 @@ fn rule_holds<R: Refs>(rows: &R, path: &Path, row: &Row) -> bool
         Route::ClassStudentResults => {
             is_of_class(rows, id_at(path, 0), row) && names(row, "student", id_at(path, 1))
         }
-        Route::ClassResources => {
-            is_named_under(
-                rows,
-                Kind::ClassResources,
-                "resource",
-                "class",
-                id_at(path, 0),
-                row,
-            )
-        }
+        Route::ClassResources => is_resource_of(rows, path, Kind::ClassResources, "class", row),
         Route::CourseResources => {
-            is_named_under(
-                rows,
-                Kind::CourseResources,
-                "resource",
-                "course",
-                id_at(path, 0),
-                row,
-            )
+            is_resource_of(rows, path, Kind::CourseResources, "course", row)
         }
     }
 }

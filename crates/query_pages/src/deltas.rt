@@ -11,7 +11,7 @@ ghost use Rattle.version_core.specs.Changes.{rows_of};
 
 use crate::links::links_of;
 use crate::seen::SeenRows;
-use delta_parts::{DeltaPart, delta_part, delta_part_among};
+use delta_parts::{DeltaPart, Paging, delta_part, delta_part_among};
 use filter_grammar::Query;
 use grant_scopes::Schools;
 use hub_spec::DeltaPage;
@@ -37,11 +37,16 @@ fn whole_part(
     let _ = before.grants();
     let _ = after.grants();
     let ids = span.changed_ids(alloc, kind)?;
-    let part = delta_part_among(alloc, before, after, kind, &ids, query.offset, query.limit)?;
+    let paging = Paging {
+        limit: query.limit,
+        offset: query.offset,
+    };
+    let part = delta_part_among(alloc, before, after, kind, &ids, paging)?;
     Ok(part)
 }
 
-// The same of the rows that a grant at these schools sees. A row may come into sight that didn't change, so all are gone through.
+// The part that a query asks for of what differs between the rows of a kind that a grant at these schools sees. A row may come into sight
+// that didn't change, so all are gone through.
 fn seen_part<A: Refs, B: Refs>(
     alloc: Global,
     before: &A,
@@ -55,7 +60,11 @@ fn seen_part<A: Refs, B: Refs>(
 {
     let old = SeenRows::with_ancestors(alloc, schools, before)?;
     let new = SeenRows::with_ancestors(alloc, schools, after)?;
-    let part = delta_part(alloc, &old, &new, kind, query.offset, query.limit)?;
+    let paging = Paging {
+        limit: query.limit,
+        offset: query.offset,
+    };
+    let part = delta_part(alloc, &old, &new, kind, paging)?;
     Ok(part)
 }
 

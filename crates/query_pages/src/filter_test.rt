@@ -7,7 +7,7 @@ ghost use Rattle.query_pages.specs.FilterTests as spec;
 ghost use Rattle.roster_types.specs.Records.{Record};
 
 use crate::field_test::{FieldTest, field_test};
-use filter_grammar::{Filter, Joint, passes};
+use filter_grammar::{Filter, Joint, joined, passes};
 use roster_base::NoMemory;
 use roster_types::row::Row;
 use roster_values::Kind;
@@ -33,15 +33,6 @@ impl ReadyFilter<'_> {
                 Ok(joined(joint, first, second))
             }
         }
-    }
-}
-
-fn joined(joint: Joint, first: bool, second: bool) -> bool
-    ensures { result ≡ filters.joined joint first second }
-{
-    match joint {
-        Joint::And => first && second,
-        Joint::Or => first || second,
     }
 }
 

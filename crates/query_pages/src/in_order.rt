@@ -16,7 +16,7 @@ use roster_types::row::Row;
 use row_walks::{Steps, Walk};
 use std::alloc::Global;
 
-/// A row with its key.
+/// A row, and the key by which it is sorted.
 #[derive(Drop)]
 pub struct Placed<'r> {
     pub key: SortKey,
@@ -30,7 +30,8 @@ pub struct First<'r> {
     pub total: u64,
 }
 
-/// The first rows of a list in an order, at most so many, all on a way through the rows.
+/// The first `count` rows of a list in an order, or all where there are fewer. `walk` is a way through the rows on which the whole list
+/// stands.
 pub fn first_rows<'r, R: Steps, T: ListTest>(
     alloc: Global,
     rows: &'r R,
@@ -62,8 +63,8 @@ pub fn first_rows<'r, R: Steps, T: ListTest>(
     Ok(First { rows: found, total })
 }
 
-// Adds a row with its key. Whenever twice as many have come as are asked for, the first alone stay, so that a long list takes no more
-// memory than they do.
+// Adds a row with its key. Whenever twice `count` rows have come, only the first `count` stay, so that a long list takes no more memory
+// than twice `count` rows do.
 fn add<'r>(
     alloc: Global,
     sorting: Sorting<'_>,
@@ -84,7 +85,7 @@ fn add<'r>(
     cut(sorting, count, found)
 }
 
-// Puts rows in order, and lets go of those behind the first so many.
+// Puts rows in order, and lets go of those behind the first `count`.
 fn cut(sorting: Sorting<'_>, count: u64, rows: &mut Vec<Placed<'_>>) -> Result<(), NoMemory>
     requires { AreKeyed (sorting_shown sorting) rows.old.items }
     ensures rows { OnOk result (rows_placed rows.new.items ≡ first count (sorting_shown sorting.entry) (rows_placed rows.old.items)) }
@@ -106,7 +107,7 @@ fn sort(sorting: Sorting<'_>, rows: &mut Vec<Placed<'_>>) -> Result<(), NoMemory
     Ok(())
 }
 
-/// Copies of the rows from an offset on, at most a limit of them.
+/// Copies of the rows from `offset` on, at most `limit` of them.
 pub fn copied(
     alloc: Global,
     rows: &[Placed<'_>],
@@ -122,7 +123,7 @@ pub fn copied(
     Ok(found)
 }
 
-// The items from an offset on, at most a limit of them.
+// The items from `offset` on, at most `limit` of them.
 fn within<'s, T>(items: &'s [T], offset: u64, limit: u64) -> &'s [T]
     ensures { result.now ≡ slice limit offset items.now }
 {

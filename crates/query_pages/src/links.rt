@@ -1,6 +1,6 @@
 //! The links of a page.
 
-ghost use Rattle.std.specs.Prelude.{◌≡◌, ◌≤◌, ◌<◌, ◌+◌, ◌-◌, ◌*◌, ◌/◌, ◌++◌, [], IfOk, OnOk, Some, None, if◌then◌else◌, nat_lt};
+ghost use Rattle.std.specs.Prelude.{◌≡◌, ◌≤◌, ◌+◌, ◌-◌, ◌*◌, ◌/◌, ◌++◌, IfOk, OnOk, Some, None, if◌then◌else◌, nat_lt};
 ghost use Rattle.hub_spec.specs.views.Links as spec;
 ghost use Rattle.query_pages.specs.Targets.{link_if};
 
@@ -79,7 +79,7 @@ fn last_offset(query: &Query, total: u64) -> u64
 }
 
 /// The links of a page of a list with so many rows, in one version: to the page behind it, to the one in front of it, to the
-/// first and to the last, so far as there are any. Each names the version.
+/// first and to the last, where there are any. Each names the version.
 pub fn links_of(
     alloc: Global,
     path: &Path,

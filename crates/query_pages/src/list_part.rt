@@ -17,7 +17,7 @@ use roster_types::row::Row;
 use row_walks::{Steps, Walk};
 use std::alloc::Global;
 
-/// Rows of a list from an offset on, at most a limit of them, and the length of the whole list.
+/// The rows of a list from an offset on, up to a limit, and the length of the whole list.
 #[derive(Drop)]
 pub struct Part {
     pub rows: Items<Row>,

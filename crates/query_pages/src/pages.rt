@@ -168,10 +168,7 @@ pub fn page<R: Refs>(
 
 // Whether the rows of a route are all of a kind, or of one type.
 fn is_whole(route: Route) -> bool {
-    match route {
-        Route::All(_) => true,
-        _ => false,
-    }
+    matches!(route, Route::All(_))
 }
 
 // A way through the rows that a grant at these schools sees among all, on which all stand that belong to the path.
@@ -191,7 +188,8 @@ fn seen_walk<'a, R: Refs>(
     walk_of(alloc, &SeenRows::new(schools, rows), path)
 }
 
-/// The same page of the rows that a grant at these schools sees among all.
+/// The page that a query asks for of the list of a path among those rows that a grant at these schools sees; nothing where an object that
+/// the path names isn't seen.
 pub fn seen_page<R: Refs>(
     alloc: Global,
     rows: &R,

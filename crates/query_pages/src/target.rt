@@ -1,6 +1,6 @@
 //! Where a link leads: path and query of a page.
 
-ghost use Rattle.std.specs.Prelude.{◌≡◌, ◌++◌, IfOk, OnOk, codes, decimal, if◌then◌else◌, option_map, string_bytes};
+ghost use Rattle.std.specs.Prelude.{◌≡◌, ◌++◌, IfOk, OnOk, codes, decimal, option_map, string_bytes};
 ghost use Rattle.std.specs.List.{flat_map};
 ghost use Rattle.form_urlencoded.specs.Form as form;
 ghost use Rattle.hub_spec.specs.views.Links as spec;
@@ -17,7 +17,7 @@ use roster_texts::Id;
 use roster_types::cells::ESCAPED_IN_HREF;
 use std::alloc::Global;
 
-// Adds an id as paths write it.
+// Adds an id with the escapes of a path.
 fn push_id(text: &mut String, id: &Id) -> Result<(), NoMemory>
     ensures { OnOk result (string_bytes text.new ≡ string_bytes text.old ++ flat_map encoded_byte id.now) }
 {
@@ -55,7 +55,7 @@ fn push_objects(text: &mut String, objects: &[Collection], ids: &[Id]) -> Result
     push_objects(text, objects, ids)
 }
 
-// Adds the last segment, where it isn't an object's id.
+// Adds the word of what the path lists. A path to one object ends with that object instead.
 fn push_listed(text: &mut String, route: Route) -> Result<(), NoMemory>
     ensures { OnOk result (string_bytes text.new ≡ string_bytes text.old ++ listed_text route) }
 {
@@ -65,7 +65,7 @@ fn push_listed(text: &mut String, route: Route) -> Result<(), NoMemory>
     }
 }
 
-// Adds a path as it is asked for.
+// Adds the path from the root on.
 fn push_path(text: &mut String, path: &Path) -> Result<(), NoMemory>
     ensures { OnOk result (string_bytes text.new ≡ string_bytes text.old ++ spec.path_text path.now) }
 {
@@ -75,7 +75,7 @@ fn push_path(text: &mut String, path: &Path) -> Result<(), NoMemory>
     push_listed(text, route)
 }
 
-// Adds a parameter whose value is a number, with what stands in front of it.
+// Adds a parameter whose value is a number: first its name with the signs around it.
 fn push_number(alloc: Global, text: &mut String, name: &str, number: u64) -> Result<(), NoMemory>
     ensures { OnOk result (string_bytes text.new ≡ string_bytes text.old ++ (name.now ++ decimal number)) }
 {
@@ -84,7 +84,7 @@ fn push_number(alloc: Global, text: &mut String, name: &str, number: u64) -> Res
     Ok(text.push_str(digits.as_str())?)
 }
 
-// Adds a value as forms write it.
+// Adds a value with the escapes of a form.
 fn push_value(text: &mut String, value: &str) -> Result<(), NoMemory>
     ensures { OnOk result (string_bytes text.new ≡ string_bytes text.old ++ form.byte_serialize value.now) }
 {
@@ -94,7 +94,7 @@ fn push_value(text: &mut String, value: &str) -> Result<(), NoMemory>
     Ok(())
 }
 
-// Adds a parameter so far as it is given, with what stands in front of its value.
+// Adds a parameter where it is given: first its name with the signs around it, then its value.
 fn push_given(text: &mut String, name: &str, value: &Option<Text>) -> Result<(), NoMemory>
     ensures { OnOk result (string_bytes text.new ≡ string_bytes text.old ++ given_text name.now value.now) }
 {
@@ -117,7 +117,7 @@ fn order_word(order: Order) -> &'static str
     }
 }
 
-// Adds the direction of the list so far as it is given.
+// Adds the direction of the list where it is given.
 fn push_order(text: &mut String, order: Option<Order>) -> Result<(), NoMemory>
     ensures { OnOk result (string_bytes text.new ≡ string_bytes text.old ++ given_text (codes "&orderBy=") (option_map spec.order_word order)) }
 {
@@ -130,7 +130,7 @@ fn push_order(text: &mut String, order: Option<Order>) -> Result<(), NoMemory>
     }
 }
 
-// Adds how the list is asked for: its order, its filter and the members that it shows.
+// Adds what the query says of the list: its order, its filter and the members that it shows.
 fn push_manner(text: &mut String, query: &Query) -> Result<(), NoMemory>
     ensures { OnOk result (string_bytes text.new ≡ string_bytes text.old ++ manner_text query.now) }
 {

@@ -52,11 +52,15 @@ pub fn text_passes(
 pub fn is_of_text(form: FieldForm) -> bool
     ensures { OnTrue result (manner_of (form_of form) ≡ AsText) }
 {
-    match form {
-        FieldForm::Text | FieldForm::Id | FieldForm::Year | FieldForm::Flag => true,
-        FieldForm::Word(_) | FieldForm::Ref(_) => true,
-        _ => false,
-    }
+    matches!(
+        form,
+        FieldForm::Text
+            | FieldForm::Id
+            | FieldForm::Year
+            | FieldForm::Flag
+            | FieldForm::Word(_)
+            | FieldForm::Ref(_)
+    )
 }
 
 /// Whether a predicate wants a text to be the given one, or to be another; nothing where it asks something else.

@@ -1,6 +1,6 @@
 //! All rows of a kind, found by their places.
 
-ghost use Rattle.std.specs.Prelude.{◌≡◌, true, IfOk, IfSome, Some, filter, length, option_copied, take};
+ghost use Rattle.std.specs.Prelude.{◌≡◌, true, IfOk, IfSome, filter, length, option_copied, take};
 ghost use Rattle.hub_spec.specs.views.Pages.{IsPlain, slice, whole};
 ghost use Rattle.query_pages.specs.Whole.{rows_from};
 ghost use Rattle.roster_types.specs.Keys.{Ascends, is_of_kind, row_key};

@@ -1,11 +1,13 @@
 -- Answers over the real folder and clock, from answers over a keeper.
-use Rattle.std.proofs.Common.{◌≡◌, ◌≢◌, ℕ, ℤ, List, [], ◌∷◌, Option, None, Some, Result, Ok, Err, IfNone, IsErr, IsSome, refl, sym, ◌∙◌, ap, subst, inl, inr, arith}
+use Rattle.std.proofs.Common.{◌≡◌, ◌≢◌, ℕ, ℤ, List, [], ◌∷◌, Option, None, Some, Result, Ok, Err, IfNone, IsErr, IsSome}
+use Rattle.std.proofs.Common.{refl, sym, ◌∙◌, ap, subst, inl, inr, arith}
 use Rattle.std.specs.Io.KnownBytes.{Appends}
 use Rattle.std.specs.Bool.{⊤}
 use Rattle.consumer_deltas.specs.DeltaAnswers.{HasBase}
 use Rattle.consumer_deltas.specs.DeltaCalls.{AsksDeltas}
 use Rattle.consumer_deltas.specs.DeltaCauses.{DeltaCause, DeltaCaused}
-use Rattle.consumer_deltas.specs.DeltaCauses.DeltaCause.{Broke as BrokeBeside, Halted, OutOfRuns, Swapped, Unbased, Wants as WantsAlone}
+use Rattle.consumer_deltas.specs.DeltaCauses.DeltaCause.{Broke as BrokeBeside, Halted, OutOfRuns, Swapped, Unbased}
+use Rattle.consumer_deltas.specs.DeltaCauses.DeltaCause.{Wants as WantsAlone}
 use Rattle.consumer_deltas.specs.DeltaFilling.{Halts}
 use Rattle.consumer_deltas.specs.DeltaFilling.Halts.{Broke, Merging, Stopped, Wants as WantsBeside}
 use Rattle.consumer_deltas.specs.DeltaJudging.{Sofar}
@@ -51,7 +53,8 @@ use Rattle.roster_values.specs.declared.kind.Kind.{Kind}
 use Rattle.hub_cli.proofs.Below.Telling.{told_count, told_done, told_part}
 use Rattle.hub_cli.specs.Below.Answers.{status_of, text_of}
 use Rattle.hub_cli.specs.Below.ConsumerAnswers.{CopyStays, IsListAnswer}
-use Rattle.hub_cli.specs.Below.ExportAnswers.{ExportEnds, HasTooMany, IsChangesExport, IsExport, IsSinceAnswer, RefusesExport, rows_in}
+use Rattle.hub_cli.specs.Below.ExportAnswers.{ExportEnds, HasTooMany, IsChangesExport, IsExport, IsSinceAnswer}
+use Rattle.hub_cli.specs.Below.ExportAnswers.{RefusesExport, rows_in}
 use Rattle.hub_cli.specs.Below.Follows.{IsCaughtUp, IsFollowAnswer, MissCause, MissTold, TellsFollow}
 use Rattle.hub_cli.specs.Below.OutboxAnswers.{IsOutboxAnswer}
 use Rattle.hub_cli.specs.Below.Outside.{Faults, Outside, faults_of, outside_of}
@@ -62,9 +65,12 @@ use Rattle.hub_cli.specs.Below.Answer.{Answer}
 use Rattle.hub_cli.specs.Below.End.{End}
 use Rattle.hub_cli.specs.Below.End.TheVariants as ends
 use Rattle.hub_words.specs.declared.words.Command.{Command}
-use Rattle.hub_words.specs.declared.words.Command.TheVariants.{Ask, Cascade, Enter, Export, ExportManifest, ExportSince, Follow, Grant, ListHeld, Make, Outbox, Publish, Rehearse, Send, Show, Sync, SyncDelta}
+use Rattle.hub_words.specs.declared.words.Command.TheVariants.{Ask, Cascade, Enter, Export, ExportManifest, ExportSince}
+use Rattle.hub_words.specs.declared.words.Command.TheVariants.{Follow, Grant, ListHeld, Make, Outbox, Publish, Rehearse}
+use Rattle.hub_words.specs.declared.words.Command.TheVariants.{Send, Show, Sync, SyncDelta}
 use Rattle.hub_words.specs.declared.words.Parsed.{Parsed}
-use Rattle.real_run.specs.RealRuns.{AnswersFrom, AnswersOver, IsRealAnswer, RealCopy, RealLink, Runs, new_copy_run, new_hub, real_copy_run, silent_link_run, stored_copy_run}
+use Rattle.real_run.specs.RealRuns.{AnswersFrom, AnswersOver, IsRealAnswer, RealCopy, RealLink, Runs, new_copy_run}
+use Rattle.real_run.specs.RealRuns.{new_hub, real_copy_run, silent_link_run, stored_copy_run}
 
 -- ---- what a cascade makes, of what is asked more weakly
 

@@ -28,6 +28,7 @@ pub(crate) struct Progress {
 }
 
 impl Progress {
+    /// The line for a run, which is shown where standard error is a terminal.
     pub(crate) fn new(rt: HostRuntime) -> Progress {
         Progress {
             rt,
@@ -63,6 +64,7 @@ pub(crate) struct ShownFolder<F: Folder> {
 }
 
 impl<F: Folder> ShownFolder<F> {
+    /// A folder of which each file is shown while it is read.
     pub(crate) fn new(folder: F, progress: Progress) -> ShownFolder<F> {
         ShownFolder { folder, progress }
     }
@@ -104,6 +106,7 @@ pub(crate) struct ShownLink<L: Link> {
 }
 
 impl<L: Link> ShownLink<L> {
+    /// A link of which each request is counted and shown while its reply is waited for.
     pub(crate) fn new(link: L, progress: Progress) -> ShownLink<L>
         ensures { result.link ≡ link }
     {
@@ -114,6 +117,7 @@ impl<L: Link> ShownLink<L> {
         }
     }
 
+    /// The link itself.
     pub(crate) fn link(&self) -> &L {
         &self.link
     }

@@ -1,5 +1,7 @@
 -- Cycles of parents, and what is known of them.
-use Rattle.std.proofs.Common.{◌≡◌, ℕ, zero, suc, ◌+◌, ◌-◌, ◌<◌, ◌≤◌, ◌⊎◌, Bool, true, false, cond, List, [], ◌∷◌, length, Option, Some, None, bytes_eq, option_and_then, refl, sym, ap, subst, ◌∙◌, arith, add_comm, zero-add, suc-add, inl, inr}
+use Rattle.std.proofs.Common.{◌≡◌, ℕ, zero, suc, ◌+◌, ◌-◌, ◌<◌, ◌≤◌, ◌⊎◌, Bool, true, false, cond, List, [], ◌∷◌}
+use Rattle.std.proofs.Common.{length, Option, Some, None, bytes_eq, option_and_then, refl, sym, ap, subst, ◌∙◌, arith}
+use Rattle.std.proofs.Common.{add_comm, zero-add, suc-add, inl, inr}
 use Rattle.std.specs.Prelude.{IsSome}
 use Rattle.std.specs.HashMap.{HashMap, hash_map_len}
 use Rattle.std.specs.Map.{lookup}

@@ -1,5 +1,6 @@
 -- Chains of parents.
-use Rattle.std.proofs.Common.{◌≡◌, ℕ, zero, suc, ◌+◌, ◌<◌, ◌≤◌, ◌-◌, List, true, false, Option, Some, None, option_and_then, refl, ap, ◌∙◌, arith, add-one, zero-add, suc-add, inl, inr}
+use Rattle.std.proofs.Common.{◌≡◌, ℕ, zero, suc, ◌+◌, ◌<◌, ◌≤◌, ◌-◌, List, true, false, Option, Some, None}
+use Rattle.std.proofs.Common.{option_and_then, refl, ap, ◌∙◌, arith, add-one, zero-add, suc-add, inl, inr}
 use Rattle.std.proofs.lemmas.Bool.{false_from_ne_true, or_left, or_right, or_from, or_cases}
 use Rattle.std.proofs.lemmas.Slice.Eq.{bytes_eq-Decides}
 use Rattle.roster_types.specs.Records.{Record}

@@ -1,5 +1,8 @@
 -- The rows of a kind, one after another, and all rows kind by kind.
-use Rattle.std.proofs.Common.{◌≡◌, ℕ, suc, ◌+◌, List, [], ◌∷◌, ◌++◌, drop, filter, find, get_or, length, map, Bool, true, false, ◌&&◌, eqb, leb, cond, Option, Some, None, refl, sym, ap, subst, ◌∙◌, add-one, arith, inl, inr}
+use Rattle.std.proofs.Common.{◌≡◌, ℕ, suc, ◌+◌, List, [], ◌∷◌, ◌++◌, drop, filter, find, get_or, length, map, Bool}
+use Rattle.std.proofs.Common.{true, false, ◌&&◌, eqb, leb, cond, Option, Some, None, refl, sym, ap, subst, ◌∙◌, add-one}
+use Rattle.std.proofs.Common.{arith, inl, inr}
+use Rattle.std.proofs.Math.Bool.{and-true}
 use Rattle.std.specs.FinMap.Entries as entries
 use Rattle.std.specs.List.{flat_map, range_with_len}
 use Rattle.std.specs.Ordering.{is_eq, is_lt, nat_cmp, ordering_reverse}
@@ -14,7 +17,8 @@ use Rattle.roster_types.specs.Records.{Record}
 use Rattle.roster_values.specs.Kinds.{all_kinds, place_of_kind}
 use Rattle.roster_values.specs.declared.kind.Kind.{Kind}
 use Rattle.roster_values.proofs.KindLaws.{kind_places, place_below}
-use Rattle.reference_rules.proofs.KeyOrder.{and_first, and_second, ids_less, key_total, kind_le, less_from_is_lt, not_back}
+use Rattle.reference_rules.proofs.KeyOrder.{and_first, and_second, ids_less, key_total, kind_le, less_from_is_lt}
+use Rattle.reference_rules.proofs.KeyOrder.{not_back}
 
 -- a row of the kind whose id is above `after`
 abbrev pub is_next : Kind → Option (List ℕ) → Record → Bool
@@ -24,10 +28,11 @@ is_next kind after row = is_of_kind kind row && is_after after row.id
 abbrev pub rest_of : Kind → Option (List ℕ) → List Record → List Record
 rest_of kind after rows = filter (is_next kind after) rows
 
-place_from_test : (kind : Kind) (row : Record) → is_of_kind kind row ≡ true → place_of_kind row.kind ≡ place_of_kind kind
+-- a row of the kind has its place
+pub place_from_test : (kind : Kind) (row : Record) → is_of_kind kind row ≡ true → place_of_kind row.kind ≡ place_of_kind kind
 place_from_test kind row e = let tested : eqb (place_of_kind row.kind) (place_of_kind kind) ≡ true = e in grind (arith, nat_tests)
 
-find_passes : (p : Record → Bool) (rows : List Record) (row : Record) → find p rows ≡ Some row → p row ≡ true
+pub find_passes : (p : Record → Bool) (rows : List Record) (row : Record) → find p rows ≡ Some row → p row ≡ true
 find_passes p [] row e = cc
 find_passes p (x ∷ rows) row e =
     elim (p x) as (λ b. p x ≡ b → cond b (Some x) (find p rows) ≡ Some row → p row ≡ true) [
@@ -122,13 +127,9 @@ rest_at kind after (x ∷ rows) row up e =
           ∙ ap (λ b. row ∷ cond b (x ∷ rest_of kind (Some row.id) rows) (rest_of kind (Some row.id) rows)) (sym (not_before kind x row (next_kind kind after rows row later) less))
     ] refl e
 
-and_true : (b : Bool) → (b && true) ≡ b
-and_true true = refl
-and_true false = refl
-
 -- above nothing stand all rows of the kind
 pub rest_start : (kind : Kind) (rows : List Record) → rest_of kind None rows ≡ filter (is_of_kind kind) rows
-rest_start kind rows = λ i. filter (λ row. and_true (is_of_kind kind row) i) rows
+rest_start kind rows = λ i. filter (λ row. and-true (is_of_kind kind row) i) rows
 
 -- the rows of the kind at a place, and those of the kinds from a place on
 abbrev is_at : ℕ → Record → Bool

@@ -1,12 +1,14 @@
 -- What a change leaves of the broken references: where the rows that stood have none, those that change keep their types and are in no cycle,
 -- all that is broken anew is of them.
-use Rattle.std.proofs.Common.{◌≡◌, ℕ, zero, suc, ◌<◌, Bool, true, false, ◌&&◌, ◌||◌, not, cond, List, [], ◌∷◌, ◌++◌, length, get_or, codes, bytes_eq, Option, Some, None, option_and_then, refl, sym, ap, subst, ◌∙◌, arith}
+use Rattle.std.proofs.Common.{◌≡◌, ℕ, zero, suc, ◌<◌, Bool, true, false, ◌&&◌, ◌||◌, not, cond, List, [], ◌∷◌, ◌++◌}
+use Rattle.std.proofs.Common.{length, get_or, codes, bytes_eq, Option, Some, None, option_and_then, refl, sym, ap}
+use Rattle.std.proofs.Common.{subst, ◌∙◌, arith}
 use Rattle.std.specs.FinMap.Entries as entries
 use Rattle.std.specs.List.{flat_map, list_any}
 use Rattle.std.specs.Option.{option_map_or, option_or}
 use Rattle.std.specs.Ordering.{is_eq, ordering_reverse}
 use Rattle.std.specs.declared.cmp.Ordering.TheVariants.{Less, Greater}
-use Rattle.std.proofs.lemmas.Bool.{false_from_ne_true}
+use Rattle.std.proofs.lemmas.Bool.{false_from_ne_true, or_parts}
 use Rattle.std.proofs.lemmas.Cmp.{tied_itself}
 use Rattle.std.proofs.lemmas.Slice.Eq.{bytes_eq-Decides}
 use Rattle.roster_types.specs.Keys.{Ascends, Key, count_of, key_cmp, keyed, look_up, row_key}
@@ -16,15 +18,19 @@ use Rattle.roster_values.specs.Table.{IdForm, Info, table}
 use Rattle.roster_values.specs.declared.kind.Kind.{Kind}
 use Rattle.roster_values.specs.declared.kind.Kind.TheVariants.{Orgs, AcademicSessions}
 use Rattle.roster_values.specs.declared.value.Value.{Value}
-use Rattle.roster_values.specs.declared.value.Value.TheVariants.{Text, Id, Day, Moment, Number, Year, Flag, Word, Texts, UserIds, Ref, Refs}
+use Rattle.roster_values.specs.declared.value.Value.TheVariants.{Text, Id, Day, Moment, Number, Year, Flag, Word, Texts}
+use Rattle.roster_values.specs.declared.value.Value.TheVariants.{UserIds, Ref, Refs}
 use Rattle.reference_rules.specs.declared.ref_fault.Fault.{Fault}
 use Rattle.reference_rules.specs.declared.ref_fault.Fault.TheVariants.{Cycle, WrongType}
 use Rattle.reference_rules.proofs.CycleLemmas.{in_cycle_on, not_without_parent}
-use Rattle.reference_rules.proofs.KeyOrder.{and_first, and_second, equal_from_is_eq, found_key, key_exact, key_total, less_from_is_lt}
+use Rattle.reference_rules.proofs.KeyOrder.{and_first, and_second, equal_from_is_eq, found_key, key_exact, key_total}
+use Rattle.reference_rules.proofs.KeyOrder.{less_from_is_lt}
 use Rattle.reference_rules.proofs.ParentChains.{in_cycle_from_test}
 use Rattle.reference_rules.proofs.Pigeonhole.{in_cycle_from_turns}
 use Rattle.roster_values.proofs.KindLaws.{kind_from_place}
-use Rattle.reference_rules.specs.Faults.{fault_at, faults_in, faults_of, field_faults, has_type, has_wrong_type, is_cycle, is_cyclic, is_word, listed, row_faults, target_faults, target_kind, type_asked, type_in, value_faults, word_in}
+use Rattle.reference_rules.specs.Faults.{fault_at, faults_in, faults_of, field_faults, has_type, has_wrong_type}
+use Rattle.reference_rules.specs.Faults.{is_cycle, is_cyclic, is_word, listed, row_faults, target_faults, target_kind}
+use Rattle.reference_rules.specs.Faults.{type_asked, type_in, value_faults, word_in}
 use Rattle.reference_rules.specs.Parents.{is_in_cycle, nth_parent, parent_in, parent_of, ref_in}
 
 append_left : {A : Type 0} (xs ys : List A) → xs ++ ys ≡ [] → xs ≡ []
@@ -39,15 +45,11 @@ append_none : {A : Type 0} (xs ys : List A) → xs ≡ [] → ys ≡ [] → xs +
 append_none xs ys e e' = ap (λ zs. zs ++ ys) e ∙ e'
 
 module _ {A : Type 0} (p : A → Bool) where
-  neither_any : (b c : Bool) → (b || c) ≡ false → (b ≡ false) × (c ≡ false)
-  neither_any true c e = cc
-  neither_any false c e = (refl, e)
-
   -- where none of two lists passes, none of each does
   none_pass : (xs ys : List A) → list_any p (xs ++ ys) ≡ false → (list_any p xs ≡ false) × (list_any p ys ≡ false)
   none_pass [] ys e = (refl, e)
   none_pass (x ∷ xs) ys e =
-      let both = neither_any (p x) (list_any p (xs ++ ys)) e in
+      let both = or_parts (p x) (list_any p (xs ++ ys)) e in
       let rest = none_pass xs ys both.1 in
       (ap (λ b. b || list_any p xs) both.0 ∙ rest.0, rest.1)
 

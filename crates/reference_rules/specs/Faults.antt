@@ -1,11 +1,13 @@
 -- The broken references of rows, by OneRoster 1.1: a field of the forms of references names rows of its kind.
-use Rattle.std.specs.Prelude.{◌≡◌, ℕ, ℤ, Bool, false, true, ◌&&◌, ◌++◌, not, int_lt, if◌then◌else◌, List, [], ◌∷◌, Option, Some, None, codes, bytes_eq, filter}
+use Rattle.std.specs.Prelude.{◌≡◌, ℕ, ℤ, Bool, false, true, ◌&&◌, ◌++◌, not, int_lt, if◌then◌else◌, List, [], ◌∷◌}
+use Rattle.std.specs.Prelude.{Option, Some, None, codes, bytes_eq, filter}
 use Rattle.std.specs.List.{All, flat_map}
 use Rattle.std.specs.Option.{option_map_or}
 use Rattle.roster_types.specs.Keys.{is_of_kind, look_up, row_key}
 use Rattle.roster_types.specs.Records.{Record, all_values, field_of}
 use Rattle.roster_values.specs.declared.kind.Kind.{Kind}
-use Rattle.roster_values.specs.declared.kind.Kind.TheVariants.{AcademicSessions, Classes, Demographics, LineItems, Users}
+use Rattle.roster_values.specs.declared.kind.Kind.TheVariants.{AcademicSessions, Classes, Demographics, LineItems}
+use Rattle.roster_values.specs.declared.kind.Kind.TheVariants.{Users}
 use Rattle.roster_values.specs.declared.value.Value.{Value}
 use Rattle.roster_values.specs.declared.value.Value.TheVariants.{Day, Id, Ref, Refs, Word}
 use Rattle.roster_values.specs.Kinds.{place_of_kind}

@@ -1,5 +1,6 @@
 -- Chains of parents: each org and each session may name one above it.
-use Rattle.std.specs.Prelude.{◌≡◌, ℕ, zero, suc, ◌<◌, ◌≤◌, Bool, false, ◌||◌, List, Option, Some, None, codes, bytes_eq, option_and_then, slice_get}
+use Rattle.std.specs.Prelude.{◌≡◌, ℕ, zero, suc, ◌<◌, ◌≤◌, Bool, false, ◌||◌, List, Option, Some, None, codes, bytes_eq}
+use Rattle.std.specs.Prelude.{option_and_then, slice_get}
 use Rattle.roster_types.specs.Keys.{count_of, look_up, row_key}
 use Rattle.roster_types.specs.Records.{Record, field_of}
 use Rattle.roster_values.specs.declared.kind.Kind.{Kind}

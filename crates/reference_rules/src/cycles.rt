@@ -1,7 +1,7 @@
 //! Cycles of parents. A chain is followed only to an id of which an earlier chain told, so that all rows of a kind take as many steps as
 //! there are rows.
 
-ghost use Rattle.std.specs.Prelude.{◌≡◌, ◌<◌, IfOk, IsSome, None, OnOk, Some, bytes_eq, length, option_copied, true};
+ghost use Rattle.std.specs.Prelude.{◌≡◌, ◌<◌, IfOk, IsSome, OnOk, Some, bytes_eq, length, option_copied, true};
 ghost use Rattle.std.specs.List.{list_any};
 ghost use Rattle.reference_rules.specs.Notes.{AreNotedBeside, AreNotedOver, AreNotes, EndsWell, note_of};
 ghost use Rattle.reference_rules.specs.Parents.{ArePassed, is_in_cycle, nth_parent, parent_of, returns_within};
@@ -176,7 +176,7 @@ fn came_back(chain: &Chain, id: &Id) -> bool
     }
 }
 
-// Notes an id, and the ids of its chain up to one that is known. A cycle that the chain comes to is noted before the ids that it passes,
+// Notes an id that isn't noted yet, and the ids of its chain up to one that is known. A cycle that the chain comes to is noted before the ids that it passes,
 // so that those that aren't known then are in none.
 fn learn<'a, R: Rows>(
     alloc: Global,
@@ -191,6 +191,9 @@ fn learn<'a, R: Rows>(
     ensures notes { OnOk result (AreNotes (R.rows rows.now) kind notes.new) }
     ensures known { OnOk result (IsSome (note_of notes.new id.now)) }
 {
+    if notes.contains_key(id.as_str()) {
+        return Ok(());
+    }
     let chain = follow(alloc, rows, kind, id, turns, notes)?;
     if came_back(&chain, id) {
         return note_lap(chain.passed.as_slice(), notes);
@@ -216,29 +219,7 @@ fn known_below<'a, R: Rows>(
     note_unless_known(id, notes)
 }
 
-// Whether an id that has this parent is in a cycle of parents. Most have a parent that is noted: no chain is followed for them.
-fn known<'a, R: Rows>(
-    alloc: Global,
-    rows: &'a R,
-    kind: Kind,
-    id: &'a Id,
-    parent: &'a Id,
-    turns: u64,
-    notes: &mut Notes<'a>,
-) -> Result<bool, NoMemory>
-    requires parent { parent_of (R.rows rows.now) kind id.now ≡ Some parent.now }
-    requires turns { turns ≡ count_of kind (R.rows rows.now) }
-    requires notes { AreNotes (R.rows rows.now) kind notes.old }
-    ensures notes { OnOk result (AreNotes (R.rows rows.now) kind notes.new) }
-    ensures value { IfOk result (λ known. known ≡ is_in_cycle (R.rows rows.now) kind id.now) }
-{
-    if !notes.contains_key(parent.as_str()) {
-        learn(alloc, rows, kind, parent, turns, notes)?;
-    }
-    known_below(rows, kind, id, parent, notes)
-}
-
-/// Whether a row is in a cycle of parents.
+/// Whether a row is in a cycle of parents. Most have a parent that is noted: no chain is followed for them.
 pub fn is_in_cycle<'a, R: Rows>(
     alloc: Global,
     rows: &'a R,
@@ -252,8 +233,10 @@ pub fn is_in_cycle<'a, R: Rows>(
     ensures notes { OnOk result (AreNotes (R.rows rows.now) row.now.kind notes.new) }
     ensures value { IfOk result (λ known. known ≡ is_in_cycle (R.rows rows.now) row.now.kind row.now.id) }
 {
-    match parent_in(row) {
-        None => Ok(false),
-        Some(parent) => known(alloc, rows, row.kind(), row.id(), parent, turns, notes),
-    }
+    let Some(parent) = parent_in(row) else {
+        return Ok(false);
+    };
+    let kind = row.kind();
+    learn(alloc, rows, kind, parent, turns, notes)?;
+    known_below(rows, kind, row.id(), parent, notes)
 }

@@ -36,7 +36,6 @@ pub use typed::type_in;
 
 // Adds what is wrong with the field at a place of the field table.
 fn add_field_faults<R: Rows>(
-    alloc: Global,
     rows: &R,
     row: &Row,
     in_cycle: bool,
@@ -51,14 +50,13 @@ fn add_field_faults<R: Rows>(
     // Read for its clause `row`, by which the row has as many values as its kind has fields.
     let _ = row.kind();
     match row.value(place) {
-        Some(value) => add_value_faults(alloc, rows, row, in_cycle, info, value, found),
+        Some(value) => add_value_faults(rows, row, in_cycle, info, value, found),
         None => Ok(()),
     }
 }
 
 // Adds what is wrong with a row, field by field.
 fn add_row_faults<R: Rows>(
-    alloc: Global,
     rows: &R,
     row: &Row,
     in_cycle: bool,
@@ -69,7 +67,7 @@ fn add_row_faults<R: Rows>(
 {
     let infos = fields(row.kind());
     for place in 0..infos.len() {
-        add_field_faults(alloc, rows, row, in_cycle, place, &infos[place], found)?;
+        add_field_faults(rows, row, in_cycle, place, &infos[place], found)?;
     }
     Ok(())
 }
@@ -88,7 +86,7 @@ fn add_kind_faults<'a, R: Rows>(
     let mut after = None;
     while let Some(row) = rows.next(kind, after) {
         let in_cycle = is_in_cycle(alloc, rows, row, turns, &mut notes)?;
-        add_row_faults(alloc, rows, row, in_cycle, found)?;
+        add_row_faults(rows, row, in_cycle, found)?;
         after = Some(row.id());
     }
     Ok(())
@@ -134,7 +132,7 @@ pub fn faults_among<'a, R: Rows, C: HasRow>(
     let mut walk = begun(alloc, rows, Kind::Orgs);
     for item in among {
         let in_cycle = is_in_cycle_along(alloc, rows, item.row(), &mut walk)?;
-        add_row_faults(alloc, rows, item.row(), in_cycle, &mut found)?;
+        add_row_faults(rows, item.row(), in_cycle, &mut found)?;
     }
     Ok(found)
 }

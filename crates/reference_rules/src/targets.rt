@@ -2,7 +2,8 @@
 
 ghost use Rattle.std.specs.Prelude.{◌≡◌, ◌++◌, IfOk, List, OnOk, option_copied, option_map};
 ghost use Rattle.std.specs.List.{flat_map};
-ghost use Rattle.reference_rules.specs.Faults.{day_fault, fault_at, has_wrong_type, listed, target_faults, target_kind, type_asked, value_faults};
+ghost use Rattle.reference_rules.specs.Faults.{day_fault, fault_at, has_wrong_type, listed, target_faults, target_kind};
+ghost use Rattle.reference_rules.specs.Faults.{type_asked, value_faults};
 ghost use Rattle.reference_rules.specs.Parents.{is_in_cycle};
 ghost use Rattle.roster_types.specs.Records.{Record};
 ghost use Rattle.roster_values.specs.Table.{form_of, info_of};
@@ -88,7 +89,6 @@ fn copy_target(alloc: Global, target: Option<&Id>) -> Result<Option<Id>, NoMemor
 
 // Adds the fault, if there is one.
 fn push_fault(
-    alloc: Global,
     row: &Row,
     field: &str,
     target: Option<&Id>,
@@ -97,6 +97,7 @@ fn push_fault(
 ) -> Result<(), NoMemory>
     ensures { OnOk result (found.new.items ≡ found.old.items ++ listed row.now field.now (option_copied target.entry) fault) }
 {
+    let alloc = *found.allocator();
     if let Some(fault) = fault {
         found.push(RefFault {
             kind: row.kind(),
@@ -111,7 +112,6 @@ fn push_fault(
 
 // Adds what is wrong with one id that a field names.
 fn add_target_faults<R: Rows>(
-    alloc: Global,
     rows: &R,
     row: &Row,
     in_cycle: bool,
@@ -124,14 +124,13 @@ fn add_target_faults<R: Rows>(
 {
     if let Some(kind) = target_kind(row.kind(), info.form) {
         let fault = fault_at(row, info.name, rows.row(kind, id), in_cycle);
-        push_fault(alloc, row, info.name, Some(id), fault, found)?;
+        push_fault(row, info.name, Some(id), fault, found)?;
     }
     Ok(())
 }
 
-// The same of the ids of a list, one after another.
+// Adds what is wrong with the ids that a field names, one after another.
 fn add_all_faults<R: Rows>(
-    alloc: Global,
     rows: &R,
     row: &Row,
     in_cycle: bool,
@@ -143,7 +142,7 @@ fn add_all_faults<R: Rows>(
     ensures { OnOk result (found.new.items ≡ found.old.items ++ flat_map (target_faults (R.rows rows.now) row.now (info_of info.now)) ids.now) }
 {
     for id in ids {
-        add_target_faults(alloc, rows, row, in_cycle, info, id, found)?;
+        add_target_faults(rows, row, in_cycle, info, id, found)?;
     }
     Ok(())
 }
@@ -164,7 +163,6 @@ fn day_fault(row: &Row, field: &str, last: &Day) -> Option<Fault>
 
 /// Adds what is wrong with the value of a row's field.
 pub fn add_value_faults<R: Rows>(
-    alloc: Global,
     rows: &R,
     row: &Row,
     in_cycle: bool,
@@ -176,14 +174,12 @@ pub fn add_value_faults<R: Rows>(
     ensures { OnOk result (found.new.items ≡ found.old.items ++ value_faults (R.rows rows.now) row.now (info_of info.now) (shown value.entry)) }
 {
     match value {
-        ValueRef::Id(id) => add_target_faults(alloc, rows, row, in_cycle, info, id, found),
-        ValueRef::Ref(id) => add_target_faults(alloc, rows, row, in_cycle, info, id, found),
-        ValueRef::Refs(ids) => {
-            add_all_faults(alloc, rows, row, in_cycle, info, ids.as_slice(), found)
-        }
+        ValueRef::Id(id) => add_target_faults(rows, row, in_cycle, info, id, found),
+        ValueRef::Ref(id) => add_target_faults(rows, row, in_cycle, info, id, found),
+        ValueRef::Refs(ids) => { add_all_faults(rows, row, in_cycle, info, ids.as_slice(), found) }
         ValueRef::Day(day) => {
             let fault = day_fault(row, info.name, day);
-            push_fault(alloc, row, info.name, None, fault, found)
+            push_fault(row, info.name, None, fault, found)
         }
         _ => Ok(()),
     }

@@ -1,5 +1,6 @@
 -- Which route a literal front and one more segment lead to.
-use Rattle.std.proofs.Common.{◌≡◌, ◌≢◌, ℕ, zero, suc, ◌-◌, ◌<◌, Bool, true, false, ◌==◌, cond, List, [], ◌∷◌, ◌++◌, Option, None, Some, length, map, refl, ap, ◌∙◌, arith}
+use Rattle.std.proofs.Common.{◌≡◌, ◌≢◌, ℕ, zero, suc, ◌-◌, ◌<◌, Bool, true, false, ◌==◌, cond, List, [], ◌∷◌, ◌++◌}
+use Rattle.std.proofs.Common.{Option, None, Some, length, map, refl, ap, ◌∙◌, arith}
 use Rattle.std.specs.Prelude.{codes, option_and_then, option_map}
 use Rattle.std.proofs.lemmas.Bool.{ne_eqb}
 use Rattle.rest_paths.specs.Routed.{Routed, route_among, route_of, table_router, with_routes}

@@ -1,5 +1,6 @@
 -- Which route a path has: the one that matchit finds among the patterns of the table, taken in its order.
-use Rattle.std.specs.Prelude.{ℕ, List, [], ◌∷◌, ◌++◌, codes, Option, Some, None, Result, Ok, Err, option_and_then, option_map}
+use Rattle.std.specs.Prelude.{ℕ, List, [], ◌∷◌, ◌++◌, codes, Option, Some, None, Result, Ok, Err, option_and_then}
+use Rattle.std.specs.Prelude.{option_map}
 use Rattle.rest_paths.specs.Routes.{Object, Segment, Word, all_routes, segments_of}
 use Rattle.rest_paths.specs.declared.route.Route.{Route}
 use Rattle.matchit.specs.Order.{placed}

@@ -1,11 +1,13 @@
 -- The table of routes: how each path is written, which objects it names, and what it lists.
 use Rattle.std.specs.Prelude.{ℕ, Bool, true, false, List, [], ◌∷◌, ◌++◌, codes, map}
 use Rattle.rest_paths.specs.declared.route.Collection.{Collection}
-use Rattle.rest_paths.specs.declared.route.Collection.TheVariants.{Of, Schools, Terms, GradingPeriods, Students, Teachers}
+use Rattle.rest_paths.specs.declared.route.Collection.TheVariants.{Of, Schools, Terms, GradingPeriods, Students}
+use Rattle.rest_paths.specs.declared.route.Collection.TheVariants.{Teachers}
 use Rattle.rest_paths.specs.declared.route.Route.{Route}
 use Rattle.rest_paths.specs.declared.route.Route.TheVariants as route
 use Rattle.roster_values.specs.declared.kind.Kind.{Kind}
-use Rattle.roster_values.specs.declared.kind.Kind.TheVariants.{Orgs, AcademicSessions, Courses, Classes, Users, Enrollments, Categories, LineItems, Results, Resources}
+use Rattle.roster_values.specs.declared.kind.Kind.TheVariants.{Orgs, AcademicSessions, Courses, Classes, Users}
+use Rattle.roster_values.specs.declared.kind.Kind.TheVariants.{Enrollments, Categories, LineItems, Results, Resources}
 use Rattle.roster_values.specs.Kinds.{all_kinds, plural_of}
 
 -- the word for a collection

@@ -48,6 +48,7 @@ impl Path {
         }
     }
 
+    /// The route of the path.
     pub fn route(&self) -> Route
         ensures route { result ≡ self.now.route }
         ensures path { IsPath self.now }

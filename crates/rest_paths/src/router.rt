@@ -29,6 +29,7 @@ impl Model for PathRouter {
 impl PathRouter {
     ghost use Rattle.rest_paths.specs.Routed.{route_of};
 
+    /// A router over the table of all routes.
     pub fn new(alloc: Global) -> Result<PathRouter, NoMemory> {
         Ok(PathRouter {
             router: table_router(alloc)?,

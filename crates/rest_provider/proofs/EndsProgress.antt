@@ -1,15 +1,18 @@
 -- A stream as far as it was read and written to.
-use Rattle.std.proofs.Common.{◌≡◌, inl, inr, ℕ, ◌+◌, ◌-◌, ◌^◌, min, Bool, true, false, List, [], ◌∷◌, ◌++◌, length, length-append, Option, Some, None, Ok, Err, refl, sym, ap, ◌∙◌, subst, arith}
+use Rattle.std.proofs.Common.{◌≡◌, inl, inr, ℕ, ◌+◌, ◌-◌, ◌^◌, min, Bool, true, false, List, [], ◌∷◌, ◌++◌, length}
+use Rattle.std.proofs.Common.{length-append, Option, Some, None, Ok, Err, refl, sym, ap, ◌∙◌, subst, arith}
 use Rattle.std.specs.Prelude.{MatchBool}
 use Rattle.std.proofs.lemmas.List.{append-nil}
 use Rattle.std.specs.Io.KnownBytes.{Appends, prepend_known}
-use Rattle.http_wire.proofs.RunLemmas.{Continues, closes_behind, continues_more, continues_none, fails_behind, stops_behind}
+use Rattle.http_wire.proofs.RunLemmas.{Continues, closes_behind, continues_more, continues_none, fails_behind}
+use Rattle.http_wire.proofs.RunLemmas.{stops_behind}
 use Rattle.http_wire.specs.Reading.{AreFirst, AreRequests, BeginsWith, OnStream}
 use Rattle.http_wire.specs.declared.fault.WireFault.{WireFault}
 use Rattle.http_wire.specs.declared.fault.WireFault.TheVariants as fault
 use Rattle.outside_ports.proofs.Appending.{appends_both, appends_none, part_behind}
 use Rattle.outside_ports.specs.Written.{AppendsPart}
-use Rattle.rest_provider.specs.Ends.{AreTaken, Ends, EndsBy, IsRead, IsStopped, SourceStop, StandFirst, StayOpen, TellsStop, counted, fault_text}
+use Rattle.rest_provider.specs.Ends.{AreTaken, Ends, EndsBy, IsRead, IsStopped, SourceStop, StandFirst, StayOpen}
+use Rattle.rest_provider.specs.Ends.{TellsStop, counted, fault_text}
 use Rattle.rest_provider.specs.declared.stream_end.StreamEnd.{StreamEnd}
 use Rattle.rest_provider.specs.declared.stream_end.StreamEnd.TheVariants as end
 use Rattle.roster_base.specs.Faults.{Rose}

@@ -1,5 +1,6 @@
 -- A stream as far as it was served.
-use Rattle.std.proofs.Common.{◌≡◌, inl, inr, ℕ, ℤ, ◌+◌, ◌-◌, ◌^◌, min, true, false, List, [], ◌∷◌, ◌++◌, length, Option, refl, sym, ap, ◌∙◌, subst, arith}
+use Rattle.std.proofs.Common.{◌≡◌, inl, inr, ℕ, ℤ, ◌+◌, ◌-◌, ◌^◌, min, true, false, List, [], ◌∷◌, ◌++◌, length, Option}
+use Rattle.std.proofs.Common.{refl, sym, ap, ◌∙◌, subst, arith}
 use Rattle.std.proofs.lemmas.List.{append-nil, map-append}
 use Rattle.std.proofs.lemmas.List.Concat.{flat_map-append}
 use Rattle.std.specs.Io.KnownBytes.{Appends}
@@ -9,9 +10,12 @@ use Rattle.hub_spec.specs.requests.Requests.{wanted_by}
 use Rattle.hub_spec.specs.rules.Runs.{Replied, Runs, Step, Steps, Take, end_of}
 use Rattle.keeper_memory.specs.Kept.{KeptState}
 use Rattle.outside_ports.specs.Written.{AppendsPart}
-use Rattle.rest_provider.proofs.EndsProgress.{Progress as IsSoFar, begins as wire_begins, breaks_off as wire_breaks, closes_at as wire_closes, goes_on as wire_goes, stops_at as wire_stops, wants_memory as wire_wants}
+use Rattle.rest_provider.proofs.EndsProgress.{Progress as IsSoFar, begins as wire_begins, breaks_off as wire_breaks}
+use Rattle.rest_provider.proofs.EndsProgress.{closes_at as wire_closes, goes_on as wire_goes, stops_at as wire_stops}
+use Rattle.rest_provider.proofs.EndsProgress.{wants_memory as wire_wants}
 use Rattle.rest_provider.specs.Ends.{EndsBy, IsStopped, TellsStop}
-use Rattle.rest_provider.specs.Exchanges.{AreAt, AreStepsOf, CountsFailures, Exchange, IsStepOf, TakesAll, TakesInTurn, replies_text, requests_of}
+use Rattle.rest_provider.specs.Exchanges.{AreAt, AreStepsOf, CountsFailures, Exchange, IsStepOf, TakesAll, TakesInTurn}
+use Rattle.rest_provider.specs.Exchanges.{replies_text, requests_of}
 use Rattle.rest_provider.specs.Moments.{IsMomentOf}
 use Rattle.rest_provider.specs.Steps.{CountsFailed, TakesRequest}
 use Rattle.rest_provider.specs.Streams.{ComesFrom, Serves, Stage}

@@ -1,11 +1,13 @@
 -- The checks of a read, put together.
-use Rattle.std.proofs.Common.{◌≡◌, ◌≤◌, ◌-◌, get_or, slice_get, sym, ℕ, zero, suc, ℤ, Bool, true, false, List, [], ◌∷◌, Option, Some, None, Result, Ok, Err, option_map, refl, ap, ◌∙◌, subst}
+use Rattle.std.proofs.Common.{◌≡◌, ◌≤◌, ◌-◌, get_or, slice_get, sym, ℕ, zero, suc, ℤ, Bool, true, false, List, [], ◌∷◌}
+use Rattle.std.proofs.Common.{Option, Some, None, Result, Ok, Err, option_map, refl, ap, ◌∙◌, subst}
 use Rattle.filter_grammar.specs.declared.query.Query.{Query}
 use Rattle.grant_scopes.specs.Opens.{opens}
 use Rattle.grant_scopes.specs.declared.grant.Grant.{Grant}
 use Rattle.rest_paths.specs.Paths.{PathParts as Path}
 use Rattle.hub_spec.specs.rules.Answers.{Answered, Answers, Entered, either, sent}
-use Rattle.hub_spec.specs.rules.Checks.{Entry, check, entry_of, grant_in, method_refused, query_or, refused, refused_at, version_at}
+use Rattle.hub_spec.specs.rules.Checks.{Entry, check, entry_of, grant_in, method_refused, query_or, refused, refused_at}
+use Rattle.hub_spec.specs.rules.Checks.{version_at}
 use Rattle.hub_spec.specs.rules.Reads.{contents_of, object_shown, read_at, read_result}
 use Rattle.hub_spec.specs.rules.Wanted.{Wanted, access_of, allows, is_write}
 use Rattle.hub_spec.specs.views.Lists.{is_single, kind_of_path, object_of}

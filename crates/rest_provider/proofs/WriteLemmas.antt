@@ -1,5 +1,6 @@
 -- The checks of a write put together, and its reply as a step of a hub.
-use Rattle.std.proofs.Common.{◌≡◌, ◌⊎◌, ◌&&◌, ℕ, ℤ, Bool, true, false, inl, inr, cond, nat_lt, Option, Some, None, Result, Ok, Err, refl, sym, ap, subst, ◌∙◌}
+use Rattle.std.proofs.Common.{◌≡◌, ◌⊎◌, ◌&&◌, ℕ, ℤ, Bool, true, false, inl, inr, cond, nat_lt, Option, Some, None}
+use Rattle.std.proofs.Common.{Result, Ok, Err, refl, sym, ap, subst, ◌∙◌}
 use Rattle.std.specs.Option.{ForSome}
 use Rattle.std.specs.Prelude.{is_some}
 use Rattle.gradebook_core.specs.Writing.{LedBy, Writes, written_of}
@@ -10,7 +11,8 @@ use Rattle.hub_core.specs.declared.hub_error.HubError.TheVariants as error
 use Rattle.rest_paths.specs.Paths.{IsPath, PathParts as Path}
 use Rattle.hub_spec.specs.requests.Requests.{wanted_by}
 use Rattle.hub_spec.proofs.Keeping.{step_keeps}
-use Rattle.hub_spec.specs.rules.Answers.{Answered, Answers, Entered, Written as WrittenAs, reply_to_write, sent, told, write_of, write_result}
+use Rattle.hub_spec.specs.rules.Answers.{Answered, Answers, Entered, Written as WrittenAs, reply_to_write, sent, told}
+use Rattle.hub_spec.specs.rules.Answers.{write_of, write_result}
 use Rattle.hub_spec.specs.rules.Checks.{Entry, check, entry_of, grant_in, method_refused, refused}
 use Rattle.hub_spec.specs.rules.Runs.{ActedOrNot, Acts, Fails, Replied, Steps, Take, WantsMemory}
 use Rattle.hub_spec.specs.rules.States.{IsGranted, IsHub}

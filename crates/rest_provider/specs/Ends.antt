@@ -1,5 +1,6 @@
 -- How a stream of requests is read and written to, and how that ends, whoever answers.
-use Rattle.std.specs.Prelude.{◌≡◌, ◌⊎◌, ◌++◌, ◌+◌, ◌-◌, ◌^◌, ⊤, ℕ, true, false, List, [], ◌∷◌, Option, None, Some, Ok, Err, IfSome, length, min}
+use Rattle.std.specs.Prelude.{◌≡◌, ◌⊎◌, ◌++◌, ◌+◌, ◌-◌, ◌^◌, ⊤, ℕ, true, false, List, [], ◌∷◌, Option, None, Some, Ok}
+use Rattle.std.specs.Prelude.{Err, IfSome, length, min}
 use Rattle.std.specs.List.{AllByRecursion}
 use Rattle.std.specs.Io.KnownBytes.{Appends, prepend_known}
 use Rattle.http_wire.specs.Reading.{BeginsWith, Causes, HasRead, OnStream}

@@ -33,10 +33,7 @@ pub fn failing(alloc: Global, request: &Request, error: HubError) -> Reply
 pub fn is_write(verb: Verb) -> bool
     ensures { result ≡ is_write verb }
 {
-    match verb {
-        Verb::Put | Verb::Delete => true,
-        _ => false,
-    }
+    matches!(verb, Verb::Put | Verb::Delete)
 }
 
 // Answers a request over a hub that has no commit left open.

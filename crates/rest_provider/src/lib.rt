@@ -4,6 +4,7 @@
 pub mod answering;
 mod checks;
 mod contents;
+pub mod desk;
 mod ending;
 pub mod moment;
 mod reading;
@@ -16,6 +17,7 @@ pub mod turn;
 mod writes;
 
 pub use answering::answer;
+pub use desk::Desk;
 pub use ending::stop;
 pub use moment::moment_of;
 pub use reads::answer_read;

@@ -1,6 +1,6 @@
 //! A read of one version, by a caller who is known.
 
-ghost use Rattle.std.specs.Prelude.{◌≡◌, ◌≤◌, true, false, IfOk, IfSome, Ok, Err, Some, option_map};
+ghost use Rattle.std.specs.Prelude.{◌≡◌, ◌≤◌, true, false, IfOk, IfSome, Err, Some, option_map};
 ghost use Rattle.filter_grammar.specs.Queries.{query_of};
 ghost use Rattle.hub_spec.specs.requests.Requests.{query_or_cause, wanted_by};
 ghost use Rattle.hub_spec.specs.rules.Answers.{write_result};
@@ -49,12 +49,14 @@ pub struct Reading<'a> {
 }
 
 impl<'a> Reading<'a> {
+    // The kind of the objects that the path lists or names.
     fn kind(self) -> Kind
         ensures { result ≡ kind_of_path self.entry.path.now }
     {
         self.path.route().lists().kind()
     }
 
+    // The refusal with this cause.
     fn refused<T: Drop>(self, alloc: Global, cause: Cause) -> Result<T, Stop>
         ensures { result ≡ Err (refusal.Fault (spec.refused_at (wanted_by self.entry.request.now) self.entry.version cause)) }
     {
@@ -74,7 +76,7 @@ impl<'a> Reading<'a> {
         }
     }
 
-    // The query.
+    // The query that the request writes, or the refusal for its first fault.
     fn query(self, alloc: Global) -> Result<Query, Stop>
         ensures query { Gives (λ q. q) result
             (spec.query_or (wanted_by self.entry.request.now) self.entry.version (query_or_cause (query_of (kind_of_path self.entry.path.now) self.entry.request.now.query))) }
@@ -99,7 +101,7 @@ impl<'a> Reading<'a> {
         }
     }
 
-    // The check of the base, where there is one.
+    // The check of the base, where there is one: the caller may read it, and it isn't newer than the version.
     fn based(self, alloc: Global, base: Option<u64>) -> Result<(), Stop>
         ensures base { (state : HubState) (by : GrantRow) → spec.first_open state by ≡ self.entry.oldest
             → Gives (λ _. true) result (spec.base_checked state by (wanted_by self.entry.request.now) self.entry.version base) }
@@ -216,7 +218,7 @@ impl<'a> Reading<'a> {
         }
     }
 
-    // It, where each object that the path names is seen.
+    // What the path shows of the versions, or the refusal where it names an object that isn't seen.
     fn found(
         self,
         alloc: Global,
@@ -238,7 +240,7 @@ impl<'a> Reading<'a> {
         }
     }
 
-    // The 200.
+    // The reply with what was found.
     fn shown(self, alloc: Global, query: &Query, contents: Contents) -> Reply
         ensures { result ≡ reads.shown (wanted_by self.entry.request.now) self.entry.version query.now (contents_shown contents) }
     {
@@ -250,7 +252,7 @@ impl<'a> Reading<'a> {
         reply
     }
 
-    // The checks behind the query's.
+    // The reply once the query is known: base, mark and object are checked.
     fn answer_query(self, alloc: Global, table: &Table, query: &Query) -> Result<Reply, Stop>
         requires limit { 1 ≤ query.now.limit }
         requires oldest { (oldest_of table.now).number ≤ self.version }

@@ -77,10 +77,7 @@ fn settled(alloc: Global, request: &Request, read: Result<Reply, Stop>) -> Reply
 fn is_head(verb: Verb) -> bool
     ensures { result ≡ is_head verb }
 {
-    match verb {
-        Verb::Head => true,
-        _ => false,
-    }
+    matches!(verb, Verb::Head)
 }
 
 /// The reply as it is sent.

@@ -24,7 +24,7 @@ pub fn refused(alloc: Global, request: &Request, cause: Cause) -> Reply
     Reply::failing(alloc, cause, request.echo, request.close)
 }
 
-/// It, with the version that it speaks of.
+/// The reply that says the cause and the version that it speaks of, and no more; no memory is taken.
 pub fn refused_at(alloc: Global, request: &Request, version: u64, cause: Cause) -> Reply
     ensures { result ≡ spec.refused_at (wanted_by request.now) version cause }
 {
@@ -37,10 +37,7 @@ pub fn refused_at(alloc: Global, request: &Request, version: u64, cause: Cause) 
 fn is_gradebook(kind: Kind) -> bool
     ensures { result ≡ list_any (is_kind kind) gradebook_kinds }
 {
-    match kind {
-        Kind::Categories | Kind::LineItems | Kind::Results => true,
-        _ => false,
-    }
+    matches!(kind, Kind::Categories | Kind::LineItems | Kind::Results)
 }
 
 /// Whether the path takes writes.

@@ -5,6 +5,7 @@ ghost use Rattle.hub_core.specs.Standing.{KeeperFits};
 ghost use Rattle.rest_provider.specs.Ends.{ends_of};
 ghost use Rattle.rest_provider.specs.Streams.{Serves, stage_of};
 
+use crate::desk::Desk;
 use crate::ending::stop;
 use crate::stream_end::StreamEnd;
 use crate::turn::{Turn, take_turn};
@@ -12,20 +13,16 @@ use http_wire::WireReader;
 use hub_core::Hub;
 use keeper_memory::HubKeeper;
 use outside_ports::{Clock, Sink, Source};
-use rest_paths::PathRouter;
 use roster_base::NoMemory;
-use std::alloc::Global;
 
 // Answers the requests of a stream of which nothing was taken yet.
 fn serve<H: HubKeeper, S: Source, W: Sink, K: Clock>(
-    alloc: Global,
-    router: &PathRouter,
+    desk: &Desk<'_, K>,
     hub: &mut Hub,
     keeper: &mut H,
     reader: &mut WireReader,
     source: &mut S,
     sink: &mut W,
-    clock: &K,
 ) -> StreamEnd
     requires fits { KeeperFits (H.stands_for keeper.old) hub.old }
     requires fresh { reader.old.fault ≡ None }
@@ -34,11 +31,11 @@ fn serve<H: HubKeeper, S: Source, W: Sink, K: Clock>(
     ensures leads { H.leads keeper.old keeper.new }
     ensures served { Serves (stage_of (ends_of (S.left source.old) (S.faults source.old) (W.written sink.old) (W.faults sink.old)) (H.stands_for keeper.old) (H.fault_count keeper.old) hub.old)
         (stage_of (ends_of (S.left source.new) (S.faults source.new) (W.written sink.new) (W.faults sink.new)) (H.stands_for keeper.new) (H.fault_count keeper.new) hub.new)
-        (K.moment clock.now) result }
+        (K.moment desk.now.clock.now) result }
 {
     let mut answered: u64 = 0;
     'serving: loop {
-        match take_turn(alloc, router, hub, keeper, reader, source, sink, clock) {
+        match take_turn(desk, hub, keeper, reader, source, sink) {
             Turn::Answered { close: false } => answered = answered.saturating_add(1),
             Turn::Answered { close: true } => {
                 return StreamEnd::Closed {
@@ -47,7 +44,7 @@ fn serve<H: HubKeeper, S: Source, W: Sink, K: Clock>(
                 };
             }
             Turn::SinkFailed => return StreamEnd::Sink,
-            Turn::Stopped(fault) => return stop(alloc, sink, fault, answered, reader.kept()),
+            Turn::Stopped(fault) => return stop(desk.alloc, sink, fault, answered, reader.kept()),
         }
     }
 }
@@ -55,13 +52,11 @@ fn serve<H: HubKeeper, S: Source, W: Sink, K: Clock>(
 /// Answers the requests of a source in turn, each at the clock's moment, and writes their replies, until something ends the stream. Where
 /// a request can't be read for what its bytes are, the reply that says so goes out last.
 pub fn serve_stream<H: HubKeeper, S: Source, W: Sink, K: Clock>(
-    alloc: Global,
-    router: &PathRouter,
+    desk: &Desk<'_, K>,
     hub: &mut Hub,
     keeper: &mut H,
     source: &mut S,
     sink: &mut W,
-    clock: &K,
 ) -> StreamEnd
     requires { KeeperFits (H.stands_for keeper.old) hub.old }
     ensures fits { KeeperFits (H.stands_for keeper.new) hub.new }
@@ -70,10 +65,10 @@ pub fn serve_stream<H: HubKeeper, S: Source, W: Sink, K: Clock>(
     // tells of a fault; and the replies are those of a run of the hub.
     ensures served { Serves (stage_of (ends_of (S.left source.old) (S.faults source.old) (W.written sink.old) (W.faults sink.old)) (H.stands_for keeper.old) (H.fault_count keeper.old) hub.old)
         (stage_of (ends_of (S.left source.new) (S.faults source.new) (W.written sink.new) (W.faults sink.new)) (H.stands_for keeper.new) (H.fault_count keeper.new) hub.new)
-        (K.moment clock.now) result }
+        (K.moment desk.now.clock.now) result }
 {
-    match WireReader::new(alloc) {
-        Ok(mut reader) => serve(alloc, router, hub, keeper, &mut reader, source, sink, clock),
+    match WireReader::new(desk.alloc) {
+        Ok(mut reader) => serve(desk, hub, keeper, &mut reader, source, sink),
         Err(NoMemory) => StreamEnd::NoMemory,
     }
 }

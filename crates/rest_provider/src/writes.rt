@@ -1,6 +1,6 @@
 //! Answers to writes.
 
-ghost use Rattle.std.specs.Prelude.{◌≡◌, ◌≤◌, ℕ, IfOk, Result, Some, false, true};
+ghost use Rattle.std.specs.Prelude.{◌≡◌, ◌≤◌, ℕ, IfOk, false, true};
 ghost use Rattle.std.specs.Option.{ForSome};
 ghost use Rattle.gradebook_core.specs.Outcomes.{check_number, outcome_number};
 ghost use Rattle.hub_core.specs.Standing.{IsStanding, KeeperFits};
@@ -21,7 +21,7 @@ use crate::reading::Reading;
 use crate::reads::sent;
 use crate::refusals::{Stop, refused, refused_at};
 use gradebook_core::pages::belonging::id_at;
-use gradebook_core::{Check, Outcome, Written, write};
+use gradebook_core::{Asking, Check, Outcome, Written, write};
 use grant_scopes::Grant;
 use hub_core::Hub;
 use keeper_memory::HubKeeper;
@@ -44,10 +44,7 @@ pub struct Asked {
 fn is_delete(verb: Verb) -> bool
     ensures { result ≡ wanting.is_delete verb }
 {
-    match verb {
-        Verb::Delete => true,
-        _ => false,
-    }
+    matches!(verb, Verb::Delete)
 }
 
 fn mark_number(mark: MarkField) -> Option<u64>
@@ -207,7 +204,8 @@ fn answer_asked<H: HubKeeper>(
     let _ = at.milliseconds();
     let Asked { by, write: asked } = asked;
     let mark = mark_number(request.mark);
-    let answer = write(alloc, hub, keeper, &by, mark, asked, at);
+    let asking = Asking { by: &by, mark, at };
+    let answer = write(alloc, hub, keeper, &asking, asked);
     drop(by);
     match answer {
         Ok(written) => sent(request, reply_of(alloc, request, written)),

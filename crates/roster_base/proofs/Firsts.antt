@@ -1,7 +1,9 @@
 -- A list in order of keys tells of each key its first item, and so a stable sort leaves that list as it is.
-use Rattle.std.proofs.Common.{◌≡◌, ◌&&◌, ◌∙◌, ℕ, Bool, true, false, cond, not, List, [], ◌∷◌, Option, Some, None, Ordering, Less, Equal, Greater, filter, nat_cmp, is_eq, is_lt, bytes_eq, refl, sym, ap}
+use Rattle.std.proofs.Common.{◌≡◌, ◌&&◌, ◌∙◌, ℕ, Bool, true, false, cond, not, List, [], ◌∷◌, Option, Some, None}
+use Rattle.std.proofs.Common.{Ordering, Less, Equal, Greater, filter, nat_cmp, is_eq, is_lt, bytes_eq, refl, sym, ap}
 use Rattle.std.proofs.lemmas.Cmp.{nat_list_cmp_total, tied_itself}
 use Rattle.std.proofs.lemmas.Map.Text.{is_eq-slice_cmp}
+use Rattle.std.proofs.lemmas.Option.{none-some}
 use Rattle.std.proofs.lemmas.Slice.Eq.{bytes_eq-Decides}
 use Rattle.std.specs.Cmp.Lexicographic.{slice_cmp}
 use Rattle.std.specs.List.Sorted.{IsStableByKey, IsStrictlySortedBy, ties}
@@ -17,9 +19,6 @@ first key t (x ∷ xs) = cond (bytes_eq t (key x)) (Some x) (first key t xs)
 -- of each item's key the two lists have the same first item
 abbrev pub SameFirsts : {A : Type 0} → (A → List ℕ) → List A → List A → Type 0
 SameFirsts {A} key xs ys = (a : A) → first key (key a) xs ≡ first key (key a) ys
-
-same_text : (t : List ℕ) → bytes_eq t t ≡ true
-same_text t = (bytes_eq-Decides t t).1 refl
 
 -- ---- what `placed` and `in_order` have first
 
@@ -65,17 +64,14 @@ none_above key t (x ∷ xs) h =
     rw other (none_above key t xs h.1)
 
 at_first : {A : Type 0} (key : A → List ℕ) (x : A) (xs : List A) → first key (key x) (x ∷ xs) ≡ Some x
-at_first key x xs = ap (λ (b : Bool). cond b (Some x) (first key (key x) xs)) (same_text (key x))
-
-some_none : {A B : Type 0} (x : A) → Some x ≡ None → B
-some_none x e = cc e
+at_first key x xs = ap (λ (b : Bool). cond b (Some x) (first key (key x) xs)) ((bytes_eq-Decides (key x) (key x)).1 refl)
 
 -- x is first in a list that rises, and the other has it nowhere
 missed : {A B : Type 0} (key : A → List ℕ) (x y : A) (xs ys : List A) → slice_cmp nat_cmp (key x) (key y) ≡ Less → RiseBy key (y ∷ ys)
     → first key (key x) (x ∷ xs) ≡ first key (key x) (y ∷ ys) → B
 unfolding IsStrictlySortedBy
 missed key x y xs ys less h e =
-    some_none x (sym (at_first key x xs) ∙ e ∙ none_above key (key x) (y ∷ ys) (less, below_all key (key x) (key y) ys less h.0))
+    absurd (none-some x (sym (sym (at_first key x xs) ∙ e ∙ none_above key (key x) (y ∷ ys) (less, below_all key (key x) (key y) ys less h.0))))
 
 -- where the first items have one key, what has another is first in the rest
 rest_firsts : {A : Type 0} (key : A → List ℕ) (x y : A) (xs ys : List A) → key x ≡ key y → Below key (key x) xs → Below key (key y) ys
@@ -94,8 +90,8 @@ rest_firsts key x y xs ys same above above' e a = by (bytes_eq (key a) (key x)) 
 pub alike : {A : Type 0} (key : A → List ℕ) (us vs : List A) → RiseBy key us → RiseBy key vs → SameFirsts key us vs → us ≡ vs
 unfolding IsStrictlySortedBy
 alike key [] [] f g e = refl
-alike key [] (y ∷ ys) f g e = some_none y (sym (at_first key y ys) ∙ sym (e y))
-alike key (x ∷ xs) [] f g e = some_none x (sym (at_first key x xs) ∙ e x)
+alike key [] (y ∷ ys) f g e = absurd (none-some y (sym (sym (at_first key y ys) ∙ sym (e y))))
+alike key (x ∷ xs) [] f g e = absurd (none-some x (sym (sym (at_first key x xs) ∙ e x)))
 alike {A} key (x ∷ xs) (y ∷ ys) f g e = by (slice_cmp nat_cmp (key x) (key y)) refl (alike key xs ys f.1 g.1)
   where
     by : (o : Ordering) → slice_cmp nat_cmp (key x) (key y) ≡ o → (SameFirsts key xs ys → xs ≡ ys) → x ∷ xs ≡ y ∷ ys

@@ -1,5 +1,7 @@
 -- Of a sorted list the first item of each key, in one pass.
-use Rattle.std.proofs.Common.{◌≡◌, ◌∙◌, ◌<◌, ◌-◌, ◌++◌, ℕ, suc, Bool, true, false, cond, List, [], ◌∷◌, Option, Some, None, Ordering, Less, Equal, Greater, option_map, length, nat_cmp, is_lt, bytes_eq, refl, sym, ap, subst, add-one, append_assoc, arith}
+use Rattle.std.proofs.Common.{◌≡◌, ◌∙◌, ◌<◌, ◌-◌, ◌++◌, ℕ, suc, Bool, true, false, cond, List, [], ◌∷◌, Option, Some}
+use Rattle.std.proofs.Common.{None, Ordering, Less, Equal, Greater, option_map, length, nat_cmp, is_lt, bytes_eq, refl}
+use Rattle.std.proofs.Common.{sym, ap, subst, add-one, append_assoc, arith}
 use Rattle.std.proofs.lemmas.Bool.{and_from}
 use Rattle.std.proofs.lemmas.Cmp.{nat_list_cmp_total}
 use Rattle.std.specs.Cmp.Lexicographic.{slice_cmp}
@@ -103,7 +105,3 @@ kept-on {A} key done rest x = by (is_below (last_key key done) (key x))
         ap (λ last. (done ++ x ∷ []) ++ kept key last rest) (last_key-push key done x)
         ∙ append_assoc done (x ∷ []) (kept key (Some (key x)) rest)
     by false = refl
-
-pub nothing_left : {A : Type 0} (xs : List A) → length xs ≡ 0 → xs ≡ []
-nothing_left [] none = refl
-nothing_left (x ∷ xs) none = absurd (omega arith)

@@ -31,6 +31,7 @@ impl Bytes {
         self.bytes
     }
 
+    /// The bytes in order.
     pub fn as_slice(&self) -> &[u8]
         ensures { result.now ≡ self.now }
     {

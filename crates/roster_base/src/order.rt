@@ -1,6 +1,6 @@
 //! Lists in ascending order of their items' keys.
 
-ghost use Rattle.std.specs.Prelude.{◌≡◌, ℕ, List, [], map, true, option_copied, IfOk, OnOk, bytes_eq};
+ghost use Rattle.std.specs.Prelude.{◌≡◌, ℕ, List, map, true, option_copied, IfOk, OnOk, bytes_eq};
 ghost use Rattle.std.specs.Cmp.Lexicographic.{slice_cmp};
 ghost use Rattle.std.specs.List.{IsDistinct};
 ghost use Rattle.std.specs.List.Sorted.{IsPermutation, IsSortedByKey, IsStableByKey};

@@ -43,6 +43,7 @@ impl Text {
         self.text
     }
 
+    /// The text itself, lent.
     pub fn as_str(&self) -> &str
         ensures { result.now ≡ self.now }
     {

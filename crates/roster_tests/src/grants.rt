@@ -21,7 +21,7 @@ const SCOPE: Result<usize, GrantFault> = Err(GrantFault::BadScope { record_no: 2
 
 const SCHOOLS: Result<usize, GrantFault> = Err(GrantFault::BadSchools { record_no: 2 });
 
-// Files, and what is read.
+// Files, and how many grants are read of each, or what is wrong with it.
 static FILES: [(&[u8], Result<usize, GrantFault>); 36] = [
     (b"caller,token,scopes,schools", Ok(0)),
     (b"\xef\xbb\xbfcaller,token,scopes,schools\n", Ok(0)),
@@ -132,7 +132,7 @@ fn files_of_grants(rt: HostRuntime) -> Result<(), Fail> {
     Ok(())
 }
 
-// A caller, its token, the bits of its scopes, and how many schools it is granted, none being all.
+// A caller, its token, the bits of its scopes, and how many schools it is granted; nothing means all schools.
 fn told(entry: &GrantEntry) -> (&str, &str, u8, Option<usize>) {
     let schools = match &entry.schools {
         Schools::All => None,
@@ -146,6 +146,13 @@ fn told(entry: &GrantEntry) -> (&str, &str, u8, Option<usize>) {
     )
 }
 
+// The bits 0, 3, 4 and 5: `roster.readonly`, `gradebook.readonly`, `gradebook.createput` and `gradebook.delete`.
+const EAST_SCOPES: u8 = 57;
+
+// The bits 0 and 6: `roster.readonly` and `resource.readonly`.
+const ALL_SCOPES: u8 = 65;
+
+// A file with two grants.
 const TWO: &str =
     "caller,token,scopes,schools\neast,tok-e,roster.readonly gradebook.readonly gradebook.createput gradebook.delete,\" s2 , s1,,s2\"\nall,tok-a,roster.readonly resource.readonly,*\n";
 
@@ -153,8 +160,8 @@ const TWO: &str =
 fn grants_are_read(rt: HostRuntime) {
     let are_read = match read_grants(rt.alloc(), TWO.as_bytes()) {
         Ok(list) => match list.entries() {
-            [east, all] => told(east) == ("east", "tok-e", 57, Some(2))
-                && told(all) == ("all", "tok-a", 65, None),
+            [east, all] => told(east) == ("east", "tok-e", EAST_SCOPES, Some(2))
+                && told(all) == ("all", "tok-a", ALL_SCOPES, None),
             _ => false,
         },
         Err(_) => false,
@@ -162,7 +169,7 @@ fn grants_are_read(rt: HostRuntime) {
     assert!(rt; are_read);
 }
 
-// A file of so many grants.
+// A file of `count` grants.
 fn file_of(alloc: Global, count: u32) -> Result<String, NoMemory> {
     let mut text = String::from_str(alloc, "caller,token,scopes,schools\n")?;
     for number in 0..count {
@@ -171,6 +178,7 @@ fn file_of(alloc: Global, count: u32) -> Result<String, NoMemory> {
     Ok(text)
 }
 
+// How many grants a file asks for, and what is read of it: 10,000 is the most.
 static COUNTS: [(u32, Result<usize, GrantFault>); 2] = [
     (10_000, Ok(10_000)),
     (10_001, Err(GrantFault::TooMany)),

@@ -73,7 +73,7 @@ fn kinds_and_their_fields(rt: HostRuntime) {
     }
 }
 
-// Texts of scopes, an access, a kind, and whether they open it.
+// The text of a grant's scopes, an access, a kind, and whether the scopes open that access to the kind.
 static OPENED: [(&str, Access, Kind, bool); 16] = [
     ("", Access::Read, Kind::Orgs, false),
     ("roster.readonly", Access::Read, Kind::Orgs, true),
@@ -123,7 +123,7 @@ static OPENED: [(&str, Access, Kind, bool); 16] = [
     ("roster.readonly roster", Access::Read, Kind::Orgs, false),
 ];
 
-// Whether the scopes of a text open a kind; no text of scopes opens none.
+// Whether the scopes of a text open a kind. A text that is no list of scopes opens none.
 fn is_opened(text: &str, kind: Kind, access: Access) -> bool {
     match Scopes::read(text) {
         Some(scopes) => opens(scopes, kind, access),

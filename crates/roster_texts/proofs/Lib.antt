@@ -6,3 +6,4 @@ pub mod NumberTexts
 pub mod RangeLaws
 pub mod RoundTrip
 pub mod Spaces
+pub mod TokenLemmas

@@ -1,9 +1,11 @@
 -- Moments read from texts.
-use Rattle.std.proofs.Common.{◌≡◌, ℕ, ◌+◌, ◌-◌, ◌≤◌, List, length, take, drop, false, Some, refl, ap, ◌∙◌, arith, ℤ, nat_lt, length-drop}
+use Rattle.std.proofs.Common.{◌≡◌, ℕ, ◌+◌, ◌-◌, ◌≤◌, List, length, take, drop, false, Some, refl, ap, ◌∙◌, arith, ℤ}
+use Rattle.std.proofs.Common.{nat_lt, length-drop}
 use Rattle.std.proofs.lemmas.List.{take_all}
 use Rattle.std.proofs.lemmas.Bool.Decides.{nat_tests}
 use Rattle.roster_texts.specs.Days.{day_of}
-use Rattle.roster_texts.specs.Moments.{instant_of, milliseconds_at, milliseconds_of, moment_at, offset_of, seconds_of, zone_len}
+use Rattle.roster_texts.specs.Moments.{instant_of, milliseconds_at, milliseconds_of, moment_at, offset_of, seconds_of}
+use Rattle.roster_texts.specs.Moments.{zone_len}
 
 -- what `&t[k..]` is
 rest_from : (t : List ℕ) (k : ℕ) → take (length t - k) (drop k t) ≡ drop k t

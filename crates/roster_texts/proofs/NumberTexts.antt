@@ -1,5 +1,6 @@
 -- Numbers and years that are printed read as themselves.
-use Rattle.std.proofs.Common.{◌≡◌, ℕ, ◌+◌, ◌-◌, ◌*◌, ◌<◌, ◌≤◌, ◌^◌, ◌&&◌, List, [], ◌∷◌, length, fold, suc, take, drop, true, false, Ok, refl, arith, rules, ℤ, pos, negsuc, nat_le, nat_eq}
+use Rattle.std.proofs.Common.{◌≡◌, ℕ, ◌+◌, ◌-◌, ◌*◌, ◌<◌, ◌≤◌, ◌^◌, ◌&&◌, List, [], ◌∷◌, length, fold, suc, take, drop}
+use Rattle.std.proofs.Common.{true, false, Ok, refl, arith, rules, ℤ, pos, negsuc, nat_le, nat_eq}
 use Rattle.std.proofs.lemmas.Bool.{and_parts}
 use Rattle.std.proofs.lemmas.Bool.Decides.{nat_tests}
 use Rattle.std.proofs.lemmas.Fmt.{decimal_nonempty, digits_decimal, digits_value-decimal, length-decimal-le}

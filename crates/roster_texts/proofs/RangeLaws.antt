@@ -1,5 +1,8 @@
 -- What a text reads as lies in the range of its type.
-use Rattle.std.proofs.Common.{◌≡◌, ℕ, suc, ◌+◌, ◌-◌, ◌*◌, ◌<◌, ◌≤◌, ◌^◌, cond, not, List, [], ◌∷◌, length, fold, Bool, true, false, Option, Some, None, Result, Ok, Err, IfOk, IfSome, option_map, slice_range, take, drop, refl, arith, ℤ, pos, nat_le, nat_lt, nat_eq, add-one, add-zero, zero-add, subst, lit<, length-take}
+use Rattle.std.proofs.Common.{◌≡◌, ℕ, suc, ◌+◌, ◌-◌, ◌*◌, ◌<◌, ◌≤◌, ◌^◌, cond, not, List, [], ◌∷◌, length, fold, Bool}
+use Rattle.std.proofs.Common.{true, false, Option, Some, None, Result, Ok, Err, IfOk, IfSome, option_map, slice_range}
+use Rattle.std.proofs.Common.{take, drop, refl, arith, ℤ, pos, nat_le, nat_lt, nat_eq, add-one, add-zero, zero-add}
+use Rattle.std.proofs.Common.{subst, lit<, length-take}
 use Rattle.std.proofs.lemmas.Bool.{and_parts, eqb-true}
 use Rattle.std.proofs.lemmas.Bool.Decides.{nat_tests}
 use Rattle.std.proofs.lemmas.Int.{ints}
@@ -10,8 +13,10 @@ use Rattle.roster_texts.specs.declared.fault.ValueFault.{ValueFault}
 use Rattle.roster_texts.specs.declared.fault.ValueFault.TheVariants as fault
 use Rattle.roster_texts.specs.Days.{day_at, day_of, has_day_form, is_calendar_day, is_day, IsDay}
 use Rattle.roster_texts.specs.Digits.{decimal_value, digits_value, is_digit, ◌>>=◌ as ◌some>>=◌, signed}
-use Rattle.roster_texts.specs.Moments.{instant_of, is_moment, midnight, milliseconds_at, milliseconds_of, moment_at, moment_of, offset_of, seconds_of, written_day_of, zone_len}
-use Rattle.roster_texts.specs.Numbers.{after_digits, first_digits, has_number_form, is_negative, is_number, is_year, is_zero_fraction, number_of, unsigned_of, without_sign, year_of}
+use Rattle.roster_texts.specs.Moments.{instant_of, is_moment, midnight, milliseconds_at, milliseconds_of, moment_at}
+use Rattle.roster_texts.specs.Moments.{moment_of, offset_of, seconds_of, written_day_of, zone_len}
+use Rattle.roster_texts.specs.Numbers.{after_digits, first_digits, has_number_form, is_negative, is_number, is_year}
+use Rattle.roster_texts.specs.Numbers.{is_zero_fraction, number_of, unsigned_of, without_sign, year_of}
 use Rattle.roster_base.specs.Reading.{◌>>=◌}
 use Rattle.roster_texts.proofs.DayLemmas.{calendar_in_range}
 use Rattle.roster_texts.proofs.DigitLemmas.{all_first_digits, twelve_digits}

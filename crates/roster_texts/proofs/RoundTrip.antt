@@ -1,5 +1,6 @@
 -- What is printed reads as itself.
-use Rattle.std.proofs.Common.{◌≡◌, ℕ, ◌/◌, ◌%◌, ◌<◌, ◌≤◌, List, ◌∷◌, ◌++◌, true, Some, refl, ap, ◌∙◌, arith, ℤ, pos, ◌&&◌, nat_le, codes}
+use Rattle.std.proofs.Common.{◌≡◌, ℕ, ◌/◌, ◌%◌, ◌<◌, ◌≤◌, List, ◌∷◌, ◌++◌, true, Some, refl, ap, ◌∙◌, arith, ℤ, pos}
+use Rattle.std.proofs.Common.{◌&&◌, nat_le, codes}
 use Rattle.std.proofs.lemmas.Bool.Decides.{nat_tests}
 use Rattle.std.proofs.lemmas.Int.{ints}
 use Rattle.std.specs.Int.{int_rem_euclid}
@@ -8,7 +9,9 @@ use Rattle.jiff_core.proofs.SignedLemmas.{int_div_euclid-parts, int_rem_euclid-p
 use Rattle.roster_texts.specs.Digits.{decimal_value, digits_value, four, is_digit, three, two}
 use Rattle.roster_texts.specs.Days.{day_at, day_of, day_of_month, day_text, is_day, month_of_day, year_of_day, IsDay}
 use Rattle.roster_base.specs.Moments.{IsMoment}
-use Rattle.roster_texts.specs.Moments.{clock_text, clock_time, day_part, fraction_text, instant_of, is_moment, milliseconds_at, milliseconds_of, moment_at, moment_of, moment_text, offset_of, seconds_of, time_part, written_day_of}
+use Rattle.roster_texts.specs.Moments.{clock_text, clock_time, day_part, fraction_text, instant_of, is_moment}
+use Rattle.roster_texts.specs.Moments.{milliseconds_at, milliseconds_of, moment_at, moment_of, moment_text, offset_of}
+use Rattle.roster_texts.specs.Moments.{seconds_of, time_part, written_day_of}
 use Rattle.roster_texts.proofs.CalendarDays.{part_bounds, split}
 
 pub digits_two : (n : ℕ) → n < 100 → digits_value (two n) ≡ Some n

@@ -1,5 +1,6 @@
 -- Days as texts: YYYY-MM-DD. A day is the number of days since 1 January 1970.
-use Rattle.std.specs.Prelude.{ℕ, zero, suc, int_le, codes, ◌++◌, ◌==◌, ◌&&◌, not, Bool, List, Option, Some, None, ℤ, pos, negsuc, ◌≤ℤ◌, length, nat_le, slice_index, slice_range, if◌then◌else◌}
+use Rattle.std.specs.Prelude.{ℕ, zero, suc, int_le, codes, ◌++◌, ◌==◌, ◌&&◌, not, Bool, List, Option, Some, None, ℤ}
+use Rattle.std.specs.Prelude.{pos, negsuc, ◌≤ℤ◌, length, nat_le, slice_index, slice_range, if◌then◌else◌}
 use Rattle.jiff_core.specs.Calendar.{days_from_civil, days_in_month}
 use Rattle.roster_texts.specs.Digits.{digits_value, four, two, ◌>>=◌}
 use Rattle.roster_texts.specs.Signs.{hyphen}

@@ -1,5 +1,7 @@
 -- Moments as texts. A moment is the number of milliseconds since 1 January 1970, 00:00:00 UTC.
-use Rattle.std.specs.Prelude.{codes, ◌++◌, ◌/◌, ◌%◌, unsigned_abs, ℕ, ◌+◌, ◌-◌, ◌*◌, ◌==◌, ◌&&◌, ◌||◌, not, Bool, List, Option, Some, None, option_map, ℤ, pos, negsuc, ◌+ℤ◌, ◌-ℤ◌, ◌*ℤ◌, int_le, length, nat_le, nat_lt, take, drop, slice_index, slice_index_or, slice_range, if◌then◌else◌}
+use Rattle.std.specs.Prelude.{codes, ◌++◌, ◌/◌, ◌%◌, unsigned_abs, ℕ, ◌+◌, ◌-◌, ◌*◌, ◌==◌, ◌&&◌, ◌||◌, not, Bool, List}
+use Rattle.std.specs.Prelude.{Option, Some, None, option_map, ℤ, pos, negsuc, ◌+ℤ◌, ◌-ℤ◌, ◌*ℤ◌, int_le, length, nat_le}
+use Rattle.std.specs.Prelude.{nat_lt, take, drop, slice_index, slice_index_or, slice_range, if◌then◌else◌}
 use Rattle.std.specs.Int.{int_div_euclid, int_rem_euclid}
 use Rattle.std.specs.List.{list_all}
 use Rattle.roster_texts.specs.Digits.{digits_value, is_digit, signed, three, two, ◌>>=◌}

@@ -1,5 +1,6 @@
 -- Numbers, years and flags as texts.
-use Rattle.std.specs.Prelude.{bytes_eq, codes, ℕ, ◌==◌, ◌&&◌, ◌||◌, not, Bool, true, false, List, Result, Ok, Err, ℤ, pos, negsuc, int_le, length, nat_le, take, drop, slice_index, if◌then◌else◌}
+use Rattle.std.specs.Prelude.{bytes_eq, codes, ℕ, ◌==◌, ◌&&◌, ◌||◌, not, Bool, true, false, List, Result, Ok, Err, ℤ}
+use Rattle.std.specs.Prelude.{pos, negsuc, int_le, length, nat_le, take, drop, slice_index, if◌then◌else◌}
 use Rattle.std.specs.Str.{str_to_ascii_lowercase}
 use Rattle.std.specs.List.{list_all, prefix_len}
 use Rattle.roster_base.specs.Reading.{◌>>=◌}

@@ -1,8 +1,10 @@
 -- The checked texts: ids, names and tokens.
-use Rattle.std.specs.Prelude.{ℕ, ◌==◌, ◌&&◌, ◌||◌, ◌-◌, not, Bool, List, length, drop, take_while, nat_lt, nat_le, slice_index}
+use Rattle.std.specs.Prelude.{ℕ, ◌==◌, ◌&&◌, ◌||◌, ◌-◌, not, Bool, List, length, drop, take_while, nat_lt, nat_le}
+use Rattle.std.specs.Prelude.{slice_index}
 use Rattle.std.specs.Char.{is_ascii_alphanumeric}
 use Rattle.std.specs.List.{list_all}
-use Rattle.roster_texts.specs.Signs.{comma, delete, dot, equals_sign, hyphen, plus_sign, slash, space, tilde, underscore}
+use Rattle.roster_texts.specs.Signs.{comma, delete, dot, equals_sign, hyphen, plus_sign, slash, space, tilde}
+use Rattle.roster_texts.specs.Signs.{underscore}
 
 -- no control character of ASCII and no comma
 abbrev pub is_id_byte : ℕ → Bool

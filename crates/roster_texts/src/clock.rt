@@ -1,7 +1,8 @@
 //! Times of day.
 
 ghost use Rattle.std.specs.Prelude.{◌≡◌, ◌<◌, IfSome, OnOk, string_bytes, ◌++◌};
-ghost use Rattle.roster_texts.specs.Moments.{clock_text, clock_time, digit_at, fraction_text, has_fraction_form, has_time_form, milliseconds_of, seconds_of, time_text};
+ghost use Rattle.roster_texts.specs.Moments.{clock_text, clock_time, digit_at, fraction_text, has_fraction_form};
+ghost use Rattle.roster_texts.specs.Moments.{has_time_form, milliseconds_of, seconds_of, time_text};
 
 use crate::digits::{all_digits, push_three, push_two, two_digits};
 use roster_base::NoMemory;

@@ -3,7 +3,8 @@
 ghost use Rattle.std.specs.Prelude.{◌≡◌, ◌↔◌, ◌<◌, ◌≤◌, ℤ, pos, IsSome, IfOk, IfSome, OnOk, string_bytes, ◌++◌};
 ghost use Rattle.jiff_core.specs.Calendar.{IsDate};
 ghost use Rattle.jiff_core.specs.Date.{IsYmd, epoch_day};
-ghost use Rattle.roster_texts.specs.Days.{day_at, day_of, day_of_month, day_text, has_day_form, month_of_day, year_of_day, IsDay};
+ghost use Rattle.roster_texts.specs.Days.{day_at, day_of, day_of_month, day_text, has_day_form, month_of_day};
+ghost use Rattle.roster_texts.specs.Days.{year_of_day, IsDay};
 
 use crate::digits::{four_digits, push_four, push_two, two_digits};
 use jiff_core::civil::Date;

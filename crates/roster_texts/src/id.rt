@@ -1,6 +1,6 @@
 //! The ids of records.
 
-ghost use Rattle.std.specs.Prelude.{◌≡◌, [], true, false, ℕ, IfOk, MatchOption, List};
+ghost use Rattle.std.specs.Prelude.{◌≡◌, true, false, ℕ, IfOk, MatchOption, List};
 ghost use Rattle.std.specs.List.{list_all};
 ghost use Rattle.std.specs.Arc.{arc_str_bytes};
 ghost use Rattle.roster_texts.specs.Texts.{is_id, is_id_byte};

@@ -1,8 +1,10 @@
 //! Moments: instants to the millisecond.
 
-ghost use Rattle.std.specs.Prelude.{◌≡◌, ◌+◌, ◌*◌, ◌<◌, ◌≤◌, ◌*ℤ◌, ℤ, pos, negsuc, ◌≤ℤ◌, IfOk, IfSome, OnOk, length, string_bytes, ◌++◌};
+ghost use Rattle.std.specs.Prelude.{◌≡◌, ◌+◌, ◌*◌, ◌<◌, ◌≤◌, ◌*ℤ◌, ℤ, pos, negsuc, ◌≤ℤ◌, IfOk, IfSome, OnOk, length};
+ghost use Rattle.std.specs.Prelude.{string_bytes, ◌++◌};
 ghost use Rattle.roster_base.specs.Moments.{IsMoment};
-ghost use Rattle.roster_texts.specs.Moments.{day_part, instant_of, midnight, milliseconds_at, moment_at, moment_of, moment_text, time_part, written_day_of};
+ghost use Rattle.roster_texts.specs.Moments.{day_part, instant_of, midnight, milliseconds_at, moment_at, moment_of};
+ghost use Rattle.roster_texts.specs.Moments.{moment_text, time_part, written_day_of};
 
 use crate::clock::{push_time, read_milliseconds, read_seconds};
 use crate::day::Day;
@@ -39,6 +41,13 @@ impl Moment {
         } else {
             None
         }
+    }
+
+    /// 1970-01-01T00:00:00.000Z.
+    pub fn epoch() -> Moment
+        ensures { result ≡ pos 0 }
+    {
+        Moment { milliseconds: 0 }
     }
 
     /// The milliseconds since 1970-01-01T00:00:00.000Z, below 0 before it.

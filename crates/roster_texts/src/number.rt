@@ -4,7 +4,8 @@ ghost use Rattle.std.specs.Prelude.{◌≡◌, ◌≤◌, ◌<◌, ◌^◌, true
 ghost use Rattle.std.specs.Fmt.{signed_decimal};
 ghost use Rattle.std.specs.List.{prefix_len};
 ghost use Rattle.roster_texts.specs.Digits.{decimal_value, four, is_digit};
-ghost use Rattle.roster_texts.specs.Numbers.{first_digits, flag_of, has_number_form, is_fraction, is_number, is_zero_fraction, number_of, unsigned_of, year_of};
+ghost use Rattle.roster_texts.specs.Numbers.{first_digits, flag_of, has_number_form, is_fraction, is_number};
+ghost use Rattle.roster_texts.specs.Numbers.{is_zero_fraction, number_of, unsigned_of, year_of};
 
 use crate::digits::{all_digits, four_digits, number};
 use crate::fault::ValueFault;

@@ -1,12 +1,14 @@
 //! The tokens that callers present.
 
-ghost use Rattle.std.specs.Prelude.{◌≡◌, true, false, ℕ, IfOk, MatchOption, List, length};
+ghost use Rattle.std.specs.Prelude.{◌≡◌, true, false, ℕ, IfOk, IfSome, MatchOption, List, None, Some, if◌then◌else◌};
+ghost use Rattle.std.specs.Prelude.{length};
 ghost use Rattle.std.specs.String.{string_bytes};
 ghost use Rattle.roster_texts.specs.Texts.{is_padding, is_token, is_token_byte, token_body};
 
 use roster_base::{NoMemory, TryCopy};
 use std::alloc::Global;
 use std::marker::Model;
+use std::str;
 
 /// A bearer token as RFC 6750 writes one: letters and digits of ASCII and `-._~+/`, at least one, and then any number of `=`,
 /// at most 256 in all. A clause sees its bytes.
@@ -35,6 +37,18 @@ impl Token {
         Ok(Some(Token {
             text: String::from_str(alloc, text)?,
         }))
+    }
+
+    /// The bytes as a token, if they are one.
+    #[tactic(auto, using(crate::proofs::TokenLemmas::token_is_text))]
+    pub fn from_bytes(alloc: Global, bytes: &[u8]) -> Result<Option<Token>, NoMemory>
+        ensures value { IfOk result (λ o. o ≡ (if is_token bytes.now then Some bytes.now else None)) }
+        ensures same { IfOk result (λ o. IfSome o (λ token. token ≡ bytes.now)) }
+    {
+        match str::from_utf8(bytes) {
+            Ok(text) => Token::read(alloc, text),
+            Err(_) => Ok(None),
+        }
     }
 
     /// Whether the text is a token.

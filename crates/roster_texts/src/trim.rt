@@ -24,6 +24,7 @@ pub fn drop_front(text: &str) -> &str
     rest
 }
 
+// The text without the spaces behind.
 fn drop_end(text: &str) -> &str
     ensures { result.now ≡ without_end text.now }
 {
@@ -42,7 +43,7 @@ pub fn trim_spaces(text: &str) -> &str
     if text.is_empty() {
         return text;
     }
-    // Most texts have no space at either end, and are given back without a look at their characters.
+    // Most texts have no space at either end: for them a look at two bytes is enough.
     if has_plain_ends(text.as_bytes()) {
         return text;
     }

@@ -1,5 +1,7 @@
 -- Lengths are within bounds that look at no byte.
-use Rattle.std.proofs.Common.{◌≡◌, ◌<◌, ◌≤◌, ◌+◌, ◌-◌, ◌*◌, ◌/◌, ◌%◌, ◌++◌, ◌==◌, ℕ, ℤ, suc, pos, negsuc, Bool, true, false, List, [], ◌∷◌, Option, None, codes, cond, drop, get_or, length, min, sum_by, refl, arith, add-one}
+use Rattle.std.proofs.Common.{◌≡◌, ◌<◌, ◌≤◌, ◌+◌, ◌-◌, ◌*◌, ◌/◌, ◌%◌, ◌++◌, ◌==◌, ℕ, ℤ, suc, pos, negsuc, Bool, true}
+use Rattle.std.proofs.Common.{false, List, [], ◌∷◌, Option, None, codes, cond, drop, get_or, length, min, sum_by, refl}
+use Rattle.std.proofs.Common.{arith, add-one}
 use Rattle.std.proofs.lemmas.Bool.Decides.{nat_tests}
 use Rattle.std.proofs.lemmas.Fmt.{length-decimal-le}
 use Rattle.std.proofs.lemmas.List.Sums.{sum_by-append, sum_by-cons}
@@ -8,7 +10,7 @@ use Rattle.std.specs.List.{flat_map}
 use Rattle.percent_encoding.specs.Percent.{percent_encode_byte}
 use Rattle.roster_texts.specs.Days.{day_text}
 use Rattle.roster_texts.specs.Digits.{four}
-use Rattle.roster_texts.specs.Moments.{clock_text, fraction_text, moment_text}
+use Rattle.roster_texts.specs.Moments.{moment_text}
 use Rattle.roster_texts.specs.Numbers.{is_number}
 use Rattle.roster_texts.proofs.NumberTexts.{small_neg, small_pos}
 use Rattle.roster_values.specs.declared.kind.Kind.{Kind}
@@ -18,11 +20,14 @@ use Rattle.roster_values.specs.declared.value.Value.TheVariants.{Day, Flag, Mome
 use Rattle.roster_values.specs.CellText.{cell_text, flag_text}
 use Rattle.roster_values.specs.Fit.{fits_form}
 use Rattle.roster_values.specs.Kinds.{plural_of, single_of}
-use Rattle.roster_values.specs.Table.{Form, Info, TextForm, IdForm, DayForm, MomentForm, NumberForm, YearForm, FlagForm, WordForm, TextsForm, UserIdsForm, RefForm, RefsForm}
+use Rattle.roster_values.specs.Table.{Form, Info, TextForm, IdForm, DayForm, MomentForm, NumberForm, YearForm, FlagForm}
+use Rattle.roster_values.specs.Table.{WordForm, TextsForm, UserIdsForm, RefForm, RefsForm}
 use Rattle.roster_types.specs.declared.metadata.Entry.{Entry}
 use Rattle.roster_types.specs.Bounds.{IsBound}
 use Rattle.roster_types.specs.Hrefs.{encoded_byte, href, is_unreserved}
-use Rattle.roster_types.specs.Lengths.{entry_length, escaped_length, field_length, fields_length, metadata_length, reference_length, text_length, value_length}
+use Rattle.roster_types.specs.Lengths.{entry_length, escaped_length, field_length, fields_length, metadata_length}
+use Rattle.roster_types.specs.Lengths.{reference_length, text_length, value_length}
+use Rattle.roster_types.proofs.Dates.{moment_bytes}
 use Rattle.roster_types.proofs.MetadataLaws.{metadata_length-some}
 use Rattle.roster_types.proofs.Sums.{fields_length-drop, fields_length-end}
 
@@ -99,10 +104,6 @@ unfolding value_length cell_text
 day_bound form day =
     let most : text_length (day_text day) ≤ 146 = omega (arith, text_most (day_text day), day_bytes day) in
     record { small = omega arith; above = omega (arith, most) }
-
-moment_bytes : (moment : ℤ) → length (moment_text moment) ≡ 24
-unfolding moment_text day_text clock_text fraction_text
-moment_bytes moment = refl
 
 pub moment_bound : (form : Form) (moment : ℤ) → IsBound 146 (value_length form (Moment moment))
 unfolding value_length cell_text

@@ -1,21 +1,22 @@
 -- All moments are printed in one length.
-use Rattle.std.proofs.Common.{◌≡◌, ◌<◌, ◌+◌, ◌/◌, ◌%◌, ◌&&◌, ℕ, ℤ, true, Bool, List, [], ◌∷◌, ◌++◌, Some, codes, length, nat_le, sum_by, refl, ◌∙◌, arith}
+use Rattle.std.proofs.Common.{◌≡◌, ◌<◌, ◌+◌, ◌/◌, ◌%◌, ◌&&◌, ℕ, ℤ, true, Bool, List, [], ◌∷◌, ◌++◌, Some, codes, length}
+use Rattle.std.proofs.Common.{nat_le, sum_by, refl, ◌∙◌, arith}
 use Rattle.std.proofs.lemmas.Bool.{and_from, and_parts}
 use Rattle.std.proofs.lemmas.Bool.Decides.{nat_tests}
 use Rattle.std.proofs.lemmas.List.Folds.{list_all-append}
 use Rattle.std.proofs.lemmas.List.Sums.{sum_by-cons}
-use Rattle.std.proofs.lemmas.Int.{ints}
 use Rattle.std.specs.List.{list_all}
 use Rattle.roster_base.specs.Moments.{IsMoment}
 use Rattle.roster_texts.specs.Days.{day_of_month, day_text, month_of_day, year_of_day}
 use Rattle.roster_texts.specs.Digits.{four, three, two}
 use Rattle.roster_texts.specs.Moments.{clock_text, day_part, fraction_text, is_moment, moment_text, time_part}
 use Rattle.roster_texts.proofs.CalendarDays.{part_bounds}
-use Rattle.roster_texts.proofs.RoundTrip.{day_in_range, time_small}
+use Rattle.roster_texts.proofs.RoundTrip.{day_in_range, moment_from, time_small}
 use Rattle.roster_values.specs.CellText.{cell_text}
 use Rattle.roster_values.specs.declared.value.Value.TheVariants.{Moment}
 use Rattle.roster_values.specs.Table.{Info}
-use Rattle.roster_types.specs.Lengths.{escaped_length, field_length, fields_length, object_length, row_length, text_length, value_length}
+use Rattle.roster_types.specs.Lengths.{escaped_length, field_length, fields_length, object_length, row_length}
+use Rattle.roster_types.specs.Lengths.{text_length, value_length}
 use Rattle.roster_types.specs.declared.status.Status.{Status}
 use Rattle.roster_types.specs.Records.{Record}
 use Rattle.roster_types.specs.Rows.{IsRow}
@@ -78,16 +79,13 @@ moment_plain z h =
     (day_plain (year_of_day (day_part z)) (month_of_day (day_part z)) (day_of_month (day_part z)) (omega (arith, bounds.0)) (omega (arith, bounds.1)) (omega (arith, bounds.2)))
     (both_plain (clock_text (time_part z / 1000)) (fraction_text (time_part z % 1000)) (clock_plain (time_part z / 1000) (omega (arith, small))) (fraction_plain (time_part z % 1000) (omega arith)))
 
-moment_bytes : (z : ℤ) → length (moment_text z) ≡ 24
+pub moment_bytes : (z : ℤ) → length (moment_text z) ≡ 24
 unfolding moment_text day_text clock_text fraction_text
 moment_bytes z = refl
 
-in_range : (z : ℤ) → is_moment z ≡ true → IsMoment z
-in_range z h = grind (arith, ints, h)
-
 pub text_length-moment : (z : ℤ) → is_moment z ≡ true → text_length (moment_text z) ≡ 26
 unfolding text_length
-text_length-moment z h = let sum = plain_sum (moment_text z) (moment_plain z (in_range z h)) in omega (arith, sum, moment_bytes z)
+text_length-moment z h = let sum = plain_sum (moment_text z) (moment_plain z (moment_from z h)) in omega (arith, sum, moment_bytes z)
 
 date_length : (i : Info) (z : ℤ) → is_moment z ≡ true → field_length i (Some (Moment z)) ≡ text_length i.name + 28
 unfolding field_length value_length cell_text

@@ -1,5 +1,6 @@
 -- Values that may stand in the fields of a kind.
-use Rattle.std.proofs.Common.{◌≡◌, ◌≤◌, ◌-◌, ℕ, zero, suc, ℤ, true, false, List, [], ◌∷◌, Option, Some, None, length, get_or, drop, take, refl, ap, sym, arith}
+use Rattle.std.proofs.Common.{◌≡◌, ◌≤◌, ◌-◌, ℕ, zero, suc, ℤ, true, false, List, [], ◌∷◌, Option, Some, None, length}
+use Rattle.std.proofs.Common.{get_or, drop, take, refl, ap, sym, arith}
 use Rattle.std.proofs.lemmas.Bool.{and_from, and_parts}
 use Rattle.std.proofs.lemmas.Int.{ints}
 use Rattle.roster_base.specs.Moments.{IsMoment}
@@ -13,7 +14,8 @@ use Rattle.roster_values.specs.Table.{Info, IdForm, MomentForm, WordForm, common
 use Rattle.roster_types.specs.declared.metadata.Entry.{Entry}
 use Rattle.roster_types.specs.declared.status.Status.{Status}
 use Rattle.roster_types.specs.declared.status.Status.TheVariants.{Active, ToBeDeleted}
-use Rattle.roster_types.specs.Records.{IsFitting, IsMetadata, Record, all_values, id_in, moment_in, record_from, status_in, status_word}
+use Rattle.roster_types.specs.Records.{IsFitting, IsMetadata, Record, all_values, id_in, moment_in, record_from}
+use Rattle.roster_types.specs.Records.{status_in, status_word}
 use Rattle.roster_types.specs.Shapes.{fits_all, own_fields}
 
 -- each kind's fields are the common ones and its own

@@ -1,5 +1,6 @@
 -- How long a row is: the bytes of its JSON object, compact, written with the status `tobedeleted`.
-use Rattle.std.specs.Prelude.{ℕ, ◌+◌, ◌-◌, ◌||◌, ◌==◌, Bool, List, [], ◌∷◌, Option, None, Some, codes, length, map, nat_lt, sum_by, if◌then◌else◌}
+use Rattle.std.specs.Prelude.{ℕ, ◌+◌, ◌-◌, ◌||◌, ◌==◌, Bool, List, [], ◌∷◌, Option, None, Some, codes, length, map}
+use Rattle.std.specs.Prelude.{nat_lt, sum_by, if◌then◌else◌}
 use Rattle.roster_types.specs.declared.metadata.Entry.{Entry}
 use Rattle.roster_types.specs.declared.status.Status.TheVariants.{ToBeDeleted}
 use Rattle.roster_values.specs.declared.kind.Kind.{Kind}

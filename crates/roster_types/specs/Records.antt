@@ -1,5 +1,6 @@
 -- A row as contracts see it: its kind, the fields that every kind has, the values of its own fields by their places, and its metadata.
-use Rattle.std.specs.Prelude.{◌≡◌, ℕ, ℤ, pos, Bool, true, List, [], ◌∷◌, Option, None, Some, codes, bytes_eq, drop, is_some, option_and_then, position, slice_index_or, if◌then◌else◌}
+use Rattle.std.specs.Prelude.{◌≡◌, ℕ, ℤ, pos, Bool, true, List, [], ◌∷◌, Option, None, Some, codes, bytes_eq, drop}
+use Rattle.std.specs.Prelude.{is_some, option_and_then, position, slice_index_or, if◌then◌else◌}
 use Rattle.std.specs.List.{list_all}
 use Rattle.roster_base.specs.Order.{RiseBy}
 use Rattle.roster_types.specs.declared.metadata.Entry.{Entry}

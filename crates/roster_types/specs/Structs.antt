@@ -3,7 +3,8 @@ use Rattle.std.specs.Prelude.{List, [], ◌∷◌, Option, Some, option_map}
 use Rattle.roster_values.specs.declared.kind.Kind.{Kind}
 use Rattle.roster_values.specs.declared.kind.Kind.TheVariants as kind
 use Rattle.roster_values.specs.declared.value.Value.{Value}
-use Rattle.roster_values.specs.declared.value.Value.TheVariants.{Day, Flag, Number, Ref, Refs, Text, Texts, UserIds, Word, Year}
+use Rattle.roster_values.specs.declared.value.Value.TheVariants.{Day, Flag, Number, Ref, Refs, Text, Texts, UserIds}
+use Rattle.roster_values.specs.declared.value.Value.TheVariants.{Word, Year}
 use Rattle.roster_types.specs.declared.orgs.Org.{Org}
 use Rattle.roster_types.specs.declared.academic_sessions.AcademicSession.{AcademicSession}
 use Rattle.roster_types.specs.declared.courses.Course.{Course}

@@ -1,6 +1,6 @@
 //! A bound on how long a row is, told without a look at the bytes of its texts: nearly every row is so short that it shows.
 
-ghost use Rattle.std.specs.Prelude.{◌≡◌, ◌+◌, ◌-◌, ◌<◌, ℕ, true, sum_by};
+ghost use Rattle.std.specs.Prelude.{◌≡◌, ◌+◌, ◌-◌, ℕ, true, sum_by};
 ghost use Rattle.roster_types.specs.Bounds.{IsBound};
 ghost use Rattle.roster_types.specs.Lengths as lengths;
 ghost use Rattle.roster_values.specs.Fit.{fits_form};

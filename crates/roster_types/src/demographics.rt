@@ -18,27 +18,27 @@ pub struct Demographic {
     pub birth_date: Option<Day>,
     /// The sex.
     pub sex: Option<Word>,
-    /// One of the standard's seven answers on race and ethnicity.
+    /// Whether the user is American Indian or Alaska Native. This flag and the six below it are the standard's on race and ethnicity.
     pub american_indian_or_alaska_native: Option<bool>,
-    /// One of the seven.
+    /// Whether the user is Asian.
     pub asian: Option<bool>,
-    /// One of the seven.
+    /// Whether the user is Black or African American.
     pub black_or_african_american: Option<bool>,
-    /// One of the seven.
+    /// Whether the user is Native Hawaiian or another Pacific Islander.
     pub native_hawaiian_or_other_pacific_islander: Option<bool>,
-    /// One of the seven.
+    /// Whether the user is white.
     pub white: Option<bool>,
-    /// One of the seven.
+    /// Whether the user is of two or more races.
     pub demographic_race_two_or_more_races: Option<bool>,
-    /// One of the seven.
+    /// Whether the user is Hispanic or Latino.
     pub hispanic_or_latino_ethnicity: Option<bool>,
     /// The code of the country of birth.
     pub country_of_birth_code: Option<Text>,
-    /// The state of birth.
+    /// The abbreviation of the state of birth.
     pub state_of_birth_abbreviation: Option<Text>,
     /// The city of birth.
     pub city_of_birth: Option<Text>,
-    /// How the user came to live here.
+    /// Whether the user's legal residence is within or outside of the bounds of the public school and its district.
     pub public_school_residence_status: Option<Text>,
 }
 

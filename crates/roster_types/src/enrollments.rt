@@ -20,7 +20,7 @@ pub struct Enrollment {
     pub user: Id,
     /// The role in the class.
     pub role: Word,
-    /// Whether this is the class's first teacher.
+    /// Whether the user is the main teacher of the class.
     pub primary: Option<bool>,
     /// The first day.
     pub begin_date: Option<Day>,

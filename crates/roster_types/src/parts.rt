@@ -1,10 +1,12 @@
 //! The parts of a row, before its length is tested.
 
-ghost use Rattle.std.specs.Prelude.{◌≡◌, ◌-◌, ◌<◌, ◌≤◌, true, pos, None, Some, IfOk, length, min, option_map, slice_get, slice_index_or, take};
+ghost use Rattle.std.specs.Prelude.{◌≡◌, ◌-◌, ◌<◌, ◌≤◌, true, None, Some, IfOk, length, min, option_map, slice_get};
+ghost use Rattle.std.specs.Prelude.{slice_index_or, take};
 ghost use Rattle.std.specs.Bool.{Decides};
 ghost use Rattle.roster_types.specs.Bounds.{IsBound};
 ghost use Rattle.roster_types.specs.Lengths.{field_length, fields_length, metadata_length, row_length};
-ghost use Rattle.roster_types.specs.Records.{IsFitting, SameButDate, all_values, id_in, moment_in, record_from, status_in};
+ghost use Rattle.roster_types.specs.Records.{IsFitting, SameButDate, all_values, id_in, moment_in, record_from};
+ghost use Rattle.roster_types.specs.Records.{status_in};
 ghost use Rattle.roster_types.specs.Rows.{longest};
 ghost use Rattle.roster_types.specs.Shapes.{fits_all};
 ghost use Rattle.roster_types.specs.Structs.{kind_of, values_of};
@@ -84,16 +86,6 @@ fn status_of(value: Option<Value>) -> Status
     }
 }
 
-#[tactic(auto, unfolding(roster_texts::specs::Moments::moment_at))]
-fn epoch() -> Moment
-    ensures { result ≡ pos 0 }
-{
-    match Moment::at(0) {
-        Some(moment) => moment,
-        None => unreachable!(),
-    }
-}
-
 // No date means the moment 0.
 fn moment_of(value: Option<Value>) -> Moment
     ensures { result ≡ moment_in value }
@@ -101,9 +93,9 @@ fn moment_of(value: Option<Value>) -> Moment
     match value {
         Some(value) => match value {
             Value::Moment(moment) => moment,
-            _ => epoch(),
+            _ => Moment::epoch(),
         },
-        None => epoch(),
+        None => Moment::epoch(),
     }
 }
 

@@ -19,7 +19,7 @@ pub struct Resource {
     pub title: Option<Text>,
     /// Whom it is for.
     pub roles: Option<Texts>,
-    /// How much is learned from it.
+    /// Whether it is a primary or a secondary resource.
     pub importance: Option<Word>,
     /// The vendor.
     pub vendor_id: Option<Text>,

@@ -56,7 +56,8 @@ impl Row {
         Row::take_from(alloc, kind, &mut values, metadata)
     }
 
-    /// The same, where the values are taken from a vector that is filled again for the next row.
+    /// The row that the values of all its fields give, in the order of the field table; nothing where it is too long. The values are taken
+    /// from a vector that is filled again for the next row.
     pub fn take_from(
         alloc: Global,
         kind: Kind,

@@ -1,6 +1,7 @@
 //! The structs of the kinds as one, read by place.
 
-ghost use Rattle.std.specs.Prelude.{◌≡◌, ◌<◌, ◌≤◌, true, None, IfOk, OnOk, drop, length, option_map, slice_index_or, take};
+ghost use Rattle.std.specs.Prelude.{◌≡◌, ◌<◌, ◌≤◌, true, None, IfOk, OnOk, drop, length, option_map, slice_index_or};
+ghost use Rattle.std.specs.Prelude.{take};
 ghost use Rattle.std.specs.Bool.{Decides};
 ghost use Rattle.roster_types.specs.Shapes.{own_fields, shapes_fit};
 ghost use Rattle.roster_types.specs.Structs.{kind_of, values_of};

@@ -2,7 +2,8 @@
 
 ghost use Rattle.std.specs.Prelude.{◌≡◌, ◌∷◌, ◌+◌, ◌<◌, false, true, Some, drop, length, option_map};
 ghost use Rattle.roster_types.specs.Shapes.{begins_with};
-ghost use Rattle.roster_values.specs.Shape.{AText, ADay, ANumber, AYear, AFlag, AWord, SomeTexts, SomeUserIds, ARef, SomeRefs};
+ghost use Rattle.roster_values.specs.Shape.{AText, ADay, ANumber, AYear, AFlag, AWord, SomeTexts, SomeUserIds, ARef};
+ghost use Rattle.roster_values.specs.Shape.{SomeRefs};
 
 use roster_base::Text;
 use roster_texts::{Day, Id};

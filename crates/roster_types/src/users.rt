@@ -19,7 +19,7 @@ pub struct User {
     pub enabled_user: bool,
     /// The orgs to which the user belongs.
     pub orgs: Ids,
-    /// The role.
+    /// What the user is to the district, such as a student, a teacher or a parent.
     pub role: Word,
     /// The name with which the user signs in.
     pub username: Text,
@@ -41,7 +41,7 @@ pub struct User {
     pub phone: Option<Text>,
     /// The users who act for this one, or for whom this one acts.
     pub agents: Option<Ids>,
-    /// The grades.
+    /// The grades that a student attends.
     pub grades: Option<Texts>,
 }
 

@@ -1,5 +1,7 @@
 -- A value that fits its field is read from its own cell text.
-use Rattle.std.proofs.Common.{◌/◌, ◌%◌, ◌≡◌, ◌≢◌, ℕ, ◌+◌, ◌-◌, ◌<◌, ◌&&◌, not, List, [], ◌∷◌, ◌++◌, length, length-append, get_or, map, Bool, true, false, Some, Ok, refl, sym, ap, ◌∙◌, arith, ◌^◌, suc, ℤ, pos, negsuc, nat_le, nat_lt, nat_eq, bytes_eq}
+use Rattle.std.proofs.Common.{◌/◌, ◌%◌, ◌≡◌, ◌≢◌, ℕ, ◌+◌, ◌-◌, ◌<◌, ◌&&◌, not, List, [], ◌∷◌, ◌++◌, length}
+use Rattle.std.proofs.Common.{length-append, get_or, map, Bool, true, false, Some, Ok, refl, sym, ap, ◌∙◌, arith, ◌^◌}
+use Rattle.std.proofs.Common.{suc, ℤ, pos, negsuc, nat_le, nat_lt, nat_eq, bytes_eq}
 use Rattle.std.proofs.lemmas.Bool.{and_from, and_parts}
 use Rattle.std.proofs.lemmas.Bool.Decides.{nat_tests}
 use Rattle.std.specs.List.{join_with_byte, list_all, list_any}
@@ -20,12 +22,14 @@ use Rattle.std.specs.Fmt.{decimal, signed_decimal}
 use Rattle.std.proofs.lemmas.Fmt.{decimal_nonempty, digits_decimal}
 use Rattle.std.proofs.lemmas.Str.Parse.{not_in_digits}
 use Rattle.std.specs.Int.{IsInRange}
-use Rattle.roster_values.specs.Table.{Form, Info, TextForm, IdForm, DayForm, MomentForm, NumberForm, YearForm, FlagForm, WordForm, TextsForm, UserIdsForm, RefForm, RefsForm}
+use Rattle.roster_values.specs.Table.{Form, Info, TextForm, IdForm, DayForm, MomentForm, NumberForm, YearForm, FlagForm}
+use Rattle.roster_values.specs.Table.{WordForm, TextsForm, UserIdsForm, RefForm, RefsForm}
 use Rattle.roster_texts.specs.Texts.{has_plain_ends, is_id, is_id_byte}
 use Rattle.roster_texts.specs.Trim.{trimmed}
 use Rattle.roster_values.specs.Values.{form_value, many, value_of, word_of}
 use Rattle.roster_values.proofs.ItemLaws.{joined_read, plain_of}
-use Rattle.roster_values.proofs.TrimLaws.{filled_long, first_of_plain, head_append, last_append, last_of_plain, plain_text_from, trimmed_same}
+use Rattle.roster_values.proofs.TrimLaws.{filled_long, first_of_plain, head_append, last_append, last_of_plain}
+use Rattle.roster_values.proofs.TrimLaws.{plain_text_from, trimmed_same}
 use Rattle.roster_values.proofs.UserLaws.{user_ids_read, user_items}
 
 -- an id is read as itself
@@ -177,7 +181,7 @@ cell_plain (RefForm kind) (value.Ref t) h = id_plain t h
 cell_plain (RefsForm kind) (value.Refs ts) h = items_plain ts (and_parts (has_items ts) (list_all is_id ts) h).0 (ids_items ts (and_parts (has_items ts) (list_all is_id ts) h).1)
 cell_plain form v h = absurd (cc h)
 
-not_blank : (t : List ℕ) → is_filled t ≡ true → nat_eq (length t) 0 ≡ false
+pub not_blank : (t : List ℕ) → is_filled t ≡ true → nat_eq (length t) 0 ≡ false
 not_blank t h = grind (arith, nat_tests)
 
 pub cell_reads : (info : Info) (v : Value) → fits info (Some v) ≡ true → value_of info (cell_text v) ≡ Ok (Some v)

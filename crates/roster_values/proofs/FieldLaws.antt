@@ -1,5 +1,6 @@
 -- The fields of a kind one after another, and what may stand in one.
-use Rattle.std.proofs.Common.{◌≡◌, ◌<◌, ◌+◌, ◌||◌, ℕ, Bool, true, false, List, ◌∷◌, Option, Some, None, drop, get_or, length, map, not, refl}
+use Rattle.std.proofs.Common.{◌≡◌, ◌<◌, ◌+◌, ◌||◌, ℕ, Bool, true, false, List, ◌∷◌, Option, Some, None, drop, get_or}
+use Rattle.std.proofs.Common.{length, map, not, refl}
 use Rattle.std.proofs.lemmas.List.{drop-map}
 use Rattle.roster_base.proofs.ListSteps.{next_item}
 use Rattle.roster_values.specs.declared.fields.FieldInfo.{FieldInfo}

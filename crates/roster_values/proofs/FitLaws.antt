@@ -1,5 +1,6 @@
 -- What a text reads as fits its field.
-use Rattle.std.proofs.Common.{◌≡◌, ℕ, ◌&&◌, cond, not, List, [], ◌∷◌, length, Bool, true, false, Option, Some, None, Result, Ok, Err, IfOk, IfSome, refl, nat_le, nat_lt, bytes_eq, nat_eq}
+use Rattle.std.proofs.Common.{◌≡◌, ℕ, ◌&&◌, cond, not, List, [], ◌∷◌, length, Bool, true, false, Option, Some, None}
+use Rattle.std.proofs.Common.{Result, Ok, Err, IfOk, IfSome, refl, nat_le, nat_lt, bytes_eq, nat_eq}
 use Rattle.std.proofs.lemmas.Bool.{and_from, and_parts}
 use Rattle.std.specs.List.{list_all, list_any, position_or_len, before_first, after_first}
 use Rattle.roster_texts.specs.declared.fault.ValueFault.{ValueFault}
@@ -9,12 +10,15 @@ use Rattle.roster_values.specs.declared.value.Value.TheVariants as value
 use Rattle.roster_base.specs.Reading.{◌>>=◌}
 use Rattle.roster_texts.specs.Results.{found_or}
 use Rattle.roster_values.specs.CellText.{has_short_year}
-use Rattle.roster_values.specs.Fit.{fits, fits_form, fits_parts, has_items, is_good, is_item, is_plain_text, is_user_id_of}
-use Rattle.roster_values.specs.Lists.{id_of, ids_of, is_colon, is_filled, items_of, read_all, user_id_in, user_id_of, user_ids_of}
+use Rattle.roster_values.specs.Fit.{fits, fits_form, fits_parts, has_items, is_good, is_item, is_plain_text}
+use Rattle.roster_values.specs.Fit.{is_user_id_of}
+use Rattle.roster_values.specs.Lists.{id_of, ids_of, is_colon, is_filled, items_of, read_all, user_id_in, user_id_of}
+use Rattle.roster_values.specs.Lists.{user_ids_of}
 use Rattle.roster_texts.specs.Moments.{is_moment, moment_of, written_day_of}
 use Rattle.roster_texts.specs.Numbers.{flag_of, number_of, year_of}
 use Rattle.roster_values.specs.Shape.{has_shape, shape_of}
-use Rattle.roster_values.specs.Table.{Form, Info, TextForm, IdForm, DayForm, MomentForm, NumberForm, YearForm, FlagForm, WordForm, TextsForm, UserIdsForm, RefForm, RefsForm}
+use Rattle.roster_values.specs.Table.{Form, Info, TextForm, IdForm, DayForm, MomentForm, NumberForm, YearForm, FlagForm}
+use Rattle.roster_values.specs.Table.{WordForm, TextsForm, UserIdsForm, RefForm, RefsForm}
 use Rattle.roster_texts.specs.Texts.{has_plain_ends, is_id}
 use Rattle.roster_values.proofs.ItemLaws.{items_good}
 use Rattle.roster_values.proofs.TrimLaws.{trimmed_plain}

@@ -1,6 +1,6 @@
 -- Lists of items, joined and read.
-use Rattle.std.proofs.Common.{◌≡◌, ℕ, cond, not, List, [], ◌∷◌, map, Bool, true, false, refl, ap, ◌∙◌, All}
-use Rattle.std.proofs.lemmas.Bool.{and_from, and_parts}
+use Rattle.std.proofs.Common.{◌≡◌, ℕ, cond, List, [], ◌∷◌, map, Bool, true, false, refl, ap, ◌∙◌, All}
+use Rattle.std.proofs.lemmas.Bool.{and_from, and_parts, not-true}
 use Rattle.std.proofs.lemmas.List.Elements.{All-cons, All-nil}
 use Rattle.std.proofs.lemmas.List.Splits.{slice_split_at, slice_split_none}
 use Rattle.std.specs.List.{filter, join_with_byte, list_all, onto_first, slice_split}
@@ -44,14 +44,10 @@ pub items_good : (t : List ℕ) → list_all is_item (items_of t) ≡ true
 unfolding items_of
 items_good t = from_parts (slice_split is_comma t) (parts_plain t)
 
-not_true : (b : Bool) → not b ≡ true → b ≡ false
-not_true true h = absurd (cc h)
-not_true false h = refl
-
 no_commas : (t : List ℕ) → list_all is_no_comma t ≡ true → All (λ b. is_comma b ≡ false) t
 no_commas [] h = All-nil (λ b. is_comma b ≡ false)
 no_commas (b ∷ t) h =
-    All-cons (λ b'. is_comma b' ≡ false) b t (not_true (is_comma b) (and_parts (is_no_comma b) (list_all is_no_comma t) h).0) (no_commas t (and_parts (is_no_comma b) (list_all is_no_comma t) h).1)
+    All-cons (λ b'. is_comma b' ≡ false) b t (not-true (is_comma b) (and_parts (is_no_comma b) (list_all is_no_comma t) h).0) (no_commas t (and_parts (is_no_comma b) (list_all is_no_comma t) h).1)
 
 pub plain_of : (t : List ℕ) → is_item t ≡ true → is_plain_text t ≡ true
 plain_of t h = (and_parts (is_plain_text t) (list_all is_no_comma t) h).0

@@ -1,5 +1,6 @@
 -- Kinds, their words and their places. A clause `_` stands for every kind behind the first, so that a new kind needs no line here.
-use Rattle.std.proofs.Common.{◌≡◌, ◌<◌, ◌+◌, ◌∙◌, ℕ, zero, suc, List, [], ◌∷◌, Some, Less, ap, arith, get_or, length, map, nat_cmp, refl, subst, sym}
+use Rattle.std.proofs.Common.{◌≡◌, ◌<◌, ◌+◌, ◌∙◌, ℕ, zero, suc, List, [], ◌∷◌, Some, Less, ap, arith, get_or, length}
+use Rattle.std.proofs.Common.{map, nat_cmp, refl, subst, sym}
 use Rattle.std.specs.Prelude.{slice_get}
 use Rattle.std.proofs.lemmas.List.{get_or-map}
 use Rattle.std.proofs.lemmas.List.FromFn.{get_or-range_with_len}

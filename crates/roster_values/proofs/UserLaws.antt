@@ -1,5 +1,7 @@
 -- User ids, written and read.
-use Rattle.std.proofs.Common.{◌≡◌, ℕ, suc, ◌-◌, ◌≤◌, ◌&&◌, not, List, [], ◌∷◌, ◌++◌, length, length-append, append_assoc, add-one, get_or, map, take, drop, Bool, true, Ok, refl, sym, ap, ◌∙◌, arith, nat_lt, nat_eq}
+use Rattle.std.proofs.Common.{◌≡◌, ℕ, suc, ◌-◌, ◌≤◌, ◌&&◌, not, List, [], ◌∷◌, ◌++◌, length, length-append}
+use Rattle.std.proofs.Common.{append_assoc, add-one, get_or, map, take, drop, Bool, true, Ok, refl, sym, ap, ◌∙◌, arith}
+use Rattle.std.proofs.Common.{nat_lt, nat_eq}
 use Rattle.std.proofs.lemmas.Bool.{and_from, and_parts}
 use Rattle.std.proofs.lemmas.Bool.Decides.{nat_tests}
 use Rattle.std.proofs.lemmas.List.{take_all, take-append-le}
@@ -10,7 +12,8 @@ use Rattle.roster_values.specs.Fit.{is_item, is_no_comma, is_plain_text, is_user
 use Rattle.roster_values.specs.Lists.{is_colon, is_filled, read_all, user_id_in, user_id_of, user_ids_of}
 use Rattle.roster_texts.specs.Texts.{has_plain_ends}
 use Rattle.roster_texts.specs.Trim.{trimmed}
-use Rattle.roster_values.specs.UserIds.{inner, is_braced, is_identifier_byte, is_type_byte, is_user_id, user_id_from, UserIdParts}
+use Rattle.roster_values.specs.UserIds.{inner, is_braced, is_identifier_byte, is_type_byte, is_user_id, user_id_from}
+use Rattle.roster_values.specs.UserIds.{UserIdParts}
 use Rattle.roster_values.proofs.ItemLaws.{joined_read}
 use Rattle.roster_values.proofs.TrimLaws.{last_append, plain_text_from, trimmed_same}
 
@@ -23,7 +26,7 @@ pub record IsGood (form identifier : List ℕ) : Type 0 where
   pub identifier_bytes : list_all is_identifier_byte identifier ≡ true
   pub identifier_plain : has_plain_ends identifier ≡ true
 
-long_filled : (t : List ℕ) → nat_lt 0 (length t) ≡ true → is_filled t ≡ true
+pub long_filled : (t : List ℕ) → nat_lt 0 (length t) ≡ true → is_filled t ≡ true
 long_filled t h = grind (arith, nat_tests)
 
 good_from : (form identifier : List ℕ) → is_user_id form identifier ≡ true → IsGood form identifier

@@ -3,7 +3,8 @@ use Rattle.std.specs.Prelude.{codes, ℕ, ◌++◌, ◌∷◌, [], Bool, true, f
 use Rattle.std.specs.Fmt.{signed_decimal}
 use Rattle.std.specs.List.{join_with_byte}
 use Rattle.roster_values.specs.declared.value.Value.{Value}
-use Rattle.roster_values.specs.declared.value.Value.TheVariants.{Text, Id, Day, Moment, Number, Year, Flag, Word, Texts, UserIds, Ref, Refs}
+use Rattle.roster_values.specs.declared.value.Value.TheVariants.{Text, Id, Day, Moment, Number, Year, Flag, Word, Texts}
+use Rattle.roster_values.specs.declared.value.Value.TheVariants.{UserIds, Ref, Refs}
 use Rattle.roster_texts.specs.Days.{day_text}
 use Rattle.roster_texts.specs.Digits.{four}
 use Rattle.roster_texts.specs.Moments.{moment_text}

@@ -2,13 +2,15 @@
 use Rattle.std.specs.Prelude.{bytes_eq, ℕ, Bool, true, false, ◌&&◌, not, List, [], ◌∷◌, Option, None, Some, nat_le}
 use Rattle.std.specs.List.{list_all, list_any}
 use Rattle.roster_values.specs.declared.value.Value.{Value}
-use Rattle.roster_values.specs.declared.value.Value.TheVariants.{Text, Id, Day, Moment, Number, Year, Word, Texts, UserIds, Ref, Refs}
+use Rattle.roster_values.specs.declared.value.Value.TheVariants.{Text, Id, Day, Moment, Number, Year, Word, Texts}
+use Rattle.roster_values.specs.declared.value.Value.TheVariants.{UserIds, Ref, Refs}
 use Rattle.roster_values.specs.Lists.{is_comma, is_filled}
 use Rattle.roster_texts.specs.Days.{is_day}
 use Rattle.roster_texts.specs.Moments.{is_moment}
 use Rattle.roster_texts.specs.Numbers.{is_number}
 use Rattle.roster_values.specs.Shape.{has_shape, shape_of}
-use Rattle.roster_values.specs.Table.{Form, Info, TextForm, IdForm, DayForm, MomentForm, NumberForm, YearForm, WordForm, TextsForm, UserIdsForm, RefForm, RefsForm}
+use Rattle.roster_values.specs.Table.{Form, Info, TextForm, IdForm, DayForm, MomentForm, NumberForm, YearForm, WordForm}
+use Rattle.roster_values.specs.Table.{TextsForm, UserIdsForm, RefForm, RefsForm}
 use Rattle.roster_texts.specs.Texts.{has_plain_ends, is_id}
 use Rattle.roster_values.specs.UserIds.{is_user_id, UserIdParts}
 

@@ -1,7 +1,9 @@
 -- The kinds of roster data and their words.
 use Rattle.std.specs.Prelude.{ℕ, ◌++◌, ◌∷◌, [], bytes_eq, codes, find, List, Option}
 use Rattle.roster_values.specs.declared.kind.Kind.{Kind}
-use Rattle.roster_values.specs.declared.kind.Kind.TheVariants.{Orgs, AcademicSessions, Courses, Classes, Users, Enrollments, Demographics, Categories, LineItems, Results, Resources, ClassResources, CourseResources}
+use Rattle.roster_values.specs.declared.kind.Kind.TheVariants.{Orgs, AcademicSessions, Courses, Classes, Users}
+use Rattle.roster_values.specs.declared.kind.Kind.TheVariants.{Enrollments, Demographics, Categories, LineItems}
+use Rattle.roster_values.specs.declared.kind.Kind.TheVariants.{Results, Resources, ClassResources, CourseResources}
 
 -- every kind, in order
 abbrev pub all_kinds : List Kind

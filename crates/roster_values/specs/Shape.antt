@@ -1,8 +1,10 @@
 -- The variants of a value.
 use Rattle.std.specs.Prelude.{Bool, true, false}
 use Rattle.roster_values.specs.declared.value.Value.{Value}
-use Rattle.roster_values.specs.declared.value.Value.TheVariants.{Text, Id, Day, Moment, Number, Year, Flag, Word, Texts, UserIds, Ref, Refs}
-use Rattle.roster_values.specs.Table.{Form, TextForm, IdForm, DayForm, MomentForm, NumberForm, YearForm, FlagForm, WordForm, TextsForm, UserIdsForm, RefForm, RefsForm}
+use Rattle.roster_values.specs.declared.value.Value.TheVariants.{Text, Id, Day, Moment, Number, Year, Flag, Word, Texts}
+use Rattle.roster_values.specs.declared.value.Value.TheVariants.{UserIds, Ref, Refs}
+use Rattle.roster_values.specs.Table.{Form, TextForm, IdForm, DayForm, MomentForm, NumberForm, YearForm, FlagForm}
+use Rattle.roster_values.specs.Table.{WordForm, TextsForm, UserIdsForm, RefForm, RefsForm}
 
 -- a variant of `Value`
 pub data Shape : Type 0 where

@@ -1,5 +1,6 @@
 -- User ids: a type and an identifier.
-use Rattle.std.specs.Prelude.{ℕ, ◌-◌, ◌==◌, ◌&&◌, not, Bool, List, Option, Some, None, length, take, drop, nat_lt, nat_le, slice_index, if◌then◌else◌}
+use Rattle.std.specs.Prelude.{ℕ, ◌-◌, ◌==◌, ◌&&◌, not, Bool, List, Option, Some, None, length, take, drop, nat_lt}
+use Rattle.std.specs.Prelude.{nat_le, slice_index, if◌then◌else◌}
 use Rattle.std.specs.List.{list_all}
 use Rattle.roster_texts.specs.Signs.{close_brace, colon, comma, open_brace}
 use Rattle.roster_texts.specs.Texts.{has_plain_ends}

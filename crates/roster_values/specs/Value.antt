@@ -1,6 +1,7 @@
 -- Values and what is lent of them.
 use Rattle.roster_values.specs.declared.value.Value.{Value}
-use Rattle.roster_values.specs.declared.value.Value.TheVariants.{Text, Id, Day, Moment, Number, Year, Flag, Word, Texts, UserIds, Ref, Refs}
+use Rattle.roster_values.specs.declared.value.Value.TheVariants.{Text, Id, Day, Moment, Number, Year, Flag, Word, Texts}
+use Rattle.roster_values.specs.declared.value.Value.TheVariants.{UserIds, Ref, Refs}
 use Rattle.roster_values.specs.declared.value.ValueRef.{ValueRef}
 use Rattle.roster_values.specs.declared.value.ValueRef.TheVariants as lent
 

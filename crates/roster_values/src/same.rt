@@ -35,7 +35,7 @@ pub fn is_same_value(left: ValueRef<'_>, right: ValueRef<'_>) -> bool
     }
 }
 
-/// The same of two fields, of which either may be absent.
+/// Whether two fields are equal, of which either may be absent.
 pub fn are_same_fields(left: Option<ValueRef<'_>>, right: Option<ValueRef<'_>>) -> bool
     ensures { Decides result (option_map shown left.entry ≡ option_map shown right.entry) }
 {

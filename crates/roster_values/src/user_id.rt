@@ -4,7 +4,8 @@ ghost use Rattle.std.specs.Prelude.{◌≡◌, true, IfOk};
 ghost use Rattle.std.specs.List.{list_all};
 ghost use Rattle.roster_base.specs.Reading.{Gives};
 ghost use Rattle.roster_values.specs.Lists.{read_all, user_id_in, user_id_of, user_ids_of};
-ghost use Rattle.roster_values.specs.UserIds.{inner, is_braced, is_identifier, is_identifier_byte, is_type, is_type_byte, user_id_from};
+ghost use Rattle.roster_values.specs.UserIds.{inner, is_braced, is_identifier, is_identifier_byte, is_type};
+ghost use Rattle.roster_values.specs.UserIds.{is_type_byte, user_id_from};
 
 use crate::fault::ValueError;
 use crate::lists::read_items;

@@ -50,7 +50,8 @@ pub enum ValueRef<'a> {
 
 impl Value {
     ghost use Rattle.std.specs.Prelude.{◌≡◌, true};
-    ghost use Rattle.roster_values.specs.Shape.{has_shape, AText, AnId, ADay, AMoment, ANumber, AYear, AFlag, AWord, SomeTexts, SomeUserIds, ARef, SomeRefs};
+    ghost use Rattle.roster_values.specs.Shape.{has_shape, AText, AnId, ADay, AMoment, ANumber, AYear, AFlag, AWord};
+    ghost use Rattle.roster_values.specs.Shape.{SomeTexts, SomeUserIds, ARef, SomeRefs};
 
     /// The text of a value that is one.
     pub fn into_text(self) -> Text

@@ -1,5 +1,6 @@
 -- What a delta has, and what it makes of the old rows.
-use Rattle.std.proofs.Common.{◌≡◌, ℕ, List, [], ◌∷◌, bytes_eq, filter, map, Bool, true, false, not, cond, option_map, Option, Some, None, refl, sym, ap, subst, ◌∙◌}
+use Rattle.std.proofs.Common.{◌≡◌, ℕ, List, [], ◌∷◌, bytes_eq, filter, map, Bool, true, false, not, cond, option_map}
+use Rattle.std.proofs.Common.{Option, Some, None, refl, sym, ap, subst, ◌∙◌}
 use Rattle.std.specs.Prelude.{is_none, option_and_then}
 use Rattle.std.specs.FinMap.Entries as entries
 use Rattle.std.specs.List.{AllByRecursion}
@@ -14,22 +15,19 @@ use Rattle.roster_values.specs.Kinds.{place_of_kind}
 use Rattle.roster_values.specs.declared.kind.Kind.{Kind}
 use Rattle.version_core.proofs.LookUps.{Ascends-filter, Ascends-map, KeepKeys, if_kept, look_up-filter, look_up-map}
 use Rattle.row_deltas.proofs.SameLemmas.{row_decides, row_same}
-use Rattle.row_deltas.specs.Deltas.{AreOf, applied, delta_of, difference, entry_key, gone_entry, is_lacking, stands_in, without}
+use Rattle.row_deltas.specs.Deltas.{AreOf, applied, delta_of, difference, entry_key, gone_entry, is_lacking, stands_in}
+use Rattle.row_deltas.specs.Deltas.{without}
 use Rattle.row_deltas.specs.Sameness.{same_row}
 use Rattle.row_deltas.specs.declared.entry.DeltaEntry.{DeltaEntry}
 use Rattle.row_deltas.specs.declared.entry.DeltaEntry.TheVariants.{Put, Gone}
-use Rattle.std.proofs.lemmas.Bool.Decides.{nat_tests}
-use Rattle.std.proofs.Common.{◌==◌, arith}
-use Rattle.version_core.proofs.OrderLemmas.{Ascends-overlaid, Ascends-put, look_up-overlaid, look_up-put, same_from_look_up}
+use Rattle.std.proofs.lemmas.Bool.{eqb-true}
+use Rattle.version_core.proofs.OrderLemmas.{Ascends-overlaid, Ascends-put, look_up-overlaid, look_up-put}
+use Rattle.version_core.proofs.OrderLemmas.{same_from_look_up}
 use Rattle.version_core.proofs.PutLemmas.{key_same}
 use Rattle.version_core.specs.Order.{overlaid, put}
 
--- rows of the kind have its place
-pub place_of : (kind : Kind) (row : Record) → is_of_kind kind row ≡ true → place_of_kind row.kind ≡ place_of_kind kind
-place_of kind row of = let tested : (place_of_kind row.kind == place_of_kind kind) ≡ true = of in grind (arith, nat_tests)
-
 pub key_of : (kind : Kind) (row : Record) → is_of_kind kind row ≡ true → (place_of_kind kind, row.id) ≡ row_key row
-key_of kind row of = ap (λ n. (n, row.id)) (sym (place_of kind row of))
+key_of kind row of = ap (λ n. (n, row.id)) (sym (eqb-true (place_of_kind row.kind) (place_of_kind kind) of))
 
 module _ (kind : Kind) where
   pub put_keys : (rows : List Record) → KeepKeys row_key (entry_key kind) Put rows
@@ -138,7 +136,7 @@ module _ (kind : Kind) where
   key_tells row id of =
       elim (bytes_eq row.id id) as (λ b. bytes_eq row.id id ≡ b → b ≡ is_eq (key_cmp (row_key row) (place_of_kind kind, id))) [
         | true ↦ λ e.
-            let same : row_key row ≡ (place_of_kind kind, id) = (λ i. (place_of kind row of i, (bytes_eq-Decides row.id id).0 e i)) in
+            let same : row_key row ≡ (place_of_kind kind, id) = (λ i. (eqb-true (place_of_kind row.kind) (place_of_kind kind) of i, (bytes_eq-Decides row.id id).0 e i)) in
             sym (ap is_eq (ap (λ q. key_cmp (row_key row) q) (sym same) ∙ key_same (row_key row)))
         | false ↦ λ e. apart e (is_eq (key_cmp (row_key row) (place_of_kind kind, id))) refl
       ] refl

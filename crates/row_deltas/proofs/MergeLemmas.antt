@@ -1,17 +1,20 @@
 -- Rows that are put and ids that are gone, merged with the rows before.
-use Rattle.std.proofs.Common.{◌≡◌, ℕ, List, [], ◌∷◌, ◌++◌, bytes_eq, filter, Bool, true, false, ◌||◌, not, cond, Option, Some, None, refl, sym, ap, subst, ◌∙◌}
+use Rattle.std.proofs.Common.{◌≡◌, ℕ, List, [], ◌∷◌, ◌++◌, bytes_eq, filter, Bool, true, false, ◌||◌, not, cond, Option}
+use Rattle.std.proofs.Common.{Some, None, refl, sym, ap, subst, ◌∙◌}
 use Rattle.std.proofs.lemmas.Bool.{and_from}
 use Rattle.std.specs.Prelude.{option_and_then}
 use Rattle.std.specs.FinMap.Entries as entries
 use Rattle.std.specs.List.{list_any}
 use Rattle.std.specs.Option.{option_or}
 use Rattle.std.specs.Ordering.{is_eq, is_lt}
-use Rattle.version_core.proofs.Below.KeyOrder.{and_first, and_second, equal_from_is_eq, found_key, key_exact, less_from_is_lt}
+use Rattle.version_core.proofs.Below.KeyOrder.{and_first, and_second, equal_from_is_eq, found_key, key_exact}
+use Rattle.version_core.proofs.Below.KeyOrder.{less_from_is_lt}
 use Rattle.roster_types.specs.Keys.{Ascends, Key, is_of_kind, key_cmp, keyed, look_up, row_key}
 use Rattle.roster_types.specs.Records.{Record}
 use Rattle.roster_values.specs.Kinds.{place_of_kind}
 use Rattle.roster_values.specs.declared.kind.Kind.{Kind}
-use Rattle.row_deltas.proofs.DeltaLemmas.{Ascends-delta, after_entry, difference_leads, found_of, key_tells, look_up-delta}
+use Rattle.row_deltas.proofs.DeltaLemmas.{Ascends-delta, after_entry, difference_leads, found_of, key_tells}
+use Rattle.row_deltas.proofs.DeltaLemmas.{look_up-delta}
 use Rattle.version_core.proofs.LookUps.{Ascends-filter, if_kept, look_up-filter, none_above}
 use Rattle.row_deltas.specs.Deltas.{AreOf, delta_of, entry_key, ids_gone, merged, rows_put}
 use Rattle.row_deltas.specs.declared.entry.DeltaEntry.{DeltaEntry}
@@ -40,7 +43,7 @@ is_gone (Some (Put row)) = false
 is_gone (Some (Gone id)) = true
 
 module _ (kind : Kind) where
-  rows_put_above : (k : Key) (es : List DeltaEntry) → entries.below_all key_cmp k (keyed (entry_key kind) es) ≡ true → entries.below_all key_cmp k (keyed row_key (rows_put es)) ≡ true
+  pub rows_put_above : (k : Key) (es : List DeltaEntry) → entries.below_all key_cmp k (keyed (entry_key kind) es) ≡ true → entries.below_all key_cmp k (keyed row_key (rows_put es)) ≡ true
   rows_put_above k [] above = refl
   rows_put_above k (Put row ∷ es) above = and_from _ _ (and_first _ _ above) (rows_put_above k es (and_second _ _ above))
   rows_put_above k (Gone id ∷ es) above = rows_put_above k es (and_second _ _ above)

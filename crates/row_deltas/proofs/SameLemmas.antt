@@ -13,8 +13,10 @@ use Rattle.roster_types.specs.declared.status.Status.TheVariants.{Active, ToBeDe
 use Rattle.roster_values.specs.Kinds.{place_of_kind}
 use Rattle.roster_values.specs.UserIds.{UserIdParts}
 use Rattle.roster_values.specs.declared.value.Value.{Value}
-use Rattle.roster_values.specs.declared.value.Value.TheVariants.{Text, Id, Day, Moment, Number, Year, Flag, Word, Texts, UserIds, Ref, Refs}
-use Rattle.row_deltas.specs.Sameness.{same_entry, same_field, same_flag, same_row, same_status, same_user_id, same_value}
+use Rattle.roster_values.specs.declared.value.Value.TheVariants.{Text, Id, Day, Moment, Number, Year, Flag, Word, Texts}
+use Rattle.roster_values.specs.declared.value.Value.TheVariants.{UserIds, Ref, Refs}
+use Rattle.row_deltas.specs.Sameness.{same_entry, same_field, same_flag, same_row, same_status, same_user_id}
+use Rattle.row_deltas.specs.Sameness.{same_value}
 
 flag_decides : (one other : Bool) → Decides (same_flag one other) (one ≡ other)
 flag_decides true true = (λ _. refl, λ _. refl)

@@ -1,5 +1,6 @@
 -- What a delta is of lists by their first rows.
-use Rattle.std.proofs.Common.{◌≡◌, List, [], ◌∷◌, filter, map, Bool, true, false, not, cond, Some, None, refl, sym, ap, subst, ◌∙◌}
+use Rattle.std.proofs.Common.{◌≡◌, List, [], ◌∷◌, filter, map, Bool, true, false, not, cond, Some, None, refl, sym, ap}
+use Rattle.std.proofs.Common.{subst, ◌∙◌}
 use Rattle.std.proofs.lemmas.Bool.{and_from}
 use Rattle.std.specs.FinMap.Entries as entries
 use Rattle.std.specs.Ordering.{is_eq, is_lt}

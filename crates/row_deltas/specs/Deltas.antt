@@ -1,5 +1,6 @@
 -- What differs between two lists of the rows of a kind.
-use Rattle.std.specs.Prelude.{ℕ, Bool, false, not, List, [], ◌∷◌, ◌++◌, Option, Some, None, bytes_eq, filter, if◌then◌else◌, is_none, map}
+use Rattle.std.specs.Prelude.{ℕ, Bool, false, not, List, [], ◌∷◌, ◌++◌, Option, Some, None, bytes_eq, filter}
+use Rattle.std.specs.Prelude.{if◌then◌else◌, is_none, map}
 use Rattle.std.specs.List.{AllByRecursion, list_any}
 use Rattle.std.specs.Option.{option_map_or, option_to_list}
 use Rattle.roster_types.specs.Keys.{Key, is_of_kind, look_up, row_key}

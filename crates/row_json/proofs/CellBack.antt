@@ -1,7 +1,7 @@
 -- A value that fits its field is read from its own JSON value.
-use Rattle.std.proofs.Common.{◌≡◌, ◌&&◌, ◌==◌, ℕ, ℤ, pos, negsuc, Bool, true, false, List, [], ◌∷◌, Option, None, Some, Result, Ok, length, map, not, nat_lt, option_map, refl, arith}
+use Rattle.std.proofs.Common.{◌≡◌, ◌&&◌, ◌==◌, ℕ, ℤ, pos, negsuc, Bool, true, false, List, [], ◌∷◌, Option, None, Some}
+use Rattle.std.proofs.Common.{Result, Ok, length, map, not, nat_lt, option_map, refl}
 use Rattle.std.proofs.lemmas.Bool.{and_parts, not-true}
-use Rattle.std.proofs.lemmas.Bool.Decides.{nat_tests}
 use Rattle.std.proofs.lemmas.List.{map-id}
 use Rattle.std.specs.List.{list_all}
 use Rattle.serde_json.specs.Data.{Data, string}
@@ -13,13 +13,17 @@ use Rattle.roster_values.specs.declared.value.Value.{Value}
 use Rattle.roster_values.specs.declared.value.Value.TheVariants as value
 use Rattle.roster_values.proofs.CellLaws.{cell_reads, id_item, id_plain, id_read}
 use Rattle.roster_values.proofs.TrimLaws.{trimmed_same}
+use Rattle.roster_values.proofs.UserLaws.{long_filled}
 use Rattle.roster_values.specs.CellText.{cell_text, user_id_text}
 use Rattle.roster_values.specs.Fit.{fits, fits_form, has_items, is_item, is_no_comma, is_plain_text, is_user_id_of}
 use Rattle.roster_values.specs.Lists.{is_filled}
-use Rattle.roster_values.specs.Table.{Form, Info, TextForm, IdForm, DayForm, MomentForm, NumberForm, YearForm, FlagForm, WordForm, TextsForm, UserIdsForm, RefForm, RefsForm}
-use Rattle.roster_values.specs.UserIds.{UserIdParts, is_identifier, is_identifier_byte, is_type, is_type_byte, user_id_from}
+use Rattle.roster_values.specs.Table.{Form, Info, TextForm, IdForm, DayForm, MomentForm, NumberForm, YearForm, FlagForm}
+use Rattle.roster_values.specs.Table.{WordForm, TextsForm, UserIdsForm, RefForm, RefsForm}
+use Rattle.roster_values.specs.UserIds.{UserIdParts, is_identifier, is_identifier_byte, is_type, is_type_byte}
+use Rattle.roster_values.specs.UserIds.{user_id_from}
 use Rattle.roster_values.specs.Values.{value_of}
-use Rattle.row_json.specs.CellTexts.{each, item_text, list_text, listed_id, listed_reference, text_of, user_id_part, without_comma}
+use Rattle.row_json.specs.CellTexts.{each, item_text, list_text, listed_id, listed_reference, text_of, user_id_part}
+use Rattle.row_json.specs.CellTexts.{without_comma}
 use Rattle.row_json.specs.Json.{reference_data, user_id_data, value_data}
 use Rattle.row_json.specs.Reading.{field_in}
 
@@ -48,9 +52,6 @@ listed-read id h = rw (id-trimmed id h, id-filled id h) (id_read id h)
 reference-read : (kind : Kind) (id : List ℕ) → is_id id ≡ true → item_text (RefsForm kind) (reference_data kind id) ≡ Ok id
 unfolding item_text listed_reference without_comma
 reference-read kind id h = rw (and_parts (is_plain_text id) (list_all is_no_comma id) (id_item id h)).1 (listed-read id h)
-
-long_filled : (t : List ℕ) → nat_lt 0 (length t) ≡ true → is_filled t ≡ true
-long_filled t h = grind (arith, nat_tests)
 
 part-trimmed : (p : ℕ → Bool) (t : List ℕ) → (nat_lt 0 (length t) && (list_all p t && has_plain_ends t)) ≡ true → trimmed t ≡ t
 part-trimmed p t h =

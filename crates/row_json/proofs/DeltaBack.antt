@@ -17,7 +17,8 @@ use Rattle.row_json.specs.Json.{row_data}
 use Rattle.row_json.specs.Reading.{IsHeld, collection_in, data_of, rows_of}
 use Rattle.row_json.proofs.CellBack.{each-read, id-trimmed}
 use Rattle.row_json.proofs.DeltaTexts.{apart as kinds_apart}
-use Rattle.row_json.proofs.ReadBack.{Kept, array-kept, array-of, deeper, none-kept, object-kept, put-kept, read-kept, string-kept}
+use Rattle.row_json.proofs.ReadBack.{Kept, array-kept, array-of, deeper, none-kept, object-kept, put-kept, read-kept}
+use Rattle.row_json.proofs.ReadBack.{string-kept}
 use Rattle.row_json.proofs.RowBack.{all-objects, apart, rows-back, rows-kept}
 
 delta-kept : (kind : Kind) (rows : List Record) (gone : List (List ℕ)) → All IsHeld rows → Kept 5 (delta_data kind rows gone)

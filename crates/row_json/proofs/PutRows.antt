@@ -1,5 +1,6 @@
 -- What a body puts is a row: its values fit, its metadata rises under good keys, and it isn't too long.
-use Rattle.std.proofs.Common.{◌≡◌, ℕ, ℤ, ◌+◌, true, false, cond, List, [], ◌∷◌, Option, Some, None, Result, Ok, Err, IfSome, Less, bytes_eq, codes, drop, get_or, map, nat_lt, refl, sym, subst, arith}
+use Rattle.std.proofs.Common.{◌≡◌, ℕ, ℤ, ◌+◌, true, false, cond, List, [], ◌∷◌, Option, Some, None, Result, Ok, Err}
+use Rattle.std.proofs.Common.{IfSome, Less, bytes_eq, codes, drop, get_or, map, nat_lt, refl, sym, subst, arith}
 use Rattle.std.proofs.lemmas.Bool.{and_from}
 use Rattle.std.proofs.lemmas.Bool.Decides.{nat_tests}
 use Rattle.std.proofs.lemmas.Result.{IfOk-at_ok}
@@ -22,7 +23,8 @@ use Rattle.roster_texts.specs.declared.fault.ValueFault.TheVariants.{BadList}
 use Rattle.roster_types.proofs.Fitting.{fitting_from}
 use Rattle.roster_types.proofs.MetadataLaws.{IsMetadata-nil}
 use Rattle.roster_types.specs.Lengths.{row_length}
-use Rattle.roster_types.specs.Records.{IsMetadata, Record, has_id_key, has_plain_text, id_in, key_of, moment_in, record_from, status_in}
+use Rattle.roster_types.specs.Records.{IsMetadata, Record, has_id_key, has_plain_text, id_in, key_of, moment_in}
+use Rattle.roster_types.specs.Records.{record_from, status_in}
 use Rattle.roster_types.specs.Rows.{IsRow, longest, row_from}
 use Rattle.roster_types.specs.Shapes.{fits_all, own_fields}
 use Rattle.roster_types.specs.declared.metadata.Entry.{Entry}
@@ -34,7 +36,8 @@ use Rattle.roster_values.specs.declared.mode.Mode.TheVariants.{Bulk}
 use Rattle.roster_values.specs.declared.value.Value.{Value}
 use Rattle.roster_values.specs.declared.value.Value.TheVariants.{Id, Moment}
 use Rattle.row_json.proofs.MetadataSteps.{entry_read}
-use Rattle.row_json.specs.Reading.{data_of, entries_in, entry_from, entry_in, field_in, in_member, is_object, metadata_in, object_under, unless_long, values_in, with_entry}
+use Rattle.row_json.specs.Reading.{data_of, entries_in, entry_from, entry_in, field_in, in_member, is_object}
+use Rattle.row_json.specs.Reading.{metadata_in, object_under, unless_long, values_in, with_entry}
 use Rattle.row_json.specs.declared.fault.JsonFault.{JsonFault}
 use Rattle.row_json.specs.declared.fault.JsonFault.TheVariants.{NotJson, OtherId, Shape}
 use Rattle.serde_json.specs.Data.{Data, Members, no_members, member}
@@ -42,7 +45,7 @@ use Rattle.serde_json.specs.Find.{as_object, as_str, get}
 use Rattle.serde_json.specs.Read.{read}
 
 -- where the second reading gave something, the first did
-both_gave : {A B F : Type 0} (r : Result A F) (f : A → Result B F) (y : B) → (r >>= f) ≡ Ok y → (x : A) × (r ≡ Ok x) × (f x ≡ Ok y)
+pub both_gave : {A B F : Type 0} (r : Result A F) (f : A → Result B F) (y : B) → (r >>= f) ≡ Ok y → (x : A) × (r ≡ Ok x) × (f x ≡ Ok y)
 both_gave (Ok x) f y e = (x, refl, e)
 both_gave (Err fault) f y e = cc
 

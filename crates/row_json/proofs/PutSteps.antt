@@ -1,5 +1,6 @@
 -- The fields that the row of a write has beside its kind's own.
-use Rattle.std.proofs.Common.{◌≡◌, ℕ, ℤ, true, false, List, [], ◌∷◌, Option, Some, Result, Ok, Err, IfOk, ap, codes, ◌∙◌, get_or, map, refl}
+use Rattle.std.proofs.Common.{◌≡◌, ℕ, ℤ, true, false, List, [], ◌∷◌, Option, Some, Result, Ok, Err, IfOk, ap, codes}
+use Rattle.std.proofs.Common.{◌∙◌, get_or, map, refl}
 use Rattle.serde_json.specs.Data.{Data}
 use Rattle.serde_json.specs.Find.{get}
 use Rattle.roster_base.specs.Moments.{IsMoment}

@@ -1,5 +1,6 @@
 -- Members put one after another, their names apart: each adds its own length.
-use Rattle.std.proofs.Common.{◌≡◌, ◌+◌, ◌||◌, ℕ, Bool, false, List, [], ◌∷◌, Ordering, Less, Equal, Greater, length, map, nat_cmp, sum_by, refl, ap, sym, ◌∙◌, arith, is_eq}
+use Rattle.std.proofs.Common.{◌≡◌, ◌+◌, ◌||◌, ℕ, Bool, false, List, [], ◌∷◌, Ordering, Less, Equal, Greater, length}
+use Rattle.std.proofs.Common.{map, nat_cmp, sum_by, refl, ap, sym, ◌∙◌, arith, is_eq}
 use Rattle.std.proofs.lemmas.Bool.{or_from, or_parts}
 use Rattle.std.proofs.lemmas.Cmp.{eq_by_cmp_equiv, nat_list_cmp_total}
 use Rattle.std.proofs.lemmas.List.Sums.{sum_by-cons}

@@ -1,11 +1,13 @@
 -- The members of an object that was read rise by their names, and so do those of each object in it.
-use Rattle.std.proofs.Common.{◌≡◌, ℕ, List, Option, Some, None, option_map, option_and_then, Less, Equal, Greater, IfSome, refl, ap, ◌∙◌}
+use Rattle.std.proofs.Common.{◌≡◌, ℕ, List, Option, Some, None, option_map, option_and_then, Less, Equal, Greater}
+use Rattle.std.proofs.Common.{IfSome, refl, ap, ◌∙◌}
 use Rattle.std.proofs.lemmas.Cmp.{nat_list_cmp_total}
 use Rattle.std.specs.Cmp.Lexicographic.{slice_cmp}
 use Rattle.std.specs.Ordering.{match_ordering, nat_cmp, ordering_reverse}
 use Rattle.json.specs.Json as json
 use Rattle.json.specs.Lex.{tokens}
-use Rattle.serde_json.specs.Data.{Data, null, boolean, number, string, array, object, Items, no_items, item, Members, no_members, member, put}
+use Rattle.serde_json.specs.Data.{Data, null, boolean, number, string, array, object, Items, no_items, item, Members}
+use Rattle.serde_json.specs.Data.{no_members, member, put}
 use Rattle.serde_json.specs.Find.{as_object, get, get_member}
 use Rattle.serde_json.specs.Read.{number_of, of_json, of_items, of_members, max_depth, read}
 

@@ -1,5 +1,7 @@
 -- A row is read from its own object, and its texts are read as the row.
-use Rattle.std.proofs.Common.{◌≡◌, ◌≤◌, ◌+◌, ◌||◌, ℕ, Bool, true, false, List, [], ◌∷◌, Option, None, Some, Ok, Ordering, Less, Equal, Greater, nat_cmp, codes, length, map, nat_eq, nat_lt, not, option_map, refl, sym, ap, ◌∙◌, subst, arith, is_eq, true≢false}
+use Rattle.std.proofs.Common.{◌≡◌, ◌≤◌, ◌+◌, ◌||◌, ℕ, Bool, true, false, List, [], ◌∷◌, Option, None, Some, Ok}
+use Rattle.std.proofs.Common.{Ordering, Less, Equal, Greater, nat_cmp, codes, map, nat_lt, not, option_map, refl, sym}
+use Rattle.std.proofs.Common.{ap, ◌∙◌, subst, arith, is_eq, true≢false}
 use Rattle.std.proofs.lemmas.Bool.{and_parts, or_parts}
 use Rattle.std.proofs.lemmas.Bool.Decides.{nat_tests}
 use Rattle.std.proofs.lemmas.Cmp.{eq_by_cmp_equiv, nat_list_cmp_total, tied_itself}
@@ -20,6 +22,7 @@ use Rattle.roster_values.specs.declared.kind.Kind.{Kind}
 use Rattle.roster_values.specs.declared.mode.Mode.TheVariants.{Delta}
 use Rattle.roster_values.specs.declared.value.Value.{Value}
 use Rattle.roster_values.specs.declared.value.Value.TheVariants as value
+use Rattle.roster_values.proofs.CellLaws.{not_blank}
 use Rattle.roster_values.proofs.TrimLaws.{trimmed_same}
 use Rattle.roster_values.specs.Fit.{fits, fits_form}
 use Rattle.roster_values.specs.Kinds.{plural_of, single_of}
@@ -31,16 +34,21 @@ use Rattle.roster_types.specs.declared.status.Status.{Status}
 use Rattle.roster_types.specs.declared.status.Status.TheVariants.{Active, ToBeDeleted}
 use Rattle.roster_types.specs.Hrefs.{href}
 use Rattle.roster_types.specs.Lengths.{row_length}
-use Rattle.roster_types.specs.Records.{IsMetadata, Record, all_values, has_plain_text, key_of, record_from, status_in, status_word}
+use Rattle.roster_types.specs.Records.{IsMetadata, Record, all_values, has_plain_text, key_of, record_from, status_in}
+use Rattle.roster_types.specs.Records.{status_word}
 use Rattle.roster_types.specs.Rows.{IsRow, longest, row_from}
 use Rattle.roster_types.specs.Shapes.{fits_all, own_fields}
 use Rattle.roster_types.proofs.Fitting.{table-common}
 use Rattle.row_json.specs.CellTexts.{each}
-use Rattle.row_json.specs.Json.{collection_text, reference_data, row_data, row_members, single_text, user_id_data, value_data, with_entries, with_fields, with_metadata}
-use Rattle.row_json.specs.Reading.{IsHeld, are_objects, collection_in, data_of, entries_in, entry_in, has_good_keys, metadata_in, row_in, row_of, rows_of, single_in, values_in}
+use Rattle.row_json.specs.Json.{collection_text, reference_data, row_data, row_members, single_text, user_id_data}
+use Rattle.row_json.specs.Json.{value_data, with_entries, with_fields, with_metadata}
+use Rattle.row_json.specs.Reading.{IsHeld, are_objects, collection_in, data_of, entries_in, entry_in, has_good_keys}
+use Rattle.row_json.specs.Reading.{metadata_in, row_in, row_of, rows_of, single_in, values_in}
 use Rattle.row_json.proofs.CellBack.{field-back}
 use Rattle.row_json.proofs.Puts.{AreNew, Lack, has_name, is_same, new-put, new-skip}
-use Rattle.row_json.proofs.ReadBack.{ItemsKept, Kept, MembersKept, Rising, array-kept, array-of, Below, behind, behind-none, behind-one, deeper, none-kept, number-kept, object-kept, put-kept, put-last, read-kept, string-kept}
+use Rattle.row_json.proofs.ReadBack.{ItemsKept, Kept, MembersKept, Rising, array-kept, array-of, Below, behind}
+use Rattle.row_json.proofs.ReadBack.{behind-none, behind-one, deeper, none-kept, number-kept, object-kept, put-kept}
+use Rattle.row_json.proofs.ReadBack.{put-last, read-kept, string-kept}
 use Rattle.row_json.proofs.RowLengths.{names, new_names}
 
 -- ---- what is written is kept
@@ -219,9 +227,6 @@ entries-rise (e ∷ es) h = (below-all e.key es h.0, entries-rise es h.1)
 pub entries-in-turn : (es : List Entry) → RiseBy key_of es → with_entries es no_members ≡ members_of es
 entries-in-turn es h = in-turn es no_members (entries-rise es h)
 
-not-blank : (t : List ℕ) → is_filled t ≡ true → nat_eq (length t) 0 ≡ false
-not-blank t h = grind (arith, nat_tests)
-
 entries-back : (es : List Entry) → has_good_keys es ≡ true → list_all has_plain_text es ≡ true → entries_in (members_of es) ≡ Ok es
 unfolding members_of entries_in entry_in
 entries-back [] g p = refl
@@ -229,7 +234,7 @@ entries-back (e ∷ es) g p =
     let key = and_parts (is_id e.key) (has_good_keys es) g in
     let text = and_parts (has_plain_text e) (list_all has_plain_text es) p in
     let plain = and_parts (is_filled e.text) (has_plain_ends e.text) text.0 in
-    rw (key.0, trimmed_same e.text plain.0 plain.1, not-blank e.text plain.0, entries-back es key.1 text.1) refl
+    rw (key.0, trimmed_same e.text plain.0 plain.1, not_blank e.text plain.0, entries-back es key.1 text.1) refl
 
 metadata-back : (kind : Kind) (es : List Entry) (vs : List (Option Value)) → IsMetadata es → has_good_keys es ≡ true → metadata_in (get_member (codes "metadata") (with_metadata es (with_fields (table kind) vs no_members))) ≡ Ok es
 unfolding metadata_in with_metadata

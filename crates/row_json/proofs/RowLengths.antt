@@ -1,5 +1,6 @@
 -- The length of a row's text.
-use Rattle.std.proofs.Common.{◌≡◌, ◌≤◌, ◌+◌, ℕ, ℤ, pos, negsuc, List, [], ◌∷◌, Option, Some, None, codes, length, map, refl, ap, ◌∙◌, arith}
+use Rattle.std.proofs.Common.{◌≡◌, ◌≤◌, ◌+◌, ℕ, ℤ, pos, negsuc, List, [], ◌∷◌, Option, Some, None, codes, length, map}
+use Rattle.std.proofs.Common.{refl, ap, ◌∙◌, arith}
 use Rattle.std.proofs.lemmas.Cmp.{eq_by_cmp_equiv, nat_list_cmp_total}
 use Rattle.std.proofs.lemmas.Map.Keys.{IsDistinct-from_sorted}
 use Rattle.std.proofs.lemmas.Map.Made.{IsDistinct-from_count}
@@ -21,11 +22,13 @@ use Rattle.roster_types.specs.declared.metadata.Entry.{Entry}
 use Rattle.roster_types.specs.declared.status.Status.{Status}
 use Rattle.roster_types.specs.declared.status.Status.TheVariants.{Active, ToBeDeleted}
 use Rattle.roster_types.specs.Hrefs.{href}
-use Rattle.roster_types.specs.Lengths.{field_length, fields_length, metadata_length, object_length, reference_length, row_length, text_length, user_id_length, value_length}
+use Rattle.roster_types.specs.Lengths.{field_length, fields_length, metadata_length, object_length, reference_length}
+use Rattle.roster_types.specs.Lengths.{row_length, text_length, user_id_length, value_length}
 use Rattle.roster_types.specs.Records.{IsMetadata, Record, all_values, key_of, status_word}
 use Rattle.roster_types.specs.Rows.{IsRow, longest}
 use Rattle.roster_types.proofs.Fitting.{table-common}
-use Rattle.row_json.specs.Json.{reference_data, row_data, row_members, row_text, user_id_data, value_data, with_entries, with_fields, with_metadata}
+use Rattle.row_json.specs.Json.{reference_data, row_data, row_members, row_text, user_id_data, value_data, with_entries}
+use Rattle.row_json.specs.Json.{with_fields, with_metadata}
 use Rattle.row_json.proofs.Puts.{AreNew, Lack, is_same, lack-none, new-put, new-skip, size-put, size-with_entries}
 use Rattle.row_json.proofs.TextLengths.{array-length, object-length, quoted-length, size, size-none}
 

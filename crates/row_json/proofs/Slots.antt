@@ -1,13 +1,14 @@
 -- Members put one after another into places that stand in the order of their names.
-use Rattle.std.proofs.Common.{◌≡◌, ◌++◌, ℕ, zero, suc, Bool, true, false, List, [], ◌∷◌, Option, Some, None, Ordering, Less, Equal, Greater, codes, flat_map, if◌then◌else◌, is_eq, map, nat_cmp, option_map, get_or, slice_get, refl, sym, ap, ◌∙◌, append_assoc}
+use Rattle.std.proofs.Common.{◌≡◌, ◌++◌, ℕ, zero, suc, Bool, true, false, List, [], ◌∷◌, Option, Some, None, Ordering}
+use Rattle.std.proofs.Common.{Less, Equal, Greater, codes, flat_map, if◌then◌else◌, map, nat_cmp, option_map, get_or}
+use Rattle.std.proofs.Common.{slice_get, refl, sym, ap, ◌∙◌, append_assoc}
 use Rattle.std.proofs.lemmas.Bool.{and_parts}
-use Rattle.std.proofs.lemmas.Map.Text.{is_eq-slice_cmp}
-use Rattle.std.proofs.lemmas.Slice.Eq.{bytes_eq-Decides}
 use Rattle.std.specs.Cmp.Lexicographic.{slice_cmp}
 use Rattle.std.specs.List.{list_all}
 use Rattle.std.specs.Ordering.{match_ordering}
 use Rattle.json.specs.Token.{Token, begin_object, end_object, key}
 use Rattle.json.specs.Tree.{members_tokens}
+use Rattle.roster_base.proofs.Sorting.{tied}
 use Rattle.serde_json.specs.Data.{Data, Members, member, no_members, put}
 use Rattle.serde_json.specs.Written.{members_outline}
 use Rattle.roster_values.specs.declared.kind.Kind.{Kind}
@@ -16,7 +17,8 @@ use Rattle.roster_values.specs.declared.value.Value.{Value}
 use Rattle.roster_values.specs.Table.{Info, table}
 use Rattle.roster_types.specs.declared.metadata.Entry.{Entry}
 use Rattle.roster_types.specs.Records.{Record, all_values}
-use Rattle.row_json.specs.Json.{chosen, is_named, named, row_data, row_members, value_data, with_field, with_fields, with_metadata}
+use Rattle.row_json.specs.Json.{chosen, is_named, named, row_data, row_members, value_data, with_field, with_fields}
+use Rattle.row_json.specs.Json.{with_metadata}
 use Rattle.row_json.specs.Tokens.{data_tokens, member_tokens, metadata_data, order_of, slot_at, slot_of, slot_tokens}
 
 -- a name, and the value of its member where it is there
@@ -56,9 +58,6 @@ fill : List ℕ → Option Data → List Slot → List Slot
 fill k o [] = []
 fill k o (s ∷ ss) = match_ordering (slice_cmp nat_cmp k s.0) (s ∷ ss) ((s.0, taken s.1 o) ∷ ss) (s ∷ fill k o ss)
 
-same_name : (k l : List ℕ) → slice_cmp nat_cmp k l ≡ Equal → k ≡ l
-same_name k l e = (bytes_eq-Decides k l).0 (sym (is_eq-slice_cmp k l) ∙ ap is_eq e)
-
 put_before : (k : List ℕ) (d : Data) (ss : List Slot) → is_before k (names_in ss) ≡ true → put k d (members_in ss) ≡ member k d (members_in ss)
 unfolding members_in names_in is_before
 put_before k d [] h = refl
@@ -80,7 +79,7 @@ put_fills k d (s ∷ ss) h = by (slice_cmp nat_cmp k s.0) s.1 refl (put_fills k 
         → match_ordering c false (is_before k (names_in ss)) (has_place k (names_in ss)) ≡ true
         → put k d (with_slot s.0 o (members_in ss)) ≡ members_in (match_ordering c ((s.0, o) ∷ ss) ((s.0, taken o (Some d)) ∷ ss) ((s.0, o) ∷ fill k (Some d) ss))
     by Less o e rest h = cc h
-    by Equal None e rest h = put_before k d ss h ∙ ap (λ (q : List ℕ). member q d (members_in ss)) (same_name k s.0 e)
+    by Equal None e rest h = put_before k d ss h ∙ ap (λ (q : List ℕ). member q d (members_in ss)) (tied k s.0 e)
     by Equal (Some f) e rest h = rw e refl
     by Greater None e rest h = rest h
     by Greater (Some f) e rest h = rw e (ap (member s.0 f) (rest h))

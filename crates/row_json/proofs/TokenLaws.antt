@@ -1,5 +1,6 @@
 -- The tokens of arrays and of metadata.
-use Rattle.std.proofs.Common.{◌≡◌, ◌++◌, ◌==◌, ℕ, Bool, true, false, List, [], ◌∷◌, Option, codes, flat_map, length, map, if◌then◌else◌, refl, sym, arith, true≢false, ap, ◌∙◌, append_assoc}
+use Rattle.std.proofs.Common.{◌≡◌, ◌++◌, ◌==◌, ℕ, Bool, true, false, List, [], ◌∷◌, Option, codes, flat_map, length}
+use Rattle.std.proofs.Common.{map, if◌then◌else◌, refl, sym, arith, true≢false, ap, ◌∙◌, append_assoc}
 use Rattle.std.proofs.lemmas.Bool.Decides.{nat_tests}
 use Rattle.json.specs.Token.{Token, begin_array, begin_object, end_array, end_object, key}
 use Rattle.json.specs.Token as token

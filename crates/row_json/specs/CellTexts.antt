@@ -1,5 +1,6 @@
 -- What a JSON value says in a field: the text of a cell that says the same.
-use Rattle.std.specs.Prelude.{ℕ, List, [], ◌∷◌, Option, None, Some, Result, Ok, Err, codes, length, option_map, ◌==◌, if◌then◌else◌}
+use Rattle.std.specs.Prelude.{ℕ, List, [], ◌∷◌, Option, None, Some, Result, Ok, Err, codes, length, option_map, ◌==◌}
+use Rattle.std.specs.Prelude.{if◌then◌else◌}
 use Rattle.std.specs.List.{join_with_byte, list_all}
 use Rattle.serde_json.specs.Data.{Data, Items, Num, array, boolean, item, no_items, null, number, object, string}
 use Rattle.serde_json.specs.Find.{as_array, get, is_float}

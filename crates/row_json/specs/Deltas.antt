@@ -1,5 +1,6 @@
 -- What differs of the rows of a kind, as a text and as what a text says of it.
-use Rattle.std.specs.Prelude.{ℕ, ◌++◌, Bool, List, ◌∷◌, None, Result, Ok, Err, codes, if◌then◌else◌, map, option_and_then}
+use Rattle.std.specs.Prelude.{ℕ, ◌++◌, Bool, List, ◌∷◌, None, Result, Ok, Err, codes, if◌then◌else◌, map}
+use Rattle.std.specs.Prelude.{option_and_then}
 use Rattle.std.specs.Cmp.Lexicographic.{slice_cmp}
 use Rattle.std.specs.Ordering.{is_lt, nat_cmp}
 use Rattle.json.specs.Token.{Token, key}

@@ -1,5 +1,6 @@
 -- What JSON texts say of rows.
-use Rattle.std.specs.Prelude.{◌≡◌, ◌+◌, ◌==◌, ◌&&◌, ℕ, Bool, true, List, [], ◌∷◌, Option, None, Some, Result, Ok, Err, codes, is_some, length, option_and_then, if◌then◌else◌}
+use Rattle.std.specs.Prelude.{◌≡◌, ◌+◌, ◌==◌, ◌&&◌, ℕ, Bool, true, List, [], ◌∷◌, Option, None, Some, Result, Ok, Err}
+use Rattle.std.specs.Prelude.{codes, is_some, length, option_and_then, if◌then◌else◌}
 use Rattle.std.specs.List.{list_all}
 use Rattle.std.specs.Str.{is_utf8}
 use Rattle.serde_json.specs.Data.{Data, Items, Members, item, member, no_items, no_members}
@@ -115,7 +116,7 @@ pub record IsHeld (r : Record) : Type 0 where
   pub row : IsRow r
   pub keys : has_good_keys r.metadata ≡ true
 
--- the value of a text, so far as `serde_json` reads it
+-- the value of a text, as far as `serde_json` reads it
 unfoldable pub data_of : List ℕ → Result Data JsonFault
 data_of bytes = if is_utf8 bytes then found_or NotJson (read bytes) else Err NotJson
 

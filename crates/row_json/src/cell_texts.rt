@@ -10,7 +10,8 @@ ghost use Rattle.roster_texts.specs.declared.fault.ValueFault.TheVariants as fau
 ghost use Rattle.roster_values.specs.CellText.{user_id_text};
 ghost use Rattle.roster_values.specs.Fit.{is_no_comma};
 ghost use Rattle.roster_values.specs.Table.{form_of};
-ghost use Rattle.row_json.specs.CellTexts.{in_user_id, item_text, list_text, listed_id, listed_reference, part_or, reference_text, scalar_or, text_of, user_id_part, whole_text, without_comma};
+ghost use Rattle.row_json.specs.CellTexts.{in_user_id, item_text, list_text, listed_id, listed_reference, part_or};
+ghost use Rattle.row_json.specs.CellTexts.{reference_text, scalar_or, text_of, user_id_part, whole_text, without_comma};
 
 use roster_base::{NoMemory, Refusal};
 use roster_texts::ValueFault;

@@ -1,7 +1,6 @@
 //! What differs of the rows of a kind, as texts.
 
 ghost use Rattle.std.specs.Prelude.{◌≡◌, ◌++◌, None, IfOk, OnOk, flat_map, string_bytes};
-ghost use Rattle.json.specs.Token.{begin_object, end_object};
 ghost use Rattle.serde_json.specs.Data.{string};
 ghost use Rattle.serde_json.specs.View.{items_view, view};
 ghost use Rattle.roster_base.specs.Reading.{Gives};

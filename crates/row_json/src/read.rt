@@ -10,7 +10,9 @@ ghost use Rattle.roster_types.specs.Shapes.{fits_all};
 ghost use Rattle.roster_values.specs.Table.{info_in, info_of, table};
 ghost use Rattle.row_json.specs.declared.fault.JsonFault.TheVariants as json;
 ghost use Rattle.row_json.specs.CellTexts.{each};
-ghost use Rattle.row_json.specs.Reading.{are_objects, collection_in, data_of, entries_in, entry_in, field_in, in_member, metadata_in, row_in, row_of, rows_of, single_in, unless_long, values_in};
+ghost use Rattle.row_json.specs.Reading.{are_objects, collection_in, data_of, entries_in, entry_in, field_in};
+ghost use Rattle.row_json.specs.Reading.{in_member, metadata_in, row_in, row_of, rows_of, single_in, unless_long};
+ghost use Rattle.row_json.specs.Reading.{values_in};
 
 use crate::cell_texts::text_of;
 use crate::fault::{JsonError, JsonFault};
@@ -229,7 +231,7 @@ fn read_rows(alloc: Global, mode: Mode, kind: Kind, value: &Value) -> Result<Vec
     }
 }
 
-/// The value of a text, so far as `serde_json` reads it.
+/// The value of a text, as far as `serde_json` reads it.
 #[tactic(auto, unfolding(crate::specs::Reading::data_of))]
 pub fn read_data(alloc: Global, bytes: &[u8]) -> Result<Value, JsonError>
     ensures { Gives view result (data_of bytes.now) }

@@ -1,6 +1,7 @@
 //! The texts of rows.
 
-ghost use Rattle.std.specs.Prelude.{◌≡◌, ◌≤◌, ◌++◌, [], None, Ok, IfOk, OnOk, flat_map, length, option_map, string_bytes};
+ghost use Rattle.std.specs.Prelude.{◌≡◌, ◌≤◌, ◌++◌, [], None, Ok, IfOk, OnOk, flat_map, length, option_map};
+ghost use Rattle.std.specs.Prelude.{string_bytes};
 ghost use Rattle.std.specs.List.{All};
 ghost use Rattle.json.specs.Print.{print};
 ghost use Rattle.roster_types.specs.Lengths.{object_length};

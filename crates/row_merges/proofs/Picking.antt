@@ -1,5 +1,6 @@
 -- A merge, pick by pick.
-use Rattle.std.proofs.Common.{◌≡◌, ℕ, ◌+◌, ◌<◌, ◌≤◌, List, [], ◌∷◌, ◌++◌, Bool, true, false, not, cond, drop, filter, length, slice_get, None, Some, refl, sym, ap, subst, ◌∙◌, arith}
+use Rattle.std.proofs.Common.{◌≡◌, ℕ, ◌+◌, ◌<◌, ◌≤◌, List, [], ◌∷◌, ◌++◌, Bool, true, false, not, cond, drop, filter}
+use Rattle.std.proofs.Common.{length, slice_get, None, Some, refl, sym, ap, subst, ◌∙◌, arith}
 use Rattle.std.proofs.lemmas.Bool.{and_from}
 use Rattle.std.specs.FinMap.Entries as entries
 use Rattle.std.specs.Ordering.{is_lt, ordering_reverse}
@@ -7,21 +8,11 @@ use Rattle.std.specs.declared.cmp.Ordering.TheVariants.{Equal, Greater, Less}
 use Rattle.reference_rules.proofs.KeyOrder.{and_first, and_second, key_exact, key_total, less_from_is_lt}
 use Rattle.roster_types.specs.Keys.{Ascends, Key, key_cmp, keyed, row_key}
 use Rattle.roster_types.specs.Records.{Record}
-use Rattle.version_core.proofs.LookUps.{below_kept}
+use Rattle.version_core.proofs.LookUps.{below_kept, below_trans}
+use Rattle.version_core.proofs.Places.{greater_from_less, less_from_greater}
 use Rattle.row_deltas.specs.Deltas.{merged}
 use Rattle.version_core.specs.Order.{by_order, overlaid, put}
 use Rattle.row_merges.specs.Picks.{Pick, is_gone, kept_of, passed, pick_of, pick_of_both}
-
-below_further : (a b : Key) (rows : List Record) → key_cmp a b ≡ Less → entries.below_all key_cmp b (keyed row_key rows) ≡ true → entries.below_all key_cmp a (keyed row_key rows) ≡ true
-below_further a b [] less above = refl
-below_further a b (row ∷ rows) less above =
-    and_from _ _ (ap is_lt (key_total.trans a b (row_key row) less (less_from_is_lt _ (and_first _ _ above)))) (below_further a b rows less (and_second _ _ above))
-
-reversed : (a b : Key) → key_cmp a b ≡ Greater → key_cmp b a ≡ Less
-reversed a b greater = key_total.antisymm b a ∙ ap ordering_reverse greater
-
-turned : (a b : Key) → key_cmp a b ≡ Less → key_cmp b a ≡ Greater
-turned a b less = key_total.antisymm b a ∙ ap ordering_reverse less
 
 -- (as in row_deltas' StepLemmas)
 below_put : (k : Key) (x : Record) (xs : List Record) → is_lt (key_cmp k (row_key x)) ≡ true → entries.below_all key_cmp k (keyed row_key xs) ≡ true → entries.below_all key_cmp k (keyed row_key (put row_key x xs)) ≡ true
@@ -47,7 +38,7 @@ overlaid-first : (row : Record) (base changes : List Record) → entries.below_a
 overlaid-first row base [] below = refl
 overlaid-first row base (change ∷ changes) below =
     ap (put row_key change) (overlaid-first row base changes (and_second _ _ below))
-    ∙ ap (λ o. by_order o (change ∷ row ∷ overlaid row_key base changes) (change ∷ overlaid row_key base changes) (row ∷ put row_key change (overlaid row_key base changes))) (turned (row_key row) (row_key change) (less_from_is_lt _ (and_first _ _ below)))
+    ∙ ap (λ o. by_order o (change ∷ row ∷ overlaid row_key base changes) (change ∷ overlaid row_key base changes) (row ∷ put row_key change (overlaid row_key base changes))) (greater_from_less (row_key row) (row_key change) (less_from_is_lt _ (and_first _ _ below)))
 
 module _ (gone : List (List ℕ)) where
   keeps : Record → Bool
@@ -94,13 +85,13 @@ module _ (gone : List (List ℕ)) where
       (record { row = h; is_held = true; in_held = true; in_puts = false })
       (record { row = p; is_held = false; in_held = true; in_puts = true })
       (record { row = p; is_held = false; in_held = false; in_puts = true }))) [
-        | Less ↦ λ less. front h held (p ∷ puts) (and_from _ _ (ap is_lt less) (below_further (row_key h) (row_key p) puts less (and_first _ _ up')))
+        | Less ↦ λ less. front h held (p ∷ puts) (and_from _ _ (ap is_lt less) (below_trans row_key (row_key h) (row_key p) puts less (and_first _ _ up')))
         | Equal ↦ λ same.
             let equal : key_cmp (row_key p) (row_key h) ≡ Equal = key_total.antisymm (row_key p) (row_key h) ∙ ap ordering_reverse same in
             put_over h p held puts (key_exact (row_key h) (row_key p) same) (and_first _ _ up) (and_first _ _ up') equal
         | Greater ↦ λ greater.
-            let less = reversed (row_key h) (row_key p) greater in
-            put_front p (h ∷ held) puts (and_from _ _ (ap is_lt less) (below_further (row_key p) (row_key h) held less (and_first _ _ up))) (and_first _ _ up')
+            let less = less_from_greater (row_key h) (row_key p) greater in
+            put_front p (h ∷ held) puts (and_from _ _ (ap is_lt less) (below_trans row_key (row_key p) (row_key h) held less (and_first _ _ up))) (and_first _ _ up')
       ] refl
 
   pub pick_steps : (held puts : List Record) (pick : Pick) → Ascends row_key held → Ascends row_key puts → pick_of (slice_get held 0) (slice_get puts 0) ≡ Some pick → Steps held puts pick

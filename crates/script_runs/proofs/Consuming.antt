@@ -1,5 +1,6 @@
 -- The consumer's lines.
-use Rattle.std.proofs.Common.{◌≡◌, ◌≢◌, ◌++◌, ℕ, List, Result, Ok, Err, String, Global, ap, false, refl, string_bytes, subst, sym, ◌∙◌}
+use Rattle.std.proofs.Common.{◌≡◌, ◌≢◌, ◌++◌, ℕ, List, Result, Ok, Err, String, Global, ap, false, refl, string_bytes}
+use Rattle.std.proofs.Common.{subst, sym, ◌∙◌}
 use Rattle.std.specs.Prelude.{IfOk}
 use Rattle.hub_commands.specs.Below.SendLines.{send_text}
 use Rattle.hub_commands.specs.Below.Sends.{IsEnterOf, IsSendOf}
@@ -17,7 +18,8 @@ use Rattle.keeper_memory.specs.Calls.{CallsLead}
 use Rattle.keeper_memory.specs.copy.Copies.{IsCopy}
 use Rattle.keeper_memory.specs.copy.HeldCopy.{HeldCopy}
 use Rattle.script_runs.proofs.Sounding.{agreed, is_exact}
-use Rattle.script_runs.specs.Plays.{EntersWrite, SendStep, Sound, Synchronises, copies_between, links_between, said_taken, told_entered}
+use Rattle.script_runs.specs.Plays.{EntersWrite, SendStep, Sound, Synchronises, copies_between, links_between}
+use Rattle.script_runs.specs.Plays.{said_taken, told_entered}
 use Rattle.script_runs.specs.Sayings.{said_text}
 use Rattle.script_runs.specs.declared.play.Play.{Play}
 use Rattle.script_runs.specs.declared.play.Told.{Told}

@@ -1,5 +1,6 @@
 -- What is written by a rehearsal.
-use Rattle.std.proofs.Common.{◌≡◌, ◌≢◌, ◌++◌, ℕ, List, [], Option, Some, None, Ok, inl, inr, length, refl, subst, sym, arith}
+use Rattle.std.proofs.Common.{◌≡◌, ◌≢◌, ◌++◌, ℕ, List, [], Option, Some, None, Ok, inl, inr, length, refl, subst, sym}
+use Rattle.std.proofs.Common.{arith}
 use Rattle.std.specs.Io.KnownBytes.{Appends}
 use Rattle.hub_commands.proofs.Telling.{writes_as}
 use Rattle.hub_commands.specs.Answers.{IsPrinted, end_text, status_of, text_of}
@@ -8,7 +9,8 @@ use Rattle.hub_commands.specs.Outside.{Faults, HaveRisen, HaveStood, faults_of}
 use Rattle.hub_commands.specs.Runs.{Writes}
 use Rattle.hub_commands.specs.declared.answer.Answer.{Answer}
 use Rattle.hub_commands.specs.declared.answer.End.{End}
-use Rattle.hub_commands.specs.declared.answer.End.TheVariants.{Done, FileTooLarge, FolderFailed, MissingFile, NoMemory, ScriptRefused}
+use Rattle.hub_commands.specs.declared.answer.End.TheVariants.{Done, FileTooLarge, FolderFailed, MissingFile, NoMemory}
+use Rattle.hub_commands.specs.declared.answer.End.TheVariants.{ScriptRefused}
 use Rattle.outside_ports.proofs.Appending.{appends_both, part_behind, part_front}
 use Rattle.outside_ports.specs.Files.{Stored}
 use Rattle.outside_ports.specs.Written.{AppendsPart}

@@ -14,7 +14,8 @@ use Rattle.hub_words.specs.Tasks.{Sending, Task}
 use Rattle.keeper_memory.specs.copy.Copies.{Copy, IsCopy}
 use Rattle.keeper_memory.specs.copy.HeldCopy.{HeldCopy}
 use Rattle.outside_ports.specs.Files.{Stored}
-use Rattle.script_runs.specs.Plays.{BecomesLink, EntersWrite, HubStep, IsExact, LineStep, ReadStep, Sends, Sound, Synchronises, copies_between, links_between}
+use Rattle.script_runs.specs.Plays.{BecomesLink, EntersWrite, HubStep, IsExact, LineStep, ReadStep, Sends, Sound}
+use Rattle.script_runs.specs.Plays.{Synchronises, copies_between, links_between}
 use Rattle.script_runs.specs.declared.play.Play.{Play}
 use Rattle.sync_world.proofs.AgreeingLemmas.{agree_walks}
 use Rattle.sync_world.specs.Links.{HeldLink, told_by, with_event}

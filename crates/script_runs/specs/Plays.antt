@@ -1,5 +1,6 @@
 -- What a line of a script makes of a world, and what it prints.
-use Rattle.std.specs.Prelude.{◌≡◌, ◌≢◌, ◌⊎◌, ⊤, ℕ, List, [], ◌++◌, Option, Some, Result, Ok, Err, String, codes, decimal, string_bytes}
+use Rattle.std.specs.Prelude.{◌≡◌, ◌≢◌, ◌⊎◌, ⊤, ℕ, List, [], ◌++◌, Option, Some, Result, Ok, Err, String, codes}
+use Rattle.std.specs.Prelude.{decimal, string_bytes}
 use Rattle.std.specs.Global.{Global}
 use Rattle.std.specs.List.{flat_map}
 use Rattle.hub_commands.specs.Below.Consumers.{CopyRun, LinkRun, copy_run, link_run}

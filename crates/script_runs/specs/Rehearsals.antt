@@ -3,7 +3,8 @@ use Rattle.std.specs.Prelude.{◌≡◌, ◌≤◌, ◌⊎◌, ⊤, ℕ, List, [
 use Rattle.hub_commands.specs.AskAnswers.{IsBytesOf}
 use Rattle.hub_commands.specs.Outside.{Faults, HaveRisen, HaveStood}
 use Rattle.hub_commands.specs.declared.answer.End.{End}
-use Rattle.hub_commands.specs.declared.answer.End.TheVariants.{Done, FileTooLarge, FolderFailed, MissingFile, NoMemory, ScriptRefused}
+use Rattle.hub_commands.specs.declared.answer.End.TheVariants.{Done, FileTooLarge, FolderFailed, MissingFile, NoMemory}
+use Rattle.hub_commands.specs.declared.answer.End.TheVariants.{ScriptRefused}
 use Rattle.outside_ports.specs.Files.{Stored}
 use Rattle.script_runs.specs.Runs.{RunsFirst, printed}
 use Rattle.script_runs.specs.declared.run.ScriptEnd.{ScriptEnd}

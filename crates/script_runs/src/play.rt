@@ -85,7 +85,7 @@ fn copy_failed(alloc: Global) -> Result<String, NoMemory>
     Ok(String::from_str(alloc, COPY_FAILED)?)
 }
 
-// A text, and then a line.
+/// A text, and then a line.
 pub(crate) fn with_line(text: String, line: String) -> Result<String, NoMemory>
     ensures { IfOk result (λ t. string_bytes t ≡ string_bytes text ++ string_bytes line) }
 {
@@ -95,6 +95,7 @@ pub(crate) fn with_line(text: String, line: String) -> Result<String, NoMemory>
     Ok(text)
 }
 
+/// The line that tells how many exchanges were made.
 pub(crate) fn exchanges_line(alloc: Global, asked: u64) -> Result<String, NoMemory>
     ensures { IfOk result (λ t. string_bytes t ≡ plays.exchanges_text asked) }
 {

@@ -1,9 +1,9 @@
 //! The lines that tell what others did.
 
 ghost use Rattle.std.specs.Prelude.{◌≡◌, ◌++◌, IfOk, string_bytes};
-ghost use Rattle.hub_commands.specs.Answers.{end_text};
 ghost use Rattle.script_runs.specs.Sayings.{made_text, replied_text, said_text, saying_text};
 
+use crate::sources::told_lines;
 use hub_commands::End;
 use hub_commands::lines::request_line;
 use hub_commands::publish::{end_of_error, told_line};
@@ -12,14 +12,6 @@ use roster_base::NoMemory;
 use std::alloc::Global;
 use sync_world::Saying;
 use sync_world::provider::RequestFault;
-
-fn end_lines(alloc: Global, end: End) -> Result<String, NoMemory>
-    ensures { IfOk result (λ s. string_bytes s ≡ end_text end) }
-{
-    let lines = end.lines(alloc);
-    drop(end);
-    lines
-}
 
 fn made_line(
     alloc: Global,
@@ -30,7 +22,7 @@ fn made_line(
 {
     match answer {
         Ok(published) => told_line(alloc, name, published),
-        Err(error) => end_lines(alloc, end_of_error(error)),
+        Err(error) => told_lines(alloc, end_of_error(error)),
     }
 }
 
@@ -62,7 +54,7 @@ fn saying_line(alloc: Global, saying: Saying) -> Result<String, NoMemory>
         }
         Saying::AfterClose { request } => request_line(alloc, request, RequestFault::AfterClose),
         Saying::Lines { lines } => Ok(lines.into_string()),
-        Saying::NotOpened => end_lines(alloc, End::HubFailed),
+        Saying::NotOpened => told_lines(alloc, End::HubFailed),
     }
 }
 

@@ -38,7 +38,8 @@ impl From<NoMemory> for Stop {
     }
 }
 
-fn told_lines(alloc: Global, end: End) -> Result<String, NoMemory>
+/// The lines of an end.
+pub fn told_lines(alloc: Global, end: End) -> Result<String, NoMemory>
     ensures { IfOk result (λ s. string_bytes s ≡ end_text end) }
 {
     let lines = end.lines(alloc);

@@ -1,8 +1,8 @@
 -- What clears do to each area.
-use Rattle.std.proofs.Common.{◌≡◌, ℕ, List, [], ◌∷◌, ◌==◌, true, false, cond, not, if◌then◌else◌, None, Some, inl, inr, refl, sym, subst}
+use Rattle.std.proofs.Common.{◌≡◌, ℕ, List, [], ◌∷◌, ◌==◌, true, false, cond, not, if◌then◌else◌, None, Some, inl, inr}
+use Rattle.std.proofs.Common.{refl, sym, subst}
 use Rattle.std.specs.FinMap.{retain_keys}
-use Rattle.std.proofs.lemmas.Bool.{cases_Bool}
-use Rattle.std.proofs.lemmas.Bool.Decides.{Decides-eqb}
+use Rattle.std.proofs.lemmas.Bool.{cases_Bool, eqb-true}
 use Rattle.std.specs.Ordering.{eq_by_cmp}
 use Rattle.item_maps.specs.Items.{bytes_cmp, is_between}
 use Rattle.item_maps.specs.declared.item.Edit.TheVariants.{Clear}
@@ -16,9 +16,6 @@ cleared_map k from to area m = if area == k then retain_keys m (λ label. not (i
 pub cleared_act : (k : ℕ) (from to : List ℕ) → Act (Clear k from to ∷ []) (cleared_map k from to)
 cleared_act k from to = record { on = λ m area. refl }
 
-number_is : (m n : ℕ) → (m == n) ≡ true → m ≡ n
-number_is m n is = (Decides-eqb m n).0 is
-
 -- a fact of all areas, by those that either format has
 pub by_areas : (P : ℕ → Type 0) → P 0 → P 1 → P 2 → P 3 → P 4 → P 5 → P 6 → P 7 → P 8
     → ((a : ℕ) → (a == 0) ≡ false → (a == 1) ≡ false → (a == 2) ≡ false → (a == 3) ≡ false → (a == 4) ≡ false → (a == 5) ≡ false → (a == 6) ≡ false → (a == 7) ≡ false → (a == 8) ≡ false → P a)
@@ -28,7 +25,7 @@ by_areas P p0 p1 p2 p3 p4 p5 p6 p7 p8 else_ a =
   where
     at : (k : ℕ) → P k → ((a == k) ≡ false → P a) → P a
     at k p other = elim (cases_Bool (a == k)) [
-      | inl is ↦ subst P (sym (number_is a k is)) p
+      | inl is ↦ subst P (sym (eqb-true a k is)) p
       | inr isnt ↦ other isnt
     ]
 

@@ -1,5 +1,6 @@
 -- Tables whose oldest change went into the base.
-use Rattle.std.proofs.Common.{◌≡◌, ◌+◌, ◌≤◌, ◌<◌, ◌^◌, ℕ, List, [], ◌∷◌, ◌++◌, ◌==◌, Bool, true, false, if◌then◌else◌, map, refl, sym, ap, ◌∙◌, subst, append_assoc, arith}
+use Rattle.std.proofs.Common.{◌≡◌, ◌+◌, ◌≤◌, ◌<◌, ◌^◌, ℕ, List, [], ◌∷◌, ◌++◌, ◌==◌, Bool, true, false, if◌then◌else◌}
+use Rattle.std.proofs.Common.{map, refl, sym, ap, ◌∙◌, subst, append_assoc, arith}
 use Rattle.std.specs.FinMap.{from_entries, retain_keys}
 use Rattle.std.specs.List.{AllByRecursion}
 use Rattle.item_maps.specs.Items.{Items, bytes_cmp}
@@ -17,12 +18,15 @@ use Rattle.version_core.specs.declared.row_change.RowChange.{RowChange}
 use Rattle.hub_format.specs.Format.{Entry, of_changes, own_version, state_entry}
 use Rattle.hub_format.specs.Pieces.{key_label}
 use Rattle.hub_format.proofs.Acts.{Act, Map, both, clear_act, clear_map, next, put_act, put_map}
-use Rattle.hub_format.proofs.Finds.{Alike, alike_map, found, found-append, or_else, retained, where-append, where_all, where_label}
+use Rattle.hub_format.proofs.Finds.{Alike, alike_map, found, found-append, or_else, retained, where-append, where_all}
+use Rattle.hub_format.proofs.Finds.{where_label}
 use Rattle.hub_format.proofs.Folding.{IsOf, Later, cleared, grants_moved, moved_act, moved_in}
 use Rattle.span_format.specs.Edits.{folded, hidden_by, spans_after}
-use Rattle.span_format.specs.Format.{AreSpans, HasPlainId, HasPlainIds, Span, items_in, name_entry, own_names, own_spans, span_entry, span_key, spans_from}
+use Rattle.span_format.specs.Format.{AreSpans, HasPlainId, HasPlainIds, Span, items_in, name_entry, own_names}
+use Rattle.span_format.specs.Format.{own_spans, span_entry, span_key, spans_from}
 use Rattle.span_format.proofs.Areas.{by_areas, replaced}
-use Rattle.span_format.proofs.Putting.{IsPlain, all_from, all_laid, all_on, all_overlaid, are_shown, is_shown, overlaid_rows, spans_ascend, where_true, where_where}
+use Rattle.span_format.proofs.Putting.{IsPlain, all_from, all_laid, all_on, all_overlaid, are_shown, is_shown}
+use Rattle.span_format.proofs.Putting.{overlaid_rows, spans_ascend, where_true, where_where}
 
 -- what the clears of rows leave of a map
 abbrev pub hidden_map : ℕ → List RowChange → Map → Map

@@ -1,5 +1,6 @@
 -- The items after a commit keep the state after it.
-use Rattle.std.proofs.Common.{◌≡◌, ◌+◌, ◌≤◌, ◌<◌, ◌^◌, ℕ, List, [], ◌∷◌, ◌++◌, true, false, length, length-append, Option, None, Some, inl, inr, refl, sym, ap, ◌∙◌, subst, arith}
+use Rattle.std.proofs.Common.{◌≡◌, ◌+◌, ◌≤◌, ◌<◌, ◌^◌, ℕ, List, [], ◌∷◌, ◌++◌, true, false, length, length-append}
+use Rattle.std.proofs.Common.{Option, None, Some, inl, inr, refl, sym, ap, ◌∙◌, subst, arith}
 use Rattle.std.specs.Prelude.{nat_lt}
 use Rattle.std.specs.List.{AllByRecursion}
 use Rattle.std.specs.Option.{ForSome}
@@ -19,7 +20,8 @@ use Rattle.version_core.specs.declared.hub_tables.HubTables.{HubTables}
 use Rattle.version_core.specs.declared.mark.MarkRow.{MarkRow}
 use Rattle.version_core.proofs.MarkLemmas.{no_marks}
 use Rattle.version_core.proofs.TableLemmas.{AreVersionsFrom-push}
-use Rattle.version_core.proofs.VersionLemmas.{AllByRecursion-push, length-versions_from, newest_number, oldest-versions_from, versions_from-push}
+use Rattle.version_core.proofs.VersionLemmas.{AllByRecursion-push, length-versions_from, newest_number}
+use Rattle.version_core.proofs.VersionLemmas.{oldest-versions_from, versions_from-push}
 use Rattle.keeper_memory.proofs.CommitLemmas.{IsKept-with_commit}
 use Rattle.keeper_memory.proofs.KeptLemmas.{few_changes, kept_in_tables, no_versions, tables_are_kept}
 use Rattle.keeper_memory.proofs.KeptLemmas as kept_lemmas
@@ -32,7 +34,8 @@ use Rattle.hub_format.proofs.Acts.{after-append}
 use Rattle.hub_format.proofs.Encodes.{ahead, first_run, fit_laid, fit_taken, rise_of, split}
 use Rattle.hub_format.proofs.Marking.{fit_marked}
 use Rattle.span_format.specs.Edits.{added, change_edits, edits, first_edits, folded, let_go, spans_after}
-use Rattle.span_format.specs.Format.{AreSpans, FitSpans, FitsSpanCommit, HasPlainId, HasPlainIds, KeepSpans, Span, items_in}
+use Rattle.span_format.specs.Format.{AreSpans, FitSpans, FitsSpanCommit, HasPlainId, HasPlainIds, KeepSpans, Span}
+use Rattle.span_format.specs.Format.{items_in}
 use Rattle.span_format.proofs.Adding.{added_is}
 use Rattle.span_format.proofs.Areas.{by_areas}
 use Rattle.span_format.proofs.Folding.{folded_is, spans_of_next}

@@ -1,5 +1,6 @@
 -- The labels of spans stand in the order of kinds, ids and numbers.
-use Rattle.std.proofs.Common.{◌≡◌, ℕ, zero, suc, ◌<◌, ◌^◌, List, [], ◌∷◌, true, false, ◌&&◌, Ordering, Less, Equal, Greater, map, None, sym, ap, refl, ◌∙◌, subst, arith}
+use Rattle.std.proofs.Common.{◌≡◌, ℕ, zero, suc, ◌<◌, ◌^◌, List, [], ◌∷◌, true, false, ◌&&◌, Ordering, Less, Equal}
+use Rattle.std.proofs.Common.{Greater, map, None, sym, ap, refl, ◌∙◌, subst, arith}
 use Rattle.std.specs.FinMap.{is_sorted}
 use Rattle.std.specs.FinMap.Entries.{below_all}
 use Rattle.std.specs.Ordering.{eq_by_cmp, is_eq, is_ge, is_lt, nat_cmp, ordering_then}
@@ -43,13 +44,13 @@ is_hidden k l version n k_plain l_plain version_fits n_fits =
     between Equal a b above = ap (λ x. x && is_lt b) above
     between Greater a b above = refl
 
+pub not_equal : (o : Ordering) → is_lt o ≡ true → o ≡ Equal → ⊥
+not_equal Less lt is = absurd cc
+not_equal Equal lt is = absurd cc
+not_equal Greater lt is = absurd cc
+
 -- entries of rows whose labels tell the rows' keys differ, where the rows stand in order
 module _ (entry : RowChange → Entry) (tells : (x y : RowChange) → (entry x).0 ≡ (entry y).0 → key_label (change_key x) ≡ key_label (change_key y)) where
-  not_equal : (o : Ordering) → is_lt o ≡ true → o ≡ Equal → ⊥
-  not_equal Less lt is = absurd cc
-  not_equal Equal lt is = absurd cc
-  not_equal Greater lt is = absurd cc
-
   same_key : (x y : RowChange) → key_label (change_key x) ≡ key_label (change_key y) → key_cmp (change_key x) (change_key y) ≡ Equal
   same_key x y same = sym (ordered [] (change_key x) (change_key y)) ∙ ap (bytes_cmp (key_label (change_key x))) (sym same) ∙ ordered [] (change_key x) (change_key x) ∙ tied_itself key_total (change_key x)
 

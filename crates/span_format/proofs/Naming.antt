@@ -19,9 +19,9 @@ use Rattle.hub_format.specs.Pieces.{key_label, number}
 use Rattle.hub_format.proofs.Finds.{where-append, where_all, where_label}
 use Rattle.hub_format.proofs.Labels.{ordered}
 use Rattle.hub_format.proofs.Listing.{all_of, listed_where, none_there}
+use Rattle.hub_format.proofs.Told.{small_from}
 use Rattle.span_format.specs.Format.{Span, items_in, name_entry, own_names}
 use Rattle.span_format.proofs.Folding.{names_are_of}
-use Rattle.span_format.proofs.Told.{small_from}
 
 later_others : (version n : ℕ) (changes : List Change) → version ≤ n → LeadOn n changes → AllByRecursion (λ change. change.version ≤ last_version) changes
     → AllByRecursion (λ other. (other.version < 2 ^ 64) × (other.version ≡ version → ⊥)) changes

@@ -1,10 +1,11 @@
 -- Spans that are put into others in their places: what those places had before is hidden.
-use Rattle.std.proofs.Common.{◌≡◌, ℕ, ◌<◌, ◌≤◌, ◌^◌, List, [], ◌∷◌, ◌++◌, ◌&&◌, Bool, true, false, cond, not, map, None, Some, Ordering, Less, Equal, Greater, refl, sym, ap, ◌∙◌, subst, arith}
+use Rattle.std.proofs.Common.{◌≡◌, ℕ, ◌<◌, ◌≤◌, ◌^◌, List, [], ◌∷◌, ◌++◌, ◌&&◌, Bool, true, false, cond, not, map, None}
+use Rattle.std.proofs.Common.{Some, Ordering, Less, Equal, Greater, refl, sym, ap, ◌∙◌, subst, arith}
 use Rattle.std.specs.FinMap.{is_sorted}
 use Rattle.std.specs.FinMap.Entries.{below_all, find-where_key}
 use Rattle.std.specs.List.{AllByRecursion}
 use Rattle.std.specs.Ordering.{MatchOrdering, eq_by_cmp, is_eq, is_lt, nat_cmp, ordering_reverse, ordering_then}
-use Rattle.std.proofs.lemmas.Bool.{and_parts}
+use Rattle.std.proofs.lemmas.Bool.{and_parts, and_right}
 use Rattle.std.proofs.lemmas.Cmp.{nat_list_cmp_total, ranked, tied_back, tied_itself}
 use Rattle.item_maps.proofs.ItemLemmas.{same_bytes, tied_same}
 use Rattle.item_maps.specs.Items.{bytes_cmp, is_between}
@@ -19,8 +20,9 @@ use Rattle.hub_format.specs.Format.{Entry}
 use Rattle.hub_format.specs.Pieces.{HasNoZero, row_body}
 use Rattle.hub_format.proofs.Finds.{Alike, found, turned, where-append, where_all, where_label}
 use Rattle.hub_format.proofs.Orders.{less_is}
+use Rattle.roster_base.proofs.Rising.{is_less}
 use Rattle.span_format.specs.Format.{HasPlainId, Span, span_entry, span_key, span_label, spans_from}
-use Rattle.span_format.proofs.Labels.{is_hidden, span_order}
+use Rattle.span_format.proofs.Labels.{is_hidden, not_equal, span_order}
 
 -- the label isn't one that a key had before the version
 abbrev pub is_shown : ℕ → Key → List ℕ → Bool
@@ -43,16 +45,11 @@ abbrev pub Rising : List Span → Type 0
 Rising [] = Unit {0}
 Rising (s ∷ spans) = AreAbove (span_key s) spans × Rising spans
 
-less_from : (o : Ordering) → is_lt o ≡ true → o ≡ Less
-less_from Less lt = refl
-less_from Equal lt = absurd cc
-less_from Greater lt = absurd cc
-
 above_from : (k : Key) (spans : List Span) → below_all key_cmp k (keyed span_key spans) ≡ true → AreAbove k spans
 above_from k [] below = tt
 above_from k (s ∷ spans) below =
     let parts = and_parts (is_lt (key_cmp k (span_key s))) (below_all key_cmp k (keyed span_key spans)) below in
-    (less_from (key_cmp k (span_key s)) parts.0, above_from k spans parts.1)
+    (is_less (key_cmp k (span_key s)) parts.0, above_from k spans parts.1)
 
 pub rising_from : (spans : List Span) → Ascends span_key spans → Rising spans
 rising_from [] up = tt
@@ -161,13 +158,9 @@ not_lt m n le = go (nat_cmp m n) (ranked m n (nat_cmp m n) refl)
     go Equal h = refl
     go Greater h = refl
 
-second_false : (x y : Bool) → y ≡ false → (x && y) ≡ false
-second_false true y is = is
-second_false false y is = refl
-
 pub stays_on : (version : ℕ) → version < 2 ^ 64 → (row : RowChange) (s : Span) → HasPlainId row → IsPlain s → version ≤ s.first → is_shown version (change_key row) (span_label (span_key s) s.first) ≡ true
 stays_on version fits row s plain s_plain le =
-    ap not (is_hidden (change_key row) (span_key s) version s.first plain s_plain.id fits s_plain.first ∙ second_false (is_eq (key_cmp (span_key s) (change_key row))) _ (not_lt s.first version le))
+    ap not (is_hidden (change_key row) (span_key s) version s.first plain s_plain.id fits s_plain.first ∙ and_right (is_eq (key_cmp (span_key s) (change_key row))) _ (not_lt s.first version le))
 
 pub all_on : (version : ℕ) → version < 2 ^ 64 → (rows : List RowChange) (s : Span) → AllByRecursion HasPlainId rows → IsPlain s → version ≤ s.first → are_shown version rows (span_label (span_key s) s.first) ≡ true
 all_on version fits [] s plains s_plain le = refl
@@ -237,12 +230,7 @@ module _ (version : ℕ) (fits : version < 2 ^ 64) (base : List Span) (up : Asce
   apart row [] below = tt
   apart row (other ∷ rows) below =
       let parts = and_parts (is_lt (key_cmp (change_key row) (change_key other))) (below_all key_cmp (change_key row) (keyed change_key rows)) below in
-      ((λ same. absurd (not_both (key_cmp (change_key row) (change_key other)) parts.0 (tied_back key_total (change_key other) (change_key row) same))), apart row rows parts.1)
-    where
-      not_both : (o : Ordering) → is_lt o ≡ true → o ≡ Equal → ⊥
-      not_both Less lt is = absurd cc
-      not_both Equal lt is = absurd cc
-      not_both Greater lt is = absurd cc
+      ((λ same. absurd (not_equal (key_cmp (change_key row) (change_key other)) parts.0 (tied_back key_total (change_key other) (change_key row) same))), apart row rows parts.1)
 
   pub all_laid : (rows : List RowChange) → AreChanges rows → AllByRecursion HasPlainId rows
       → Alike (map span_entry (overlaid span_key base (spans_from version rows))) (map span_entry (spans_from version rows) ++ where_label (are_shown version rows) (map span_entry base))

@@ -1,7 +1,7 @@
 -- One step more of a loop over rows, names or changes.
-use Rattle.std.proofs.Common.{◌≡◌, ◌+◌, ◌<◌, ℕ, List, [], ◌∷◌, ◌++◌, append-nil, append_assoc, arith, drop, get_or, length, map, refl, sym, ap, take, ◌∙◌}
+use Rattle.std.proofs.Common.{◌≡◌, ◌+◌, ◌<◌, ℕ, List, [], ◌∷◌, ◌++◌, append-nil, append_assoc, drop, get_or, length}
+use Rattle.std.proofs.Common.{map, sym, ap, take, ◌∙◌}
 use Rattle.std.proofs.lemmas.List.{take_more}
-use Rattle.std.specs.List.{AllByRecursion}
 use Rattle.item_maps.specs.Edits.{entry_of}
 use Rattle.item_maps.specs.declared.item.Edit.{Edit}
 use Rattle.item_maps.specs.declared.item.Item.{Item}
@@ -51,12 +51,3 @@ spans-push version front edits rows row edit so_far here =
     spans_as_rows version (rows ++ row ∷ []) ∙ map_push (row_span version) rows row ∙ ap (λ es. es ++ row_span version row ∷ []) (sym (spans_as_rows version rows)) in
     rw (so_far, here, new, map_push (put_at 7) (map span_entry (spans_from version rows)) (row_span version row))
     (append_assoc front (puts 7 (map span_entry (spans_from version rows))) (put_at 7 (row_span version row) ∷ []))
-
-pub all-push : {X : Type 0} (P : X → Type 0) (xs : List X) (x : X) → AllByRecursion P xs → P x → AllByRecursion P (xs ++ x ∷ [])
-all-push P [] x all is = (is, tt)
-all-push P (y ∷ ys) x all is = (all.0, all-push P ys x all.1 is)
-
--- a list of no length is empty
-pub none_left : {X : Type 0} (xs : List X) → length xs ≡ 0 → xs ≡ []
-none_left [] is = refl
-none_left (x ∷ xs) is = absurd (omega arith)

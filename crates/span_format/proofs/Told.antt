@@ -1,12 +1,14 @@
 -- What the items of tables tell: the spans of the base, and those of each change.
-use Rattle.std.proofs.Common.{◌≡◌, ◌+◌, ◌-◌, ◌≤◌, ◌<◌, ◌^◌, ℕ, suc, List, [], ◌∷◌, ◌++◌, Bool, true, false, ◌&&◌, drop, length, length-append, map, refl, sym, ap, ◌∙◌, subst, append-nil, append_assoc, arith}
+use Rattle.std.proofs.Common.{◌≡◌, ◌+◌, ◌-◌, ◌≤◌, ◌<◌, ◌^◌, ℕ, suc, List, [], ◌∷◌, ◌++◌, Bool, true, false, ◌&&◌, drop}
+use Rattle.std.proofs.Common.{length, length-append, map, refl, sym, ap, ◌∙◌, subst, append-nil, append_assoc, arith}
 use Rattle.std.specs.Prelude.{nat_le}
-use Rattle.std.specs.FinMap.{entries, entries_sorted, from_entries, get-entries, get-from_entries, is_sorted, retain_keys, same_map}
+use Rattle.std.specs.FinMap.{entries, entries_sorted, from_entries, get-entries, get-from_entries, is_sorted}
+use Rattle.std.specs.FinMap.{retain_keys, same_map}
 use Rattle.std.specs.FinMap.Entries.{below_all, is_sorted-where_key}
 use Rattle.std.specs.Int.{w64, from_be_bytes}
 use Rattle.std.specs.List.{AllByRecursion}
 use Rattle.std.specs.Ordering.{is_lt, nat_cmp, ordering_then}
-use Rattle.std.proofs.lemmas.Bool.{and_from}
+use Rattle.std.proofs.lemmas.Bool.{and_from, and_right}
 use Rattle.std.proofs.lemmas.Bool.Decides.{nat_tests}
 use Rattle.std.proofs.lemmas.Nat.{from_be_bytes-to_be_bytes_8}
 use Rattle.std.proofs.lemmas.Cmp.{nat_list_cmp_total}
@@ -16,8 +18,7 @@ use Rattle.roster_types.specs.Keys.{Key}
 use Rattle.version_core.specs.Changes.{AreChanges, change_key}
 use Rattle.version_core.specs.Table.{LeadOn}
 use Rattle.version_core.specs.Tables.{AreTables}
-use Rattle.version_core.specs.Version.{IsVersion, after, last_version, versions_from}
-use Rattle.version_core.specs.declared.change.BaseVersion.{BaseVersion}
+use Rattle.version_core.specs.Version.{IsVersion, last_version}
 use Rattle.version_core.specs.declared.change.Change.{Change}
 use Rattle.version_core.specs.declared.hub_tables.HubTables.{HubTables}
 use Rattle.version_core.specs.declared.row_change.RowChange.{RowChange}
@@ -28,12 +29,14 @@ use Rattle.hub_format.specs.Pieces.{key_label, number}
 use Rattle.hub_format.proofs.Acts.{Map}
 use Rattle.hub_format.proofs.Finds.{retained, where-append, where_all, where_label, where_none}
 use Rattle.hub_format.proofs.Listing.{listed_where}
-use Rattle.span_format.specs.Format.{AreSpans, FitSpans, HasPlainId, HasPlainIds, Span, items_in, own_spans, span_entry, span_key, span_label, spans_from}
+use Rattle.hub_format.proofs.Told.{AreSmall, row_below, small_from}
+use Rattle.span_format.specs.Format.{AreSpans, FitSpans, HasPlainId, HasPlainIds, Span, items_in, own_spans, span_entry}
+use Rattle.span_format.specs.Format.{span_key, span_label, spans_from}
 use Rattle.span_format.specs.Reading.{came, came_within}
 use Rattle.span_format.proofs.Folding.{spans_plain}
 use Rattle.span_format.proofs.Labels.{span_order}
 use Rattle.span_format.proofs.Putting.{AreAbove, IsPlain, Rising, rising_from, spans_ascend}
-use Rattle.span_format.proofs.Turning.{row_below, rows_are}
+use Rattle.span_format.proofs.Turning.{rows_are}
 
 -- the number at the end is the one of the span
 behind_zero : (xs ys : List ℕ) → drop (length xs + 1) (xs ++ 0 ∷ ys) ≡ ys
@@ -61,9 +64,6 @@ MissBehind test n = (m : ℕ) → n < m → test m ≡ false
 
 miss_next : (test : ℕ → Bool) (n m : ℕ) → n ≤ m → MissBehind test n → MissBehind test m
 miss_next test n m le miss k lt = miss k (omega (arith, le, lt))
-
-abbrev AreSmall : List Change → Type 0
-AreSmall changes = AllByRecursion (λ change. change.version ≤ last_version) changes
 
 none_behind : (test : ℕ → Bool) (n : ℕ) (changes : List Change) → LeadOn n changes → AreSmall changes → MissBehind test n → where_label (λ label. test (came label)) (of_changes own_spans changes) ≡ []
 none_behind test n [] lead small miss = refl
@@ -94,11 +94,7 @@ too_low : (low high n : ℕ) → n < low → within low high n ≡ false
 too_low low high n lt = let no : nat_le low n ≡ false = grind (arith, nat_tests) in rw no refl
 
 too_high : (low high n : ℕ) → high < n → within low high n ≡ false
-too_high low high n lt = let no : nat_le n high ≡ false = grind (arith, nat_tests) in second_false (nat_le low n) (nat_le n high) no
-  where
-    second_false : (x y : Bool) → y ≡ false → (x && y) ≡ false
-    second_false true y is = is
-    second_false false y is = refl
+too_high low high n lt = let no : nat_le n high ≡ false = grind (arith, nat_tests) in and_right (nat_le low n) (nat_le n high) no
 
 fits_within : (low high n : ℕ) → low ≤ n → n ≤ high → within low high n ≡ true
 fits_within low high n le ge =
@@ -169,10 +165,6 @@ pub passed : (p : List ℕ → Bool) (m : Map) → where_label p (entries m) ≡
 passed p m =
     sym (listed_where p (entries m) (where_label p (entries m)) refl (holds (is_sorted bytes_cmp (where_label p (entries m))) (is_sorted-where_key bytes_cmp p (entries m) (entries_sorted m))))
     ∙ ap (λ n. entries (retain_keys n p)) (back m)
-
-pub small_from : (base : BaseVersion) (changes : List Change) → AllByRecursion IsVersion (versions_from base changes) → AreSmall changes
-small_from base [] are = tt
-small_from base (change ∷ changes) are = ((base_meets IsVersion (after base change) changes are.1).number, small_from (after base change) changes are.1)
 
 module _ (base : List Span) (t : HubTables) (are : AreTables t) (spans : AreSpans base t.base) (plain : FitSpans t) where
   abbrev all : List Entry

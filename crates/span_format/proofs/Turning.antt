@@ -1,14 +1,12 @@
 -- Items of format 1 become items of format 2 that keep the same state.
-use Rattle.std.proofs.Common.{◌≡◌, ◌/◌, ◌%◌, ◌≤◌, ◌==◌, ℕ, List, [], ◌∷◌, ◌++◌, true, false, not, drop, map, refl, sym, ap, ◌∙◌, append-nil, append_assoc, arith}
+use Rattle.std.proofs.Common.{◌≡◌, ◌/◌, ◌%◌, ◌≤◌, ◌==◌, ℕ, List, [], ◌∷◌, ◌++◌, true, false, not, drop, map, refl, sym}
+use Rattle.std.proofs.Common.{ap, ◌∙◌, append-nil, append_assoc, arith}
 use Rattle.std.specs.FinMap.{from_entries}
 use Rattle.std.specs.List.{AllByRecursion}
 use Rattle.std.specs.Ordering.{is_lt, ordering_then}
 use Rattle.item_maps.specs.Edits.{after as after_edits}
 use Rattle.item_maps.specs.Items.{Items, bytes_cmp, is_between}
 use Rattle.keeper_memory.specs.Kept.{KeptState}
-use Rattle.roster_values.specs.Kinds.{place_of_kind}
-use Rattle.roster_values.specs.declared.kind.Kind.{Kind}
-use Rattle.roster_values.specs.declared.kind.Kind.TheVariants.{Orgs}
 use Rattle.version_core.specs.Changes.{AreChanges, change_key}
 use Rattle.version_core.specs.Tables.{AreTables}
 use Rattle.version_core.specs.Version.{IsVersion, after, last_version, versions_from}
@@ -22,6 +20,7 @@ use Rattle.hub_format.specs.Pieces.{key_label, number}
 use Rattle.hub_format.proofs.Acts.{Act, Map, both, next, put_act, put_map, puts_act, puts_map}
 use Rattle.hub_format.proofs.Finds.{alike_map, filled_is, retained, where-append, where_label, where_none}
 use Rattle.hub_format.proofs.Orders.{less_is}
+use Rattle.hub_format.proofs.Told.{row_below}
 use Rattle.span_format.specs.Edits.{brought, turn_edits}
 use Rattle.span_format.specs.Format.{FitSpans, KeepSpans, items_in, own_names, own_spans, span_entry, spans_from}
 use Rattle.span_format.proofs.Areas.{by_areas, cleared_act, cleared_map, replaced}
@@ -57,11 +56,6 @@ names_brought (change ∷ changes) es are =
     ap (brings changes 8) (filled_is (own_names change) es (names_differ change.version change.rows are.0))
     ∙ names_brought changes (own_names change ++ es) are.1
     ∙ ap (from_entries {R = bytes_cmp}) (sym (append_assoc (of_changes own_names changes) (own_names change) es))
-
--- all labels of rows lie below 255
-pub row_below : (kind : Kind) (id : List ℕ) → is_between [] (255 ∷ []) (place_of_kind kind ∷ id) ≡ true
-row_below Orgs id = refl
-row_below _ id = refl
 
 base_gone : (rows : List RowChange) → AllByRecursion (λ e. not (is_between [] (255 ∷ []) e.0) ≡ false) (rows_under [] rows)
 base_gone [] = tt

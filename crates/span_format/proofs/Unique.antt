@@ -1,15 +1,13 @@
 -- Items of format 2 are those of one state at most: they tell all that items of format 1 tell.
-use Rattle.std.proofs.Common.{◌≡◌, ◌<◌, ◌^◌, ◌+◌, ◌++◌, ◌∷◌, [], ℕ, List, map, refl, sym, ap, ◌∙◌, subst, arith}
+use Rattle.std.proofs.Common.{◌≡◌, ◌+◌, ◌++◌, ◌∷◌, [], ℕ, List, map, refl, sym, ap, ◌∙◌, subst}
 use Rattle.std.specs.FinMap.{entries, from_entries}
 use Rattle.std.specs.List.{AllByRecursion}
 use Rattle.item_maps.specs.Items.{Items, bytes_cmp, listed}
 use Rattle.keeper_memory.specs.Kept.{KeptState, kept_by}
 use Rattle.version_core.specs.Table.{LeadOn}
 use Rattle.version_core.specs.Tables.{AreTables}
-use Rattle.version_core.specs.Version.{IsVersion}
 use Rattle.version_core.specs.declared.change.Change.{Change}
 use Rattle.version_core.specs.declared.hub_tables.HubTables.{HubTables}
-use Rattle.version_core.proofs.TableLemmas.{base_meets}
 use Rattle.hub_format.specs.Format.{Entry, Fit, items_of, of_changes, own_rows, own_version, rows_under, state_entry}
 use Rattle.hub_format.specs.Pieces.{key_label, number}
 use Rattle.hub_format.proofs.Acts.{by_area}
@@ -18,8 +16,9 @@ use Rattle.hub_format.proofs.Finds.{where_label}
 use Rattle.hub_format.proofs.Listing.{listed_sorted}
 use Rattle.hub_format.proofs.Marking.{same_parts}
 use Rattle.hub_format.proofs.Told.{IsToldBy, changes_told, listed_of, newest_from, none_told}
-use Rattle.hub_format.proofs.Unique.{same_tables}
-use Rattle.span_format.specs.Format.{AreSpans, FitSpans, KeepSpans, Span, items_in, own_spans, span_entry, span_key, spans_from}
+use Rattle.hub_format.proofs.Unique.{number_fits, same_tables}
+use Rattle.span_format.specs.Format.{AreSpans, FitSpans, KeepSpans, Span, items_in, own_spans, span_entry, span_key}
+use Rattle.span_format.specs.Format.{spans_from}
 use Rattle.span_format.specs.Reading.{came_within}
 use Rattle.span_format.proofs.Told.{base_told}
 use Rattle.span_format.proofs.Told as told
@@ -69,9 +68,6 @@ both_told m n (change ∷ changes) same by spans = ((ap (λ area. listed_of 3 ch
 
 module _ (bs bt : List Span) (s t : HubTables) (are_s : AreTables s) (are_t : AreTables t) (fit_s : Fit s) (fit_t : Fit t)
     (of_s : AreSpans bs s.base) (of_t : AreSpans bt t.base) (plain_s : FitSpans s) (plain_t : FitSpans t) (same : items_in bs s ≡ items_in bt t) where
-  number_fits : (u : HubTables) → AreTables u → u.base.number < 2 ^ 64
-  number_fits u are = let le = (base_meets IsVersion u.base u.changes are.versions).number in omega (arith, le)
-
   state_entries : state_entry s.keep s.base ≡ state_entry t.keep t.base
   state_entries =
       let both : state_entry s.keep s.base ∷ [] ≡ state_entry t.keep t.base ∷ [] =

@@ -13,7 +13,8 @@ use Rattle.version_core.specs.declared.change.BaseVersion.{BaseVersion}
 use Rattle.version_core.specs.declared.change.Change.{Change}
 use Rattle.version_core.specs.declared.hub_tables.HubTables.{HubTables}
 use Rattle.version_core.specs.declared.row_change.RowChange.{RowChange}
-use Rattle.hub_format.specs.Format.{Entry, Fit, FitsCommit, format_entry, grants_under, mark_entry, of_changes, own_grants, own_version, state_entry}
+use Rattle.hub_format.specs.Format.{Entry, Fit, FitsCommit, format_entry, grants_under, mark_entry, of_changes}
+use Rattle.hub_format.specs.Format.{own_grants, own_version, state_entry}
 use Rattle.hub_format.specs.Pieces.{HasNoZero, key_label, number, row_body}
 
 -- a row, and the number of the version in which it came

@@ -30,7 +30,7 @@ pub(crate) fn added_edits(alloc: Global, change: &Change) -> Result<Vec<Edit>, N
     Ok(edits)
 }
 
-// Adds the edits that store the spans and the names of a change, whose rows are let go on the way.
+// Adds the edits that store the spans and the names of a change. Its rows are dropped as they are written.
 fn bring(alloc: Global, edits: &mut Vec<Edit>, change: Change) -> Result<(), NoMemory>
     ensures edits { OnOk result (edits.new.items ≡ edits.old.items ++ (puts 7 (own_spans change) ++ puts 8 (own_names change))) }
     ensures plain { OnOk result (HasPlainIds change) }
@@ -43,6 +43,7 @@ fn bring(alloc: Global, edits: &mut Vec<Edit>, change: Change) -> Result<(), NoM
     Ok(())
 }
 
+// The same for changes, the oldest first.
 fn bring_all(alloc: Global, edits: &mut Vec<Edit>, changes: Items<Change>) -> Result<(), NoMemory>
     ensures edits { OnOk result (edits.new.items ≡ edits.old.items ++ brought changes) }
     ensures plain { OnOk result (AllByRecursion HasPlainIds changes) }
@@ -53,7 +54,7 @@ fn bring_all(alloc: Global, edits: &mut Vec<Edit>, changes: Items<Change>) -> Re
     Ok(())
 }
 
-// The edit that leaves an area of rows empty: all their labels lie below 255.
+// The edit that takes away all rows of an area. No label of a row begins with 255.
 fn clear_rows(alloc: Global, area: u32) -> Result<Edit, NoMemory>
     ensures { IfOk result (λ edit. edit ≡ Clear area [] (255 ∷ [])) }
 {
@@ -64,7 +65,7 @@ fn clear_rows(alloc: Global, area: u32) -> Result<Edit, NoMemory>
     })
 }
 
-// The number of the format, in place of 1, and no rows in the areas of format 1.
+// The edits that put 2 in place of 1 as the number of the format, and take away the rows of both areas that format 1 has for them.
 fn format_edits(alloc: Global) -> Result<Vec<Edit>, NoMemory>
     ensures { IfOk result (λ edits. edits.items ≡ put_at 0 (format_entry 2) ∷ Clear 2 [] (255 ∷ []) ∷ Clear 4 [] (255 ∷ []) ∷ []) }
 {
@@ -75,8 +76,8 @@ fn format_edits(alloc: Global) -> Result<Vec<Edit>, NoMemory>
     Ok(edits)
 }
 
-/// The edits by which a store of format 1 becomes one of format 2, from its tables. Their rows are let go as they are written, so that
-/// tables and edits don't stand in memory side by side.
+/// The edits by which a store of format 1 with these tables becomes one of format 2. The rows of the tables are dropped as they are
+/// written, so that tables and edits don't stand in memory side by side.
 pub fn turn_edits(alloc: Global, tables: HubTables) -> Result<Vec<Edit>, NoMemory>
     ensures edits { IfOk result (λ edits. edits.items ≡ turn_edits tables) }
     ensures plain { OnOk result (FitSpans tables) }

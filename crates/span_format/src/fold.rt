@@ -4,10 +4,10 @@ ghost use Rattle.std.specs.Prelude.{◌≡◌, ◌++◌, ◌∷◌, [], ◌+◌,
 ghost use Rattle.item_maps.specs.Edits.{entry_of};
 ghost use Rattle.version_core.specs.declared.change.BaseVersion.{BaseVersion};
 ghost use Rattle.version_core.specs.declared.change.Change.{Change as ChangeValue};
-ghost use Rattle.hub_format.specs.Edits.{clear_version, put_at};
+ghost use Rattle.hub_format.specs.Edits.{clear_version};
 ghost use Rattle.hub_format.specs.Format.{grants_under};
 ghost use Rattle.hub_format.specs.Moves.{grants_moved};
-ghost use Rattle.hub_format.specs.Pieces.{change_body, number};
+ghost use Rattle.hub_format.specs.Pieces.{change_body};
 ghost use Rattle.span_format.specs.Edits.{folded, hidden_by, hidden_names, hidden_under};
 ghost use Rattle.span_format.specs.Format.{own_names};
 
@@ -60,7 +60,7 @@ fn hide_row(alloc: Global, version: u64, row: &RowChange) -> Result<Edit, NoMemo
     hide(alloc, version, behind(name.as_slice(), 8))
 }
 
-// The same, where the rows aren't stored yet.
+// Adds the edits that take away what the keys of these rows had before a version, where the rows aren't stored yet.
 fn push_hidden_rows(
     alloc: Global,
     edits: &mut Vec<Edit>,
@@ -86,32 +86,19 @@ fn push_clears(alloc: Global, edits: &mut Vec<Edit>, base: u64) -> Result<(), No
     Ok(())
 }
 
-// Adds the edits by which the change behind the base goes into it.
-fn push_parts(
-    alloc: Global,
-    edits: &mut Vec<Edit>,
-    keep: u64,
-    base: u64,
-    at: &[u8],
-    flag: u8,
-    names: &[Item],
-    grants: &[Item],
-) -> Result<(), NoMemory>
+// Adds the edits by which the base's grants go along, and those that take away what the base has taken in.
+fn push_rest(edits: &mut Vec<Edit>, base: u64, flag: u8, grants: &[Item]) -> Result<(), NoMemory>
     requires { base + 2 < 2 ^ 64 }
-    ensures { OnOk result (edits.new.items ≡ edits.old.items ++ (put_at 1 ([], number keep ++ number (base + 1) ++ at.now) ∷ hidden_names (base + 1) (map entry_of names.now)
-        ++ grants_moved flag (base + 1) (map entry_of grants.now) ++ (clear_version 3 (base + 1) ∷ clear_version 8 (base + 1) ∷ clear_version 5 base ∷ []))) }
+    ensures { OnOk result (edits.new.items ≡ (edits.old.items ++ grants_moved flag (base + 1) (map entry_of grants.now)) ++ (clear_version 3 (base + 1) ∷ clear_version 8 (base + 1) ∷ clear_version 5 base ∷ [])) }
 {
-    edits.push(put_state(alloc, keep, base + 1, at)?)?;
-    push_hidden(alloc, edits, base + 1, names)?;
+    let alloc = *edits.allocator();
     push_grants(alloc, edits, flag, base + 1, grants)?;
-    push_clears(alloc, edits, base)?;
-    Ok(())
+    push_clears(alloc, edits, base)
 }
 
 /// Adds the edits by which the change behind the base goes into it, from the body of the change's version, its rows' names and the
 /// base's grants. False where the body is none of a version.
 pub(crate) fn push_folded(
-    alloc: Global,
     edits: &mut Vec<Edit>,
     keep: u64,
     base: u64,
@@ -123,41 +110,19 @@ pub(crate) fn push_folded(
     ensures { (was : BaseVersion) (oldest : ChangeValue) → base ≡ was.number → oldest.version ≡ base + 1 → body.now ≡ change_body oldest → map entry_of names.now ≡ own_names oldest
         → map entry_of grants.now ≡ grants_under base was.grants → IfOk result (λ done. IsTrue done → edits.new.items ≡ edits.old.items ++ folded keep was oldest) }
 {
-    match change_parts(body) {
-        Some((at, flag)) => {
-            push_parts(alloc, edits, keep, base, at, flag, names, grants)?;
-            Ok(true)
-        }
-        None => Ok(false),
-    }
-}
-
-// The same, where the rows aren't stored yet.
-fn push_new_parts(
-    alloc: Global,
-    edits: &mut Vec<Edit>,
-    keep: u64,
-    base: u64,
-    at: &[u8],
-    flag: u8,
-    rows: &[RowChange],
-    grants: &[Item],
-) -> Result<(), NoMemory>
-    requires { base + 2 < 2 ^ 64 }
-    ensures { OnOk result (edits.new.items ≡ edits.old.items ++ (put_at 1 ([], number keep ++ number (base + 1) ++ at.now) ∷ map (hidden_by (base + 1)) rows.now
-        ++ grants_moved flag (base + 1) (map entry_of grants.now) ++ (clear_version 3 (base + 1) ∷ clear_version 8 (base + 1) ∷ clear_version 5 base ∷ []))) }
-{
+    let alloc = *edits.allocator();
+    let Some((at, flag)) = change_parts(body) else {
+        return Ok(false);
+    };
     edits.push(put_state(alloc, keep, base + 1, at)?)?;
-    push_hidden_rows(alloc, edits, base + 1, rows)?;
-    push_grants(alloc, edits, flag, base + 1, grants)?;
-    push_clears(alloc, edits, base)?;
-    Ok(())
+    push_hidden(alloc, edits, base + 1, names)?;
+    push_rest(edits, base, flag, grants)?;
+    Ok(true)
 }
 
 /// Adds the edits by which a change that isn't stored yet goes into the base, from the base's grants. It is so where no version
 /// is kept beside the newest.
 pub(crate) fn push_folded_change(
-    alloc: Global,
     edits: &mut Vec<Edit>,
     keep: u64,
     base: u64,
@@ -168,21 +133,13 @@ pub(crate) fn push_folded_change(
     ensures { (was : BaseVersion) → base ≡ was.number → change.now.version ≡ base + 1 → map entry_of grants.now ≡ grants_under base was.grants
         → IfOk result (λ done. IsTrue done → edits.new.items ≡ edits.old.items ++ folded keep was change.now) }
 {
+    let alloc = *edits.allocator();
     let body = change_body(alloc, change)?;
-    match change_parts(body.as_slice()) {
-        Some((at, flag)) => {
-            push_new_parts(
-                alloc,
-                edits,
-                keep,
-                base,
-                at,
-                flag,
-                change.rows.as_slice(),
-                grants,
-            )?;
-            Ok(true)
-        }
-        None => Ok(false),
-    }
+    let Some((at, flag)) = change_parts(body.as_slice()) else {
+        return Ok(false);
+    };
+    edits.push(put_state(alloc, keep, base + 1, at)?)?;
+    push_hidden_rows(alloc, edits, base + 1, change.rows.as_slice())?;
+    push_rest(edits, base, flag, grants)?;
+    Ok(true)
 }

@@ -15,7 +15,8 @@ ghost use Rattle.version_core.specs.declared.hub_tables.HubTables.{HubTables};
 ghost use Rattle.hub_format.specs.Format.{Keep, new_tables};
 ghost use Rattle.hub_format.specs.Pieces.{HasNoZero, number};
 ghost use Rattle.span_format.specs.Edits.{edits, first_edits, turn_edits};
-ghost use Rattle.span_format.specs.Format.{AreSpans, FitSpans, FitsSpanCommit, KeepSpans, Span, items_in, own_names, own_spans, span_entry, span_label};
+ghost use Rattle.span_format.specs.Format.{AreSpans, FitSpans, FitsSpanCommit, KeepSpans, Span, items_in, own_names};
+ghost use Rattle.span_format.specs.Format.{own_spans, span_entry, span_label};
 ghost use Rattle.span_format.specs.Reading.{came_within, where_label};
 
 /// A clear of what a row's place had before a version takes exactly the spans of its kind and id that came before.

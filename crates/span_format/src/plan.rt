@@ -1,6 +1,7 @@
 //! The edits of a commit, from what a store has of its oldest versions.
 
-ghost use Rattle.std.specs.Prelude.{◌≡◌, ◌++◌, ◌∷◌, [], ◌+◌, ◌-◌, ◌<◌, ◌^◌, List, nat_lt, true, IfOk, IfSome, IsTrue, OnOk};
+ghost use Rattle.std.specs.Prelude.{◌≡◌, ◌++◌, ◌∷◌, [], ◌+◌, ◌-◌, ◌<◌, ◌^◌, List, nat_lt, true, IfOk, IfSome, IsTrue};
+ghost use Rattle.std.specs.Prelude.{OnOk};
 ghost use Rattle.std.specs.Option.{ForSome};
 ghost use Rattle.keeper_memory.specs.Commits.{CanCommit, CanLead};
 ghost use Rattle.keeper_memory.specs.Kept.{kept_by};
@@ -46,7 +47,6 @@ fn push_stored(
 {
     match only_body(oldest.version.as_slice()) {
         Some(body) => push_folded(
-            alloc,
             edits,
             keep,
             base,
@@ -73,7 +73,7 @@ fn push_oldest(
         → IfOk result (λ done. IsTrue done → edits.new.items ≡ edits.old.items ++ let_go keep t.base (t.changes ++ change.now ∷ [])) }
 {
     if change.version == base + 1 {
-        push_folded_change(alloc, edits, keep, base, change, oldest.grants.as_slice())
+        push_folded_change(edits, keep, base, change, oldest.grants.as_slice())
     } else {
         push_stored(alloc, edits, keep, base, oldest)
     }

@@ -1,6 +1,6 @@
 //! The edits that store spans and the names of rows.
 
-ghost use Rattle.std.specs.Prelude.{◌≡◌, ◌++◌, [], IfOk, OnOk, map};
+ghost use Rattle.std.specs.Prelude.{◌≡◌, ◌++◌, IfOk, OnOk, map};
 ghost use Rattle.std.specs.List.{AllByRecursion};
 ghost use Rattle.hub_format.specs.Edits.{put_at, puts};
 ghost use Rattle.hub_format.specs.Pieces.{IsReadBack};
@@ -54,7 +54,7 @@ pub(crate) fn put_spans(
     Ok(())
 }
 
-/// The same, where each row is let go as soon as it is written.
+/// Adds the edits that store the rows that came in a version, and lets go of each row as soon as it is written.
 pub(crate) fn move_spans(
     alloc: Global,
     edits: &mut Vec<Edit>,

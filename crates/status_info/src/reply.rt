@@ -36,19 +36,24 @@ pub struct Warnings {
 /// A reply. Its status, and its body where that is a status body, follow from the cause.
 #[derive(Drop)]
 pub struct Reply {
+    /// Why the reply is what it is.
     pub cause: Cause,
     /// The body of a 200; any other cause has its own.
     pub body: Text,
     /// The number of rows of the whole collection.
     pub total: Option<u64>,
+    /// The other pages of the same list.
     pub links: Items<LinkItem>,
     pub warnings: Warnings,
     /// The path of a refused method takes writes.
     pub allow_write: bool,
+    /// The version that was read, or else the newest one: of a write, that when it was judged.
     pub version: Option<u64>,
     /// The oldest version that the caller may ask for.
     pub oldest: Option<u64>,
+    /// The mark of the write that is answered.
     pub mark: Option<u64>,
+    /// The number of the exchange, as the request gave it.
     pub echo: Option<Echo>,
     /// No reply follows over the same stream.
     pub close: bool,

@@ -45,6 +45,7 @@ pub struct Request {
     /// The bearer token, where the request has a good one.
     pub token: Option<Token>,
     pub mark: MarkField,
+    /// The number of the exchange, where the request has one.
     pub echo: Option<Echo>,
     /// No request follows over the same stream.
     pub close: bool,

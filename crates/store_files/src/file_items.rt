@@ -22,6 +22,7 @@ pub struct FileItems {
 }
 
 impl FileItems {
+    /// The items in the database of this connection.
     pub(crate) fn adopt(connection: Connection<FileStore<File>>) -> FileItems {
         FileItems {
             items: SqlItems::adopt(connection),

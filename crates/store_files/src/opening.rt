@@ -11,9 +11,10 @@ use std::path::Path;
 use std::thread::sleep;
 use std::time::Duration;
 
-/// The file of a hub in the folder of its store, and that of a consumer's copy.
+/// The file of a hub in the folder of its store.
 pub const HUB_FILE: &str = "hub.db";
 
+/// The file of a consumer's copy in the folder of its store.
 pub const COPY_FILE: &str = "copy.db";
 
 // How often the file of a store is tried that another process uses, and the milliseconds between two tries: two seconds in all.

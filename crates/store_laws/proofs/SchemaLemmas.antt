@@ -1,5 +1,6 @@
 -- The trees determine the schema: what a file was closed with, an open finds again.
-use Rattle.std.proofs.Common.{inl, inr, zero, suc, ◌≡◌, ◌+◌, ℕ, pos, List, [], ◌∷◌, slice_get, Some, Ok, Err, Result, IfOk, IfSome, IsTrue, refl, sym, ap, ap₂, ◌∙◌, subst, arith}
+use Rattle.std.proofs.Common.{inl, inr, zero, suc, ◌≡◌, ◌+◌, ℕ, pos, List, [], ◌∷◌, slice_get, Some, Ok, Err, Result}
+use Rattle.std.proofs.Common.{IfOk, IfSome, IsTrue, refl, sym, ap, ap₂, ◌∙◌, subst, arith}
 use Rattle.std.specs.List.{AllZip}
 use Rattle.std.specs.Result.{result_ok}
 use Rattle.sqlite_disk.specs.declared.Disk.{Ghosts}

@@ -1,5 +1,6 @@
 -- A publication, or a change of grants, as a step of a hub's whole state.
-use Rattle.std.proofs.Common.{◌≡◌, ℕ, ℤ, ◌<◌, ◌≤◌, inl, inr, List, [], ◌∷◌, length, length-append, Result, Ok, Err, refl, sym, ap, subst, ◌∙◌, arith}
+use Rattle.std.proofs.Common.{◌≡◌, ℕ, ℤ, ◌<◌, ◌≤◌, inl, inr, List, [], ◌∷◌, length, length-append, Result, Ok, Err}
+use Rattle.std.proofs.Common.{refl, sym, ap, subst, ◌∙◌, arith}
 use Rattle.version_changes.specs.grants.Granting.{GrantsMake}
 use Rattle.grant_scopes.specs.declared.entry.GrantEntry.{GrantEntry}
 use Rattle.hub_core.specs.Errors.{error_of_keeper}
@@ -12,7 +13,8 @@ use Rattle.hub_core.specs.declared.published.Published.TheVariants as published
 use Rattle.hub_spec.proofs.Growing.{step_goes}
 use Rattle.hub_spec.proofs.Keeping.{step_keeps}
 use Rattle.hub_spec.proofs.Versions.{newest_has, reads_kept, some_version}
-use Rattle.hub_spec.specs.rules.Runs.{Acts, Answer, Command, Does, Fails, KeeperFailed, Made, OutOfMemory, Publish, SetGrants, Steps, Wants, WantsMemory, failed_answer, memory_answer, state_with}
+use Rattle.hub_spec.specs.rules.Runs.{Acts, Answer, Command, Does, Fails, KeeperFailed, Made, OutOfMemory, Publish}
+use Rattle.hub_spec.specs.rules.Runs.{SetGrants, Steps, Wants, WantsMemory, failed_answer, memory_answer, state_with}
 use Rattle.hub_spec.specs.rules.States.{IsCommand, IsHub}
 use Rattle.hub_spec.specs.rules.Verdicts.{newest_in}
 use Rattle.keeper_memory.proofs.PartLemmas.{follows}
@@ -27,7 +29,8 @@ use Rattle.roster_types.specs.Sets.{SetRecord}
 use Rattle.version_changes.specs.sets.Applying.{Applies, Leads, Outcome, Refuses, Unchanged}
 use Rattle.version_core.specs.HubStates.{HubState, newest_number, oldest_number}
 use Rattle.version_core.specs.declared.change.BaseVersion.{BaseVersion}
-use Rattle.sync_world.proofs.WholeLemmas.{is_next, oldest_is, reaches_oldest, same_with_oldest, whole_next, whole_with_oldest}
+use Rattle.sync_world.proofs.WholeLemmas.{is_next, oldest_is, reaches_oldest, same_with_oldest, whole_next}
+use Rattle.sync_world.proofs.WholeLemmas.{whole_with_oldest}
 use Rattle.sync_world.specs.Acts.{IsMade}
 use Rattle.sync_world.specs.Worlds.{IsWhole, whole_state, with_oldest}
 

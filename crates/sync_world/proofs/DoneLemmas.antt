@@ -1,10 +1,12 @@
 -- Acts on a world's hub, and what is told of them.
-use Rattle.std.proofs.Common.{◌≡◌, ℕ, ℤ, ◌+◌, ◌-◌, ◌^◌, ◌≤◌, min, inl, inr, List, [], ◌∷◌, ◌++◌, Result, Ok, Err, OnOk, refl, subst, sym}
+use Rattle.std.proofs.Common.{◌≡◌, ℕ, ℤ, ◌+◌, ◌-◌, ◌^◌, ◌≤◌, min, inl, inr, List, [], ◌∷◌, ◌++◌, Result, Ok, Err, OnOk}
+use Rattle.std.proofs.Common.{refl, subst, sym}
 use Rattle.std.proofs.lemmas.List.{append-nil}
 use Rattle.hub_core.specs.declared.hub_error.HubError.{HubError}
 use Rattle.hub_core.specs.declared.published.Published.{Published}
 use Rattle.hub_spec.specs.requests.Requests.{wanted_by}
-use Rattle.hub_spec.specs.rules.Runs.{Acts, Answer, Command, Fails, KeeperFailed, Reopen, Reopened, Replied, Steps, Take}
+use Rattle.hub_spec.specs.rules.Runs.{Acts, Answer, Command, Fails, KeeperFailed, Reopen, Reopened, Replied, Steps}
+use Rattle.hub_spec.specs.rules.Runs.{Take}
 use Rattle.keeper_memory.specs.Calls.{CallsLead}
 use Rattle.rest_provider.specs.Steps.{CountsFailed}
 use Rattle.status_info.specs.declared.reply.Reply.{Reply}

@@ -1,5 +1,6 @@
 -- What an exchange over a world tells.
-use Rattle.std.proofs.Common.{◌≡◌, ℕ, ℤ, ◌⊎◌, inl, inr, Bool, true, false, List, [], ◌∷◌, ◌++◌, Result, Ok, Err, IfOk, OnOk, reverse, refl, sym, ap, subst, ◌∙◌, arith}
+use Rattle.std.proofs.Common.{◌≡◌, ℕ, ℤ, ◌⊎◌, inl, inr, Bool, true, false, List, [], ◌∷◌, ◌++◌, Result, Ok, Err, IfOk}
+use Rattle.std.proofs.Common.{OnOk, reverse, refl, sym, ap, subst, ◌∙◌, arith}
 use Rattle.std.proofs.lemmas.List.{map-append, reverse-append}
 use Rattle.exchange_link.specs.Exchanges.{Carries, Exchanged, IsOwn, Told}
 use Rattle.http_wire.proofs.WrittenLemmas.{written_is_read}
@@ -28,6 +29,7 @@ use Rattle.std.specs.List.{AllByRecursion}
 use Rattle.std.specs.Prelude.{IfSome, IsOkAnd, IsSomeAnd, Option, Some, None, map}
 use Rattle.status_info.specs.declared.request.Echo.{Echo}
 use Rattle.keeper_memory.specs.Failures.{one_more}
+use Rattle.version_core.proofs.VersionLemmas.{AllByRecursion-push}
 use Rattle.sync_world.specs.Given.{AreGiven, IsGiven, is_stale, requests_in}
 use Rattle.sync_world.specs.declared.past.Past.{Past}
 use Rattle.sync_world.proofs.WalkLemmas.{walk_grew}
@@ -117,16 +119,12 @@ given_more : (sent : List Request) (q : Request) (past : List Past) → AllByRec
 given_more sent q [] given = tt
 given_more sent q (made ∷ past) given = (given_one (λ text. text.items) sent q made.reply given.0, given_more sent q past given.1)
 
-all_pushed : {X : Type 0} (P : X → Type 0) (xs : List X) (x : X) → AllByRecursion P xs → P x → AllByRecursion P (xs ++ x ∷ [])
-all_pushed P [] x all here = (here, tt)
-all_pushed P (y ∷ ys) x all here = (all.0, all_pushed P ys x all.1 here)
-
 -- the exchange that is noted last is one of these too
 pub given_noted : (past past' : List Past) (made : Past) → past' ≡ past ++ made ∷ [] → AreGiven past → IsGiven (made.request ∷ requests_in past) made → AreGiven past'
 given_noted past past' made more given here =
     subst (λ (sent : List Request). AllByRecursion (IsGiven sent) past') (sym (noted past past' made more))
     (subst (λ (ps : List Past). AllByRecursion (IsGiven (made.request ∷ requests_in past)) ps) (sym more)
-    (all_pushed (IsGiven (made.request ∷ requests_in past)) past made (given_more (requests_in past) made.request past given) here))
+    (AllByRecursion-push (IsGiven (made.request ∷ requests_in past)) past made (given_more (requests_in past) made.request past given) here))
 
 -- an own reply is one to a request that was sent
 pub own_late : (xs : List Request) (before after : HeldWorld) (q : Request) (sent : List Request) (text : List ℕ) → CanSend q → IsOwn (told_world xs before) (told_world xs after) q text → IsLate (q ∷ sent) text

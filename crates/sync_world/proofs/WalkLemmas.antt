@@ -7,7 +7,8 @@ use Rattle.hub_core.specs.declared.published.Published.{Published}
 use Rattle.hub_spec.proofs.Growing.{run_grows}
 use Rattle.hub_spec.specs.requests.Requests.{wanted_by}
 use Rattle.hub_spec.specs.rules.Growth.{Grew}
-use Rattle.hub_spec.specs.rules.Runs.{Acts, Answer, Command, Fails, KeeperFailed, OutOfMemory, Reopen, Reopened, Replied, Steps, Take, WantsMemory}
+use Rattle.hub_spec.specs.rules.Runs.{Acts, Answer, Command, Fails, KeeperFailed, OutOfMemory, Reopen, Reopened}
+use Rattle.hub_spec.specs.rules.Runs.{Replied, Steps, Take, WantsMemory}
 use Rattle.keeper_memory.specs.Calls.{CallsLead}
 use Rattle.rest_provider.proofs.Running.{counts_one}
 use Rattle.rest_provider.specs.Steps.{CountsFailed}

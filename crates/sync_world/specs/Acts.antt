@@ -5,7 +5,8 @@ use Rattle.hub_core.specs.declared.hub_error.HubError.TheVariants as error
 use Rattle.hub_core.specs.declared.published.Published.{Published}
 use Rattle.hub_core.specs.declared.published.Published.TheVariants as published
 use Rattle.hub_spec.specs.requests.Requests.{wanted_by}
-use Rattle.hub_spec.specs.rules.Runs.{Answer, Command, KeeperFailed, Made, OutOfMemory, Publish, Reopen, Reopened, Replied, SetGrants, Step, Steps, Take}
+use Rattle.hub_spec.specs.rules.Runs.{Answer, Command, KeeperFailed, Made, OutOfMemory, Publish, Reopen, Reopened}
+use Rattle.hub_spec.specs.rules.Runs.{Replied, SetGrants, Step, Steps, Take}
 use Rattle.http_wire.specs.Reading.{HasRead}
 use Rattle.http_wire.specs.declared.fault.WireFault.{WireFault}
 use Rattle.http_wire.specs.declared.fault.WireFault.TheVariants as wire

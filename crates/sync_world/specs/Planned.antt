@@ -1,5 +1,6 @@
 -- What is planned for exchanges, and what was exchanged.
-use Rattle.std.specs.Prelude.{◌≡◌, ◌==◌, ⊤, ℕ, Bool, not, List, [], ◌∷◌, Option, Some, None, filter, option_map, if◌then◌else◌}
+use Rattle.std.specs.Prelude.{◌≡◌, ◌==◌, ⊤, ℕ, Bool, not, List, [], ◌∷◌, Option, Some, None, filter, option_map}
+use Rattle.std.specs.Prelude.{if◌then◌else◌}
 use Rattle.status_info.specs.declared.request.Request.{Request}
 use Rattle.sync_world.specs.declared.past.Past.{Past}
 use Rattle.sync_world.specs.declared.traffic.Event.{Event}

@@ -1,6 +1,7 @@
 //! A request on its way to a world, and the reply on its way back.
 
-ghost use Rattle.std.specs.Prelude.{◌≡◌, ◌⊎◌, ◌<◌, ◌++◌, ◌∷◌, [], ℕ, List, None, Option, Some, IfOk, IsErr, IsOkAnd, Err, false, true, vec_capacity, vec_len};
+ghost use Rattle.std.specs.Prelude.{◌≡◌, ◌⊎◌, ◌<◌, ◌++◌, ◌∷◌, [], ℕ, List, None, Option, Some, IfOk, IsErr, IsOkAnd};
+ghost use Rattle.std.specs.Prelude.{Err, false, true, vec_capacity, vec_len};
 ghost use Rattle.exchange_link.specs.Exchanges.{IsLate, IsOwn, IsSentText, IsTextOf};
 ghost use Rattle.http_wire.specs.Sending.{CanSend};
 ghost use Rattle.outside_ports.specs.declared.failed.IoError.TheVariants as io_error;
@@ -169,7 +170,6 @@ fn note(
 
 /// Hands the request of a text to a world, where it isn't lost, and notes that it was sent.
 pub fn deliver(
-    alloc: Global,
     world: &mut World,
     past: &mut Vec<Past>,
     text: &[u8],
@@ -188,6 +188,7 @@ pub fn deliver(
     ensures exact { result ≡ Err io_error.Failed → MayFail fate past.old.items }
     ensures delivered { (q : Asked) → IsTextOf q text.now → OnCome (λ reply. reply.items) (Delivered fate exchange q at past.old.items past.new.items world.old world.new) result }
 {
+    let alloc = *past.allocator();
     let request = request_of(alloc, text)?;
     past.reserve(1)?;
     let reply = reply_to(alloc, world, past.as_slice(), &request, at, fate);

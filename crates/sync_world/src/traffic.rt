@@ -50,6 +50,14 @@ pub struct Planned {
     pub fate: Fate,
 }
 
+/// An exchange that is being made: its number from 1, the moment, and what becomes of it.
+#[derive(Clone, Copy)]
+pub struct Exchange {
+    pub number: u64,
+    pub at: Moment,
+    pub fate: Fate,
+}
+
 /// What is to become of the exchange of a number: what was planned last, and else that it is whole.
 pub fn fate_of(planned: &[Planned], exchange: u64) -> Fate
     ensures { result ≡ fate_at planned.now exchange }
@@ -116,7 +124,6 @@ fn next_event(events: &mut Vec<Event>, exchange: u64) -> Option<Event>
 
 /// Has the events of an exchange come to pass, in the order in which they were planned, and adds the lines that tell them.
 pub fn come_to_pass(
-    alloc: Global,
     world: &mut World,
     past: &[Past],
     events: &mut Vec<Event>,
@@ -128,6 +135,7 @@ pub fn come_to_pass(
     ensures passed { OnOk result (Passed past.now at (events_at exchange events.old.items) world.old world.new said.old.items said.new.items) }
     ensures aside { OnOk result (events.new.items ≡ events_aside exchange events.old.items) }
 {
+    let alloc = *said.allocator();
     'events: loop {
         let Some(event) = next_event(events, exchange) else {
             return Ok(());

@@ -21,11 +21,11 @@ use hub_core::{Hub, HubError, Published};
 use keeper_memory::{HubKeeper, MemHub};
 use rest_paths::PathRouter;
 use rest_provider::answer;
-use rest_provider::answering::failing;
+use rest_provider::answering::{failing, is_write};
 use roster_base::{KeeperError, NoMemory};
 use roster_texts::Moment;
 use roster_types::set::RosterSet;
-use status_info::{Reply, Request, Verb};
+use status_info::{Reply, Request};
 use std::alloc::Global;
 use std::marker::Model;
 use std::mem::replace;
@@ -51,15 +51,6 @@ impl Model for World {
     ghost view = { world_in };
 
     ghost invariant = { IsWorld };
-}
-
-fn is_write(verb: Verb) -> bool
-    ensures { result ≡ is_write verb }
-{
-    match verb {
-        Verb::Put | Verb::Delete => true,
-        _ => false,
-    }
 }
 
 // Has a keeper tell what it keeps, of which all rows are read.

@@ -1,6 +1,7 @@
 //! A link to a world.
 
-ghost use Rattle.std.specs.Prelude.{◌≡◌, ◌⊎◌, ◌≤◌, ◌∷◌, ◌+◌, ◌-◌, ◌^◌, [], List, min, IfOk, IsErr, OnErr, OnOk, Err, false, true};
+ghost use Rattle.std.specs.Prelude.{◌≡◌, ◌⊎◌, ◌≤◌, ◌∷◌, ◌+◌, ◌-◌, ◌^◌, [], List, min, IfOk, IsErr, OnErr, OnOk, Err};
+ghost use Rattle.std.specs.Prelude.{false, true};
 ghost use Rattle.exchange_link.specs.Exchanges.{Carries, Exchanged, IsLate, IsOwn, IsSentText, IsTextOf, Misses, Told};
 ghost use Rattle.hub_spec.specs.rules.States.{IsHub};
 ghost use Rattle.keeper_memory.specs.Calls.{CallsLead};
@@ -13,7 +14,8 @@ ghost use Rattle.status_info.specs.declared.request.Request.{Request as Asked};
 ghost use Rattle.sync_world.specs.Acts.{Acted, IsAct};
 ghost use Rattle.sync_world.specs.Deliveries.{Carried, OnCome};
 ghost use Rattle.sync_world.specs.Given.{AreGiven, is_stale, requests_in};
-ghost use Rattle.sync_world.specs.Links.{fresh_link, told_by, told_world, with_event, with_failure, with_fate, world_of};
+ghost use Rattle.sync_world.specs.Links.{fresh_link, told_by, told_world, with_event, with_failure, with_fate};
+ghost use Rattle.sync_world.specs.Links.{world_of};
 ghost use Rattle.sync_world.specs.Planned.{IsLost, MayFail, fate_at};
 ghost use Rattle.sync_world.specs.Worlds.{all_of};
 ghost use Rattle.sync_world.specs.Walks.{Walks};
@@ -21,7 +23,7 @@ ghost use Rattle.sync_world.specs.Walks.{Walks};
 use crate::acts::{HubAct, Saying, act};
 use crate::delivery::deliver;
 use crate::past::Past;
-use crate::traffic::{Event, Fate, Happening, Planned, come_to_pass, fate_of};
+use crate::traffic::{Event, Exchange, Fate, Happening, Planned, come_to_pass, fate_of};
 use crate::world::World;
 use exchange_link::{Link, Tally};
 use hub_core::HubError;
@@ -63,30 +65,28 @@ impl Model for WorldLink {
 
 // Has the events of an exchange come to pass, and carries its request.
 fn carry(
-    alloc: Global,
     world: &mut World,
     past: &mut Vec<Past>,
     events: &mut Vec<Event>,
     said: &mut Vec<Saying>,
     request: &[u8],
-    exchange: u64,
-    at: Moment,
-    fate: Fate,
+    exchange: &Exchange,
 ) -> Result<Vec<u8>, IoError>
     requires text { IsSentText request.now }
     requires given { AreGiven past.old.items }
     ensures walks { Walks world.old world.new }
     ensures given { AreGiven past.new.items }
     ensures sent { (q : Asked) → IsTextOf q request.now → (requests_in past.new.items ≡ q ∷ requests_in past.old.items) ⊎ ((result ≡ Err io_error.NoMemory) × (past.new.items ≡ past.old.items)) }
-    ensures own { is_stale fate ≡ false → (q : Asked) → IsTextOf q request.now → (xs ys : List Asked) → IfOk result (λ reply. IsOwn (told_world xs world.old) (told_world ys world.new) q reply.items) }
-    ensures late { is_stale fate ≡ true → IfOk result (λ reply. IsLate (requests_in past.old.items) reply.items) }
-    ensures lost { IsLost fate → IsErr result }
-    ensures exact { result ≡ Err io_error.Failed → MayFail fate past.old.items }
+    ensures own { is_stale exchange.now.fate ≡ false → (q : Asked) → IsTextOf q request.now → (xs ys : List Asked) → IfOk result (λ reply. IsOwn (told_world xs world.old) (told_world ys world.new) q reply.items) }
+    ensures late { is_stale exchange.now.fate ≡ true → IfOk result (λ reply. IsLate (requests_in past.old.items) reply.items) }
+    ensures lost { IsLost exchange.now.fate → IsErr result }
+    ensures exact { result ≡ Err io_error.Failed → MayFail exchange.now.fate past.old.items }
     ensures carried { (q : Asked) → IsTextOf q request.now → OnCome (λ reply. reply.items)
-        (Carried fate exchange q at past.old.items past.new.items events.old.items events.new.items world.old world.new said.old.items said.new.items) result }
+        (Carried exchange.now.fate exchange.now.number q exchange.now.at past.old.items past.new.items events.old.items events.new.items world.old world.new said.old.items said.new.items) result }
 {
-    match come_to_pass(alloc, world, past.as_slice(), events, exchange, at, said) {
-        Ok(()) => deliver(alloc, world, past, request, exchange, at, fate),
+    let Exchange { number, at, fate } = *exchange;
+    match come_to_pass(world, past.as_slice(), events, number, at, said) {
+        Ok(()) => deliver(world, past, request, number, at, fate),
         Err(NoMemory) => Err(IoError::NoMemory),
     }
 }
@@ -95,10 +95,7 @@ fn carry(
 fn is_stale(fate: Fate) -> bool
     ensures { result ≡ is_stale fate }
 {
-    match fate {
-        Fate::Stale { .. } => true,
-        _ => false,
-    }
+    matches!(fate, Fate::Stale { .. })
 }
 
 impl WorldLink {
@@ -270,16 +267,18 @@ impl Link for WorldLink {
         let number = self.tally.asked.saturating_add(1);
         let fate = fate_of(self.fates.as_slice(), number);
         self.kept = Vec::new(alloc);
+        let exchange = Exchange {
+            number,
+            at: self.at,
+            fate,
+        };
         let came = carry(
-            alloc,
             &mut self.world,
             &mut self.past,
             &mut self.events,
             &mut self.said,
             request,
-            number,
-            self.at,
-            fate,
+            &exchange,
         );
         match came {
             Ok(reply) => {

@@ -1,4 +1,4 @@
-//! Folders in memory with a district's files, and the set that is read of them.
+//! Folders in memory with a district's files, and the set that those files are.
 
 use csv_sets::read_set;
 use outside_ports::MemFolder;

@@ -1,4 +1,4 @@
-//! The files of `examples/lake`.
+//! The files of `examples/lake`, byte by byte.
 
 static FILES: [(&str, &str); 11] = [
     (
@@ -100,7 +100,7 @@ pub fn files() -> &'static [(&'static str, &'static str)] {
     &FILES
 }
 
-/// The text of the file with that name, or none of them.
+/// The text of the file with that name, if there is one.
 pub fn text_of(name: &str) -> Option<&'static str> {
     for (known, text) in &FILES {
         if *known == name {

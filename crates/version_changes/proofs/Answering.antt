@@ -5,7 +5,8 @@ use Rattle.reference_rules.specs.Faults.{faults_of}
 use Rattle.roster_types.specs.Sets.{SetRecord}
 use Rattle.roster_values.specs.Kinds.{all_kinds}
 use Rattle.version_changes.proofs.Outcomes.{ChangesOf, are_new, makes_next, makes_no_more, makes_nothing, makes_on}
-use Rattle.version_changes.specs.sets.Applying.{Applies, Leads, LeadsOn, Refuses, Unchanged, owned_by_other, refusal_of, rows_in, too_many, unsound}
+use Rattle.version_changes.specs.sets.Applying.{Applies, Leads, LeadsOn, Refuses, Unchanged, owned_by_other, refusal_of}
+use Rattle.version_changes.specs.sets.Applying.{rows_in, too_many, unsound}
 use Rattle.version_changes.specs.declared.sets.publish_fault.PublishFault.{PublishFault}
 use Rattle.version_changes.specs.declared.sets.publish_fault.PublishFault.TheVariants.{LastVersion}
 use Rattle.version_core.specs.Changes.{AreChanges, change_key, rows_of}

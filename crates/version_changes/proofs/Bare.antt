@@ -1,5 +1,6 @@
 -- A set without its rows leaves out what the set leaves out.
-use Rattle.std.proofs.Common.{◌≡◌, zero, suc, ◌&&◌, ◌==◌, ◌||◌, cond, List, [], ◌∷◌, map, Option, Some, None, option_map, refl, sym, ap, subst, ◌∙◌, arith, ℤ, nat_cmp}
+use Rattle.std.proofs.Common.{◌≡◌, zero, suc, ◌&&◌, ◌==◌, ◌||◌, cond, List, [], ◌∷◌, map, Option, Some, None}
+use Rattle.std.proofs.Common.{option_map, refl, sym, ap, subst, ◌∙◌, arith, ℤ, nat_cmp}
 use Rattle.std.specs.List.{All, IsDistinct}
 use Rattle.std.specs.List.Sorted.{IsStrictlySortedBy}
 use Rattle.roster_types.specs.Sets.{AreParts, IsPart, SetRecord}
@@ -7,7 +8,8 @@ use Rattle.roster_types.specs.declared.set.SetPart.{SetPart}
 use Rattle.roster_types.specs.declared.set_row.SetRow.{SetRow}
 use Rattle.roster_values.specs.Kinds.{place_of_kind}
 use Rattle.roster_values.specs.declared.kind.Kind.{Kind}
-use Rattle.version_changes.specs.sets.Applying.{Becomes, is_active, is_bulk, is_left_out, is_own, is_whole, marked, unlisted}
+use Rattle.version_changes.specs.sets.Applying.{Becomes, is_active, is_bulk, is_left_out, is_own, is_whole, marked}
+use Rattle.version_changes.specs.sets.Applying.{unlisted}
 use Rattle.version_changes.specs.sets.Steps.{ChangesAt, bare, bare_set}
 use Rattle.version_core.specs.declared.row_change.RowChange.{RowChange}
 

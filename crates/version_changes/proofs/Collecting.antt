@@ -1,5 +1,6 @@
 -- What is collected from rows, of each row one thing at most, which has the row's key.
-use Rattle.std.proofs.Common.{◌≡◌, List, [], ◌∷◌, ◌++◌, true, false, cond, Option, Some, None, option_map, refl, sym, ap, subst, ◌∙◌, ℤ}
+use Rattle.std.proofs.Common.{◌≡◌, List, [], ◌∷◌, ◌++◌, true, false, cond, Option, Some, None, option_map, refl, sym}
+use Rattle.std.proofs.Common.{ap, subst, ◌∙◌, ℤ}
 use Rattle.std.specs.FinMap.Entries as entries
 use Rattle.std.specs.List.{flat_map}
 use Rattle.std.specs.Option.{option_and_then, option_to_list}

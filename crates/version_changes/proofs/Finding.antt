@@ -3,6 +3,8 @@ use Rattle.std.proofs.Common.{◌≡◌, ℕ, Bool, true, false, cond, List, [],
 use Rattle.std.proofs.lemmas.Bool.Decides.{same_from_decides}
 use Rattle.std.proofs.lemmas.Slice.Eq.{bytes_eq-Decides}
 use Rattle.std.specs.List.{AllByRecursion}
+pub use Rattle.version_core.proofs.PartsLemmas.{all_both as all_two}
+pub use Rattle.version_core.proofs.RoomLemmas.{all_weaken as all_each}
 
 pub same_text : (xs ys : List ℕ) → bytes_eq xs ys ≡ true → xs ≡ ys
 same_text xs ys e = (bytes_eq-Decides xs ys).0 e
@@ -28,12 +30,3 @@ found_meets P p (y ∷ ys) x all e =
       | true ↦ λ is. let same : y ≡ x = cc in subst P same all.0
       | false ↦ λ later. found_meets P p ys x all.1 later
     ] e
-
--- what follows for each item from what all meet
-pub all_two : {X : Type 0} (P Q R : X → Type 0) (xs : List X) → ((x : X) → P x → Q x → R x) → AllByRecursion P xs → AllByRecursion Q xs → AllByRecursion R xs
-all_two P Q R [] both ps qs = tt
-all_two P Q R (x ∷ xs) both ps qs = (both x ps.0 qs.0, all_two P Q R xs both ps.1 qs.1)
-
-pub all_each : {X : Type 0} (P Q : X → Type 0) (xs : List X) → ((x : X) → P x → Q x) → AllByRecursion P xs → AllByRecursion Q xs
-all_each P Q [] each ps = tt
-all_each P Q (x ∷ xs) each ps = (each x ps.0, all_each P Q xs each ps.1)

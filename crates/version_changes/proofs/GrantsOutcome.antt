@@ -1,25 +1,19 @@
 -- Each list of grants makes an outcome.
-use Rattle.std.proofs.Common.{◌≡◌, ℤ, ◌+◌, ◌≤◌, ◌==◌, ◌⊎◌, inl, inr, Bool, true, false, ◌&&◌, List, bytes_eq, refl, ap, arith}
+use Rattle.std.proofs.Common.{◌≡◌, ℤ, ◌+◌, ◌≤◌, ◌==◌, ◌⊎◌, inl, inr, Bool, true, false, ◌&&◌, List, bytes_eq, refl, ap}
+use Rattle.std.proofs.Common.{arith}
 use Rattle.std.proofs.lemmas.Bool.{cases_lt}
 use Rattle.std.proofs.lemmas.Bool.Decides.{Decides-eqb, Decides-like, Decides-and, not_from_Decides}
 use Rattle.std.proofs.lemmas.Slice.Eq.{bytes_eq-Decides, slice_eq-Decides}
 use Rattle.std.specs.Bool.{Decides}
 use Rattle.std.specs.Cmp.Lexicographic.{pointwise}
+use Rattle.version_changes.proofs.Granted.{Decides-same_schools}
 use Rattle.version_changes.specs.grants.Granting.{GrantsMake, grants_from, same_schools}
 use Rattle.grant_scopes.specs.declared.entry.GrantEntry.{GrantEntry}
-use Rattle.grant_scopes.specs.declared.schools.Schools.{Schools}
-use Rattle.grant_scopes.specs.declared.schools.Schools.TheVariants as school
 use Rattle.version_changes.specs.sets.Applying.{Leads, Outcome, Refuses, Unchanged}
 use Rattle.version_changes.specs.declared.sets.publish_fault.PublishFault.TheVariants.{LastVersion}
 use Rattle.version_core.specs.Version.{last_version}
 use Rattle.version_core.specs.declared.change.BaseVersion.{BaseVersion}
 use Rattle.version_core.specs.declared.grant_row.GrantRow.{GrantRow}
-
-schools-Decides : (a b : Schools) → Decides (same_schools a b) (a ≡ b)
-schools-Decides school.All school.All = (λ _. refl, λ _. refl)
-schools-Decides school.All (school.Listed ids) = (λ e. cc, λ e. cc)
-schools-Decides (school.Listed ids) school.All = (λ e. cc, λ e. cc)
-schools-Decides (school.Listed ids) (school.Listed others) = Decides-like _ (λ e. ap (λ x. school.Listed x) e) (λ e. cc) (slice_eq-Decides bytes_eq-Decides ids others _ refl)
 
 same_row : GrantRow → GrantRow → Bool
 same_row a b =
@@ -31,7 +25,7 @@ row-Decides a b =
     Decides-like _ (λ e. λ i. record { caller = e.0 i; grant = record { token = e.1.0 i; scopes = e.1.1.0 i; schools = e.1.1.1.0 i; since = e.1.1.1.1 i } })
     (λ e. (ap (λ (r : GrantRow). r.caller) e, (ap (λ (r : GrantRow). r.grant.token) e, (ap (λ (r : GrantRow). r.grant.scopes) e, (ap (λ (r : GrantRow). r.grant.schools) e, ap (λ (r : GrantRow). r.grant.since) e)))))
     (Decides-and _ _ (bytes_eq-Decides a.caller b.caller) (Decides-and _ _ (bytes_eq-Decides a.grant.token b.grant.token) (Decides-and _ _ (Decides-eqb a.grant.scopes b.grant.scopes)
-    (Decides-and _ _ (schools-Decides a.grant.schools b.grant.schools) (Decides-eqb a.grant.since b.grant.since)))))
+    (Decides-and _ _ (Decides-same_schools a.grant.schools b.grant.schools) (Decides-eqb a.grant.since b.grant.since)))))
 
 deciding : (xs ys : List GrantRow) → (xs ≡ ys) ⊎ ((xs ≡ ys) → ⊥)
 deciding xs ys =

@@ -1,14 +1,16 @@
 -- The rows of a set, each part in the order of ids.
-use Rattle.std.proofs.Common.{◌≡◌, ℕ, suc, ◌<◌, List, [], ◌∷◌, ◌++◌, get_or, length, map, true, Some, None, refl, sym, ap, subst, ◌∙◌, arith}
+use Rattle.std.proofs.Common.{◌≡◌, ℕ, ◌<◌, List, [], ◌∷◌, ◌++◌, get_or, length, map, true, Some, None, refl, sym, ap}
+use Rattle.std.proofs.Common.{subst, ◌∙◌, arith}
 use Rattle.std.specs.Prelude.{is_some}
 use Rattle.std.specs.FinMap.Entries as entries
 use Rattle.std.specs.Cmp.Lexicographic.{slice_cmp}
-use Rattle.std.specs.List.{All, AllByRecursion, flat_map}
+use Rattle.std.specs.List.{AllByRecursion, flat_map}
 use Rattle.std.specs.List.Sorted.{IsStrictlySortedBy}
 use Rattle.std.specs.Option.{option_or}
 use Rattle.std.specs.Ordering.{is_lt, match_ordering, nat_cmp, ordering_then}
 use Rattle.std.specs.declared.cmp.Ordering.TheVariants.{Less, Equal, Greater}
 use Rattle.std.proofs.lemmas.Bool.{and_from}
+use Rattle.std.proofs.lemmas.List.Elements.{recursion_from_All}
 use Rattle.reference_rules.proofs.KeyOrder.{and_first, and_second, same_kind}
 use Rattle.roster_base.specs.Order.{in_order, placed}
 use Rattle.roster_types.specs.Keys.{Ascends, Key, key_cmp, keyed, look_up}
@@ -28,10 +30,6 @@ place listed = place_of_kind listed.row.kind
 
 abbrev id_of : SetRow → List ℕ
 id_of listed = listed.row.id
-
-pub each : {X : Type 0} (P : X → Type 0) (xs : List X) → All P xs → AllByRecursion P xs
-each P [] all = tt
-each P (x ∷ xs) all = (all 0 x (omega arith), each P xs (λ k d lt. all (suc k) d (omega arith)))
 
 each_put : (P : SetRow → Type 0) (x : SetRow) (ys : List SetRow) → P x → AllByRecursion P ys → AllByRecursion P (put set_key x ys)
 each_put P x [] here all = (here, tt)
@@ -71,7 +69,7 @@ module _ (n : ℕ) where
 
 module _ (part : SetPart) (is : IsPart part) where
   of_kind : AllByRecursion (Of (place_of_kind part.kind)) part.rows
-  of_kind = each (Of (place_of_kind part.kind)) part.rows (λ k d lt. ap place_of_kind (is.kinds k d lt))
+  of_kind = recursion_from_All (Of (place_of_kind part.kind)) part.rows (λ k d lt. ap place_of_kind (is.kinds k d lt))
 
   part_is : part_indexed part ≡ overlaid set_key [] part.rows
   part_is = in_order_is (place_of_kind part.kind) part.rows of_kind
@@ -136,7 +134,7 @@ found_somewhere (x ∷ xs) k i up lt here = ap is_some (look_up-at set_key (x �
 
 module _ (parts : List SetPart) (are : AreParts parts) where
   pub index_ascends : Ascends set_key (indexed parts)
-  index_ascends = Ascends-indexed parts are.rise (each IsPart parts are.parts)
+  index_ascends = Ascends-indexed parts are.rise (recursion_from_All IsPart parts are.parts)
 
   pub index_look_up : (k : Key) → look_up set_key k (indexed parts) ≡ look_up set_key k (flat_map (λ part. part.rows) parts)
-  index_look_up k = look_up-indexed k parts (each IsPart parts are.parts)
+  index_look_up k = look_up-indexed k parts (recursion_from_All IsPart parts are.parts)

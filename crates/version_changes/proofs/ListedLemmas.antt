@@ -1,5 +1,6 @@
 -- What listed rows change, one row after another.
-use Rattle.std.proofs.Common.{◌≡◌, ℕ, ℤ, ◌+◌, ◌<◌, List, [], ◌∷◌, ◌++◌, length, length-append, get_or, take, arith, true, false, cond, Option, Some, None, refl, sym, ap, subst, ◌∙◌}
+use Rattle.std.proofs.Common.{◌≡◌, ℕ, ℤ, ◌+◌, ◌<◌, List, [], ◌∷◌, ◌++◌, length, length-append, get_or, take, arith}
+use Rattle.std.proofs.Common.{true, false, cond, Option, Some, None, refl, sym, ap, subst, ◌∙◌}
 use Rattle.std.specs.Option.{option_or}
 use Rattle.std.specs.Ordering.{is_eq}
 use Rattle.std.proofs.lemmas.List.{take_all, take_more}
@@ -16,10 +17,6 @@ use Rattle.version_core.specs.declared.row_change.RowChange.{RowChange}
 behind_front : (front rest : List SetRow) (listed : SetRow) → get_or (front ++ listed ∷ rest) (length front) listed ≡ listed
 behind_front [] rest listed = refl
 behind_front (x ∷ front) rest listed = behind_front front rest listed
-
-pub nothing_left : {X : Type 0} (xs : List X) → length xs ≡ 0 → xs ≡ []
-nothing_left [] none = refl
-nothing_left (x ∷ xs) none = absurd (omega arith)
 
 module _ (feed : List ℕ) (at : ℤ) where
   stored_key : (listed : SetRow) → change_key (stored_as feed at listed) ≡ set_key listed

@@ -1,15 +1,13 @@
 -- Look-ups in lists that are made step by step.
-use Rattle.std.proofs.Common.{◌≡◌, ℕ, zero, suc, ◌+◌, ◌<◌, List, [], ◌∷◌, ◌++◌, length, get_or, take, append-nil, true, false, cond, Some, None, refl, sym, ap, ◌∙◌, arith}
-use Rattle.std.specs.declared.cmp.Ordering.TheVariants.{Less}
-use Rattle.std.specs.FinMap.Entries as entries
+use Rattle.std.proofs.Common.{◌≡◌, ℕ, zero, suc, ◌+◌, ◌<◌, List, [], ◌∷◌, ◌++◌, length, get_or, take, append-nil, true}
+use Rattle.std.proofs.Common.{false, cond, Some, None, refl, sym, ap, ◌∙◌, arith}
 use Rattle.std.specs.List.{flat_map}
 use Rattle.std.proofs.lemmas.List.{take_more}
 use Rattle.std.proofs.lemmas.List.Concat.{flat_map-append}
 use Rattle.std.specs.Option.{option_or}
-use Rattle.std.specs.Ordering.{is_eq, is_lt}
-use Rattle.std.proofs.lemmas.Bool.{and_from}
-use Rattle.reference_rules.proofs.KeyOrder.{and_first, and_second, key_total, less_from_is_lt}
-use Rattle.roster_types.specs.Keys.{Ascends, Key, key_cmp, keyed, look_up}
+use Rattle.std.specs.Ordering.{is_eq}
+use Rattle.reference_rules.proofs.KeyOrder.{and_second}
+use Rattle.roster_types.specs.Keys.{Ascends, Key, key_cmp, look_up}
 use Rattle.version_core.proofs.Places.{greater_from_less, less_at}
 
 module _ {X : Type 0} (key : X → Key) where
@@ -17,16 +15,6 @@ module _ {X : Type 0} (key : X → Key) where
   look_up-append k [] ys = refl
   look_up-append k (x ∷ xs) ys =
       elim (is_eq (key_cmp k (key x))) as (λ b. cond b (Some x) (look_up key k (xs ++ ys)) ≡ option_or (cond b (Some x) (look_up key k xs)) (look_up key k ys)) [ true ↦ refl | false ↦ look_up-append k xs ys ]
-
-  pub below_trans : (k l : Key) (xs : List X) → key_cmp k l ≡ Less → entries.below_all key_cmp l (keyed key xs) ≡ true → entries.below_all key_cmp k (keyed key xs) ≡ true
-  below_trans k l [] less below = refl
-  below_trans k l (x ∷ xs) less below =
-      and_from _ _ (ap is_lt (key_total.trans k l (key x) less (less_from_is_lt _ (and_first _ _ below)))) (below_trans k l xs less (and_second _ _ below))
-
-  pub look_up-below : (k : Key) (xs : List X) → entries.below_all key_cmp k (keyed key xs) ≡ true → look_up key k xs ≡ None
-  look_up-below k [] below = refl
-  look_up-below k (x ∷ xs) below =
-      ap (λ o. cond (is_eq o) (Some x) (look_up key k xs)) (less_from_is_lt _ (and_first _ _ below)) ∙ look_up-below k xs (and_second _ _ below)
 
   -- the key of an item is of none before it
   pub fresh : (xs : List X) (n : ℕ) (d : X) → Ascends key xs → n < length xs → look_up key (key (get_or xs n d)) (take n xs) ≡ None

@@ -1,5 +1,6 @@
 -- The marks of the rows of a kind, one row after another.
-use Rattle.std.proofs.Common.{◌≡◌, List, [], ◌∷◌, ◌++◌, Bool, true, false, cond, eqb, filter, find, Option, Some, None, option_map, ℕ, ℤ, refl, sym, ap, subst, ◌∙◌, arith}
+use Rattle.std.proofs.Common.{◌≡◌, List, [], ◌∷◌, ◌++◌, Bool, true, false, cond, eqb, filter, find, Option, Some, None}
+use Rattle.std.proofs.Common.{option_map, ℕ, ℤ, refl, sym, ap, subst, ◌∙◌, arith}
 use Rattle.std.specs.Prelude.{◌&&◌, ◌==◌, is_some}
 use Rattle.std.specs.List.{list_any}
 use Rattle.std.proofs.lemmas.Bool.Decides.{nat_tests}
@@ -15,9 +16,9 @@ use Rattle.roster_values.specs.Kinds.{place_of_kind}
 use Rattle.roster_types.specs.Sets.{SetRecord}
 use Rattle.roster_types.specs.declared.set_row.SetRow.{SetRow}
 use Rattle.roster_values.specs.declared.kind.Kind.{Kind}
-use Rattle.version_changes.proofs.LookUps.{look_up-below}
 use Rattle.version_changes.specs.sets.Applying.{is_active, is_bulk, is_own, is_whole, marked, set_key}
 use Rattle.version_changes.specs.sets.Steps.{mark_at, mark_of, marks_of}
+use Rattle.version_core.proofs.LookUps.{none_above}
 use Rattle.version_core.proofs.RowsOf.{find-rows_of, is_sorted-rows_of}
 use Rattle.version_core.specs.Changes.{AreChanges, change_key, is_next, rows_of}
 use Rattle.version_core.specs.declared.row_change.RowChange.{RowChange}
@@ -33,7 +34,7 @@ found_stands p (y ∷ rows) x up e =
           let rest : look_up change_key (change_key x) rows ≡ Some x = found_stands p rows x (and_second _ _ up) later in
           elim (is_eq (key_cmp (change_key x) (change_key y))) as (λ b. is_eq (key_cmp (change_key x) (change_key y)) ≡ b → cond b (Some y) (look_up change_key (change_key x) rows) ≡ Some x) [
             | true ↦ λ t.
-                let none = look_up-below change_key (change_key y) rows (and_first _ _ up) in
+                let none = none_above change_key (change_key y) rows (and_first _ _ up) in
                 let gone : look_up change_key (change_key x) rows ≡ None = ap (λ k. look_up change_key k rows) (key_exact _ _ (equal_from_is_eq _ t)) ∙ none in
                 cc
             | false ↦ λ _. rest

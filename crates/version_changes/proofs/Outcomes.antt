@@ -1,5 +1,6 @@
 -- What becomes of each row, what a set makes of a version, and that both are one thing.
-use Rattle.std.proofs.Common.{◌≡◌, ℕ, ℤ, ◌+◌, ◌≤◌, List, [], ◌∷◌, inl, inr, Bool, true, false, cond, Option, Some, None, refl, sym, ap, subst, ◌∙◌, arith}
+use Rattle.std.proofs.Common.{◌≡◌, ℕ, ℤ, ◌+◌, ◌≤◌, List, [], ◌∷◌, inl, inr, Bool, true, false, cond, Option, Some, None}
+use Rattle.std.proofs.Common.{refl, sym, ap, subst, ◌∙◌, arith}
 use Rattle.std.specs.Prelude.{nat_lt}
 use Rattle.std.specs.List.{AllByRecursion}
 use Rattle.std.specs.Option.{option_and_then, option_or}
@@ -14,7 +15,10 @@ use Rattle.roster_types.specs.declared.status.Status.TheVariants.{ToBeDeleted}
 use Rattle.roster_values.proofs.KindLaws.{each_kind}
 use Rattle.roster_values.specs.Kinds.{all_kinds}
 use Rattle.roster_values.specs.declared.kind.Kind.{Kind}
-use Rattle.version_changes.specs.sets.Applying.{AreNewRows, Applies, Becomes, IsDue, Leads, LeadsOn, Listed, Makes, Outcome, Refuses, Unchanged, Undated, dated, is_active, is_left_out, is_own, is_whole, marked, owned_by, refusal_of, rows_in, set_key, too_many}
+use Rattle.version_changes.specs.sets.Applying.{AreNewRows, Applies, Becomes, IsDue, Leads, LeadsOn, Listed, Makes}
+use Rattle.version_changes.specs.sets.Applying.{Outcome, Refuses, Unchanged, Undated, dated, is_active, is_left_out}
+use Rattle.version_changes.specs.sets.Applying.{is_own, is_whole, marked, owned_by, refusal_of, rows_in, set_key}
+use Rattle.version_changes.specs.sets.Applying.{too_many}
 use Rattle.version_changes.specs.sets.Steps.{ChangesAt, Leaves, ListedChangeAt, mark_of, stored_as}
 use Rattle.version_changes.specs.declared.sets.publish_fault.PublishFault.{PublishFault}
 use Rattle.version_changes.specs.declared.sets.publish_fault.PublishFault.TheVariants.{LastVersion, TooManyRows}
@@ -147,7 +151,7 @@ module _ (set : SetRecord) (at : ℤ) where
       one_made at version (refusal_of set version.rows is'.0) is'.0 one other (subst (λ new. Makes version at (refusal_of set version.rows new) new one) same is.2) is'.2
 
 -- no kind has too many rows where none is told
-few_among : (rows : List Record) (kinds : List Kind) → too_many rows kinds ≡ None → AllByRecursion (λ kind. count_of kind rows ≤ row_limit) kinds
+pub few_among : (rows : List Record) (kinds : List Kind) → too_many rows kinds ≡ None → AllByRecursion (λ kind. count_of kind rows ≤ row_limit) kinds
 few_among rows [] none = tt
 few_among rows (kind ∷ kinds) none =
     elim (nat_lt row_limit (count_of kind rows)) as (λ b. nat_lt row_limit (count_of kind rows) ≡ b → cond b (Some (TooManyRows kind (count_of kind rows))) (too_many rows kinds) ≡ None → AllByRecursion (λ kind. count_of kind rows ≤ row_limit) (kind ∷ kinds)) [

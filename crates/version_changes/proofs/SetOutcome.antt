@@ -1,5 +1,6 @@
 -- Each set makes an outcome.
-use Rattle.std.proofs.Common.{◌≡◌, ℤ, ◌+◌, ◌≤◌, ◌⊎◌, inl, inr, Bool, true, false, ◌&&◌, cond, List, [], ◌∷◌, Option, None, Some, bytes_eq, map, option_map, refl, sym, ap, subst, ◌∙◌, arith}
+use Rattle.std.proofs.Common.{◌≡◌, ℤ, ◌+◌, ◌≤◌, ◌⊎◌, inl, inr, Bool, true, false, ◌&&◌, cond, List, [], ◌∷◌, Option}
+use Rattle.std.proofs.Common.{None, Some, bytes_eq, map, option_map, refl, sym, ap, subst, ◌∙◌, arith}
 use Rattle.std.proofs.lemmas.Bool.{cases_lt}
 use Rattle.std.proofs.lemmas.Bool.Decides.{Decides-like, Decides-and, not_from_Decides}
 use Rattle.std.proofs.lemmas.Slice.Eq.{bytes_eq-Decides, slice_eq-Decides}
@@ -15,7 +16,9 @@ use Rattle.roster_types.specs.declared.owner.Owner.{Owner}
 use Rattle.roster_types.specs.declared.owner.Owner.TheVariants.{Caller, Feed}
 use Rattle.roster_types.specs.declared.set_row.SetRow.{SetRow}
 use Rattle.version_changes.proofs.Deciding.{deciding, same_row, same_row-Decides}
-use Rattle.version_changes.specs.sets.Applying.{Applies, AreNewRows, Becomes, IsDue, Leads, Listed, Makes, Outcome, Refuses, Unchanged, dated, is_left_out, marked, owned_by, refusal_of, rows_in, set_key, unlisted}
+use Rattle.version_changes.specs.sets.Applying.{Applies, AreNewRows, Becomes, IsDue, Leads, Listed, Makes, Outcome}
+use Rattle.version_changes.specs.sets.Applying.{Refuses, Unchanged, dated, is_left_out, marked, owned_by, refusal_of}
+use Rattle.version_changes.specs.sets.Applying.{rows_in, set_key, unlisted}
 use Rattle.version_changes.specs.declared.sets.publish_fault.PublishFault.{PublishFault}
 use Rattle.version_changes.specs.declared.sets.publish_fault.PublishFault.TheVariants.{LastVersion}
 use Rattle.version_core.proofs.OrderLemmas.{Ascends-put, look_up-put}

@@ -1,5 +1,8 @@
 -- How many rows of a kind stand after changes.
-use Rattle.std.proofs.Common.{◌≡◌, ◌+◌, ◌<◌, ◌≤◌, ℕ, zero, suc, Bool, List, [], ◌∷◌, ◌++◌, true, false, cond, not, ◌&&◌, ◌||◌, add-zero, drop, get_or, length, take, IfSome, Option, None, Some, refl, sym, ap, subst, ◌∙◌, arith, inl, inr}
+use Rattle.std.proofs.Common.{◌≡◌, ◌+◌, ◌<◌, ◌≤◌, ℕ, zero, suc, Bool, List, [], ◌∷◌, ◌++◌, true, false, cond, not, ◌&&◌}
+use Rattle.std.proofs.Common.{◌||◌, add-zero, drop, get_or, length, take, IfSome, Option, None, Some, refl, sym, ap}
+use Rattle.std.proofs.Common.{subst, ◌∙◌, arith, inl, inr}
+use Rattle.std.proofs.Math.Bool.{and-false}
 use Rattle.std.specs.Prelude.{count_by, is_some}
 use Rattle.std.specs.List.{list_any}
 use Rattle.std.specs.Option.{option_or}
@@ -44,17 +47,13 @@ has_behind k rows (change ∷ changes) =
     ∙ ap (λ b. b || list_any (λ change. has k change.rows) changes) (ap is_some (look_up-overlaid change_key k rows change.rows) ∙ some_or (look_up change_key k change.rows) (look_up change_key k rows))
     ∙ or_assoc (has k rows) (has k change.rows) (list_any (λ change. has k change.rows) changes)
 
-and_false : (b : Bool) → (b && false) ≡ false
-and_false true = refl
-and_false false = refl
-
 pub not_of_kind : (kind : Kind) (rows : List RowChange) (change : RowChange) → is_of_kind kind change.row ≡ false → false ≡ is_added kind rows change
 not_of_kind kind rows change other = sym (ap (λ b. b && not (has (change_key change) rows)) other)
 
 pub not_new : (kind : Kind) (rows : List RowChange) (changes : List Change) (change : RowChange) → has (change_key change) rows ≡ true → false ≡ is_added kind (rows_behind rows changes) change
 not_new kind rows changes change stands =
     let there = has_behind (change_key change) rows changes ∙ ap (λ b. b || list_any (λ other. has (change_key change) other.rows) changes) stands in
-    sym (ap (λ b. is_of_kind kind change.row && not b) there ∙ and_false (is_of_kind kind change.row))
+    sym (ap (λ b. is_of_kind kind change.row && not b) there ∙ and-false (is_of_kind kind change.row))
 
 pub new_where : (kind : Kind) (rows : List RowChange) (changes : List Change) (change : RowChange) → is_of_kind kind change.row ≡ true → has (change_key change) rows ≡ false
     → not (list_any (λ other. has (change_key change) other.rows) changes) ≡ is_added kind (rows_behind rows changes) change

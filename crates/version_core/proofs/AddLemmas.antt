@@ -1,5 +1,6 @@
 -- One version more.
-use Rattle.std.proofs.Common.{◌≡◌, ℕ, ℤ, suc, ◌+◌, ◌<◌, ◌≤◌, List, [], ◌∷◌, ◌++◌, length, map, refl, sym, ap, ◌∙◌, arith, unwrap_or}
+use Rattle.std.proofs.Common.{◌≡◌, ℕ, ℤ, suc, ◌+◌, ◌<◌, ◌≤◌, List, [], ◌∷◌, ◌++◌, length, map, refl, sym, ap, ◌∙◌}
+use Rattle.std.proofs.Common.{arith, unwrap_or}
 use Rattle.std.specs.List.{AllByRecursion}
 use Rattle.version_core.specs.Changes.{change_key}
 use Rattle.version_core.specs.History.{AreUpTo, Past, PutsRows, StandsFrom, rows_at}
@@ -11,7 +12,8 @@ use Rattle.version_core.specs.declared.change.Change.{Change}
 use Rattle.version_core.specs.declared.grant_row.GrantRow.{GrantRow}
 use Rattle.version_core.specs.declared.since.Since.{Since}
 use Rattle.version_core.proofs.SinceLemmas.{standing-trimmed}
-use Rattle.version_core.proofs.ViewLemmas.{last_version_at, rows_later, standing_later, versions_at-push, versions_at-same}
+use Rattle.version_core.proofs.ViewLemmas.{last_version_at, rows_later, standing_later, versions_at-push}
+use Rattle.version_core.proofs.ViewLemmas.{versions_at-same}
 
 pub length_map : {X Y : Type 0} (f : X → Y) (xs : List X) → length (map f xs) ≡ length xs
 length_map f [] = refl

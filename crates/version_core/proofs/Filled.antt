@@ -1,5 +1,6 @@
 -- A state of a hub whose kept versions are these: versions without rows are filled in below them.
-use Rattle.std.proofs.Common.{◌≡◌, ℕ, zero, suc, pos, ◌+◌, ◌-◌, ◌≤◌, List, [], ◌∷◌, ◌++◌, append_assoc, Some, drop, length, slice_get, refl, sym, subst, ap, ◌∙◌, add-one, arith}
+use Rattle.std.proofs.Common.{◌≡◌, ℕ, zero, suc, pos, ◌+◌, ◌-◌, ◌≤◌, List, [], ◌∷◌, ◌++◌, append_assoc, Some, drop}
+use Rattle.std.proofs.Common.{length, slice_get, refl, sym, subst, ap, ◌∙◌, add-one, arith}
 use Rattle.std.specs.List.{AllByRecursion}
 use Rattle.version_core.specs.declared.change.BaseVersion.{BaseVersion}
 use Rattle.version_core.specs.declared.grant_row.GrantRow.{GrantRow}

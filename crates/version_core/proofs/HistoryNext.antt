@@ -1,5 +1,7 @@
 -- The next row of a kind, in histories.
-use Rattle.std.proofs.Common.{◌≡◌, ℕ, suc, ◌+◌, ◌<◌, ◌≤◌, List, [], ◌∷◌, ◌++◌, Option, None, Some, Bool, true, false, cond, not, ◌&&◌, eqb, length, take, drop, get_or, find, refl, sym, ap, subst, ◌∙◌, arith, inl, inr}
+use Rattle.std.proofs.Common.{◌≡◌, ℕ, suc, ◌+◌, ◌<◌, ◌≤◌, List, [], ◌∷◌, ◌++◌, Option, None, Some, Bool, true, false}
+use Rattle.std.proofs.Common.{cond, not, ◌&&◌, eqb, length, take, drop, get_or, find, refl, sym, ap, subst, ◌∙◌, arith}
+use Rattle.std.proofs.Common.{inl, inr}
 use Rattle.std.proofs.lemmas.Bool.{cases_eq, cases_lt, false_from_ne_true, true_from_ne_false}
 use Rattle.std.proofs.lemmas.Bool.Decides.{nat_tests}
 use Rattle.std.proofs.lemmas.List.Folds.{find-append}
@@ -11,14 +13,18 @@ use Rattle.std.specs.Option.{option_or, option_to_list}
 use Rattle.std.specs.Ordering.{is_gt, is_lt, nat_cmp, ordering_reverse}
 use Rattle.std.specs.declared.cmp.Ordering.{Ordering}
 use Rattle.std.specs.declared.cmp.Ordering.TheVariants.{Less, Equal, Greater}
-use Rattle.reference_rules.proofs.KeyOrder.{and_first, and_second, key_exact, key_total, kind_le, less_from_is_lt, same_kind}
+use Rattle.reference_rules.proofs.KeyOrder.{and_first, and_second, key_exact, key_total, kind_le, less_from_is_lt}
+use Rattle.reference_rules.proofs.KeyOrder.{same_kind}
 use Rattle.roster_types.specs.Keys.{Ascends, Key, is_after, key_cmp}
 use Rattle.version_core.specs.Changes.{change_key}
-use Rattle.version_core.specs.History.{ArePasts, IsAt, IsGap, IsPast, history_key, is_beyond_key, past_key, past_of, pasts_of, rows_at}
+use Rattle.version_core.specs.History.{ArePasts, IsAt, IsGap, IsPast, history_key, is_beyond_key, past_key, past_of}
+use Rattle.version_core.specs.History.{pasts_of, rows_at}
 use Rattle.version_core.specs.Since.{standing}
 use Rattle.version_core.specs.declared.history.History.{History}
 use Rattle.version_core.specs.declared.row_change.RowChange.{RowChange}
-use Rattle.version_core.proofs.HistoryLemmas.{Ascends-histories, all_at, all_before, all_drop, all_from, all_map, all_take, all_unmap, drop_at, find_none, pasts_of-append, rows_at-append, split_at, standing_keyed}
+use Rattle.version_core.proofs.HistoryLemmas.{Ascends-histories, all_at, all_before, all_drop, all_from, all_map}
+use Rattle.version_core.proofs.HistoryLemmas.{all_take, all_unmap, drop_at, find_none, pasts_of-append, rows_at-append}
+use Rattle.version_core.proofs.HistoryLemmas.{split_at, standing_keyed}
 use Rattle.version_core.proofs.Places.{greater_from_less, less_at}
 
 module _ (place : ℕ) (after : Option (List ℕ)) where
@@ -135,11 +141,3 @@ gap_behind place after histories i gap up next at = record {
   beyond = λ j d le lt.
       ap is_gt (subst (λ k. key_cmp (history_key (get_or histories j d)) k ≡ Greater) (key_exact _ _ (at.same d)) (greater_from_less _ _ (less_at history_key histories i j d up (omega arith) lt)));
 }
-
-pub from_not : (b : Bool) → not b ≡ false → b ≡ true
-from_not true e = refl
-from_not false e = sym e
-
-pub from_not_true : (b : Bool) → not b ≡ true → b ≡ false
-from_not_true true e = sym e
-from_not_true false e = refl

@@ -1,6 +1,6 @@
 -- What an index answers of the rows that it indexes.
-use Rattle.std.proofs.Common.{◌≡◌, ℕ, suc, Bool, true, false, ◌&&◌, ◌||◌, cond, eqb, List, [], ◌∷◌, Option, None, Some, find, length, refl, sym, ap, subst, ◌∙◌, arith}
-use Rattle.std.proofs.lemmas.Bool.Decides.{nat_tests}
+use Rattle.std.proofs.Common.{◌≡◌, ℕ, suc, Bool, true, false, ◌&&◌, ◌||◌, cond, List, [], ◌∷◌, Option, None, Some, find}
+use Rattle.std.proofs.Common.{length, refl, sym, ap, subst, ◌∙◌, arith}
 use Rattle.std.proofs.lemmas.Cmp.{nat_list_cmp_total, tied_itself}
 use Rattle.std.proofs.lemmas.Map.Lookups.{exact_bytes}
 use Rattle.std.proofs.lemmas.Slice.Eq.{bytes_eq-Decides}
@@ -13,7 +13,7 @@ use Rattle.std.specs.declared.cmp.Ordering.TheVariants.{Less, Equal, Greater}
 use Rattle.std.specs.Option.{option_map_or}
 use Rattle.reference_rules.proofs.KeyOrder.{and_first, and_second, key_total, less_from_is_lt, same_kind}
 use Rattle.roster_values.proofs.KindLaws.{kind_from_place}
-use Rattle.reference_rules.proofs.Rest.{look_up-found}
+use Rattle.reference_rules.proofs.Rest.{find_passes, look_up-found, place_from_test}
 use Rattle.roster_types.specs.Keys.{Ascends, Key, is_after, is_of_kind, key_cmp, keyed, look_up, row_key}
 use Rattle.roster_types.specs.Records.{Record, all_values, place_in}
 use Rattle.std.specs.Prelude.{option_and_then, slice_index_or}
@@ -23,6 +23,7 @@ use Rattle.roster_values.specs.declared.kind.Kind.{Kind}
 use Rattle.version_core.specs.RefIndex.{AllOf, AllUpTo, AreIndexed, FirstOf, IsNotBelow, is_of, passes_at, says}
 use Rattle.version_core.specs.References.{is_one_of, names, next_referring, refers, refs_in}
 use Rattle.version_core.specs.declared.ref_index.RefEntry.{RefEntry}
+use Rattle.version_core.proofs.NamingLemmas.{lt_reverse}
 use Rattle.version_core.proofs.NamingRows.{named, refers_after}
 
 -- an item that passes has what all have
@@ -33,14 +34,6 @@ held p Q G (x ∷ xs) any all found =
       | true ↦ λ here _. found x here (all 0 x (omega arith) (omega arith))
       | false ↦ λ _ later. held p Q G xs later (λ k d low lt. all (suc k) d (omega arith) (omega arith)) found
     ] refl any
-
-find_passes : (p : Record → Bool) (rows : List Record) (row : Record) → find p rows ≡ Some row → p row ≡ true
-find_passes p [] row e = cc
-find_passes p (x ∷ rows) row e =
-    elim (p x) as (λ b. p x ≡ b → cond b (Some x) (find p rows) ≡ Some row → p row ≡ true) [
-      | true ↦ λ t same. let is : x ≡ row = cc in subst (λ r. p r ≡ true) is t
-      | false ↦ λ _ later. find_passes p rows row later
-    ] refl e
 
 -- a row that stands and passes isn't missed
 not_missed : (p : Record → Bool) (k : Key) (rows : List Record) (row : Record) → look_up row_key k rows ≡ Some row → p row ≡ true → find p rows ≡ None → ⊥
@@ -54,7 +47,7 @@ not_missed p k (x ∷ rows) row at passes none =
       ] at
     ] refl none
 
-above_all : (k l : Key) (rows : List Record) (row : Record) → entries.below_all key_cmp k (keyed row_key rows) ≡ true → look_up row_key l rows ≡ Some row → key_cmp k (row_key row) ≡ Less
+pub above_all : (k l : Key) (rows : List Record) (row : Record) → entries.below_all key_cmp k (keyed row_key rows) ≡ true → look_up row_key l rows ≡ Some row → key_cmp k (row_key row) ≡ Less
 above_all k l [] row above at = cc
 above_all k l (x ∷ rows) row above at =
     elim (is_eq (key_cmp l (row_key x))) as (λ b. cond b (Some x) (look_up row_key l rows) ≡ Some row → key_cmp k (row_key row) ≡ Less) [
@@ -84,16 +77,8 @@ neither Less l g = cc
 neither Equal l g = refl
 neither Greater l g = cc
 
-lt_reverse : (o : Ordering) → is_lt (ordering_reverse o) ≡ is_gt o
-lt_reverse Less = refl
-lt_reverse Equal = refl
-lt_reverse Greater = refl
-
 same_id : (a b : List ℕ) → is_lt (slice_cmp nat_cmp a b) ≡ false → is_lt (slice_cmp nat_cmp b a) ≡ false → a ≡ b
 same_id a b ab ba = exact_bytes a b (neither (slice_cmp nat_cmp a b) ab (sym (lt_reverse (slice_cmp nat_cmp a b)) ∙ ap is_lt (sym (nat_list_cmp_total.antisymm b a)) ∙ ba))
-
-place_from_test : (kind : Kind) (row : Record) → is_of_kind kind row ≡ true → place_of_kind row.kind ≡ place_of_kind kind
-place_from_test kind row e = let tested : eqb (place_of_kind row.kind) (place_of_kind kind) ≡ true = e in grind (arith, nat_tests)
 
 module _ (kind : Kind) (place : ℕ) (name target : List ℕ) (after : Option (List ℕ)) (rows : List Record) (up : Ascends row_key rows) (runs : List (List RefEntry)) (indexed : AreIndexed runs rows) (field : place_in (table kind) name ≡ Some place) where
   abbrev key : ℕ × ℕ × List ℕ
@@ -148,10 +133,6 @@ module _ (kind : Kind) (place : ℕ) (name target : List ℕ) (after : Option (L
 none_found : (p : Record → Bool) (rows : List Record) → ((row : Record) → p row ≡ false) → find p rows ≡ None
 none_found p [] fails = refl
 none_found p (x ∷ rows) fails = ap (λ b. cond b (Some x) (find p rows)) (fails x) ∙ none_found p rows fails
-
-and_false : (b : Bool) → (b && false) ≡ false
-and_false true = refl
-and_false false = refl
 
 -- a field that no row of the kind has names nothing
 pub no_field : (kind : Kind) (name target : List ℕ) (after : Option (List ℕ)) (rows : List Record) → place_in (table kind) name ≡ None → next_referring kind name target after rows ≡ None

@@ -1,5 +1,7 @@
 -- Entries that rows still name.
-use Rattle.std.proofs.Common.{◌≡◌, ℕ, ◌≤◌, Bool, true, false, ◌||◌, cond, is_none, max, List, [], ◌∷◌, Option, None, Some, if◌then◌else◌, filter, leb, length, map, option_map, slice_index_or, refl, sym, ap, ◌∙◌, arith}
+use Rattle.std.proofs.Common.{◌≡◌, ℕ, ◌≤◌, Bool, true, false, ◌||◌, cond, is_none, max, List, [], ◌∷◌, Option, None}
+use Rattle.std.proofs.Common.{Some, if◌then◌else◌, filter, leb, length, map, option_map, slice_index_or, refl, sym, ap}
+use Rattle.std.proofs.Common.{◌∙◌, arith}
 use Rattle.std.proofs.lemmas.Bool.{and_from, or_left, or_right}
 use Rattle.std.proofs.lemmas.Bool.Decides.{nat_tests}
 use Rattle.std.proofs.lemmas.List.{get_or_past}

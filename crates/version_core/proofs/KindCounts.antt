@@ -1,5 +1,7 @@
 -- The items of a kind, which lie side by side in the order of kinds: how many there are, and what stands in them.
-use Rattle.std.proofs.Common.{◌≡◌, ℕ, zero, suc, ◌+◌, ◌-◌, ◌<◌, ◌≤◌, List, [], ◌∷◌, ◌++◌, Bool, true, false, cond, leb, ltb, eqb, Option, Some, None, drop, filter, get_or, is_some, length, option_and_then, option_map, slice_get, slice_range, take, refl, sym, ap, ◌∙◌, arith, inl, inr}
+use Rattle.std.proofs.Common.{◌≡◌, ℕ, zero, suc, ◌+◌, ◌-◌, ◌<◌, ◌≤◌, List, [], ◌∷◌, ◌++◌, Bool, true, false, cond, leb}
+use Rattle.std.proofs.Common.{ltb, eqb, Option, Some, None, drop, filter, get_or, is_some, length, option_and_then}
+use Rattle.std.proofs.Common.{option_map, slice_get, slice_range, take, refl, sym, ap, ◌∙◌, arith, inl, inr}
 use Rattle.std.specs.Prelude.{◌==◌, count_by}
 use Rattle.std.proofs.lemmas.Bool.{cases_eq, cases_lt}
 use Rattle.std.proofs.lemmas.Bool.Decides.{nat_tests}
@@ -13,7 +15,8 @@ use Rattle.roster_values.specs.Kinds.{place_of_kind}
 use Rattle.roster_values.specs.declared.kind.Kind.{Kind}
 use Rattle.reference_rules.proofs.KeyOrder.{and_first, and_second, kind_le, less_from_is_lt}
 use Rattle.version_core.specs.Changes.{rows_of}
-use Rattle.version_core.specs.History.{AreUpTo, IsPast, Past, history_key, is_past_of, past_key, past_of, pasts_of, rows_at}
+use Rattle.version_core.specs.History.{AreUpTo, IsPast, Past, history_key, is_past_of, past_key, past_of, pasts_of}
+use Rattle.version_core.specs.History.{rows_at}
 use Rattle.version_core.specs.Since.{standing}
 use Rattle.version_core.specs.declared.history.History.{History}
 use Rattle.version_core.specs.declared.row_change.RowChange.{RowChange}
@@ -21,7 +24,7 @@ use Rattle.version_core.specs.declared.since.Since.{Since}
 use Rattle.version_core.proofs.HistoryLemmas.{standing_keyed}
 use Rattle.version_core.proofs.Places.{less_at}
 
-count-cons : {X : Type 0} (p : X → Bool) (x : X) (xs : List X) → count_by p (x ∷ xs) ≡ cond (p x) 1 0 + count_by p xs
+pub count-cons : {X : Type 0} (p : X → Bool) (x : X) (xs : List X) → count_by p (x ∷ xs) ≡ cond (p x) 1 0 + count_by p xs
 count-cons p x xs = sum_by-cons (λ x. cond (p x) 1 0) x xs
 
 pub prefix_is : {X : Type 0} (p : X → Bool) (xs : List X) (n : ℕ) → n ≤ length xs → AllWithin (λ x. p x ≡ true) xs 0 n → AllWithin (λ x. p x ≡ false) xs n (length xs) → prefix_len p xs ≡ n

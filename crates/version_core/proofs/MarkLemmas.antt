@@ -1,5 +1,6 @@
 -- Marks in the order of callers and numbers.
-use Rattle.std.proofs.Common.{◌≡◌, ◌+◌, ◌<◌, ◌≤◌, ◌∷◌, [], ℕ, zero, suc, Bool, List, None, Some, cond, true, false, get_or, length, refl, sym, ap, subst, ◌∙◌, arith, inl, inr}
+use Rattle.std.proofs.Common.{◌≡◌, ◌+◌, ◌<◌, ◌≤◌, ◌∷◌, [], ℕ, zero, suc, Bool, List, None, Some, cond, true, false}
+use Rattle.std.proofs.Common.{get_or, length, refl, sym, ap, subst, ◌∙◌, arith, inl, inr}
 use Rattle.std.specs.Prelude.{◌==◌, bytes_eq}
 use Rattle.std.proofs.lemmas.Bool.{and_from, cases_eq, cases_lt}
 use Rattle.std.proofs.lemmas.Bool.Decides.{Decides-eqb}
@@ -16,7 +17,8 @@ use Rattle.std.specs.List.{AllByRecursion, AllWithin, insert, prefix_len}
 use Rattle.std.specs.List.Sorted.{IsNonDecreasingBy, IsPartitionedBy, IsStrictlySortedBy}
 use Rattle.std.specs.Ordering.{is_eq, is_lt, nat_cmp, ordering_index, ordering_reverse}
 use Rattle.std.specs.declared.cmp.Ordering.TheVariants.{Less, Equal, Greater}
-use Rattle.version_core.specs.Marks.{AreMarks, CanMark, is_below, is_outcome, key_order, mark_at, mark_cmp, mark_key, same_mark, with_mark}
+use Rattle.version_core.specs.Marks.{AreMarks, CanMark, is_below, is_outcome, key_order, mark_at, mark_cmp, mark_key}
+use Rattle.version_core.specs.Marks.{same_mark, with_mark}
 use Rattle.version_core.specs.declared.mark.MarkRow.{MarkRow}
 use Rattle.reference_rules.proofs.KeyOrder.{and_first, and_second, less_from_is_lt}
 
@@ -32,7 +34,7 @@ mark_total = on_total mark_key key_total
 same_from : (a b : List ℕ × ℕ) → a ≡ b → same_mark a b ≡ true
 same_from a b e = and_from (bytes_eq a.0 b.0) (a.1 == b.1) ((bytes_eq-Decides a.0 b.0).1 (ap (λ (k : List ℕ × ℕ). k.0) e)) ((Decides-eqb a.1 b.1).1 (ap (λ (k : List ℕ × ℕ). k.1) e))
 
-from_same : (a b : List ℕ × ℕ) → same_mark a b ≡ true → a ≡ b
+pub from_same : (a b : List ℕ × ℕ) → same_mark a b ≡ true → a ≡ b
 from_same a b e =
     let caller = (bytes_eq-Decides a.0 b.0).0 (and_first _ _ e) in
     let number = (Decides-eqb a.1 b.1).0 (and_second _ _ e) in

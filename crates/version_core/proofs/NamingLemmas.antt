@@ -1,5 +1,7 @@
 -- Entries of an index in their order.
-use Rattle.std.proofs.Common.{◌≡◌, ◌<◌, ◌≤◌, ℕ, Bool, true, false, not, List, [], ◌∷◌, Option, None, Some, get_or, length, refl, sym, ap, ◌∙◌}
+use Rattle.std.proofs.Common.{◌≡◌, ◌<◌, ◌≤◌, ℕ, true, false, not, List, [], ◌∷◌, Option, None, Some, get_or, length}
+use Rattle.std.proofs.Common.{refl, sym, ap, ◌∙◌}
+use Rattle.std.proofs.lemmas.Bool.{not-true}
 use Rattle.std.proofs.lemmas.Cmp.{nat_cmp_total, nat_list_cmp_total, on_total, then_total, tied_back, upto}
 use Rattle.std.proofs.lemmas.List.Sorted.{ranks_by, sorted_far}
 use Rattle.std.specs.Cmp.{IsTotalOrder}
@@ -10,7 +12,8 @@ use Rattle.std.specs.declared.cmp.Ordering.{Ordering}
 use Rattle.std.specs.declared.cmp.Ordering.TheVariants.{Less, Equal, Greater}
 use Rattle.reference_rules.proofs.KeyOrder.{equal_from_is_eq}
 use Rattle.roster_types.specs.Keys.{is_after}
-use Rattle.version_core.specs.RefIndex.{AreInOrder, Named, Naming, is_from, is_of, named_by, named_cmp, naming_cmp, naming_of}
+use Rattle.version_core.specs.RefIndex.{AreInOrder, Named, Naming, is_from, is_of, named_by, named_cmp, naming_cmp}
+use Rattle.version_core.specs.RefIndex.{naming_of}
 use Rattle.version_core.specs.declared.ref_index.RefEntry.{RefEntry}
 
 pub named_total : IsTotalOrder named_cmp
@@ -20,12 +23,12 @@ pub naming_total : IsTotalOrder naming_cmp
 unfolding naming_cmp
 naming_total = then_total (on_total (λ (n : Naming). n.0) named_total) (on_total (λ (n : Naming). n.1) nat_list_cmp_total)
 
-gt_reverse : (o : Ordering) → is_gt (ordering_reverse o) ≡ is_lt o
+pub gt_reverse : (o : Ordering) → is_gt (ordering_reverse o) ≡ is_lt o
 gt_reverse Less = refl
 gt_reverse Equal = refl
 gt_reverse Greater = refl
 
-lt_reverse : (o : Ordering) → is_lt (ordering_reverse o) ≡ is_gt o
+pub lt_reverse : (o : Ordering) → is_lt (ordering_reverse o) ≡ is_gt o
 lt_reverse Less = refl
 lt_reverse Equal = refl
 lt_reverse Greater = refl
@@ -99,11 +102,7 @@ module _ (entries : List RefEntry) (order : AreInOrder entries) where
       let xi = naming_of (get_or entries i d) in
       let xj = naming_of (get_or entries j d) in
       let low = gt_is_lt xi xj ∙ not_below i j d le len in
-      ap not (upto naming_total xi xj (named, after) low (turned _ before))
-    where
-      turned : (b : Bool) → not b ≡ true → b ≡ false
-      turned true e = cc
-      turned false e = refl
+      ap not (upto naming_total xi xj (named, after) low (not-true _ before))
 
   -- behind one that is above a named id there is none of it
   pub past : (named : Named) (after : Option (List ℕ)) (i j : ℕ) (d : RefEntry) → i ≤ j → j < length entries → is_from named after (get_or entries i d) ≡ true → is_of named (get_or entries i d) ≡ false → is_of named (get_or entries j d) ≡ false

@@ -1,5 +1,7 @@
 -- Rows under the entries of an index.
-use Rattle.std.proofs.Common.{◌≡◌, ℕ, Bool, true, false, ◌&&◌, cond, eqb, List, Option, None, Some, refl, sym, ap, subst, ◌∙◌, arith}
+use Rattle.std.proofs.Common.{◌≡◌, ℕ, Bool, true, false, ◌&&◌, cond, eqb, List, Option, None, Some, refl, sym, ap}
+use Rattle.std.proofs.Common.{subst, ◌∙◌, arith}
+use Rattle.std.proofs.Math.Bool.{and-false}
 use Rattle.std.specs.Option.{option_map_or}
 use Rattle.std.proofs.lemmas.Bool.{and_from}
 use Rattle.std.proofs.lemmas.Bool.Decides.{nat_tests}
@@ -12,10 +14,6 @@ use Rattle.version_core.specs.RefIndex.{Named, is_from, is_of, passes_at, passin
 use Rattle.version_core.specs.References.{names, refers}
 use Rattle.version_core.specs.declared.ref_index.RefEntry.{RefEntry}
 use Rattle.version_core.proofs.NamingLemmas.{after_from}
-
-and_false : (b : Bool) → (b && false) ≡ false
-and_false true = refl
-and_false false = refl
 
 module _ (kind : Kind) (place : ℕ) (name target : List ℕ) (after : Option (List ℕ)) (rows : List Record) where
   abbrev pub named : Named
@@ -33,7 +31,7 @@ module _ (kind : Kind) (place : ℕ) (name target : List ℕ) (after : Option (L
   before_fails entry of before =
       elim (look_up row_key (place_of_kind kind, entry.id) rows) as (λ o. look_up row_key (place_of_kind kind, entry.id) rows ≡ o → option_map_or refers_after o false ≡ false) [
         | None ↦ λ _. refl
-        | Some row ↦ λ at. ap (λ b. refers kind name target row && b) (ap (is_after after) (id_is entry.id row at) ∙ sym (after_from named after entry of) ∙ before) ∙ and_false (refers kind name target row)
+        | Some row ↦ λ at. ap (λ b. refers kind name target row && b) (ap (is_after after) (id_is entry.id row at) ∙ sym (after_from named after entry of) ∙ before) ∙ and-false (refers kind name target row)
       ] refl
 
   -- nor one whose row doesn't name the target
@@ -43,7 +41,7 @@ module _ (kind : Kind) (place : ℕ) (name target : List ℕ) (after : Option (L
         | None ↦ λ _. refl
         | Some row ↦ λ fails. elim (names name target row) as (λ b. cond b (Some row) None ≡ None → ((is_of_kind kind row && b) && is_after after row.id) ≡ false) [
           | true ↦ λ impossible. cc
-          | false ↦ λ _. ap (λ b. b && is_after after row.id) (and_false (is_of_kind kind row))
+          | false ↦ λ _. ap (λ b. b && is_after after row.id) (and-false (is_of_kind kind row))
         ] fails
       ] none
 

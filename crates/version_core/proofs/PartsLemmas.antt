@@ -1,24 +1,24 @@
 -- A row put into histories of which the last have moved.
-use Rattle.std.proofs.Common.{◌≡◌, ℕ, zero, suc, ◌<◌, ◌≤◌, List, [], ◌∷◌, ◌++◌, length, take, drop, get_or, set, reverse, true, refl, sym, ap, subst, ◌∙◌, append_assoc, arith}
+use Rattle.std.proofs.Common.{◌≡◌, ℕ, zero, suc, ◌<◌, ◌≤◌, List, [], ◌∷◌, ◌++◌, length, take, drop, get_or, set}
+use Rattle.std.proofs.Common.{reverse, true, refl, sym, ap, subst, ◌∙◌, append_assoc, arith}
 use Rattle.std.proofs.lemmas.List.{get_or_default, reverse-append}
 use Rattle.std.specs.List.{AllByRecursion, AllWithin}
-use Rattle.std.specs.Ordering.{ordering_reverse}
 use Rattle.std.specs.declared.cmp.Ordering.TheVariants.{Less, Equal, Greater}
 use Rattle.std.proofs.lemmas.Bool.{and_from}
 use Rattle.std.specs.FinMap.Entries as entries
-use Rattle.reference_rules.proofs.KeyOrder.{and_first, and_second, key_exact, key_total}
+use Rattle.reference_rules.proofs.KeyOrder.{and_first, and_second, key_exact}
 use Rattle.roster_types.specs.Keys.{Ascends, Key, key_cmp, keyed}
 use Rattle.version_core.specs.Changes.{change_key}
-use Rattle.version_core.specs.History.{AreAbove, ArePasts, AreUpTo, Past, PutsRow, history_key, past_key, past_of, parts_of, pasts_of, rows_at}
+use Rattle.version_core.specs.History.{AreAbove, ArePasts, AreUpTo, Past, PutsRow, history_key, past_key, past_of}
+use Rattle.version_core.specs.History.{parts_of, pasts_of, rows_at}
 use Rattle.version_core.specs.Order.{put}
 use Rattle.version_core.specs.declared.history.History.{History}
 use Rattle.version_core.specs.declared.row_change.RowChange.{RowChange}
-use Rattle.version_core.proofs.HistoryLemmas.{Ascends-histories, all_before, all_from, all_map, drop_at, pasts_of-append, split_at}
-use Rattle.version_core.proofs.Places.{less_at}
-use Rattle.version_core.proofs.PutLemmas.{all_append, grown_earlier, grown_now, grown_pasts, grown_up_to, new_earlier, new_now, new_pasts, new_up_to}
-
-pub less_from_greater : (a b : Key) → key_cmp a b ≡ Greater → key_cmp b a ≡ Less
-less_from_greater a b e = key_total.antisymm b a ∙ ap ordering_reverse e
+use Rattle.version_core.proofs.HistoryLemmas.{Ascends-histories, all_before, all_from, all_map, drop_at}
+use Rattle.version_core.proofs.HistoryLemmas.{pasts_of-append, split_at}
+use Rattle.version_core.proofs.Places.{less_at, less_from_greater}
+use Rattle.version_core.proofs.PutLemmas.{all_append, grown_earlier, grown_now, grown_pasts, grown_up_to, new_earlier}
+use Rattle.version_core.proofs.PutLemmas.{new_now, new_pasts, new_up_to}
 
 pub set_parts : {X : Type 0} (xs : List X) (n : ℕ) (y : X) → n < length xs → set xs n y ≡ take n xs ++ y ∷ drop (suc n) xs
 set_parts [] n y lt = absurd (omega arith)

@@ -1,5 +1,6 @@
 -- The rows of a kind that pass a test, one after another.
-use Rattle.std.proofs.Common.{◌≡◌, ℕ, zero, suc, ◌≤◌, List, [], ◌∷◌, filter, find, length, Bool, true, false, ◌&&◌, cond, Option, Some, None, refl, sym, ap, subst, ◌∙◌, arith}
+use Rattle.std.proofs.Common.{◌≡◌, ℕ, zero, suc, ◌≤◌, List, [], ◌∷◌, filter, find, length, Bool, true, false, ◌&&◌}
+use Rattle.std.proofs.Common.{cond, Option, Some, None, refl, sym, ap, subst, ◌∙◌, arith}
 use Rattle.reference_rules.proofs.Rest.{rest_at, rest_none, rest_of}
 use Rattle.roster_types.specs.Keys.{Ascends, next_of, row_key}
 use Rattle.roster_types.specs.Records.{Record}

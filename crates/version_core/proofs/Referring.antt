@@ -1,5 +1,7 @@
 -- Rows that refer to a row, one after another.
-use Rattle.std.proofs.Common.{◌≡◌, ℕ, List, [], ◌∷◌, filter, find, Bool, true, false, ◌&&◌, ◌||◌, cond, Option, Some, None, refl, sym, ap, ◌∙◌}
+use Rattle.std.proofs.Common.{◌≡◌, ℕ, List, [], ◌∷◌, filter, find, Bool, true, false, ◌&&◌, ◌||◌, cond, Option, Some}
+use Rattle.std.proofs.Common.{None, refl, sym, ap, ◌∙◌}
+use Rattle.std.proofs.Math.Bool.{and-true}
 use Rattle.std.specs.List.{list_any}
 use Rattle.reference_rules.proofs.Rest.{is_next, rest_of}
 use Rattle.roster_types.specs.Keys.{Ascends, is_after, is_of_kind, row_key}
@@ -39,9 +41,5 @@ module _ (kind : Kind) (field id : List ℕ) where
             | false ↦ any_kept q test rows
           ]
 
-      and_true : (b : Bool) → (b && true) ≡ b
-      and_true true = refl
-      and_true false = refl
-
       without_bound : (rows : List Record) → filter (λ row. refers kind field id row && is_after None row.id) rows ≡ filter (refers kind field id) rows
-      without_bound rows = λ i. filter (λ row. and_true (refers kind field id row) i) rows
+      without_bound rows = λ i. filter (λ row. and-true (refers kind field id row) i) rows

@@ -1,5 +1,6 @@
 -- Room for the rows of a change.
-use Rattle.std.proofs.Common.{◌≡◌, ℕ, zero, suc, ◌<◌, ◌≤◌, List, [], ◌∷◌, ◌++◌, length, get_or, set, take, drop, map, vec_len, vec_capacity, refl, sym, ap, subst, ◌∙◌, arith}
+use Rattle.std.proofs.Common.{◌≡◌, ℕ, zero, suc, ◌<◌, ◌≤◌, List, [], ◌∷◌, ◌++◌, length, get_or, set, take, drop, map}
+use Rattle.std.proofs.Common.{vec_len, vec_capacity, refl, sym, ap, subst, ◌∙◌, arith}
 use Rattle.std.specs.List.{AllByRecursion, AllWithin}
 use Rattle.std.specs.Prelude.{Result, Ok, Err, OnOk}
 use Rattle.roster_types.specs.Keys.{Ascends}
@@ -14,8 +15,8 @@ use Rattle.version_core.specs.Order.{overlaid, put}
 use Rattle.version_core.specs.declared.history.History.{History}
 use Rattle.version_core.specs.declared.row_change.RowChange.{RowChange}
 use Rattle.version_core.proofs.HistoryLemmas.{all_before, all_from, split_at}
-use Rattle.version_core.proofs.PartsLemmas.{less_from_greater, set_parts}
-use Rattle.version_core.proofs.Places.{less_at}
+use Rattle.version_core.proofs.PartsLemmas.{set_parts}
+use Rattle.version_core.proofs.Places.{less_at, less_from_greater}
 use Rattle.version_core.proofs.PutLemmas.{all_append, key_same, put_gap}
 
 pub map_push : {X Y : Type 0} (f : X → Y) (xs : List X) (x : X) → map f (xs ++ x ∷ []) ≡ map f xs ++ f x ∷ []

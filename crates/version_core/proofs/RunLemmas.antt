@@ -1,19 +1,16 @@
 -- The first row over runs of entries.
-use Rattle.std.proofs.Common.{◌≡◌, ℕ, ◌+◌, Bool, true, false, cond, List, Option, None, Some, get_or, refl, sym, ap, subst, ◌∙◌, arith, inl, inr}
+use Rattle.std.proofs.Common.{◌≡◌, ℕ, ◌+◌, Bool, true, false, cond, List, Option, None, Some, get_or, refl, sym, ap}
+use Rattle.std.proofs.Common.{subst, ◌∙◌, arith, inl, inr}
 use Rattle.std.proofs.lemmas.Bool.{cases_lt}
 use Rattle.std.proofs.lemmas.Cmp.{nat_list_cmp_total, upto}
 use Rattle.std.specs.Cmp.Lexicographic.{slice_cmp}
-use Rattle.std.specs.Ordering.{is_gt, is_lt, nat_cmp, ordering_reverse}
+use Rattle.std.specs.Ordering.{is_gt, is_lt, nat_cmp}
 use Rattle.std.specs.declared.cmp.Ordering.{Ordering}
 use Rattle.std.specs.declared.cmp.Ordering.TheVariants.{Less, Equal, Greater}
 use Rattle.roster_types.specs.Records.{Record}
+use Rattle.version_core.proofs.NamingLemmas.{gt_reverse}
 use Rattle.version_core.specs.RefIndex.{AllOf, AllUpTo, Fails, FirstOf, IsNotBelow, Named, lesser}
 use Rattle.version_core.specs.declared.ref_index.RefEntry.{RefEntry}
-
-gt_reverse : (o : Ordering) → is_gt (ordering_reverse o) ≡ is_lt o
-gt_reverse Less = refl
-gt_reverse Equal = refl
-gt_reverse Greater = refl
 
 -- not below is at most, turned
 gt_turned : (a b : List ℕ) → is_gt (slice_cmp nat_cmp a b) ≡ is_lt (slice_cmp nat_cmp b a)

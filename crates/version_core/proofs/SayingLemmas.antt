@@ -1,5 +1,6 @@
 -- Entries that say what a row names.
-use Rattle.std.proofs.Common.{◌≡◌, ℕ, zero, suc, ◌<◌, Bool, true, false, ◌||◌, List, [], ◌∷◌, Some, bytes_eq, get_or, length, map, refl, sym, ap, subst, ◌∙◌, arith}
+use Rattle.std.proofs.Common.{◌≡◌, ℕ, zero, suc, ◌<◌, Bool, true, false, ◌||◌, List, [], ◌∷◌, Some, bytes_eq, get_or}
+use Rattle.std.proofs.Common.{length, map, refl, sym, ap, subst, ◌∙◌, arith}
 use Rattle.std.specs.Prelude.{position}
 use Rattle.std.proofs.lemmas.List.Quantifiers.{position-Some}
 use Rattle.roster_types.proofs.Places.{position-map}
@@ -16,7 +17,8 @@ use Rattle.std.specs.List.{list_any}
 use Rattle.std.specs.Ordering.{is_eq, nat_cmp, ordering_then}
 use Rattle.std.specs.declared.cmp.Ordering.{Ordering}
 use Rattle.std.specs.declared.cmp.Ordering.TheVariants.{Less, Equal, Greater}
-use Rattle.version_core.specs.RefIndex.{IsIndexed, IsNameIndexed, Named, is_of, named_by, named_cmp, naming_cmp, naming_of, says}
+use Rattle.version_core.specs.RefIndex.{IsIndexed, IsNameIndexed, Named, is_of, named_by, named_cmp, naming_cmp}
+use Rattle.version_core.specs.RefIndex.{naming_of, says}
 use Rattle.version_core.specs.declared.ref_index.RefEntry.{RefEntry}
 
 -- one that passes is among them

@@ -1,5 +1,7 @@
 -- What stands under an id whose history has no entry between two versions stands at both.
-use Rattle.std.proofs.Common.{◌≡◌, ℕ, zero, suc, ◌+◌, ◌≤◌, ◌<◌, ℤ, List, [], ◌∷◌, ◌++◌, append-nil, get_or, length, take, Bool, true, false, ◌&&◌, ◌||◌, cond, filter, map, leb, ltb, option_map, slice_get, Option, None, Some, refl, sym, ap, subst, ◌∙◌, arith}
+use Rattle.std.proofs.Common.{◌≡◌, ℕ, zero, suc, ◌+◌, ◌≤◌, ◌<◌, ℤ, List, [], ◌∷◌, ◌++◌, append-nil, get_or, length}
+use Rattle.std.proofs.Common.{take, Bool, true, false, ◌&&◌, ◌||◌, cond, filter, map, leb, ltb, option_map, slice_get}
+use Rattle.std.proofs.Common.{Option, None, Some, refl, sym, ap, subst, ◌∙◌, arith}
 use Rattle.std.specs.Prelude.{option_and_then}
 use Rattle.std.proofs.lemmas.Bool.Decides.{nat_tests}
 use Rattle.std.proofs.lemmas.List.{take_more}
@@ -10,7 +12,8 @@ use Rattle.roster_values.specs.Kinds.{place_of_kind}
 use Rattle.roster_values.specs.declared.kind.Kind.{Kind}
 use Rattle.version_core.proofs.HistoryLemmas.{look_up-rows_at}
 use Rattle.version_core.proofs.RoomLemmas.{map_push}
-use Rattle.version_core.proofs.LookUps.{Ascends-filter, Ascends-map, KeepKeys, all_kept, if_kept, look_up-filter, look_up-map}
+use Rattle.version_core.proofs.LookUps.{Ascends-filter, Ascends-map, KeepKeys, all_kept, if_kept, look_up-filter}
+use Rattle.version_core.proofs.LookUps.{look_up-map}
 use Rattle.version_core.specs.History.{ArePasts, Past, is_past_of, past_key, past_of, pasts_of, rows_at}
 use Rattle.version_core.specs.Since.{standing}
 use Rattle.version_core.specs.Spans.{AreSameBeside, changed_ids, has_change, is_between, is_of_place, key_in, past_id}

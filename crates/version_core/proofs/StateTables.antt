@@ -1,5 +1,6 @@
 -- The tables of a state.
-use Rattle.std.proofs.Common.{◌≡◌, ℕ, zero, suc, ◌+◌, ◌<◌, ◌≤◌, List, [], ◌∷◌, Some, drop, length, length-drop, slice_get, refl, sym, subst, ap, ◌∙◌, add-zero, zero-add, arith, inl, inr}
+use Rattle.std.proofs.Common.{◌≡◌, ℕ, zero, suc, ◌+◌, ◌<◌, ◌≤◌, List, [], ◌∷◌, Some, drop, length, length-drop}
+use Rattle.std.proofs.Common.{slice_get, refl, sym, subst, ap, ◌∙◌, add-zero, zero-add, arith, inl, inr}
 use Rattle.std.proofs.lemmas.Bool.{cases_lt}
 use Rattle.std.specs.List.{AllByRecursion}
 use Rattle.version_core.specs.declared.change.BaseVersion.{BaseVersion}
@@ -8,25 +9,16 @@ use Rattle.version_core.specs.declared.grant_row.GrantRow.{GrantRow}
 use Rattle.version_core.specs.declared.hub_tables.HubTables.{HubTables}
 use Rattle.version_core.specs.Changes.{AreChanges}
 use Rattle.version_core.specs.Grants.{HasGrant}
-use Rattle.version_core.specs.HubStates.{AreVersionsFrom, HasFromSince, HubState, IsHubState, KeepGrants, StandsFor, newest_number as newest_of_state, oldest_number}
+use Rattle.version_core.specs.HubStates.{AreVersionsFrom, HasFromSince, HubState, IsHubState, KeepGrants, StandsFor}
+use Rattle.version_core.specs.HubStates.{newest_number as newest_of_state, oldest_number}
 use Rattle.version_core.specs.Marks.{AreMarks}
 use Rattle.version_core.specs.Table.{LeadOn}
 use Rattle.version_core.specs.Tables.{AreTables}
-use Rattle.version_core.specs.Version.{IsVersion, after, empty_version, last_or, versions_from}
+use Rattle.version_core.specs.Version.{after, empty_version, last_or, versions_from}
+use Rattle.version_core.proofs.HistoryLemmas.{all_drop}
+use Rattle.version_core.proofs.RoomLemmas.{all_weaken}
+use Rattle.version_core.proofs.TableLemmas.{versions_are}
 use Rattle.version_core.proofs.VersionLemmas.{length-versions_from, newest_number}
-
-all_drop : {X : Type 0} (P : X → Type 0) (n : ℕ) (xs : List X) → AllByRecursion P xs → AllByRecursion P (drop n xs)
-all_drop P zero xs all = all
-all_drop P (suc n) [] all = tt
-all_drop P (suc n) (x ∷ xs) all = all_drop P n xs all.1
-
-all_with : {X : Type 0} (P Q : X → Type 0) (xs : List X) → ((x : X) → P x → Q x) → AllByRecursion P xs → AllByRecursion Q xs
-all_with P Q [] each all = tt
-all_with P Q (x ∷ xs) each all = (each x all.0, all_with P Q xs each all.1)
-
-run_are : (n : ℕ) (versions : List BaseVersion) → AreVersionsFrom n versions → AllByRecursion IsVersion versions
-run_are n [] run = tt
-run_are n (version ∷ versions) run = (run.1, run_are (n + 1) versions run.2)
 
 run_drop : (n k : ℕ) (versions : List BaseVersion) → AreVersionsFrom n versions → AreVersionsFrom (n + k) (drop k versions)
 run_drop n zero versions run = subst (λ m. AreVersionsFrom m versions) (sym (add-zero n)) run
@@ -53,7 +45,7 @@ last_drop d (suc n) (x ∷ y ∷ xs) lt = last_drop d n (y ∷ xs) (omega arith)
 
 -- no grant of a caller who has had it from its `since` on is as old as the empty version
 late : (versions : List BaseVersion) (rows : List GrantRow) → slice_get versions 0 ≡ Some empty_version → AllByRecursion (HasFromSince versions) rows → AllByRecursion (λ row. 1 ≤ row.grant.since) rows
-late versions rows first all = all_with (HasFromSince versions) (λ row. 1 ≤ row.grant.since) rows (λ row has. is_late versions row first has) all
+late versions rows first all = all_weaken (HasFromSince versions) (λ row. 1 ≤ row.grant.since) rows (λ row has. is_late versions row first has) all
   where
     is_late : (versions : List BaseVersion) (row : GrantRow) → slice_get versions 0 ≡ Some empty_version → HasFromSince versions row → 1 ≤ row.grant.since
     is_late [] row first has = cc
@@ -85,7 +77,7 @@ tables_of tables state is keep stands rows =
     let number : newest_of_state state ≡ (last_or empty_version (versions_from base changes)).number = omega (arith, newest, count, dropped, long, stands.oldest, some) in
     let kept : AllByRecursion (HasFromSince state.published) (last_or empty_version (versions_from base changes)).grants = subst (λ (v : BaseVersion). AllByRecursion (HasFromSince state.published) v.grants) (sym last) keep in
     record {
-      versions = run_are base.number (versions_from base changes) run;
+      versions = versions_are base.number (versions_from base changes) run;
       changes = rows;
       lead = lead;
       oldest = omega (arith, newest, number, stands.oldest, stands.keep);
@@ -94,7 +86,7 @@ tables_of tables state is keep stands rows =
           let first : Some base ≡ Some empty_version = sym (first_from base changes) ∙ ap (λ vs. slice_get vs 0) (sym stands.kept ∙ all) ∙ is.first in
           cc;
       since = late state.published (last_or empty_version (versions_from base changes)).grants is.first kept;
-      grants = all_with (HasFromSince state.published) (HasFromSince (versions_from base changes)) (last_or empty_version (versions_from base changes)).grants
-          (λ row has. subst (λ vs. HasFromSince vs row) stands.kept (all_drop (λ (version : BaseVersion). row.grant.since ≤ version.number → HasGrant version.grants row) oldest state.published has)) kept;
+      grants = all_weaken (HasFromSince state.published) (HasFromSince (versions_from base changes)) (last_or empty_version (versions_from base changes)).grants
+          (λ row has. subst (λ vs. HasFromSince vs row) stands.kept (all_drop (λ (version : BaseVersion). row.grant.since ≤ version.number → HasGrant version.grants row) state.published oldest has)) kept;
       marks = subst (λ ms. AreMarks (last_or empty_version (versions_from base changes)).number ms) (sym stands.marks) (subst (λ n. AreMarks n state.marks) number is.marks);
     }

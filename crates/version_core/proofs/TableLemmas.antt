@@ -1,11 +1,13 @@
 -- Versions of one number after another.
-use Rattle.std.proofs.Common.{◌≡◌, ℕ, zero, suc, ◌+◌, ◌-◌, ◌<◌, ◌≤◌, List, [], ◌∷◌, ◌++◌, length, drop, take, get_or, length-append, None, refl, sym, ap, subst, ◌∙◌, arith}
+use Rattle.std.proofs.Common.{◌≡◌, ℕ, zero, suc, ◌+◌, ◌-◌, ◌<◌, ◌≤◌, List, [], ◌∷◌, ◌++◌, length, drop, take, get_or}
+use Rattle.std.proofs.Common.{length-append, None, refl, sym, ap, subst, ◌∙◌, arith}
 use Rattle.std.specs.List.{AllByRecursion}
 use Rattle.version_core.specs.declared.change.Change.{Change}
 use Rattle.version_core.specs.declared.change.BaseVersion.{BaseVersion}
 use Rattle.version_core.specs.HubStates.{AreVersionsFrom}
 use Rattle.version_core.specs.Table.{AreKept, LeadOn}
-use Rattle.version_core.specs.Version.{IsVersion, Versions, after, empty_version, first_or, last_or, versions_from, with_version}
+use Rattle.version_core.specs.Version.{IsVersion, Versions, after, empty_version, first_or, last_or, versions_from}
+use Rattle.version_core.specs.Version.{with_version}
 use Rattle.version_core.proofs.VersionLemmas.{length-versions_from, newest_number, oldest-versions_from}
 
 -- each version of a run is one

@@ -1,5 +1,6 @@
 -- Versions by their places.
-use Rattle.std.proofs.Common.{◌≡◌, ℕ, zero, suc, ◌+◌, ◌<◌, ◌≤◌, if◌then◌else◌, List, [], ◌∷◌, ◌++◌, ℤ, true, leb, length, slice_get, None, Some, refl, sym, ap, subst, ◌∙◌, add-zero, arith, unwrap_or}
+use Rattle.std.proofs.Common.{◌≡◌, ℕ, zero, suc, ◌+◌, ◌<◌, ◌≤◌, if◌then◌else◌, List, [], ◌∷◌, ◌++◌, ℤ, true, leb}
+use Rattle.std.proofs.Common.{length, slice_get, None, Some, refl, sym, ap, subst, ◌∙◌, add-zero, arith, unwrap_or}
 use Rattle.std.proofs.lemmas.Bool.Decides.{nat_tests}
 use Rattle.std.specs.List.{AllByRecursion}
 use Rattle.std.specs.Option.{option_or, option_to_list}

@@ -1,5 +1,6 @@
 -- The rows of one kind and id, and of all.
-use Rattle.std.specs.Prelude.{◌≡◌, ◌==◌, ◌<◌, ◌≤◌, ℕ, Bool, List, [], ◌∷◌, ◌++◌, Option, None, Some, false, get_or, length, map, nat_le, option_to_list, reverse, true, vec_capacity, vec_len}
+use Rattle.std.specs.Prelude.{◌≡◌, ◌==◌, ◌<◌, ◌≤◌, ℕ, Bool, List, [], ◌∷◌, ◌++◌, Option, None, Some, false, get_or}
+use Rattle.std.specs.Prelude.{length, map, nat_le, option_to_list, reverse, true, vec_capacity, vec_len}
 use Rattle.std.specs.Ordering.{is_gt}
 use Rattle.std.specs.List.{AllByRecursion, AllWithin}
 use Rattle.std.specs.declared.cmp.Ordering.TheVariants.{Equal, Less}

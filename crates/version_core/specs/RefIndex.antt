@@ -1,5 +1,6 @@
 -- An index of references: for fields and ids the ids of the rows that name them there.
-use Rattle.std.specs.Prelude.{◌≡◌, ◌&&◌, ◌≤◌, ℕ, Bool, true, false, not, List, [], Option, None, Some, bytes_eq, if◌then◌else◌, length, option_and_then}
+use Rattle.std.specs.Prelude.{◌≡◌, ◌&&◌, ◌≤◌, ℕ, Bool, true, false, not, List, [], Option, None, Some, bytes_eq}
+use Rattle.std.specs.Prelude.{if◌then◌else◌, length, option_and_then}
 use Rattle.std.specs.Cmp.Lexicographic.{slice_cmp}
 use Rattle.std.specs.List.{AllByRecursion, AllWithin, list_any, sum_by}
 use Rattle.std.specs.List.Sorted.{IsSortedBy}

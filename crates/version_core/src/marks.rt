@@ -1,8 +1,10 @@
 //! All marks of writes.
 
-ghost use Rattle.std.specs.Prelude.{◌≡◌, if◌then◌else◌, [], IfOk, IsTrue, List, None, OnErr, OnOk, Some, ℕ, false, option_copied, true};
+ghost use Rattle.std.specs.Prelude.{◌≡◌, if◌then◌else◌, [], IfOk, IsTrue, List, None, OnErr, OnOk, Some, ℕ, false};
+ghost use Rattle.std.specs.Prelude.{option_copied, true};
 ghost use Rattle.std.specs.List.Sorted.{IsStrictlySortedBy};
-ghost use Rattle.version_core.specs.Marks.{AreMarks, CanMark, key_order, mark_at, mark_cmp, mark_key, same_mark, with_mark};
+ghost use Rattle.version_core.specs.Marks.{AreMarks, CanMark, key_order, mark_at, mark_cmp, mark_key, same_mark};
+ghost use Rattle.version_core.specs.Marks.{with_mark};
 ghost use Rattle.version_core.specs.declared.mark.MarkRow.{MarkRow as Mark};
 
 use crate::copies::copied;

@@ -95,22 +95,29 @@ fn naming_at<'a>(
     }
 }
 
+/// Rows that are asked for: those of a kind whose field of this name names an id.
+#[derive(Clone, Copy)]
+pub struct Naming<'n, 't> {
+    pub kind: Kind,
+    pub name: &'n str,
+    pub target: &'t Id,
+}
+
 // The row with the least id above `after`, of those entries that say that the field at a place names the target, whose field of
 // that name does.
 fn first_naming<'a>(
     histories: &'a [History],
     version: u64,
     entries: &[RefEntry],
-    kind: Kind,
     place: u64,
-    name: &str,
-    target: &Id,
+    asked: &Naming<'_, '_>,
     after: Option<&Id>,
 ) -> Option<&'a Row>
     requires pasts { ArePasts (pasts_of histories.now) }
     requires order { spec.AreInOrder entries.now }
-    ensures { spec.FirstOf (λ row. refers kind name.now target.now row && is_after (option_copied after.entry) row.id) (rows_of (rows_at version (pasts_of histories.now))) (place_of_kind kind, place, target.now) (spec.AllOf entries.now) (option_copied result) }
+    ensures { spec.FirstOf (λ row. refers asked.now.kind asked.now.name.now asked.now.target.now row && is_after (option_copied after.entry) row.id) (rows_of (rows_at version (pasts_of histories.now))) (place_of_kind asked.now.kind, place, asked.now.target.now) (spec.AllOf entries.now) (option_copied result) }
 {
+    let Naming { kind, name, target } = *asked;
     let mut at = entries.partition_point(|entry| !entry.is_from(kind, place, target, after));
     while at < entries.len() {
         let entry = &entries[at];
@@ -170,32 +177,22 @@ fn lesser<'a>(one: Option<&'a Row>, other: Option<&'a Row>) -> Option<&'a Row>
     }
 }
 
-// The same over runs of entries.
+// The row with the least id above `after`, of the entries of all runs that say that the field at a place names the target, whose field
+// of that name does.
 fn first_of_runs<'a>(
     histories: &'a [History],
     version: u64,
     runs: &[RefRun],
-    kind: Kind,
     place: u64,
-    name: &str,
-    target: &Id,
+    asked: &Naming<'_, '_>,
     after: Option<&Id>,
 ) -> Option<&'a Row>
     requires { ArePasts (pasts_of histories.now) }
-    ensures { spec.FirstOf (λ row. refers kind name.now target.now row && is_after (option_copied after.entry) row.id) (rows_of (rows_at version (pasts_of histories.now))) (place_of_kind kind, place, target.now) (spec.AllUpTo runs.now (length runs.now)) (option_copied result) }
+    ensures { spec.FirstOf (λ row. refers asked.now.kind asked.now.name.now asked.now.target.now row && is_after (option_copied after.entry) row.id) (rows_of (rows_at version (pasts_of histories.now))) (place_of_kind asked.now.kind, place, asked.now.target.now) (spec.AllUpTo runs.now (length runs.now)) (option_copied result) }
 {
     let mut first = None;
     for run in runs {
-        let next = first_naming(
-            histories,
-            version,
-            run.entries(),
-            kind,
-            place,
-            name,
-            target,
-            after,
-        );
+        let next = first_naming(histories, version, run.entries(), place, asked, after);
         first = lesser(first, next);
     }
     first
@@ -206,28 +203,17 @@ pub fn indexed<'a>(
     histories: &'a [History],
     version: u64,
     runs: &[RefRun],
-    kind: Kind,
-    name: &str,
-    target: &Id,
+    asked: &Naming<'_, '_>,
     after: Option<&Id>,
 ) -> Option<&'a Row>
     requires pasts { ArePasts (pasts_of histories.now) }
     requires indexed { spec.AreIndexed runs.now (rows_of (rows_at version (pasts_of histories.now))) }
-    ensures { option_copied result ≡ next_referring kind name.now target.now (option_copied after.entry) (rows_of (rows_at version (pasts_of histories.now))) }
+    ensures { option_copied result ≡ next_referring asked.now.kind asked.now.name.now asked.now.target.now (option_copied after.entry) (rows_of (rows_at version (pasts_of histories.now))) }
 {
-    let Some(place) = place_of(kind, name) else {
+    let Some(place) = place_of(asked.kind, asked.name) else {
         return None;
     };
-    first_of_runs(
-        histories,
-        version,
-        runs,
-        kind,
-        place as u64,
-        name,
-        target,
-        after,
-    )
+    first_of_runs(histories, version, runs, place as u64, asked, after)
 }
 
 impl RefRun {

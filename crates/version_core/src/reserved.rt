@@ -3,14 +3,11 @@
 ghost use Rattle.std.specs.Prelude.{◌≡◌, ◌<◌, ◌≤◌, [], ◌+◌, IfOk, OnOk, length, map, vec_capacity, vec_len};
 ghost use Rattle.version_core.specs.Changes.{change_key};
 ghost use Rattle.version_core.specs.History.{AllHaveRoom, AreFresh, ArePasts, HaveRoom, pasts_of};
-ghost use Rattle.version_core.specs.RefIndex.{Keeps};
 ghost use Rattle.version_core.specs.Room.{key_of};
 ghost use Rattle.version_core.specs.declared.row_change.RowChange.{RowChange as RowChangeValue};
 
 use crate::grant_row::GrantRow;
 use crate::history::{History, Place};
-use crate::ref_index::RefRun;
-use crate::ref_runs::note;
 use crate::row_change::RowChange;
 use crate::since::Since;
 use roster_base::{Items, NoMemory, TryCopy};
@@ -94,16 +91,13 @@ fn reserve_entry(histories: &mut Vec<History>, change: &RowChange) -> Result<(),
     }
 }
 
-/// Makes room for one version more, with these rows, and notes what they name, where the index is to say all.
+/// Makes room for one version more, with these rows.
 pub fn make_room(
-    alloc: Global,
     moments: &mut Vec<Moment>,
     grants: &mut Vec<Since<Items<GrantRow>>>,
     histories: &mut Vec<History>,
     spare: &mut Vec<History>,
     fresh: &mut Vec<Place>,
-    refs: &mut Vec<RefRun>,
-    is_indexed: bool,
     changes: &[RowChange],
 ) -> Result<(), NoMemory>
     requires pasts { ArePasts (pasts_of histories.old.items) }
@@ -120,13 +114,11 @@ pub fn make_room(
     ensures spare_room { OnOk result (vec_len histories.new + length changes.now ≤ vec_capacity spare.new) }
     ensures fresh { AreFresh fresh.new.items }
     ensures fresh_len { OnOk result (length changes.now ≤ vec_len fresh.new) }
-    ensures refs { Keeps refs.old.items refs.new.items }
 {
     let count = changes.len();
-    note(alloc, refs, is_indexed, changes)?;
     moments.reserve(1)?;
     grants.reserve(1)?;
-    reserve_places(alloc, fresh, count)?;
+    reserve_places(*fresh.allocator(), fresh, count)?;
     reserve_entries(histories, changes)?;
     histories.reserve(count)?;
     let all = histories.len().checked_add(count).ok_or(NoMemory)?;

@@ -18,8 +18,9 @@ use std::marker::Model;
 pub struct Span<'a> {
     pub(crate) first: VersionView<'a>,
     pub(crate) last: VersionView<'a>,
-    // Their numbers.
+    /// The number of the first.
     pub(crate) from: u64,
+    /// The number of the last.
     pub(crate) to: u64,
     pub(crate) histories: &'a [History],
 }

@@ -3,7 +3,8 @@
 ghost use Rattle.std.specs.Prelude.{◌≡◌, ◌+◌, ◌-◌, ◌≤◌, ◌∷◌, [], Some, None, IfOk, OnOk, OnErr, map, slice_get};
 ghost use Rattle.version_core.specs.Changes.{change_key, AreChanges};
 ghost use Rattle.version_core.specs.Tables.{AreTables};
-ghost use Rattle.version_core.specs.Version.{Versions, IsVersion, after, empty_version, newest_of, oldest_of, versions_from, with_version};
+ghost use Rattle.version_core.specs.Version.{Versions, IsVersion, after, empty_version, newest_of, oldest_of};
+ghost use Rattle.version_core.specs.Version.{versions_from, with_version};
 
 use crate::change::Change;
 use crate::hub_tables::HubTables;

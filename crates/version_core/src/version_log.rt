@@ -1,6 +1,7 @@
 //! Versions, each the next of the one before, from their rows' histories.
 
-ghost use Rattle.std.specs.Prelude.{◌≡◌, pos, ◌+◌, ◌-◌, ◌<◌, ◌≤◌, ◌∷◌, ◌++◌, [], ℕ, Some, None, IfOk, OnOk, OnErr, drop, length, map, slice_get, unwrap_or, vec_capacity, vec_len};
+ghost use Rattle.std.specs.Prelude.{◌≡◌, ◌+◌, ◌-◌, ◌<◌, ◌≤◌, ◌∷◌, ◌++◌, [], ℕ, Some, None, IfOk, OnOk, OnErr, drop};
+ghost use Rattle.std.specs.Prelude.{length, map, slice_get, unwrap_or, vec_capacity, vec_len};
 ghost use Rattle.std.specs.List.{AllByRecursion};
 ghost use Rattle.version_core.specs.Changes.{change_key, AreChanges};
 ghost use Rattle.version_core.specs.History.{AreHistoriesOf, pasts_of};
@@ -13,7 +14,7 @@ use crate::grant_row::GrantRow;
 use crate::histories::{put_rows, trim_share};
 use crate::history::{History, Place};
 use crate::ref_index::{RefRun, pasts_are_said, stay_said};
-use crate::ref_runs::{limit_of, runs_of, sweep};
+use crate::ref_runs::{limit_of, note, runs_of, sweep};
 use crate::reserved::{RowKey, keys_of, make_room, reserve_places};
 use crate::row_change::RowChange;
 use crate::since::{Since, standing, trim};
@@ -74,7 +75,7 @@ impl VersionLog {
         VersionLog {
             alloc,
             number: 0,
-            moment: first_moment(),
+            moment: Moment::epoch(),
             moments: Vec::new(alloc),
             grants: Vec::new(alloc),
             histories: Vec::new(alloc),
@@ -171,15 +172,15 @@ impl VersionLog {
         let moment = moment_at(self.moment, &self.moments, (version - self.number) as usize);
         let grants = grants_at(&self.grants, version);
         let newest = version == self.number + self.moments.len() as u64;
-        VersionView::new(
+        VersionView {
             version,
             moment,
             newest,
-            &self.histories,
+            histories: &self.histories,
             grants,
-            &self.refs,
-            self.is_indexed,
-        )
+            refs: &self.refs,
+            is_indexed: self.is_indexed,
+        }
     }
 
     /// The newest version.
@@ -217,15 +218,13 @@ impl VersionLog {
         self.room = None;
         let changes = change.rows.as_slice();
         let keys = keys_of(self.alloc, changes)?;
+        note(self.alloc, &mut self.refs, self.is_indexed, changes)?;
         make_room(
-            self.alloc,
             &mut self.moments,
             &mut self.grants,
             &mut self.histories,
             &mut self.spare,
             &mut self.fresh,
-            &mut self.refs,
-            self.is_indexed,
             changes,
         )?;
         self.room = Some(keys);
@@ -306,17 +305,6 @@ fn share_after(share: usize, changed: usize) -> usize {
         .saturating_add(changed)
         .saturating_add(changed)
         .saturating_add(8)
-}
-
-// The moment of version 0.
-#[tactic(auto, unfolding(roster_texts::specs::Moments::moment_at))]
-fn first_moment() -> Moment
-    ensures { result ≡ pos 0 }
-{
-    match Moment::at(0) {
-        Some(moment) => moment,
-        None => unreachable!(),
-    }
 }
 
 // The moment of the version so many after the oldest.

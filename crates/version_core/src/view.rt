@@ -1,21 +1,22 @@
 //! One version, read.
 
-ghost use Rattle.std.specs.Prelude.{◌≡◌, ◌≤◌, [], true, count_by, filter, find, is_some, length, nat_le, nat_lt, option_copied, option_map, slice_get};
+ghost use Rattle.std.specs.Prelude.{◌≡◌, ◌≤◌, [], true, count_by, filter, find, is_some, length, nat_le, nat_lt};
+ghost use Rattle.std.specs.Prelude.{option_copied, option_map, slice_get};
 ghost use Rattle.std.specs.List.{AllByRecursion, prefix_len};
 ghost use Rattle.roster_types.specs.Keys.{is_of_kind, look_up};
 ghost use Rattle.version_core.specs.Changes.{AreChanges, change_key, is_next, rows_of};
 ghost use Rattle.roster_values.specs.Kinds.{place_of_kind};
 ghost use Rattle.version_core.specs.Grants.{grant_of, grant_row_of};
-ghost use Rattle.version_core.specs.RefIndex.{AreIndexed};
 ghost use Rattle.version_core.specs.View.{earlier};
-ghost use Rattle.version_core.specs.History.{ArePasts, AreUpTo, IsPast, history_key, is_past_of, past_of, pasts_of, rows_at};
+ghost use Rattle.version_core.specs.History.{ArePasts, AreUpTo, IsPast, history_key, is_past_of, past_of, pasts_of};
+ghost use Rattle.version_core.specs.History.{rows_at};
 ghost use Rattle.version_core.specs.Since.{standing};
 ghost use Rattle.version_core.specs.Version.{IsVersion};
 
 use crate::grant_row::{GrantRow, row_of_caller, row_of_token};
 use crate::histories::{following, following_near, found, found_near};
 use crate::history::History;
-use crate::ref_index::{RefRun, indexed};
+use crate::ref_index::{Naming, RefRun, indexed};
 use crate::references::{Refs, next_referring};
 use crate::row_change::RowChange;
 use crate::sorted::compare;
@@ -31,15 +32,16 @@ use std::marker::Model;
 /// One version of a table: the rows of the histories that stand at it, and its grants. No call takes memory. A clause sees the version.
 #[derive(Drop)]
 pub struct VersionView<'a> {
-    version: u64,
-    moment: Moment,
-    // Whether no row is younger than the version, so that each history has one that stands.
-    newest: bool,
-    histories: &'a [History],
-    grants: &'a [GrantRow],
-    // What the rows name, and whether it is all there.
-    refs: &'a [RefRun],
-    is_indexed: bool,
+    pub(crate) version: u64,
+    pub(crate) moment: Moment,
+    /// Whether no row is younger than the version, so that each history has one that stands.
+    pub(crate) newest: bool,
+    pub(crate) histories: &'a [History],
+    pub(crate) grants: &'a [GrantRow],
+    /// What the rows name.
+    pub(crate) refs: &'a [RefRun],
+    /// Whether all that they name is there.
+    pub(crate) is_indexed: bool,
 }
 
 impl<'a> Model for VersionView<'a> {
@@ -147,33 +149,6 @@ fn row_of_some(histories: &[History], version: u64, place: u64) -> Option<&Row>
 }
 
 impl<'a> VersionView<'a> {
-    /// What stands at a version, with these grants.
-    pub(crate) fn new(
-        version: u64,
-        moment: Moment,
-        newest: bool,
-        histories: &'a [History],
-        grants: &'a [GrantRow],
-        refs: &'a [RefRun],
-        is_indexed: bool,
-    ) -> VersionView<'a>
-        requires pasts { ArePasts (pasts_of histories.now) }
-        requires newest { newest ≡ true → AreUpTo version (pasts_of histories.now) }
-        requires version { IsVersion (record { number = version; moment = moment; rows = rows_at version (pasts_of histories.now); grants = grants.now }) }
-        requires index { is_indexed ≡ true → AreIndexed refs.now (rows_of (rows_at version (pasts_of histories.now))) }
-        ensures { result ≡ record { number = version; moment = moment; rows = rows_at version (pasts_of histories.now); grants = grants.now } }
-    {
-        VersionView {
-            version,
-            moment,
-            newest,
-            histories,
-            grants,
-            refs,
-            is_indexed,
-        }
-    }
-
     /// Whether it is told that the version has no rows. One whose rows are all younger isn't told.
     pub fn is_empty(&self) -> bool
         ensures { result ≡ true → self.now.rows ≡ [] }
@@ -292,15 +267,8 @@ impl<'a> Rows for VersionView<'a> {
 impl<'a> Refs for VersionView<'a> {
     fn referring(&self, kind: Kind, name: &str, target: &Id, after: Option<&Id>) -> Option<&Row> {
         if self.is_indexed {
-            return indexed(
-                self.histories,
-                self.version,
-                self.refs,
-                kind,
-                name,
-                target,
-                after,
-            );
+            let asked = Naming { kind, name, target };
+            return indexed(self.histories, self.version, self.refs, &asked, after);
         }
         next_referring(self, kind, name, target, after)
     }

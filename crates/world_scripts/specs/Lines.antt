@@ -1,5 +1,6 @@
 -- The line of a script that words spell.
-use Rattle.std.specs.Prelude.{ℕ, ℤ, Bool, true, false, List, [], ◌∷◌, Option, None, Some, Result, Ok, Err, bytes_eq, codes, if◌then◌else◌, nat_lt}
+use Rattle.std.specs.Prelude.{ℕ, ℤ, Bool, true, false, List, [], ◌∷◌, Option, None, Some, Result, Ok, Err, bytes_eq}
+use Rattle.std.specs.Prelude.{codes, if◌then◌else◌, nat_lt}
 use Rattle.hub_words.specs.Words.{command_words, feed_in, is_file_word, largest_keep, number_to}
 use Rattle.hub_words.specs.declared.words.Command.{Command}
 use Rattle.hub_words.specs.declared.words.Command.TheVariants as command

@@ -1,5 +1,6 @@
 -- What a filter lets through.
-use Rattle.std.specs.Prelude.{ℕ, ℤ, ◌&&◌, ◌||◌, Bool, true, false, not, List, [], ◌∷◌, Option, Some, None, bytes_eq, map, nat_eq}
+use Rattle.std.specs.Prelude.{ℕ, ℤ, ◌&&◌, ◌||◌, Bool, true, false, not, List, [], ◌∷◌, Option, Some, None, bytes_eq}
+use Rattle.std.specs.Prelude.{map, nat_eq}
 use Rattle.std.specs.Cmp.Lexicographic.{slice_cmp}
 use Rattle.std.specs.List.{list_all, list_any, starts_with}
 use Rattle.std.specs.Option.{option_map_or}
@@ -14,7 +15,8 @@ use Rattle.filter_grammar.specs.declared.filter.Filter.{Filter}
 use Rattle.filter_grammar.specs.declared.filter.Joint.{Joint}
 use Rattle.filter_grammar.specs.declared.filter.Joint.TheVariants.{And, Or}
 use Rattle.filter_grammar.specs.declared.filter.Predicate.{Predicate}
-use Rattle.filter_grammar.specs.declared.filter.Predicate.TheVariants.{Equal, NotEqual, Greater, GreaterEqual, Less, LessEqual, Contains}
+use Rattle.filter_grammar.specs.declared.filter.Predicate.TheVariants.{Equal, NotEqual, Greater, GreaterEqual, Less}
+use Rattle.filter_grammar.specs.declared.filter.Predicate.TheVariants.{LessEqual, Contains}
 use Rattle.roster_types.specs.Records.{Record}
 use Rattle.roster_values.specs.declared.value.Value.{Value}
 use Rattle.roster_values.specs.declared.value.Value.TheVariants.{Refs, Texts, UserIds}
@@ -31,7 +33,7 @@ unfoldable pub stands_in : List ℕ → List ℕ → Bool
 stands_in part [] = starts_with nat_eq [] part
 stands_in part (b ∷ text) = starts_with nat_eq (b ∷ text) part || stands_in part text
 
--- what a predicate says of two things in order
+-- a predicate holds of two things that stand so to each other in order; `Contains` asks for no order, and never holds
 abbrev pub holds : Predicate → Ordering → Bool
 holds Equal order = is_eq order
 holds NotEqual order = is_ne order

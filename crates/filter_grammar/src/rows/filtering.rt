@@ -38,7 +38,8 @@ pub fn passes(alloc: Global, row: &Row, test: &Option<Filter>) -> Result<bool, N
     }
 }
 
-fn joined(joint: Joint, first: bool, second: bool) -> bool
+/// Whether a filter of two comparisons passes, by whether each of them does.
+pub fn joined(joint: Joint, first: bool, second: bool) -> bool
     ensures { result ≡ spec.joined joint first second }
 {
     match joint {

@@ -16,7 +16,8 @@ use roster_values::lists::read_items;
 use roster_values::{UserId, ValueRef};
 use std::alloc::Global;
 
-/// Whether a list passes.
+/// Whether a list, as a set of texts in lower case, is the given set (`=`), isn't (`!=`), or has a member in common with it (`~`). No list
+/// passes another predicate.
 pub(crate) fn set_passes(
     alloc: Global,
     predicate: Predicate,
@@ -62,7 +63,7 @@ fn are_among(some: &[Text], all: &[Text]) -> bool
     some.iter().all(|item| is_one_of(all, item.as_str()))
 }
 
-// The members of a list; one that isn't there has none.
+// The members of a list, in lower case. A value that is missing has none.
 fn folded_members(alloc: Global, value: Option<ValueRef<'_>>) -> Result<Items<Text>, NoMemory>
     ensures { IfOk result (λ ts. ts ≡ map spec.folded (spec.members_in (option_map shown value.entry))) }
 {

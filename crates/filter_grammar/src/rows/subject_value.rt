@@ -11,7 +11,7 @@ use roster_types::metadata::Entry;
 use roster_types::row::Row;
 use roster_values::ValueRef;
 
-/// What a row has there; nothing where it has nothing.
+/// The value that a row has in a field of the table, or under a key of metadata; nothing where it has none.
 pub(crate) fn subject_value<'r>(row: &'r Row, subject: Subject<'_>) -> Option<ValueRef<'r>>
     ensures value { option_map shown result ≡ spec.subject_value (subject_shown subject.entry) row.now }
     ensures year { IfSome result (λ v. has_short_year (shown v) ≡ true) }
@@ -22,6 +22,7 @@ pub(crate) fn subject_value<'r>(row: &'r Row, subject: Subject<'_>) -> Option<Va
     }
 }
 
+// The text of the entry with a key, as a value.
 fn lent_entry<'e>(entries: &'e [Entry], key: &str) -> Option<ValueRef<'e>>
     ensures value { option_map shown result ≡ spec.entry_value (find (λ e. bytes_eq e.key key.now) entries.now) }
     ensures year { IfSome result (λ v. has_short_year (shown v) ≡ true) }

@@ -24,7 +24,7 @@ pub(crate) fn folded(alloc: Global, text: &str) -> Result<String, NoMemory>
     Ok(folded)
 }
 
-/// The text of a value, so.
+/// The text of a value with its letters of ASCII in lower case.
 pub(crate) fn folded_value(alloc: Global, value: ValueRef<'_>) -> Result<String, NoMemory>
     requires { has_short_year (shown value) ≡ true }
     ensures { IfOk result (λ s. string_bytes s ≡ spec.folded (cell_text (shown value.entry))) }
@@ -34,7 +34,7 @@ pub(crate) fn folded_value(alloc: Global, value: ValueRef<'_>) -> Result<String,
     Ok(folded)
 }
 
-/// What a predicate says of two things in order.
+/// Whether a predicate holds of two things that stand so to each other in order. `Contains` asks for no order, and never holds.
 pub(crate) fn holds(predicate: Predicate, order: Ordering) -> bool
     ensures { result ≡ spec.holds predicate order }
 {
@@ -49,14 +49,14 @@ pub(crate) fn holds(predicate: Predicate, order: Ordering) -> bool
     }
 }
 
-/// Whether a text stands somewhere in another.
+/// Whether a text stands somewhere in another, letter by letter in the same case.
 pub(crate) fn stands_in(part: &str, text: &str) -> bool
     ensures { result ≡ spec.stands_in part.now text.now }
 {
     text.contains(part)
 }
 
-// Which of two texts comes first. They are compared where they stand, with no copies.
+// Which of two texts comes first, whatever the case of their letters. They are compared where they stand, with no copies.
 fn folded_cmp(text: &[u8], other: &[u8]) -> Ordering
     ensures { result ≡ slice_cmp nat_cmp (spec.folded text.now) (spec.folded other.now) }
 {
@@ -82,13 +82,14 @@ fn folded_cmp(text: &[u8], other: &[u8]) -> Ordering
     }
 }
 
+// Whether a text begins with another, whatever the case of their letters.
 fn begins(part: &[u8], text: &[u8]) -> bool
     ensures { result ≡ starts_with nat_eq (spec.folded text.now) (spec.folded part.now) }
 {
     part.len() <= text.len() && text[..part.len()].eq_ignore_ascii_case(part)
 }
 
-// Whether a text stands somewhere in another, both as they are.
+// Whether a text stands somewhere in another, whatever the case of their letters. They are compared where they stand, with no copies.
 #[tactic(auto, unfolding(crate::specs::rows::Filters::stands_in))]
 fn stands_folded_in(part: &[u8], text: &[u8]) -> bool
     ensures { result ≡ spec.stands_in (spec.folded part.now) (spec.folded text.now) }
@@ -103,7 +104,7 @@ fn stands_folded_in(part: &[u8], text: &[u8]) -> bool
     begins(part, rest)
 }
 
-/// Whether a text passes.
+/// Whether a predicate holds of a text and the value that a filter gives, whatever the case of their letters.
 pub(crate) fn text_passes(predicate: Predicate, text: &str, value: &str) -> bool
     ensures { result ≡ spec.text_passes predicate text.now value.now }
 {

@@ -1,5 +1,6 @@
 -- What a hub answers: the reply of the first check that a request fails, or else what it asks for.
-use Rattle.std.specs.Prelude.{◌≡◌, ℕ, ℤ, Bool, true, false, List, [], ◌∷◌, Option, None, Result, Ok, Err, if◌then◌else◌, nat_lt, slice_index_or}
+use Rattle.std.specs.Prelude.{◌≡◌, ℕ, ℤ, Bool, true, false, List, [], ◌∷◌, Option, None, Result, Ok, Err, if◌then◌else◌}
+use Rattle.std.specs.Prelude.{nat_lt, slice_index_or}
 use Rattle.hub_spec.specs.rules.Verdicts.{Judges, Leads, Refused, Repeat, Same, Verdict}
 use Rattle.hub_spec.specs.rules.Wanted.{Wanted, access_of, is_delete, is_good_mark, is_head, is_write, mark_number}
 use Rattle.hub_spec.specs.rules.Written.{done_of, newest_after, state_after}

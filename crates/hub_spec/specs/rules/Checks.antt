@@ -1,5 +1,6 @@
 -- The checks that a request meets on its way: path, method, token, pin, query, base.
-use Rattle.std.specs.Prelude.{ℕ, ◌&&◌, Bool, true, false, not, List, Option, Some, None, Result, Ok, Err, if◌then◌else◌, max, nat_lt, option_and_then, slice_index_or}
+use Rattle.std.specs.Prelude.{ℕ, ◌&&◌, Bool, true, false, not, List, Option, Some, None, Result, Ok, Err, if◌then◌else◌}
+use Rattle.std.specs.Prelude.{max, nat_lt, option_and_then, slice_index_or}
 use Rattle.hub_spec.specs.rules.Verdicts.{newest_in}
 use Rattle.hub_spec.specs.rules.Wanted.{Wanted, allows, takes_writes}
 use Rattle.rest_paths.specs.Paths.{PathParts as Path}

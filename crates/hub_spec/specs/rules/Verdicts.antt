@@ -1,5 +1,6 @@
 -- What becomes of a gradebook write, by checks in order.
-use Rattle.std.specs.Prelude.{◌≡◌, ℕ, ℤ, ◌+◌, ◌==◌, ◌⊎◌, Bool, true, false, List, Option, Some, None, Result, Ok, Err, if◌then◌else◌, option_and_then}
+use Rattle.std.specs.Prelude.{◌≡◌, ℕ, ℤ, ◌+◌, ◌==◌, ◌⊎◌, Bool, true, false, List, Option, Some, None, Result, Ok, Err}
+use Rattle.std.specs.Prelude.{if◌then◌else◌, option_and_then}
 use Rattle.hub_spec.specs.rules.Marked.{same_write}
 use Rattle.row_json.specs.Puts.{put_of}
 use Rattle.roster_types.specs.Records.{Record, SameButDate}

@@ -1,5 +1,6 @@
 -- The links of a page.
-use Rattle.std.specs.Prelude.{ℕ, ◌+◌, ◌-◌, ◌*◌, ◌/◌, List, [], ◌∷◌, ◌++◌, Option, Some, None, codes, if◌then◌else◌, nat_lt, option_map}
+use Rattle.std.specs.Prelude.{ℕ, ◌+◌, ◌-◌, ◌*◌, ◌/◌, List, [], ◌∷◌, ◌++◌, Option, Some, None, codes, if◌then◌else◌}
+use Rattle.std.specs.Prelude.{nat_lt, option_map}
 use Rattle.std.specs.Fmt.{decimal}
 use Rattle.std.specs.List.{flat_map}
 use Rattle.form_urlencoded.specs.Form.{byte_serialize}
@@ -33,7 +34,7 @@ order_word Desc = codes "desc"
 abbrev pub number_parameter : List ℕ → ℕ → List ℕ
 number_parameter name n = name ++ codes "=" ++ decimal n
 
--- a parameter so far as it is given
+-- a parameter where it is given
 abbrev pub given_parameter : List ℕ → Option (List ℕ) → List ℕ
 given_parameter name None = []
 given_parameter name (Some value) = codes "&" ++ name ++ codes "=" ++ byte_serialize value
@@ -63,7 +64,7 @@ target path query version offset =
 abbrev pub link : (ℕ → List ℕ) → Rel → ℕ → LinkItem
 link target_at rel offset = record { rel = rel; target = target_at offset }
 
--- the page behind this one, the one in front of it, the first and the last, so far as there are any
+-- the page behind this one, the one in front of it, the first and the last, where there are any
 abbrev pub links_among : (ℕ → List ℕ) → ℕ → ℕ → ℕ → List LinkItem
 links_among target_at limit offset total =
     (if nat_lt (offset + limit) total then link target_at Next (offset + limit) ∷ [] else [])

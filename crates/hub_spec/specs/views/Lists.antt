@@ -1,5 +1,6 @@
 -- The list of a path: the seen rows that belong to it and pass the filter, in order.
-use Rattle.std.specs.Prelude.{ℕ, ◌&&◌, Bool, true, false, List, [], ◌∷◌, Option, Some, None, filter, if◌then◌else◌, slice_index_or}
+use Rattle.std.specs.Prelude.{ℕ, ◌&&◌, Bool, true, false, List, [], ◌∷◌, Option, Some, None, filter, if◌then◌else◌}
+use Rattle.std.specs.Prelude.{slice_index_or}
 use Rattle.filter_grammar.specs.declared.query.Query.{Query}
 use Rattle.rest_paths.specs.Paths.{PathParts}
 use Rattle.rest_paths.specs.Routes.{kind_in, kind_listed, line_of, objects_in}

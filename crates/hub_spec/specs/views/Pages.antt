@@ -1,5 +1,6 @@
 -- Pages of a list.
-use Rattle.std.specs.Prelude.{◌≡◌, ℕ, zero, suc, ◌*◌, ◌++◌, List, [], None, Some, Option, drop, length, option_map, take}
+use Rattle.std.specs.Prelude.{◌≡◌, ℕ, zero, suc, ◌*◌, ◌++◌, List, [], None, Some, Option, drop, length, option_map}
+use Rattle.std.specs.Prelude.{take}
 use Rattle.hub_spec.specs.views.Links.{links_of}
 use Rattle.hub_spec.specs.declared.views.page.Page.{Page}
 use Rattle.rest_paths.specs.Paths.{PathParts}
@@ -22,7 +23,7 @@ page_of_list path query version rows =
 abbrev pub page_of : List Record → ℕ → PathParts → Query → Option Page
 page_of rows version path query = option_map (page_of_list path query version) (list_of rows path query)
 
--- the rows of a page, so far as there is one
+-- the rows of a page; none where there is no page
 abbrev pub rows_shown : Option Page → List Record
 rows_shown None = []
 rows_shown (Some page) = page.rows

@@ -2,7 +2,8 @@
 use Rattle.std.specs.Prelude.{ℕ, ◌&&◌, ◌||◌, Bool, true, List, codes}
 use Rattle.rest_paths.specs.Routes.{kind_in}
 use Rattle.rest_paths.specs.declared.route.Collection.{Collection}
-use Rattle.rest_paths.specs.declared.route.Collection.TheVariants.{Of, Schools, Terms, GradingPeriods, Students, Teachers}
+use Rattle.rest_paths.specs.declared.route.Collection.TheVariants.{Of, Schools, Terms, GradingPeriods, Students}
+use Rattle.rest_paths.specs.declared.route.Collection.TheVariants.{Teachers}
 use Rattle.rest_paths.specs.declared.route.Route.{Route}
 use Rattle.rest_paths.specs.declared.route.Route.TheVariants as route
 use Rattle.hub_spec.specs.views.References.{is_named_by, leads_to, stands_where}
@@ -10,7 +11,8 @@ use Rattle.reference_rules.specs.Faults.{has_type, is_word}
 use Rattle.roster_types.specs.Keys.{is_of_kind}
 use Rattle.roster_types.specs.Records.{Record, field_of}
 use Rattle.roster_values.specs.declared.kind.Kind.{Kind}
-use Rattle.roster_values.specs.declared.kind.Kind.TheVariants.{Classes, Enrollments, LineItems, ClassResources, CourseResources}
+use Rattle.roster_values.specs.declared.kind.Kind.TheVariants.{Classes, Enrollments, LineItems, ClassResources}
+use Rattle.roster_values.specs.declared.kind.Kind.TheVariants.{CourseResources}
 use Rattle.version_core.specs.References.{names}
 
 abbrev pub has_role : Record → List ℕ → Bool

@@ -1,5 +1,6 @@
 -- The consumer's copy.
-use Rattle.std.specs.Prelude.{◌≡◌, ◌<◌, ◌≤◌, ℕ, true, List, [], ◌∷◌, length, get_or, Option, None, IfSome, find, is_none, nat_lt, MatchOption, ⊤}
+use Rattle.std.specs.Prelude.{◌≡◌, ◌<◌, ◌≤◌, ℕ, true, List, [], ◌∷◌, length, get_or, Option, None, IfSome, find}
+use Rattle.std.specs.Prelude.{is_none, nat_lt, MatchOption, ⊤}
 use Rattle.std.specs.List.{All}
 use Rattle.std.specs.Option.{option_map_or}
 use Rattle.roster_types.specs.Records.{Record}

@@ -74,6 +74,6 @@ pub trait CopyKeeper {
     /// A keeper leads to itself.
     ghost stays: { (keeper : Self) → leads keeper keeper };
 
-    /// One behind another.
+    /// What leads from one keeper to a second, and on from there to a third, leads from the first to the third.
     ghost leads_on: { (one two three : Self) → leads one two → leads two three → leads one three };
 }

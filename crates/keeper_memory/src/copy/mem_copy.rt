@@ -6,7 +6,8 @@ ghost use Rattle.roster_base.specs.declared.keeper.KeeperError.TheVariants as ke
 ghost use Rattle.keeper_memory.specs.copy.Changes.{CanChange, Commits, IsQuick, copy_after};
 ghost use Rattle.keeper_memory.specs.copy.Copies.{Copy, IsCopy, entry_after, held_list};
 ghost use Rattle.keeper_memory.specs.Calls.{CallsLead, calls_on, calls_stay};
-ghost use Rattle.keeper_memory.specs.Failures.{KeepsPlan, after_read, fails_after, fails_before, planned, read_fails, with_listed};
+ghost use Rattle.keeper_memory.specs.Failures.{KeepsPlan, after_read, fails_after, fails_before, planned, read_fails};
+ghost use Rattle.keeper_memory.specs.Failures.{with_listed};
 ghost use Rattle.keeper_memory.specs.copy.HeldCopy.{empty_copy};
 ghost use Rattle.keeper_memory.specs.copy.Tables.{AreCopyTables, copy_in};
 ghost use Rattle.keeper_memory.specs.copy.States.{CanBe, CanBeEntry, CanBeList, Shows};

@@ -17,7 +17,8 @@ use std::alloc::Global;
 use std::marker::Model;
 use std::mem::replace;
 
-// A stage. A clause sees it.
+/// The rows of an unfinished synchronisation: the lists of the kinds that are done, and what has come of the next kind, with its whole
+/// number where that is known. A clause sees a `Stage`.
 #[derive(Drop)]
 pub(crate) struct MemStage {
     pin: u64,
@@ -58,6 +59,7 @@ fn taken(alloc: Global, rows: &mut Vec<Items<Row>>, place: usize) -> Items<Row>
 }
 
 impl MemStage {
+    /// A stage that was begun just now: no kind is done, and no row is staged.
     pub(crate) fn new(alloc: Global, pin: u64, token: Token) -> MemStage
         ensures { result ≡ begun pin token }
     {
@@ -70,7 +72,7 @@ impl MemStage {
         }
     }
 
-    // The stage of these lists; no memory is taken.
+    /// The stage of these lists; no memory is taken.
     pub(crate) fn holding(alloc: Global, staged: StagedRows) -> MemStage
         ensures { result ≡ stage_in staged }
     {
@@ -112,7 +114,7 @@ impl MemStage {
         Ok(())
     }
 
-    // Adds rows of the next kind, which is done with them or not.
+    /// Adds rows of the next kind, which is done with them or not.
     pub(crate) fn add(
         &mut self,
         alloc: Global,
@@ -130,6 +132,7 @@ impl MemStage {
         }
     }
 
+    /// All that a stage has but its rows.
     pub(crate) fn state(&self, alloc: Global) -> Result<StageState, NoMemory>
         requires { length self.now.done ≤ kind_count }
         ensures { IfOk result (λ s. s ≡ state_of self.now) }
@@ -144,7 +147,7 @@ impl MemStage {
         })
     }
 
-    // What the stage holds; no memory is taken.
+    /// What the stage holds; no memory is taken.
     pub(crate) fn into_held(self) -> MemHeld
         ensures { result ≡ held_of self }
     {
@@ -156,7 +159,7 @@ impl MemStage {
     }
 }
 
-// A version, the token under which it was copied, where that is known, and its lists. A clause sees them.
+/// A version, the token under which it was copied, where that is known, and its lists. A clause sees them.
 #[derive(Drop)]
 pub(crate) struct MemHeld {
     version: u64,
@@ -173,6 +176,7 @@ impl Model for MemHeld {
 }
 
 impl MemHeld {
+    /// The version of these lists, which was copied under the token; no memory is taken.
     pub(crate) fn holding(held: HeldRows, token: Option<Token>) -> MemHeld
         ensures { result ≡ held_in token held }
     {
@@ -183,12 +187,14 @@ impl MemHeld {
         }
     }
 
+    /// The number of the version.
     pub(crate) fn version(&self) -> u64
         ensures { result ≡ self.now.version }
     {
         self.version
     }
 
+    /// The token under which the version was copied, where that is known.
     pub(crate) fn token(&self, alloc: Global) -> Result<Option<Token>, NoMemory>
         ensures { IfOk result (λ token. token ≡ self.now.token) }
     {
@@ -198,7 +204,7 @@ impl MemHeld {
         }
     }
 
-    // The rows of a kind.
+    /// The rows of a kind.
     pub(crate) fn list(&self, alloc: Global, kind: Kind) -> Result<Items<Row>, NoMemory>
         ensures { IfOk result (λ rows. rows ≡ get_or self.now.lists (place_of_kind kind) []) }
     {

@@ -1,6 +1,6 @@
 //! A copy in memory.
 
-ghost use Rattle.std.specs.Prelude.{◌≡◌, ◌≤◌, IfOk, IfSome, IsOk, None, OnErr, OnOk, length, option_copied, option_map, is_none};
+ghost use Rattle.std.specs.Prelude.{◌≡◌, ◌≤◌, IfOk, IfSome, IsOk, None, OnErr, OnOk, length, option_copied, option_map};
 ghost use Rattle.std.specs.Option.{option_map_or};
 ghost use Rattle.keeper_memory.specs.copy.Changes.{IsQuick, copy_after, settled_first, stage_after};
 ghost use Rattle.keeper_memory.specs.declared.copy.change.CopyChange.TheVariants.{Swap, Enter};
@@ -23,7 +23,7 @@ use std::alloc::Global;
 use std::marker::Model;
 use version_core::mark::Write;
 
-// What a copy in memory holds; contracts see it as a `Copy`.
+/// What a copy in memory holds; contracts see it as a `Copy`.
 #[derive(Drop)]
 pub(crate) struct MemCopyTables {
     run: u64,
@@ -100,6 +100,7 @@ fn settle(entries: &mut [OutEntry], settled: Settled)
 }
 
 impl MemCopyTables {
+    /// A copy that holds nothing.
     pub(crate) fn new(alloc: Global) -> MemCopyTables
         ensures { result ≡ empty_copy }
     {
@@ -112,7 +113,7 @@ impl MemCopyTables {
         }
     }
 
-    // The copy of these tables; no memory is taken.
+    /// The copy of these tables; no memory is taken.
     pub(crate) fn holding(alloc: Global, tables: CopyTables) -> MemCopyTables
         ensures { result ≡ copy_in tables }
     {
@@ -133,6 +134,7 @@ impl MemCopyTables {
         }
     }
 
+    /// All that a copy has but its rows and its entries.
     pub(crate) fn state(&self, alloc: Global) -> Result<CopyState, NoMemory>
         requires { IfSome self.now.stage (λ s. length s.done ≤ kind_count) }
         ensures { IfOk result (λ s. s ≡ small_part self.now) }
@@ -146,6 +148,7 @@ impl MemCopyTables {
         })
     }
 
+    /// The rows of a kind that are held; none where nothing is.
     pub(crate) fn held(&self, alloc: Global, kind: Kind) -> Result<Items<Row>, NoMemory>
         ensures { IfOk result (λ rows. rows ≡ held_list self.now kind) }
     {
@@ -155,6 +158,7 @@ impl MemCopyTables {
         }
     }
 
+    /// The first entry with a number above `after`.
     pub(crate) fn entry(&self, alloc: Global, after: u64) -> Result<Option<OutEntry>, NoMemory>
         ensures { IfOk result (λ entry. entry ≡ entry_after after self.now.entries) }
     {
@@ -202,7 +206,7 @@ impl MemCopyTables {
         Ok(())
     }
 
-    // Makes one change, or none where memory runs out.
+    /// Makes one change, or none where memory runs out.
     pub(crate) fn commit(&mut self, alloc: Global, change: CopyChange) -> Result<(), NoMemory>
         ensures ok { OnOk result (self.new ≡ copy_after change self.old) }
         ensures err { OnErr result (self.new ≡ self.old) }

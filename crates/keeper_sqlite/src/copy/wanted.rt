@@ -4,7 +4,8 @@ ghost use Rattle.std.specs.Prelude.{◌≡◌, ℕ, IfOk, IfSome, Some};
 ghost use Rattle.roster_base.specs.Faults.{CountsFailure};
 ghost use Rattle.keeper_memory.specs.copy.Changes.{CanChange};
 ghost use Rattle.keeper_memory.specs.copy.Copies.{Copy};
-ghost use Rattle.keeper_memory.specs.declared.copy.change.CopyChange.TheVariants.{Begin, Drop as Dropped, Enter, Page, Run, Settle, Swap};
+ghost use Rattle.keeper_memory.specs.declared.copy.change.CopyChange.TheVariants.{Drop as Dropped, Enter, Page, Run};
+ghost use Rattle.keeper_memory.specs.declared.copy.change.CopyChange.TheVariants.{Settle, Swap};
 ghost use Rattle.keeper_sqlite.specs.hub.Keeping.{Stay};
 ghost use Rattle.keeper_sqlite.specs.copy.Keeping.{AreEditsOf, HasCopy};
 
@@ -57,7 +58,7 @@ fn page_wanted<S: StoredItems>(
     let Some(stage) = stored_stage(alloc, store)? else {
         return Err(store.refuse());
     };
-    match page_edits(alloc, root.side, stage, kind, rows, total, done)? {
+    match page_edits(root.side, stage, kind, rows, total, done)? {
         Some(edits) => Ok(edits),
         None => Err(store.refuse()),
     }

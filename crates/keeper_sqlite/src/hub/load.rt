@@ -1,6 +1,7 @@
 //! What a store keeps beside the base's rows, read back.
 
-ghost use Rattle.std.specs.Prelude.{◌≡◌, ◌∷◌, ◌++◌, ◌+◌, ◌<◌, ◌≤◌, ◌^◌, [], List, Option, None, Some, IfOk, OnOk, false, map, true};
+ghost use Rattle.std.specs.Prelude.{◌≡◌, ◌∷◌, ◌++◌, ◌+◌, ◌<◌, ◌≤◌, ◌^◌, [], List, Option, None, Some, IfOk, OnOk};
+ghost use Rattle.std.specs.Prelude.{false, map, true};
 ghost use Rattle.std.specs.List.{AllByRecursion};
 ghost use Rattle.std.specs.Option.{ForSome};
 ghost use Rattle.roster_base.specs.Faults.{CountsFailure};
@@ -10,14 +11,15 @@ ghost use Rattle.version_core.specs.Version.{last_version};
 ghost use Rattle.version_core.specs.declared.change.Change.{Change as ChangeValue};
 ghost use Rattle.version_core.specs.declared.grant_row.GrantRow.{GrantRow as GrantValue};
 ghost use Rattle.version_core.specs.declared.hub_tables.HubTables.{HubTables as Tables};
-ghost use Rattle.hub_format.specs.Format.{Entry, FitsChange, FitsGrant, grants_under, own_grants, own_version, some_grants};
+ghost use Rattle.hub_format.specs.Format.{Entry, FitsChange, FitsGrant, grants_under, own_grants, own_version};
+ghost use Rattle.hub_format.specs.Format.{some_grants};
 ghost use Rattle.hub_format.specs.Pieces.{has_grants, number};
 ghost use Rattle.keeper_sqlite.specs.hub.Keeping.{Stay};
 ghost use Rattle.keeper_sqlite.specs.hub.Rows.{HasChanges, HasTables, TellLater};
 ghost use Rattle.keeper_sqlite.specs.Trust.{Clean};
 
 use crate::hub::rows::{ChangeRows, change_rows};
-use crate::hub::state::of_version;
+use crate::hub::state::items_of_version;
 use crate::stored_items::StoredItems;
 use hub_format::{HubArea, grants_of, marks_of, version_of};
 use item_maps::Item;
@@ -27,7 +29,7 @@ use version_core::change::Change;
 use version_core::grant_row::GrantRow;
 use version_core::mark::MarkRow;
 
-// The grants behind a version's number.
+/// The grants behind a version's number.
 pub(crate) fn grants_at<S: StoredItems>(
     alloc: Global,
     store: &mut S,
@@ -42,14 +44,14 @@ pub(crate) fn grants_at<S: StoredItems>(
     ensures held { Stay (S.may_hold store.new) (S.may_hold store.old) }
     ensures signs { Stay (S.shows store.new) (S.shows store.old) }
 {
-    let items = of_version(alloc, store, HubArea::Grants, version)?;
+    let items = items_of_version(alloc, store, HubArea::Grants, version)?;
     match grants_of(alloc, items.as_slice())? {
         Some(grants) => Ok(Items::from_vec(grants)),
         None => Err(store.refuse()),
     }
 }
 
-// The marks.
+/// The marks of all callers' writes.
 pub(crate) fn marks_in<S: StoredItems>(
     alloc: Global,
     store: &mut S,
@@ -151,7 +153,7 @@ fn change_at<S: StoredItems>(
     ensures held { Stay (S.may_hold store.new) (S.may_hold store.old) }
     ensures signs { Stay (S.shows store.new) (S.shows store.old) }
 {
-    let items = of_version(alloc, store, HubArea::Versions, version)?;
+    let items = items_of_version(alloc, store, HubArea::Versions, version)?;
     if has_none(items.as_slice()) {
         return Ok(None);
     }
@@ -166,7 +168,7 @@ fn push_change(found: &mut Vec<Change>, change: Change) -> Result<(), NoMemory>
     Ok(())
 }
 
-// The changes behind the base, up to the first that isn't stored: no more than are kept.
+/// The changes behind the base, up to the first that isn't stored: no more than are kept.
 pub(crate) fn changes_in<S: StoredItems>(
     alloc: Global,
     store: &mut S,

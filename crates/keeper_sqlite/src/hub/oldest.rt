@@ -1,6 +1,6 @@
 //! What a store has of the oldest versions that it keeps.
 
-ghost use Rattle.std.specs.Prelude.{◌≡◌, [], ◌+◌, ◌-◌, ◌<◌, ◌^◌, IfOk, nat_lt, false};
+ghost use Rattle.std.specs.Prelude.{◌≡◌, ◌+◌, ◌-◌, ◌<◌, ◌^◌, IfOk, nat_lt, false};
 ghost use Rattle.std.specs.Option.{ForSome};
 ghost use Rattle.roster_base.specs.Faults.{CountsFailure};
 ghost use Rattle.version_core.specs.declared.hub_tables.HubTables.{HubTables};
@@ -8,7 +8,7 @@ ghost use Rattle.span_format.specs.Oldest.{AreOldest, AreOldestFor};
 ghost use Rattle.keeper_sqlite.specs.hub.Keeping.{Stay};
 ghost use Rattle.keeper_sqlite.specs.hub.Rows.{HasSpans};
 
-use crate::hub::state::of_version;
+use crate::hub::state::items_of_version;
 use crate::stored_items::StoredItems;
 use hub_format::{HubArea, lets_go};
 use roster_base::KeeperError;
@@ -27,9 +27,9 @@ fn oldest_of<S: StoredItems>(alloc: Global, store: &mut S, base: u64) -> Result<
     ensures held { Stay (S.may_hold store.new) (S.may_hold store.old) }
     ensures signs { Stay (S.shows store.new) (S.shows store.old) }
 {
-    let grants = of_version(alloc, store, HubArea::Grants, base)?;
-    let version = of_version(alloc, store, HubArea::Versions, base + 1)?;
-    let names = of_version(alloc, store, HubArea::Names, base + 1)?;
+    let grants = items_of_version(alloc, store, HubArea::Grants, base)?;
+    let version = items_of_version(alloc, store, HubArea::Versions, base + 1)?;
+    let names = items_of_version(alloc, store, HubArea::Names, base + 1)?;
     Ok(Oldest {
         grants,
         version,

@@ -16,7 +16,7 @@ ghost use Rattle.keeper_sqlite.specs.hub.Keeping.{Stay};
 ghost use Rattle.keeper_sqlite.specs.hub.Rows.{TellBase, TellChange, TellLater, laid_at};
 
 use crate::hub::spans::{ByVersion, SpanRows, span_rows};
-use crate::hub::state::of_version;
+use crate::hub::state::items_of_version;
 use crate::stored_items::StoredItems;
 use hub_format::{HubArea, rows_of};
 use item_maps::Item;
@@ -146,7 +146,7 @@ pub(crate) fn change_rows<S: StoredItems>(
 {
     match laid {
         ChangeRows::Area => {
-            let items = of_version(alloc, store, HubArea::ChangeRows, version)?;
+            let items = items_of_version(alloc, store, HubArea::ChangeRows, version)?;
             match rows_in(alloc, 8, items.as_slice())? {
                 Some(rows) => Ok(rows),
                 None => Err(store.refuse()),

@@ -23,7 +23,8 @@ use roster_texts::Moment;
 use std::alloc::Global;
 use version_changes::limits::LAST_VERSION;
 
-// The state of these items, if its base may have the number.
+// How many versions are kept, and the number and the moment of the base, as these items say it. None where they are no state's, or the
+// number is above that of the last version.
 fn state_in(items: &[Item]) -> Option<(u64, u64, Moment)>
     ensures state { (keep : ℕ) (base : BaseVersion) → keep < 2 ^ 64 → base.number < 2 ^ 64 → FitsSigned w64 base.moment → map entry_of items.now ≡ state_entry keep base ∷ []
         → IfSome result (λ s. (s.0 ≡ keep) × (s.1 ≡ base.number) × (s.2 ≡ base.moment)) }
@@ -38,7 +39,8 @@ fn state_in(items: &[Item]) -> Option<(u64, u64, Moment)>
     }
 }
 
-/// How many versions are kept beside the newest, and the number and the moment of the base.
+/// How many versions are kept beside the newest, and the number and the moment of the base. Items that are no state's are refused as a
+/// fault of the store.
 pub(crate) fn state_of_store<S: StoredItems>(
     alloc: Global,
     store: &mut S,
@@ -53,6 +55,7 @@ pub(crate) fn state_of_store<S: StoredItems>(
     ensures held { Stay (S.may_hold store.new) (S.may_hold store.old) }
     ensures signs { Stay (S.shows store.new) (S.shows store.old) }
 {
+    // Below `[0]` there is the empty label alone, under which the state stands.
     let items = store.all_of(alloc, HubArea::State.number(), &[], &[0])?;
     match state_in(items.as_slice()) {
         Some(state) => Ok(state),
@@ -60,8 +63,8 @@ pub(crate) fn state_of_store<S: StoredItems>(
     }
 }
 
-/// The items of an area that stand behind a version's number.
-pub(crate) fn of_version<S: StoredItems>(
+/// The items of an area whose labels begin with a version's number.
+pub(crate) fn items_of_version<S: StoredItems>(
     alloc: Global,
     store: &mut S,
     area: HubArea,

@@ -39,7 +39,7 @@ impl<'a, R: Refs> KnownRows<'a, R> {
         }
     }
 
-    /// The same, with the ids to which the listed schools lead up.
+    /// These rows, with the ids to which the listed schools lead up.
     pub fn with_ancestors(
         alloc: Global,
         schools: &'a Schools,

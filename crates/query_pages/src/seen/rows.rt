@@ -44,7 +44,7 @@ impl<'a, R: Refs> SeenRows<'a, R> {
         }
     }
 
-    /// The same, made for asking of many rows: the orgs that the listed schools lead up to are looked up once.
+    /// What is seen of these rows, made for asking of many of them: the orgs that the listed schools lead up to are looked up once.
     pub fn with_ancestors(
         alloc: Global,
         schools: &'a Schools,

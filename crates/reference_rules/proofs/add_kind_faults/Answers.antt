@@ -1,4 +1,5 @@
-use Rattle.std.proofs.Common.{◌++◌, ◌&&◌, append_assoc, append-nil, length, Some, sym, ap, subst, ◌∙◌, arith, option_copied}
+use Rattle.std.proofs.Common.{◌++◌, ◌&&◌, append_assoc, append-nil, length, Some, sym, ap, subst, ◌∙◌, arith}
+use Rattle.std.proofs.Common.{option_copied}
 use Rattle.std.specs.List.{flat_map}
 use Rattle.roster_types.specs.Keys.{count_of, is_after, is_of_kind}
 use Rattle.roster_types.specs.Records.{Record}

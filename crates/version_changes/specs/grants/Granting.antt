@@ -1,5 +1,6 @@
 -- What a list of grants makes of a version.
-use Rattle.std.specs.Prelude.{◌≡◌, ℕ, ℤ, ◌+◌, ◌<◌, ◌==◌, ◌&&◌, Bool, true, false, List, Option, Some, None, bytes_eq, if◌then◌else◌, map}
+use Rattle.std.specs.Prelude.{◌≡◌, ℕ, ℤ, ◌+◌, ◌<◌, ◌==◌, ◌&&◌, Bool, true, false, List, Option, Some, None, bytes_eq}
+use Rattle.std.specs.Prelude.{if◌then◌else◌, map}
 use Rattle.std.specs.Cmp.Lexicographic.{pointwise}
 use Rattle.grant_scopes.specs.declared.grant.Grant.{Grant}
 use Rattle.grant_scopes.specs.declared.schools.Schools.{Schools}

@@ -1,5 +1,6 @@
 -- What a set makes of a version.
-use Rattle.std.specs.Prelude.{◌≡◌, ⊤, ℕ, ℤ, ◌+◌, ◌<◌, ◌==◌, ◌&&◌, ◌⊎◌, nat_lt, bytes_eq, option_map, if◌then◌else◌, Bool, true, false, List, [], ◌∷◌, Option, Some, None, Result, Ok, Err}
+use Rattle.std.specs.Prelude.{◌≡◌, ⊤, ℕ, ℤ, ◌+◌, ◌<◌, ◌==◌, ◌&&◌, ◌⊎◌, nat_lt, bytes_eq, option_map, if◌then◌else◌}
+use Rattle.std.specs.Prelude.{Bool, true, false, List, [], ◌∷◌, Option, Some, None, Result, Ok, Err}
 use Rattle.std.specs.List.{flat_map, list_any}
 use Rattle.std.specs.Option.{option_or}
 use Rattle.reference_rules.specs.declared.ref_fault.RefFault.{RefFault}
@@ -20,7 +21,8 @@ use Rattle.roster_values.specs.declared.mode.Mode.{Mode}
 use Rattle.roster_values.specs.declared.mode.Mode.TheVariants.{Bulk, Delta}
 use Rattle.roster_values.specs.Kinds.{all_kinds, place_of_kind}
 use Rattle.version_changes.specs.declared.sets.publish_fault.PublishFault.{PublishFault}
-use Rattle.version_changes.specs.declared.sets.publish_fault.PublishFault.TheVariants.{OwnedByOther, TooManyRows, Unsound, LastVersion}
+use Rattle.version_changes.specs.declared.sets.publish_fault.PublishFault.TheVariants.{OwnedByOther, TooManyRows}
+use Rattle.version_changes.specs.declared.sets.publish_fault.PublishFault.TheVariants.{Unsound, LastVersion}
 use Rattle.version_core.specs.Changes.{AreChanges, change_key, rows_of}
 use Rattle.version_core.specs.Version.{IsVersion, after, last_version, row_limit}
 use Rattle.version_core.specs.declared.change.BaseVersion.{BaseVersion}

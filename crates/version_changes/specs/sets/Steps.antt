@@ -1,5 +1,6 @@
 -- What is found on the way from a version to what a set makes of it.
-use Rattle.std.specs.Prelude.{◌≡◌, ℕ, ℤ, bytes_eq, ◌&&◌, if◌then◌else◌, is_some, map, not, count_by, option_and_then, option_to_list, Bool, true, false, List, [], Option, Some, None}
+use Rattle.std.specs.Prelude.{◌≡◌, ℕ, ℤ, bytes_eq, ◌&&◌, if◌then◌else◌, is_some, map, not, count_by, option_and_then}
+use Rattle.std.specs.Prelude.{option_to_list, Bool, true, false, List, [], Option, Some, None}
 use Rattle.std.specs.List.{flat_map}
 use Rattle.std.specs.Option.{option_map_or, option_or}
 use Rattle.reference_rules.specs.Faults.{faults_of, type_in}
@@ -11,7 +12,8 @@ use Rattle.roster_types.specs.declared.set.SetPart.{SetPart}
 use Rattle.roster_types.specs.declared.set_row.SetRow.{SetRow}
 use Rattle.roster_values.specs.declared.kind.Kind.{Kind}
 use Rattle.roster_values.specs.Kinds.{all_kinds}
-use Rattle.version_changes.specs.sets.Applying.{Becomes, dated, is_left_out, marked, owned_by, set_key, too_many, unsound}
+use Rattle.version_changes.specs.sets.Applying.{Becomes, dated, is_left_out, marked, owned_by, set_key, too_many}
+use Rattle.version_changes.specs.sets.Applying.{unsound}
 use Rattle.version_changes.specs.declared.sets.publish_fault.PublishFault.{PublishFault}
 use Rattle.version_core.specs.Changes.{change_key, rows_of}
 use Rattle.version_core.specs.Order.{put}

@@ -1,9 +1,10 @@
 //! Lists of grants applied to the newest version.
 
-ghost use Rattle.std.specs.Prelude.{◌≡◌, ◌+◌, IfOk, map, option_copied};
+ghost use Rattle.std.specs.Prelude.{◌≡◌, IfOk, map, option_copied};
 ghost use Rattle.std.specs.Option.{ForSome};
 ghost use Rattle.version_changes.specs.grants.Asked.{AnswersBy};
-ghost use Rattle.version_changes.specs.grants.Granting.{GrantsMake, asks_for, granted, grants_from, same_schools, since_of};
+ghost use Rattle.version_changes.specs.grants.Granting.{GrantsMake, asks_for, granted, grants_from, same_schools};
+ghost use Rattle.version_changes.specs.grants.Granting.{since_of};
 ghost use Rattle.grant_scopes.specs.Entries.{AreEntries, entry_caller};
 ghost use Rattle.roster_base.specs.Order.{in_order};
 ghost use Rattle.version_changes.specs.sets.Applying.{LeadsOn};

@@ -1,6 +1,6 @@
 //! Rows that a set leaves out.
 
-ghost use Rattle.std.specs.Prelude.{◌≡◌, ◌++◌, IfOk, OnOk, Some, filter, option_to_list};
+ghost use Rattle.std.specs.Prelude.{◌≡◌, ◌++◌, IfOk, OnOk, filter, option_to_list};
 ghost use Rattle.roster_types.specs.Keys.{Ascends, Key, is_of_kind, look_up};
 ghost use Rattle.version_changes.specs.sets.Applying.{is_active, is_bulk, is_left_out, is_whole, marked, set_key};
 ghost use Rattle.version_changes.specs.sets.Steps.{mark_at, mark_of, marks_of};
@@ -96,7 +96,6 @@ fn add_mark(marks: &mut Vec<RowChange>, mark: Option<RowChange>) -> Result<(), N
 
 // Adds the marks of the rows of one kind.
 fn add_marks(
-    alloc: Global,
     view: &VersionView,
     set: &RosterSet,
     listed: &[SetRow],
@@ -111,6 +110,7 @@ fn add_marks(
     if !is_whole(set.parts(), kind) {
         return Ok(());
     }
+    let alloc = *marks.allocator();
     // Where the last look-ups among the listed rows and the stored ones ended.
     let mut listed_near = 0;
     let mut stored_near = 0;
@@ -137,7 +137,7 @@ pub fn marks_of(
 {
     let mut marks = Vec::new(alloc);
     for kind in Kind::ALL {
-        add_marks(alloc, view, set, listed, at, kind, &mut marks)?;
+        add_marks(view, set, listed, at, kind, &mut marks)?;
     }
     // Asked for its clause `sorted`.
     let _ = view.next_change(Kind::Orgs, None);

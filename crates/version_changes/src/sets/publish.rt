@@ -1,6 +1,6 @@
 //! Sets applied to the newest version.
 
-ghost use Rattle.std.specs.Prelude.{IfOk, ◌≡◌, None, true};
+ghost use Rattle.std.specs.Prelude.{IfOk, ◌≡◌, true};
 ghost use Rattle.std.specs.Option.{ForSome};
 ghost use Rattle.roster_types.specs.Keys.{Ascends, Key, look_up};
 ghost use Rattle.version_changes.specs.sets.Applying.{Answers, LeadsOn, rows_in, set_key};
@@ -90,8 +90,8 @@ pub fn set_change(
     set_change_over(alloc, table, false, set, at)
 }
 
-/// The same, for a caller who may know that the newest version is sound, as each is that a set led to: then the references
-/// of the rows that the set changes are mostly all that is checked.
+/// What a set makes of the newest version of a table, as `set_change` says, for a caller who may know that this version is sound, as
+/// each is that a set led to: then the references of the rows that the set changes are mostly all that is checked.
 pub fn set_change_over(
     alloc: Global,
     table: &Table,

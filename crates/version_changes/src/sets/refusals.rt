@@ -23,6 +23,7 @@ use std::alloc::Global;
 use version_core::row_change::RowChange;
 use version_core::view::VersionView;
 
+// The refusal of a listed row, where what is stored under its kind and id has another owner.
 fn fault_of_owner(
     alloc: Global,
     feed: &Name,
@@ -102,7 +103,8 @@ fn unsound(faults: Vec<RefFault>) -> Option<PublishFault>
     Some(PublishFault::Unsound(Items::from_vec(faults)))
 }
 
-/// The refusal of new rows, whoever publishes them. It is found faster where the rows that stood are known to be sound.
+/// The refusal of the rows of a draft, whoever publishes them: too many rows of a kind, or broken references. `is_sound` says that the
+/// rows before the draft are known to have no broken references; those of the draft are found faster then.
 pub fn refusal_of(
     alloc: Global,
     draft: &Draft,

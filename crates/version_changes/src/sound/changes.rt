@@ -1,6 +1,6 @@
 //! Whether changes lead from a base to the newest version.
 
-ghost use Rattle.std.specs.Prelude.{◌≡◌, ◌+◌, ◌-◌, ◌≤◌, ◌<◌, true};
+ghost use Rattle.std.specs.Prelude.{◌≡◌, ◌+◌, ◌-◌, ◌≤◌, true};
 ghost use Rattle.version_core.specs.Table.{LeadOn};
 ghost use Rattle.version_core.specs.Version.{empty_version, last_version};
 

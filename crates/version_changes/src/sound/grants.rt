@@ -15,7 +15,7 @@ fn is_below(low: &GrantRow, high: &GrantRow) -> bool
     low.caller.as_str().cmp(high.caller.as_str()).is_lt()
 }
 
-// Whether each caller is below the next.
+/// Whether each caller is below the next.
 pub(crate) fn rise(grants: &[GrantRow]) -> bool
     ensures { result ≡ true → RiseBy caller_of grants.now }
 {

@@ -25,7 +25,7 @@ fn has_grant(grants: &[GrantRow], row: &GrantRow) -> bool
     }
 }
 
-// The same, where the version isn't older than the grant.
+// Whether a caller has this grant in a version, unless the version is older than the grant.
 fn has_at(number: u64, grants: &[GrantRow], row: &GrantRow) -> bool
     requires { RiseBy caller_of grants.now }
     ensures { result ≡ true → row.now.grant.since ≤ number → HasGrant grants.now row.now }
@@ -61,7 +61,7 @@ fn grants_after<'a>(grants: &'a [GrantRow], change: &'a Change) -> &'a [GrantRow
     }
 }
 
-// The grants of the newest version.
+/// The grants of the newest version.
 pub(crate) fn last_grants<'a>(grants: &'a [GrantRow], changes: &'a [Change]) -> &'a [GrantRow]
     ensures { result.now ≡ last_grants grants.now changes.now }
 {

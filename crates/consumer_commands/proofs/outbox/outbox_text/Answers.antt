@@ -3,7 +3,8 @@ use Rattle.std.specs.Prelude.{IfSome, Option}
 use Rattle.keeper_memory.specs.copy.States.{CanBeEntry}
 use Rattle.keeper_memory.specs.declared.copy.entry.OutEntry.{OutEntry}
 use Rattle.consumer_commands.specs.SendLines.{entry_text}
-use Rattle.consumer_commands.proofs.OutboxLemmas.{all_up_to, lines_on, next_up_to, none_of, none_up_to, rise_of, rise_on}
+use Rattle.consumer_commands.proofs.OutboxLemmas.{all_up_to, lines_on, next_up_to, none_of, none_up_to, rise_of}
+use Rattle.consumer_commands.proofs.OutboxLemmas.{rise_on}
 use Rattle.consumer_commands.proofs.outbox.outbox_text.Goals as goal
 
 pub entries-init : goal.entries-init

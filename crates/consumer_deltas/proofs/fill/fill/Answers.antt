@@ -1,4 +1,5 @@
-use Rattle.std.proofs.Common.{arith, ◌≡◌, ◌+◌, ◌-◌, ◌<◌, Some, None, Option, refl, sym, subst, ap, ◌∙◌, inl}
+use Rattle.std.proofs.Common.{arith, ◌≡◌, ◌+◌, ◌-◌, ◌<◌, Option, refl, sym, subst, ap, ◌∙◌, inl}
+use Rattle.std.proofs.lemmas.Option.{none-some}
 use Rattle.keeper_memory.specs.copy.Lists.{kind_count}
 use Rattle.keeper_memory.specs.declared.copy.state.StageState.{StageState}
 use Rattle.exchange_link.proofs.AskLemmas.{asks_refl, asks_trans}
@@ -7,16 +8,14 @@ use Rattle.exchange_link.specs.Places.{kinds_of}
 use Rattle.consumer_sync.proofs.FillLemmas.{token_on}
 use Rattle.consumer_sync.specs.Filling.{HasToken}
 use Rattle.consumer_sync.specs.Requests.{IsUnmarked}
-use Rattle.consumer_deltas.proofs.DeltaBoundLemmas.{SoFar, all_told, count_same, held_on, kind_end_if, kind_on, kinds_paged, none_told, same_pin}
-use Rattle.consumer_deltas.proofs.DeltaFillLemmas.{begins, ends_behind, fills_from, fills_trans, stage_behind}
+use Rattle.consumer_deltas.proofs.DeltaBoundLemmas.{SoFar, all_told, count_same, held_on, kind_end_if, kind_on}
+use Rattle.consumer_deltas.proofs.DeltaBoundLemmas.{kinds_paged, none_told, same_pin}
+use Rattle.consumer_deltas.proofs.DeltaFillLemmas.{ends_behind, fills_from, fills_refl, fills_trans, stage_behind}
 use Rattle.consumer_deltas.proofs.DeltaStopLemmas.{halts_if, replies_on, some_if}
 use Rattle.consumer_deltas.specs.DeltaFilling.{KindTold, first_place, no_page}
 use Rattle.consumer_deltas.specs.DeltaRequests.{IsDeltaUnder}
 use Rattle.consumer_deltas.specs.declared.answer.DeltaAnswer.{DeltaAnswer}
 use Rattle.consumer_deltas.proofs.fill.fill.Goals as goal
-
-some_none : {a : DeltaAnswer} {K : Type 0} → None ≡ Some a → K
-some_none e = cc
 
 pub kinds-init : goal.kinds-init
 kinds-init g c = record {
@@ -24,7 +23,7 @@ kinds-init g c = record {
   token = c.requires.token;
   few = c.requires.few;
   room = omega arith;
-  copy = λ after stands. (after, stands, begins c.args.by.token.now after);
+  copy = λ after stands. (after, stands, fills_refl c.args.by.token.now after);
   asked = record { least = omega arith; most = omega arith };
   link = λ after tells. (after, tells, asks_refl c.args.by.run 0 IsUnmarked after);
   sends = λ after tells. (after, tells, sends_refl (IsDeltaUnder c.args.by.token.now c.args.by.limit c.args.by.base) c.args.by.run 0 ⊥ after.sent);
@@ -64,7 +63,7 @@ kinds-preserved g c =
       sends = λ after tells.
           let y = c.fill_kind.ensures.asks after tells in
           let z = c.kinds.invariant.sends y.0 y.1 in
-          (z.0, z.1, sends_trans _ _ _ _ _ ⊥ ⊥ _ _ _ (λ no. no) z.2 (sends_weaker _ _ _ _ _ _ ⊥ _ _ (λ n q h. h) (λ e. some_none (sym c.in-None.is ∙ e)) y.2));
+          (z.0, z.1, sends_trans _ _ _ _ _ ⊥ ⊥ _ _ _ (λ no. no) z.2 (sends_weaker _ _ _ _ _ _ ⊥ _ _ (λ n q h. h) (λ e. absurd (none-some _ (sym c.in-None.is ∙ e))) y.2));
       page = c.fill_kind.ensures.page c.in-None.is;
       heard = omega (arith, c.kinds.invariant.heard, c.fill_kind.ensures.link_later);
       later = omega (arith, c.kinds.invariant.later, c.fill_kind.ensures.later);

@@ -1,4 +1,5 @@
-use Rattle.std.proofs.Common.{arith, ◌≡◌, ◌-◌, Some, None, Ok, Err, sym, subst, ap, ◌∙◌, inl}
+use Rattle.std.proofs.Common.{arith, ◌≡◌, ◌-◌, Some, Ok, Err, sym, subst, ap, ◌∙◌, inl}
+use Rattle.std.proofs.lemmas.Option.{none-some}
 use Rattle.std.specs.Prelude.{Result}
 use Rattle.exchange_link.proofs.AskLemmas.{asks_refl}
 use Rattle.exchange_link.proofs.AskedLemmas.{sends_refl, sends_weaker}
@@ -7,10 +8,13 @@ use Rattle.exchange_link.specs.Places.{kind_at, kinds_of}
 use Rattle.keeper_memory.specs.copy.Copies.{Copy, held_list}
 use Rattle.roster_base.specs.Faults.{Rose}
 use Rattle.consumer_deltas.proofs.DeltaAgreeLemmas.{may_ask}
-use Rattle.consumer_deltas.proofs.DeltaFillLemmas.{broken_ends, broken_halts, broken_replies, can_stage, fills_refl, gathered_on, go_ends, go_stage, kind_fills, merge_ends, merge_halts, stands_behind, unstaged_end}
+use Rattle.consumer_deltas.proofs.DeltaFillLemmas.{broken_ends, broken_halts, broken_replies, can_stage, fills_refl}
+use Rattle.consumer_deltas.proofs.DeltaFillLemmas.{gathered_on, go_ends, go_stage, kind_fills, merge_ends, merge_halts}
+use Rattle.consumer_deltas.proofs.DeltaFillLemmas.{stands_behind, unstaged_end}
 use Rattle.consumer_deltas.proofs.DeltaKindLemmas.{broken_told, goes_held, staged_told, stopped_told, unstaged_told}
 use Rattle.consumer_deltas.proofs.DeltaMergeLemmas.{same_list}
-use Rattle.consumer_deltas.proofs.DeltaStopLemmas.{halt_replies, halts_map, page_replies, sends_at, stops_at, stops_end, stops_gone, stops_halt}
+use Rattle.consumer_deltas.proofs.DeltaStopLemmas.{halt_replies, halts_map, page_replies, sends_at, stops_at, stops_end}
+use Rattle.consumer_deltas.proofs.DeltaStopLemmas.{stops_gone, stops_halt}
 use Rattle.consumer_deltas.specs.DeltaFilling.{IsPinGone, StagesKind, StandsOn, first_place, pin_in}
 use Rattle.consumer_deltas.specs.DeltaGathering.{IsGathered}
 use Rattle.consumer_deltas.specs.DeltaTelling.{MayAsk, PagesTold}
@@ -20,9 +24,6 @@ use Rattle.consumer_deltas.specs.declared.gather.Delta.{Delta}
 use Rattle.exchange_link.specs.declared.answer.SyncAnswer.TheVariants as answer
 use Rattle.consumer_deltas.specs.declared.judging.Place.{Place}
 use Rattle.consumer_deltas.proofs.fill.fill_kind.Goals as goal
-
-no_some : {a : DeltaAnswer} {K : Type 0} → Some a ≡ None → K
-no_some e = cc
 
 err_same : {a b : DeltaAnswer} → (let x : Result Delta DeltaAnswer = Err a in let y : Result Delta DeltaAnswer = Err b in x ≡ y) → a ≡ b
 err_same e = cc
@@ -48,13 +49,13 @@ stage_kind-requires-clause-held g c d stands =
 -- ---- the keeper gave up
 
 pub returns-in-Err-clause-on : goal.returns-in-Err-clause-on
-returns-in-Err-clause-on g c e = no_some e
+returns-in-Err-clause-on g c e = absurd (none-some _ (sym e))
 
 pub returns-in-Err-clause-holds : goal.returns-in-Err-clause-holds
-returns-in-Err-clause-holds g c e = no_some e
+returns-in-Err-clause-holds g c e = absurd (none-some _ (sym e))
 
 pub returns-in-Err-clause-page : goal.returns-in-Err-clause-page
-returns-in-Err-clause-page g c e = no_some e
+returns-in-Err-clause-page g c e = absurd (none-some _ (sym e))
 
 pub returns-in-Err-clause-copy : goal.returns-in-Err-clause-copy
 returns-in-Err-clause-copy g c after stands = (
@@ -96,13 +97,13 @@ returns-in-Err-clause-told g c after t stands tells = (
 -- ---- the pages stopped
 
 pub returns-in-Err-gather-clause-on : goal.returns-in-Err-gather-clause-on
-returns-in-Err-gather-clause-on g c e = no_some e
+returns-in-Err-gather-clause-on g c e = absurd (none-some _ (sym e))
 
 pub returns-in-Err-gather-clause-holds : goal.returns-in-Err-gather-clause-holds
-returns-in-Err-gather-clause-holds g c e = no_some e
+returns-in-Err-gather-clause-holds g c e = absurd (none-some _ (sym e))
 
 pub returns-in-Err-gather-clause-page : goal.returns-in-Err-gather-clause-page
-returns-in-Err-gather-clause-page g c e = no_some e
+returns-in-Err-gather-clause-page g c e = absurd (none-some _ (sym e))
 
 pub returns-in-Err-gather-clause-copy : goal.returns-in-Err-gather-clause-copy
 returns-in-Err-gather-clause-copy g c after stands =
@@ -218,13 +219,13 @@ returns-in-None-clause-told g c after t stands tells =
     )
 
 pub returns-in-Some-clause-on : goal.returns-in-Some-clause-on
-returns-in-Some-clause-on g c e = no_some e
+returns-in-Some-clause-on g c e = absurd (none-some _ (sym e))
 
 pub returns-in-Some-clause-holds : goal.returns-in-Some-clause-holds
-returns-in-Some-clause-holds g c e = no_some e
+returns-in-Some-clause-holds g c e = absurd (none-some _ (sym e))
 
 pub returns-in-Some-clause-page : goal.returns-in-Some-clause-page
-returns-in-Some-clause-page g c e = no_some e
+returns-in-Some-clause-page g c e = absurd (none-some _ (sym e))
 
 pub returns-in-Some-clause-copy : goal.returns-in-Some-clause-copy
 returns-in-Some-clause-copy g c after stands =

@@ -1,4 +1,6 @@
-use Rattle.std.proofs.Common.{◌≡◌, ◌+◌, ◌^◌, ◌<◌, ◌≤◌, ℕ, Some, Ok, Err, inl, inr, true, false, arith, refl, sym, ap, subst, ◌∙◌}
+use Rattle.std.proofs.Common.{◌≡◌, ◌+◌, ◌^◌, ◌<◌, ◌≤◌, ℕ, Some, Ok, Err, inl, inr, true, false, arith, refl, sym, ap}
+use Rattle.std.proofs.Common.{subst, ◌∙◌}
+use Rattle.std.proofs.lemmas.Bool.{both_ways}
 use Rattle.std.specs.Prelude.{IfSome}
 use Rattle.exchange_link.proofs.AskLemmas.{asks_refl, asks_trans}
 use Rattle.exchange_link.proofs.AskedLemmas.{sends_refl}
@@ -7,14 +9,20 @@ use Rattle.exchange_link.specs.Causes.{IsPageStatus}
 use Rattle.http_wire.proofs.AnswerLemmas.{one_answer}
 use Rattle.http_wire.specs.declared.reply_reading.WireReply.{WireReply}
 use Rattle.consumer_sync.specs.Judging.{agrees}
-use Rattle.consumer_deltas.proofs.DeltaGatherLemmas.{AreOpen, IsPinOf, asked_on, entries_open, entries_whole, left_less, left_of, less_yet, low_version, open_first, open_left, open_small, pin_first, pin_is, same_next, sends_end, sends_page, small, stops_on}
-use Rattle.consumer_deltas.proofs.DeltaJudgeLemmas.{closed_taken, ends_not, not_both, part_taken}
-use Rattle.consumer_deltas.proofs.DeltaMeantLemmas.{closed_tells, ends_tell, gathering_first, gathering_next, paged_on, paged_to, told_back, whole_tells}
+use Rattle.consumer_deltas.proofs.DeltaBoundLemmas.{told_more}
+use Rattle.consumer_deltas.proofs.DeltaGatherLemmas.{AreOpen, IsPinOf, asked_on, entries_open, entries_whole, left_less}
+use Rattle.consumer_deltas.proofs.DeltaGatherLemmas.{left_of, less_yet, low_version, open_first, open_left, open_small}
+use Rattle.consumer_deltas.proofs.DeltaGatherLemmas.{pin_first, pin_is, same_next, sends_end, sends_page, small}
+use Rattle.consumer_deltas.proofs.DeltaGatherLemmas.{stops_on}
+use Rattle.consumer_deltas.proofs.DeltaJudgeLemmas.{closed_taken, ends_not, part_taken}
+use Rattle.consumer_deltas.proofs.DeltaMeantLemmas.{closed_tells, ends_tell, gathering_first, gathering_next, paged_on}
+use Rattle.consumer_deltas.proofs.DeltaMeantLemmas.{paged_to, whole_tells}
 use Rattle.consumer_deltas.proofs.DeltaPagesLemmas.{NoneYet}
 use Rattle.consumer_deltas.proofs.DeltaStopLemmas.{GoneAt, ending_gone, ending_names, gone_at, none_gone, none_named}
 use Rattle.consumer_deltas.specs.DeltaAnswers.{DeltaTold}
 use Rattle.consumer_deltas.specs.DeltaGathering.{AreEntries, Given, Wants, ending_of}
-use Rattle.consumer_deltas.specs.DeltaJudging.{ArePuts, MayCome, Sofar, count_in, delta_judged, entry_limit, is_whole, with_page}
+use Rattle.consumer_deltas.specs.DeltaJudging.{ArePuts, MayCome, Sofar, count_in, delta_judged, entry_limit, is_whole}
+use Rattle.consumer_deltas.specs.DeltaJudging.{with_page}
 use Rattle.consumer_deltas.specs.DeltaTelling.{GonePin, IsPinFrom, NamesPin}
 use Rattle.consumer_deltas.specs.declared.answer.DeltaAnswer.{DeltaAnswer}
 use Rattle.consumer_deltas.specs.declared.gather.Delta.TheVariants as delta
@@ -103,7 +111,7 @@ pages-preserved g c =
       pin = subst (λ (p : Place). IfSome p.pin (λ n. n < 2 ^ 64)) (sym at) (let n : pin < 2 ^ 64 = omega (arith, low) in n);
       same = λ p same. same_next c.args.place.pin pin (i.same pin part.pinned) p (ap (λ (q : Place). agrees q.pin p) (sym at) ∙ same);
       asked_for = subst (λ (p : Place). IsPinOf p.pin c.args.place.pin) (sym at) (pin_first c.args.place.pin pin (i.same pin part.pinned));
-      fresh = λ fresh. absurd (not_both _ fresh (ap (λ (p : Place). p.is_fresh) at));
+      fresh = λ fresh. absurd (both_ways _ (ap (λ (p : Place). p.is_fresh) at) fresh);
       entries = subst (λ (s : Sofar). AreOpen c.args.place.kind s) (sym joined) (subst (λ (k : Kind). AreOpen k (with_page sofar page total)) i.kind (entries_open here sofar w.0 pin page total far part kinds other));
       held = ap (λ (s : Sofar). s.held) joined ∙ i.held;
       count = omega (arith, i.count, c.next_act.ensures.count.0);
@@ -185,7 +193,7 @@ returns-in-Err-clause-told g c after tells =
           let on = z.3 ready may in
           record {
             whole = tt;
-            cause = told_back c.args.by.token.now z.0 y.0 after c.in-Err.answer (z.2).moved y.4;
+            cause = told_more c.args.by.token.now z.0 y.0 after c.in-Err.answer (z.2).moved y.4;
             gone = none_gone c.args.place.pin z.0.hub c.in-Err.answer c.in-Err.ensures.gone;
             bound = paged_to z.0.hub y.0.hub after.hub (y.2).moved.grew c.args.by.token.now c.args.place c.pages.here c.pages.sofar i.base c.requires.limit.0 on.0 c.args.count.now c.pages.count c.next_act.new.count c.args.by.tries i.count c.next_act.ensures.count.0 c.next_act.ensures.count.1 (Err c.in-Err.answer) (λ v e. none_named c.in-Err.answer v c.in-Err.ensures.gone) on.1;
           },
@@ -455,7 +463,7 @@ returns-in_default-clause-told g c after tells =
           let from : (v : ℕ) → here.pin ≡ Some v → IsPinFrom c.args.place.pin z.0.hub v = λ v e. on.0.pin v (subst (λ o. IsPinFrom o y.0.hub v) (sym e) refl) in
           record {
             whole = tt;
-            cause = subst (λ (a : DeltaAnswer). DeltaTold c.args.by.token.now z.0 after a) is (told_back c.args.by.token.now z.0 y.0 after _ (z.2).moved told);
+            cause = subst (λ (a : DeltaAnswer). DeltaTold c.args.by.token.now z.0 after a) is (told_more c.args.by.token.now z.0 y.0 after _ (z.2).moved told);
             gone = subst (λ (a : DeltaAnswer). GonePin c.args.place.pin z.0.hub a) is (ending_gone c.args.place.pin z.0.hub c.in-Ok.act here c.count.result from gone);
             bound = paged_to z.0.hub y.0.hub after.hub (y.2).moved.grew c.args.by.token.now c.args.place c.pages.here c.pages.sofar i.base c.requires.limit.0 on.0 c.args.count.now c.pages.count c.next_act.new.count c.args.by.tries i.count c.next_act.ensures.count.0 c.next_act.ensures.count.1 (Err c.ending.result) (λ v e. subst (λ (a : DeltaAnswer). NamesPin a v) is (ending_names c.in-Ok.act here c.count.result v e gone)) on.1;
           },

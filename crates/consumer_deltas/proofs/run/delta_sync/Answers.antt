@@ -1,4 +1,6 @@
-use Rattle.std.proofs.Common.{arith, length, ◌≡◌, ◌+◌, ◌<◌, ◌≤◌, ℕ, sym, subst, None, Some, List, Option, ◌∙◌, ap, inl, inr, refl}
+use Rattle.std.proofs.Common.{arith, length, ◌≡◌, ◌+◌, ◌<◌, ◌≤◌, ℕ, sym, subst, None, Some, List, Option, ◌∙◌, ap, inl}
+use Rattle.std.proofs.Common.{inr, refl}
+use Rattle.std.proofs.lemmas.Option.{none-some, same_Some}
 use Rattle.std.specs.Prelude.{IfSome}
 use Rattle.keeper_memory.specs.copy.Copies.{Copy}
 use Rattle.keeper_memory.specs.copy.Lists.{kind_count}
@@ -18,14 +20,23 @@ use Rattle.roster_base.specs.Faults.{Rose}
 use Rattle.consumer_sync.proofs.DoneLemmas.{start_told}
 use Rattle.consumer_sync.proofs.FaultLemmas.{abort_faults, swap_faults}
 use Rattle.consumer_sync.proofs.MarkLemmas.{marks_asked, marks_kept}
-use Rattle.consumer_sync.proofs.SyncLemmas.{begun_is, drop_done, drop_fails, drop_sync, enter_cause, enter_done, enter_leaves, enter_sync, entry, finish_by, finish_other, last_dropped, last_entered, last_low, own_few, own_token, swap_leaves, swap_run, swap_sync}
+use Rattle.consumer_sync.proofs.SyncLemmas.{begun_is, drop_done, drop_fails, drop_sync, enter_cause, enter_done}
+use Rattle.consumer_sync.proofs.SyncLemmas.{enter_leaves, enter_sync, entry, finish_by, finish_other, last_dropped}
+use Rattle.consumer_sync.proofs.SyncLemmas.{last_entered, last_low, own_few, own_token, swap_leaves, swap_run}
+use Rattle.consumer_sync.proofs.SyncLemmas.{swap_sync}
 use Rattle.consumer_sync.specs.Filling.{Ends, HasToken, PinLaw}
 use Rattle.consumer_sync.specs.Starting.{StartCause, unentered}
 use Rattle.consumer_deltas.proofs.DeltaDoneLemmas.{done_of}
-use Rattle.consumer_deltas.proofs.DeltaRunLemmas.{some_held, all_ends, begun, bounded_map, broken_cause, broken_done, broken_faults, broken_last, broken_law, broken_leaves, broken_sync, broken_told, delta_marks, drop_leaves, base_stands, has_token, one_base, end_faults, end_last, end_law, end_leaves, end_pin, end_run, end_sync, ended_law, enter_law, faults_as, last_as, none_last, same_moved, none_law, start_cause, start_more, swap_pin, sync_as}
+use Rattle.consumer_deltas.proofs.DeltaRunLemmas.{some_held, all_ends, begun, bounded_map, broken_cause, broken_done}
+use Rattle.consumer_deltas.proofs.DeltaRunLemmas.{broken_faults, broken_last, broken_law, broken_leaves, broken_sync}
+use Rattle.consumer_deltas.proofs.DeltaRunLemmas.{broken_told, delta_marks, drop_leaves, base_stands, has_token}
+use Rattle.consumer_deltas.proofs.DeltaRunLemmas.{one_base, end_faults, end_last, end_law, end_leaves, end_pin, end_run}
+use Rattle.consumer_deltas.proofs.DeltaRunLemmas.{end_sync, ended_law, enter_law, faults_as, last_as, none_last}
+use Rattle.consumer_deltas.proofs.DeltaRunLemmas.{same_moved, none_law, start_cause, start_more, swap_pin, sync_as}
 use Rattle.consumer_deltas.proofs.DeltaStopLemmas.{IsDeltaEnd, halts_end, halts_map, page_replies}
 use Rattle.consumer_deltas.specs.DeltaAnswers.{BaseLaw, DeltaTold, HasBase}
-use Rattle.consumer_deltas.specs.DeltaCalls.{AsksSome, DeltaLastLaw, DeltaSynchronised, IsDeltaDone, IsNewPin, AnswersPin, DeltaBounded}
+use Rattle.consumer_deltas.specs.DeltaCalls.{AsksSome, DeltaLastLaw, DeltaSynchronised, IsDeltaDone, IsNewPin}
+use Rattle.consumer_deltas.specs.DeltaCalls.{AnswersPin, DeltaBounded}
 use Rattle.consumer_deltas.specs.DeltaCauses.{DeltaCause}
 use Rattle.consumer_deltas.specs.DeltaCauses.DeltaCause.{Broke, Halted, Swapped, Unbased, Wants}
 use Rattle.consumer_deltas.specs.DeltaFilling.{BasedBehind, DeltaEnds, FillTold, first_place}
@@ -88,15 +99,15 @@ returns-in-Some-clause-copy g c after stands =
     let end = ended_at c.in-Ok-Some.base cause.0 c.in-Some.answer cause.2 (halts_end _ _ _ _ _ _ cause.0 c.in-Some.answer cause.5) in
     (x.0, old, end_leaves c.args.token.now c.in-Ok-Some.base c.in-Some.answer x.0 z.0 after (begun_is c.args.token.now x.0 y.0 z.0 c.in-Ok.state c.in-Ok-drop_other.begun x.2 y.2) end has (subst (λ r. DeltaEnds c.args.token.now c.in-Ok-Some.base r z.0 after) c.in-Some.is z.2.0))
 
-pub returns-in-Some-stage-clause-copy : goal.returns-in-Some-stage-clause-copy
-returns-in-Some-stage-clause-copy g c after stands =
+pub returns-clause-copy : goal.returns-clause-copy
+returns-clause-copy g c after stands =
     let w = c.finish.ensures.told after stands in
     let z = c.fill.ensures.copy w.0 w.1 in
     let y = c.in-Ok-drop_other.ensures.told z.0 z.1 in
     let x = c.in-Ok.ensures.told y.0 y.1 in
     let old = c.base_under.ensures.same x.0 x.1 in
     let has = some_held (g.C.CopyKeeper.stands_for c.base_under.new.copy) c.args.token.now c.in-Ok-Some.field-0 c.in-Ok-Some.base c.in-Ok-Some.ensures.some c.in-Ok-Some.field-0-is x.0 x.1 in
-    (x.0, old, swap_leaves c.args.token.now x.0 z.0 w.0 after c.in-Some-stage.s c.finish.result (begun_is c.args.token.now x.0 y.0 z.0 c.in-Ok.state c.in-Ok-drop_other.begun x.2 y.2) (all_ends c.args.token.now z.0 w.0 (subst (λ r. DeltaEnds c.args.token.now c.in-Ok-Some.base r z.0 w.0) c.in-None.is z.2.0)) (c.fill.ensures.holds c.in-None.is w.0 w.1 ∙ c.in-Some-stage.is) (subst (λ (o : Option StageState). kinds_of o ≡ kind_count) c.in-Some-stage.is (c.fill.ensures.done c.in-None.is)) w.2)
+    (x.0, old, swap_leaves c.args.token.now x.0 z.0 w.0 after c.in-Some-stage.s c.finish.result (begun_is c.args.token.now x.0 y.0 z.0 c.in-Ok.state c.in-Ok-drop_other.begun x.2 y.2) (all_ends c.args.token.now z.0 w.0 (subst (λ r. DeltaEnds c.args.token.now c.in-Ok-Some.base r z.0 w.0) c.in_default.is z.2.0)) (c.fill.ensures.holds c.in_default.is w.0 w.1 ∙ c.in-Some-stage.is) (subst (λ (o : Option StageState). kinds_of o ≡ kind_count) c.in-Some-stage.is (c.fill.ensures.done c.in_default.is)) w.2)
 
 pub returns-in-Err-clause-base : goal.returns-in-Err-clause-base
 returns-in-Err-clause-base g c after stands =
@@ -132,8 +143,8 @@ returns-in-Some-clause-base g c after stands =
     let end = ended_at c.in-Ok-Some.base cause.0 c.in-Some.answer cause.2 (halts_end _ _ _ _ _ _ cause.0 c.in-Some.answer cause.5) in
     (x.0, old, end_law c.in-Ok-Some.base c.args.token.now c.in-Some.answer x.0 end has)
 
-pub returns-in-Some-stage-clause-base : goal.returns-in-Some-stage-clause-base
-returns-in-Some-stage-clause-base g c after stands =
+pub returns-clause-base : goal.returns-clause-base
+returns-clause-base g c after stands =
     let w = c.finish.ensures.told after stands in
     let z = c.fill.ensures.copy w.0 w.1 in
     let y = c.in-Ok-drop_other.ensures.told z.0 z.1 in
@@ -174,15 +185,15 @@ returns-in-Some-clause-faulted g c after stands =
     let has = some_held (g.C.CopyKeeper.stands_for c.base_under.new.copy) c.args.token.now c.in-Ok-Some.field-0 c.in-Ok-Some.base c.in-Ok-Some.ensures.some c.in-Ok-Some.field-0-is x.0 x.1 in
     (x.0, old, end_faults c.args.token.now (g.L.Link.kept c.fill.new.link) c.in-Some.answer x.0 z.0 after (begun_is c.args.token.now x.0 y.0 z.0 c.in-Ok.state c.in-Ok-drop_other.begun x.2 y.2) z.2.1)
 
-pub returns-in-Some-stage-clause-faulted : goal.returns-in-Some-stage-clause-faulted
-returns-in-Some-stage-clause-faulted g c after stands =
+pub returns-clause-faulted : goal.returns-clause-faulted
+returns-clause-faulted g c after stands =
     let w = c.finish.ensures.told after stands in
     let z = c.fill.ensures.copy w.0 w.1 in
     let y = c.in-Ok-drop_other.ensures.told z.0 z.1 in
     let x = c.in-Ok.ensures.told y.0 y.1 in
     let old = c.base_under.ensures.same x.0 x.1 in
     let has = some_held (g.C.CopyKeeper.stands_for c.base_under.new.copy) c.args.token.now c.in-Ok-Some.field-0 c.in-Ok-Some.base c.in-Ok-Some.ensures.some c.in-Ok-Some.field-0-is x.0 x.1 in
-    (x.0, old, faults_as c.args.token.now (g.L.Link.kept c.fill.new.link) c.finish.result x.0 after (λ is. swap_faults c.args.token.now (g.L.Link.kept c.fill.new.link) x.0 z.0 w.0 after c.in-Some-stage.s c.finish.result (begun_is c.args.token.now x.0 y.0 z.0 c.in-Ok.state c.in-Ok-drop_other.begun x.2 y.2) (all_ends c.args.token.now z.0 w.0 (subst (λ r. DeltaEnds c.args.token.now c.in-Ok-Some.base r z.0 w.0) c.in-None.is z.2.0)) (c.fill.ensures.holds c.in-None.is w.0 w.1 ∙ c.in-Some-stage.is) (subst (λ (o : Option StageState). kinds_of o ≡ kind_count) c.in-Some-stage.is (c.fill.ensures.done c.in-None.is)) is w.2))
+    (x.0, old, faults_as c.args.token.now (g.L.Link.kept c.fill.new.link) c.finish.result x.0 after (λ is. swap_faults c.args.token.now (g.L.Link.kept c.fill.new.link) x.0 z.0 w.0 after c.in-Some-stage.s c.finish.result (begun_is c.args.token.now x.0 y.0 z.0 c.in-Ok.state c.in-Ok-drop_other.begun x.2 y.2) (all_ends c.args.token.now z.0 w.0 (subst (λ r. DeltaEnds c.args.token.now c.in-Ok-Some.base r z.0 w.0) c.in_default.is z.2.0)) (c.fill.ensures.holds c.in_default.is w.0 w.1 ∙ c.in-Some-stage.is) (subst (λ (o : Option StageState). kinds_of o ≡ kind_count) c.in-Some-stage.is (c.fill.ensures.done c.in_default.is)) is w.2))
 
 pub returns-in-Err-clause-last_run : goal.returns-in-Err-clause-last_run
 returns-in-Err-clause-last_run g c after stands =
@@ -218,8 +229,8 @@ returns-in-Some-clause-last_run g c after stands =
     let end = ended_at c.in-Ok-Some.base cause.0 c.in-Some.answer cause.2 (halts_end _ _ _ _ _ _ cause.0 c.in-Some.answer cause.5) in
     (x.0, old, end_last c.in-Ok-Some.base c.in-Some.answer x.0 after c.in-Ok.state.run end (x.2).0 c.in-Ok.ensures.run.1)
 
-pub returns-in-Some-stage-clause-last_run : goal.returns-in-Some-stage-clause-last_run
-returns-in-Some-stage-clause-last_run g c after stands =
+pub returns-clause-last_run : goal.returns-clause-last_run
+returns-clause-last_run g c after stands =
     let w = c.finish.ensures.told after stands in
     let z = c.fill.ensures.copy w.0 w.1 in
     let y = c.in-Ok-drop_other.ensures.told z.0 z.1 in
@@ -306,9 +317,9 @@ returns-in-Some-clause-cause g c =
       exact = λ w own. cause.6 w own;
     }
 
-pub returns-in-Some-stage-clause-cause : goal.returns-in-Some-stage-clause-cause
-returns-in-Some-stage-clause-cause g c =
-    let cause = c.in-None.ensures.cause in
+pub returns-clause-cause : goal.returns-clause-cause
+returns-clause-cause g c =
+    let cause = c.in_default.ensures.cause in
     record {
       run = c.in-Ok.state.run;
       count = cause.1;
@@ -325,7 +336,7 @@ returns-in-Some-stage-clause-cause g c =
           let w = c.finish.ensures.told d stands in
           let z = c.fill.ensures.copy w.0 w.1 in
           let y = c.in-Ok-drop_other.ensures.told z.0 z.1 in
-          swap_run c.finish.result _ w.0 d w.2 ∙ (subst (λ r. DeltaEnds c.args.token.now c.in-Ok-Some.base r z.0 w.0) c.in-None.is z.2.0).run ∙ ap (λ (e : Copy). e.run) y.2 ∙ (c.in-Ok.ensures.holds y.0 y.1).0;
+          swap_run c.finish.result _ w.0 d w.2 ∙ (subst (λ r. DeltaEnds c.args.token.now c.in-Ok-Some.base r z.0 w.0) c.in_default.is z.2.0).run ∙ ap (λ (e : Copy). e.run) y.2 ∙ (c.in-Ok.ensures.holds y.0 y.1).0;
       only = finish_by (λ a. DeltaCause (g.L.Link.kept c.fill.new.link) c.in-Ok.state.run cause.1 ((c.args.tries ≤ g.L.Link.missed c.fill.new.link) × (c.args.tries ≤ cause.1) × RoseBy c.args.tries (g.L.Link.fault_count c.args.link.now) (g.L.Link.fault_count c.fill.new.link)) (Rose (g.C.CopyKeeper.fault_count c.args.copy.now) (g.C.CopyKeeper.fault_count c.finish.new.copy)) (g.C.CopyKeeper.stands_for c.finish.new.copy) cause.0 (Ended a)) c.finish.result c.in-Some-stage.s.pin c.finish.ensures.answers (Swapped c.in-Some-stage.s.pin refl)
           (λ e. Broke (let rose = c.finish.ensures.cause e in omega (arith, rose, c.base_under.ensures.later, c.begin_run.ensures.later, c.drop_other.ensures.later, c.fill.ensures.later)) refl) (Wants refl);
       exact = λ w own. page_replies cause.0 w _ (cause.6 w own);
@@ -351,8 +362,8 @@ pub returns-in-Some-clause-later : goal.returns-in-Some-clause-later
 returns-in-Some-clause-later g c =
     omega (arith, c.base_under.ensures.later, c.begin_run.ensures.later, c.drop_other.ensures.later, c.fill.ensures.later)
 
-pub returns-in-Some-stage-clause-later : goal.returns-in-Some-stage-clause-later
-returns-in-Some-stage-clause-later g c =
+pub returns-clause-later : goal.returns-clause-later
+returns-clause-later g c =
     omega (arith, c.base_under.ensures.later, c.begin_run.ensures.later, c.drop_other.ensures.later, c.fill.ensures.later, c.finish.ensures.later)
 
 pub returns-in-Err-clause-link_leads : goal.returns-in-Err-clause-link_leads
@@ -383,8 +394,8 @@ pub returns-in-Some-clause-copy_leads : goal.returns-in-Some-clause-copy_leads
 returns-in-Some-clause-copy_leads g c =
     g.met.C.CopyKeeper.leads_on _ _ _ (g.met.C.CopyKeeper.leads_on _ _ _ (g.met.C.CopyKeeper.leads_on _ _ _ c.base_under.ensures.copy_leads c.begin_run.ensures.copy_leads) c.drop_other.ensures.copy_leads) c.fill.ensures.copy_leads
 
-pub returns-in-Some-stage-clause-copy_leads : goal.returns-in-Some-stage-clause-copy_leads
-returns-in-Some-stage-clause-copy_leads g c =
+pub returns-clause-copy_leads : goal.returns-clause-copy_leads
+returns-clause-copy_leads g c =
     g.met.C.CopyKeeper.leads_on _ _ _ (g.met.C.CopyKeeper.leads_on _ _ _ (g.met.C.CopyKeeper.leads_on _ _ _ (g.met.C.CopyKeeper.leads_on _ _ _ c.base_under.ensures.copy_leads c.begin_run.ensures.copy_leads) c.drop_other.ensures.copy_leads) c.fill.ensures.copy_leads) c.finish.ensures.copy_leads
 
 pub returns-in-Err-clause-asks : goal.returns-in-Err-clause-asks
@@ -451,12 +462,6 @@ returns-in-Err-drop_other-clause-asks g c after tells = (
   },
 )
 
-some_answer : {a b : DeltaAnswer} → Some a ≡ Some b → a ≡ b
-some_answer e = cc
-
-none_answer : {a : DeltaAnswer} {K : Type 0} → None ≡ Some a → K
-none_answer e = cc
-
 pub returns-in-Some-clause-asks : goal.returns-in-Some-clause-asks
 returns-in-Some-clause-asks g c after tells =
     let f = c.fill.ensures.asks in
@@ -478,12 +483,12 @@ returns-in-Some-clause-asks g c after tells =
             end_run c.args.token.now c.in-Ok-Some.base c.in-Some.answer z.0 d (subst (λ r. DeltaEnds c.args.token.now c.in-Ok-Some.base r z.0 d) c.in-Some.is z.2.0) ∙ ap (λ (e : Copy). e.run) y.2 ∙ (c.in-Ok.ensures.holds y.0 y.1).0;
         counts = f.1;
         some = subst (λ r. IfSome r (λ a. AsksSome a f.0)) c.in-Some.is f.2;
-        each = sends_weaker _ _ c.in-Ok.state.run 0 f.0 _ _ _ _ (λ n q h. h) (λ e. some_answer (sym c.in-Some.is ∙ e)) v.2;
+        each = sends_weaker _ _ c.in-Ok.state.run 0 f.0 _ _ _ _ (λ n q h. h) (λ e. same_Some _ _ (sym c.in-Some.is ∙ e)) v.2;
       },
     )
 
-pub returns-in-Some-stage-clause-asks : goal.returns-in-Some-stage-clause-asks
-returns-in-Some-stage-clause-asks g c after tells =
+pub returns-clause-asks : goal.returns-clause-asks
+returns-clause-asks g c after tells =
     let f = c.fill.ensures.asks in
     let v = f.3 after tells in (
       v.0,
@@ -502,10 +507,10 @@ returns-in-Some-stage-clause-asks g c after tells =
             let w = c.finish.ensures.told d stands in
             let z = c.fill.ensures.copy w.0 w.1 in
             let y = c.in-Ok-drop_other.ensures.told z.0 z.1 in
-            swap_run c.finish.result _ w.0 d w.2 ∙ (subst (λ r. DeltaEnds c.args.token.now c.in-Ok-Some.base r z.0 w.0) c.in-None.is z.2.0).run ∙ ap (λ (e : Copy). e.run) y.2 ∙ (c.in-Ok.ensures.holds y.0 y.1).0;
+            swap_run c.finish.result _ w.0 d w.2 ∙ (subst (λ r. DeltaEnds c.args.token.now c.in-Ok-Some.base r z.0 w.0) c.in_default.is z.2.0).run ∙ ap (λ (e : Copy). e.run) y.2 ∙ (c.in-Ok.ensures.holds y.0 y.1).0;
         counts = f.1;
         some = tt;
-        each = sends_weaker _ _ c.in-Ok.state.run 0 f.0 _ _ _ _ (λ n q h. h) (λ e. none_answer (sym c.in-None.is ∙ e)) v.2;
+        each = sends_weaker _ _ c.in-Ok.state.run 0 f.0 _ _ _ _ (λ n q h. h) (λ e. absurd (none-some _ (sym c.in_default.is ∙ e))) v.2;
       },
     )
 
@@ -562,8 +567,8 @@ returns-in-Some-clause-told g c agree after tells stands told =
     let stays = subst (λ (o : Option StageState). BasedBehind o (fill.0).hub after c.in-Some.answer) stage_is fin.stays in
     (x.0, fill.0, old, fill.1, end_sync c.args.token.now c.in-Ok-Some.base c.in-Ok.state.run fill.2 c.in-Some.answer x.0 z.0 after fill.0 tells (begun_is c.args.token.now x.0 y.0 z.0 c.in-Ok.state c.in-Ok-drop_other.begun x.2 y.2) end has (subst (λ r. DeltaEnds c.args.token.now c.in-Ok-Some.base r z.0 after) c.in-Some.is z.2.0) run_is fill.4 (agree x.0 fill.0 old fill.1) fin.fits stays)
 
-pub returns-in-Some-stage-clause-told : goal.returns-in-Some-stage-clause-told
-returns-in-Some-stage-clause-told g c agree after tells stands told =
+pub returns-clause-told : goal.returns-clause-told
+returns-clause-told g c agree after tells stands told =
     let w = c.finish.ensures.told after stands in
     let z = c.fill.ensures.copy w.0 w.1 in
     let y = c.in-Ok-drop_other.ensures.told z.0 z.1 in
@@ -578,7 +583,7 @@ returns-in-Some-stage-clause-told g c agree after tells stands told =
     let e = entry c.args.token.now c.in-Ok.state.run x2.0 d t at (x2.2).0 (agree x2.0 t (c.base_under.ensures.same x2.0 x2.1) tt) in
     (e.0, e.1, begun_base c.in-Ok-Some.base c.args.token.now x2.0 d at (some_held (g.C.CopyKeeper.stands_for c.base_under.new.copy) c.args.token.now c.in-Ok-Some.field-0 c.in-Ok-Some.base c.in-Ok-Some.ensures.some c.in-Ok-Some.field-0-is x2.0 x2.1)))
     w.0 tells w.1 told in
-    let fin = subst (λ r. FillTold c.args.token.now c.args.limit c.args.tries c.in-Ok-Some.base fill.2 c.in-Ok-drop_other.begun c.fill.new.stage r fill.0 tells w.0) c.in-None.is fill.5 in
+    let fin = subst (λ r. FillTold c.args.token.now c.args.limit c.args.tries c.in-Ok-Some.base fill.2 c.in-Ok-drop_other.begun c.fill.new.stage r fill.0 tells w.0) c.in_default.is fill.5 in
     let run_is : c.in-Ok.state.run ≡ (x.0).run + 1 = (x.2).0 in
     let stage_is : c.in-Ok-drop_other.begun ≡ own_state c.args.token.now (stage_of x.0) =
     c.in-Ok-drop_other.ensures.ok ∙ ap (own_state c.args.token.now) (sym ((c.in-Ok.ensures.holds y.0 y.1).1) ∙ ap stage_of (x.2).1) in (
@@ -588,9 +593,9 @@ returns-in-Some-stage-clause-told g c agree after tells stands told =
       fill.1,
       sync_as c.args.token.now c.finish.result x.0 fill.0 after tells fill.4.moved (swap_sync c.args.token.now c.in-Ok.state.run fill.2 x.0 w.0 after c.in-Some-stage.s fill.0 tells c.finish.result
           (record {
-            ends = subst (λ (d : Copy). Ends c.args.token.now None d w.0) (begun_is c.args.token.now x.0 y.0 z.0 c.in-Ok.state c.in-Ok-drop_other.begun x.2 y.2) (all_ends c.args.token.now z.0 w.0 (subst (λ r. DeltaEnds c.args.token.now c.in-Ok-Some.base r z.0 w.0) c.in-None.is z.2.0));
-            state = (c.fill.ensures.holds c.in-None.is w.0 w.1 ∙ c.in-Some-stage.is);
-            all = (subst (λ (o : Option StageState). kinds_of o ≡ kind_count) c.in-Some-stage.is (c.fill.ensures.done c.in-None.is));
+            ends = subst (λ (d : Copy). Ends c.args.token.now None d w.0) (begun_is c.args.token.now x.0 y.0 z.0 c.in-Ok.state c.in-Ok-drop_other.begun x.2 y.2) (all_ends c.args.token.now z.0 w.0 (subst (λ r. DeltaEnds c.args.token.now c.in-Ok-Some.base r z.0 w.0) c.in_default.is z.2.0));
+            state = (c.fill.ensures.holds c.in_default.is w.0 w.1 ∙ c.in-Some-stage.is);
+            all = (subst (λ (o : Option StageState). kinds_of o ≡ kind_count) c.in-Some-stage.is (c.fill.ensures.done c.in_default.is));
             run_is = run_is;
             asks = fill.4;
             agree = agree x.0 fill.0 old fill.1;
@@ -660,8 +665,8 @@ returns-in-Some-clause-bound g c agree after tells stands told =
       ),
     )
 
-pub returns-in-Some-stage-clause-bound : goal.returns-in-Some-stage-clause-bound
-returns-in-Some-stage-clause-bound g c agree after tells stands told =
+pub returns-clause-bound : goal.returns-clause-bound
+returns-clause-bound g c agree after tells stands told =
     let w = c.finish.ensures.told after stands in
     let z = c.fill.ensures.copy w.0 w.1 in
     let y = c.in-Ok-drop_other.ensures.told z.0 z.1 in
@@ -676,7 +681,7 @@ returns-in-Some-stage-clause-bound g c agree after tells stands told =
     let e = entry c.args.token.now c.in-Ok.state.run x2.0 d t at (x2.2).0 (agree x2.0 t (c.base_under.ensures.same x2.0 x2.1) tt) in
     (e.0, e.1, begun_base c.in-Ok-Some.base c.args.token.now x2.0 d at (some_held (g.C.CopyKeeper.stands_for c.base_under.new.copy) c.args.token.now c.in-Ok-Some.field-0 c.in-Ok-Some.base c.in-Ok-Some.ensures.some c.in-Ok-Some.field-0-is x2.0 x2.1)))
     w.0 tells w.1 told in
-    let fin = subst (λ r. FillTold c.args.token.now c.args.limit c.args.tries c.in-Ok-Some.base fill.2 c.in-Ok-drop_other.begun c.fill.new.stage r fill.0 tells w.0) c.in-None.is fill.5 in
+    let fin = subst (λ r. FillTold c.args.token.now c.args.limit c.args.tries c.in-Ok-Some.base fill.2 c.in-Ok-drop_other.begun c.fill.new.stage r fill.0 tells w.0) c.in_default.is fill.5 in
     let stage_is : c.in-Ok-drop_other.begun ≡ own_state c.args.token.now (stage_of x.0) =
     c.in-Ok-drop_other.ensures.ok ∙ ap (own_state c.args.token.now) (sym ((c.in-Ok.ensures.holds y.0 y.1).1) ∙ ap stage_of (x.2).1) in (
       x.0,
@@ -690,7 +695,7 @@ returns-in-Some-stage-clause-bound g c agree after tells stands told =
         has,
         subst (λ (o : Option StageState). DeltaBounded fill.2 c.args.tries c.args.limit c.args.token.now c.in-Ok-Some.base o (IsNewPin (AnswersPin (Ended c.finish.result)) after fill.0.hub tells.hub) tells.hub) stage_is
             (bounded_map fill.2 c.args.tries c.args.limit c.args.token.now c.in-Ok-Some.base c.in-Ok-drop_other.begun _ (IsNewPin (AnswersPin (Ended c.finish.result)) after fill.0.hub tells.hub) tells.hub
-            (λ v p. swap_pin c.finish.result c.in-Some-stage.s w.0 after fill.0.hub tells.hub v (c.fill.ensures.holds c.in-None.is w.0 w.1 ∙ c.in-Some-stage.is) w.2 p) fin.bound),
+            (λ v p. swap_pin c.finish.result c.in-Some-stage.s w.0 after fill.0.hub tells.hub v (c.fill.ensures.holds c.in_default.is w.0 w.1 ∙ c.in-Some-stage.is) w.2 p) fin.bound),
       ),
     )
 
@@ -723,8 +728,8 @@ returns-in-Some-clause-cause_told g c agree after tells stands told =
     let fin = subst (λ r. FillTold c.args.token.now c.args.limit c.args.tries c.in-Ok-Some.base fill.2 c.in-Ok-drop_other.begun c.fill.new.stage r fill.0 tells after) c.in-Some.is fill.5 in
     (fill.0, fill.1, fin.cause)
 
-pub returns-in-Some-stage-clause-cause_told : goal.returns-in-Some-stage-clause-cause_told
-returns-in-Some-stage-clause-cause_told g c agree after tells stands told =
+pub returns-clause-cause_told : goal.returns-clause-cause_told
+returns-clause-cause_told g c agree after tells stands told =
     let l = c.fill.ensures.link tells told in
     (l.0, l.1, finish_by (λ a. DeltaTold c.args.token.now l.0 tells (Ended a)) c.finish.result c.in-Some-stage.s.pin c.finish.ensures.answers tt (λ e. tt) tt)
 
@@ -787,8 +792,8 @@ returns-in-Some-clause-complete g c agree link copy after tells stands told =
           hub stands' at' on',
     )
 
-pub returns-in-Some-stage-clause-complete : goal.returns-in-Some-stage-clause-complete
-returns-in-Some-stage-clause-complete g c agree link copy after tells stands told =
+pub returns-clause-complete : goal.returns-clause-complete
+returns-clause-complete g c agree link copy after tells stands told =
     let w = c.finish.ensures.told after stands in
     let z = c.fill.ensures.copy w.0 w.1 in
     let y = c.in-Ok-drop_other.ensures.told z.0 z.1 in
@@ -835,8 +840,8 @@ returns-in-Some-clause-marks g c agree after tells stands told =
     let l = c.fill.ensures.link tells told in
     delta_marks c.args.token.now c.in-Some.answer x.0 after tells x.2 (marks_asked c.in-Ok.state.run l.2 x.0 l.0 tells l.3 (agree x.0 l.0 x.1 l.1))
 
-pub returns-in-Some-stage-clause-marks : goal.returns-in-Some-stage-clause-marks
-returns-in-Some-stage-clause-marks g c agree after tells stands told =
-    let x = returns-in-Some-stage-clause-copy g c after stands in
+pub returns-clause-marks : goal.returns-clause-marks
+returns-clause-marks g c agree after tells stands told =
+    let x = returns-clause-copy g c after stands in
     let l = c.fill.ensures.link tells told in
     marks_kept c.args.token.now _ x.0 after tells x.2 (marks_asked c.in-Ok.state.run l.2 x.0 l.0 tells l.3 (agree x.0 l.0 x.1 l.1))

@@ -1,4 +1,5 @@
-use Rattle.std.proofs.Common.{◌≡◌, ◌+◌, ◌≤◌, ⊎_elim, ◌++◌, [], List, true, None, Option, Some, arith, drop, length, map, take, refl, sym, ap, subst, ◌∙◌}
+use Rattle.std.proofs.Common.{◌≡◌, ◌+◌, ◌≤◌, ⊎_elim, ◌++◌, [], List, true, None, Option, Some, arith, drop, length, map}
+use Rattle.std.proofs.Common.{take, refl, sym, ap, subst, ◌∙◌}
 use Rattle.std.specs.List.{All}
 use Rattle.std.proofs.Math.Seq.{take-add}
 use Rattle.std.proofs.lemmas.List.{length-drop, length-map, take_all, take-append-drop}
@@ -10,7 +11,9 @@ use Rattle.exchange_link.specs.Places.{kinds_of, last_of, staged_of}
 use Rattle.keeper_memory.specs.copy.Lists.{ascends, last_from}
 use Rattle.keeper_memory.specs.declared.copy.state.StageState.{StageState}
 use Rattle.roster_types.specs.Records.{Record}
-use Rattle.consumer_deltas.proofs.DeltaStageLemmas.{Sofar, behind_up, ended_same, following_kinds, following_up, front_of, page_up, paged_kinds, paged_last, paged_staged, sofar_on, stages_part, stages_whole}
+use Rattle.consumer_deltas.proofs.DeltaStageLemmas.{Sofar, behind_up, ended_same, following_kinds, following_up}
+use Rattle.consumer_deltas.proofs.DeltaStageLemmas.{front_of, page_up, paged_kinds, paged_last, paged_staged, sofar_on}
+use Rattle.consumer_deltas.proofs.DeltaStageLemmas.{stages_part, stages_whole}
 use Rattle.consumer_deltas.proofs.DeltaStageLemmas.Sofar.{Nothing}
 use Rattle.consumer_deltas.specs.DeltaStaging.{Stages}
 use Rattle.consumer_deltas.proofs.staged.stage_rows.Goals as goal

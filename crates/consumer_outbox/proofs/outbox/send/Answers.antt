@@ -10,7 +10,9 @@ use Rattle.exchange_link.specs.SendCompleteness.{IsFine}
 use Rattle.exchange_link.specs.Sent.{SendLeaves}
 use Rattle.exchange_link.specs.SentTold.{WasSent}
 use Rattle.consumer_outbox.proofs.AllLemmas.{cause_more}
-use Rattle.consumer_outbox.proofs.CallLemmas.{agree_ended, bound_begun, can_begun, last_ended, leaves_ended, ready_begun, run_is, start_fine, start_last, start_leaves, start_told, started_caused}
+use Rattle.consumer_outbox.proofs.CallLemmas.{agree_ended, bound_begun, can_begun, last_ended, leaves_ended}
+use Rattle.consumer_outbox.proofs.CallLemmas.{ready_begun, run_is, start_fine, start_last, start_leaves, start_told}
+use Rattle.consumer_outbox.proofs.CallLemmas.{started_caused}
 use Rattle.consumer_outbox.proofs.TriedLemmas.{begun_tried}
 use Rattle.consumer_outbox.proofs.outbox.send.Goals as goal
 

@@ -1,24 +1,21 @@
 use Rattle.std.proofs.Common.{◌≡◌, ◌+◌, inl, inr, refl, subst, ◌∙◌, Some, None, arith}
+use Rattle.std.proofs.lemmas.Option.{none-some, same_Some}
 use Rattle.std.specs.Prelude.{IfSome, Option}
 use Rattle.keeper_memory.specs.copy.Copies.{Copy, first_unsettled}
 use Rattle.keeper_memory.specs.copy.States.{CanBeEntry}
 use Rattle.keeper_memory.specs.declared.copy.entry.OutEntry.{OutEntry}
 use Rattle.exchange_link.specs.Exchanges.{Told}
-use Rattle.exchange_link.specs.declared.send_answer.SendAnswer.{SendAnswer}
 use Rattle.exchange_link.proofs.AskLemmas.{moved_on, moved_refl}
 use Rattle.exchange_link.proofs.AskedLemmas.{sends_refl, sends_weaker}
 use Rattle.exchange_link.specs.Asked.{IsWriteUnder}
-use Rattle.consumer_outbox.proofs.AllLemmas.{aside_cause, aside_fine, aside_names, aside_settled, aside_stays, aside_told, bound_at, bound_next, can_send, cause_more, end_names, end_not_last, entry_left, goes_end, goes_on, goes_to, more_none, more_to, rose_from, so_far_none, told_on}
+use Rattle.consumer_outbox.proofs.AllLemmas.{aside_cause, aside_fine, aside_names, aside_settled, aside_stays}
+use Rattle.consumer_outbox.proofs.AllLemmas.{aside_told, bound_at, bound_next, can_send, cause_more, end_names}
+use Rattle.consumer_outbox.proofs.AllLemmas.{end_not_last, entry_left, goes_end, goes_on, goes_to, more_none, more_to}
+use Rattle.consumer_outbox.proofs.AllLemmas.{rose_from, so_far_none, told_on}
 use Rattle.consumer_outbox.proofs.TriedLemmas.{aside_tried, entry_tried, sends_entry}
 use Rattle.consumer_outbox.proofs.VerdictLemmas.{settled_exact}
 use Rattle.consumer_outbox.proofs.WalkLemmas.{walk_begins, walk_over}
 use Rattle.consumer_outbox.proofs.sending.send_all.Goals as goal
-
-none_some : {a : SendAnswer} → None ≡ Some a → ⊥
-none_some e = cc
-
-some_answer : {a b : SendAnswer} → Some a ≡ Some b → a ≡ b
-some_answer e = cc
 
 pub entries-init : goal.entries-init
 entries-init g c = record {
@@ -185,7 +182,7 @@ entries-preserved g c =
             z.2,
             z.3,
             goes_on c.entries.settled _ z.0 x.0 d c.in-Ok-Some.entry z.4 first x.2,
-            sends_entry c.args.by.token.now c.entries.settled c.args.by.run c.entries.count c.send_entry.new.count z.0 x.0 c.in-Ok-Some.entry _ ⊥ _ _ _ z.4 first (λ e. absurd (none_some e)) z.5 y.2,
+            sends_entry c.args.by.token.now c.entries.settled c.args.by.run c.entries.count c.send_entry.new.count z.0 x.0 c.in-Ok-Some.entry _ ⊥ _ _ _ z.4 first (λ e. absurd (none-some _ e)) z.5 y.2,
           );
       agree = λ entry d t stands tells. c.in-None.ensures.agree (λ (e : Copy) (u : Told) se te. c.entries.invariant.agree entry e u (c.next_unsettled.ensures.same e se) te) d t stands tells;
       heard = omega (arith, c.entries.invariant.heard, c.send_entry.ensures.heard);
@@ -251,7 +248,7 @@ returns-in-Some-clause-asks g c = (
         z.1,
         z.2,
         z.3,
-        sends_entry c.args.by.token.now c.entries.settled c.args.by.run c.entries.count c.send_entry.new.count z.0 x.0 c.in-Ok-Some.entry _ _ _ _ _ z.4 first (λ e. some_answer e) z.5 y.2,
+        sends_entry c.args.by.token.now c.entries.settled c.args.by.run c.entries.count c.send_entry.new.count z.0 x.0 c.in-Ok-Some.entry _ _ _ _ _ z.4 first (λ e. same_Some _ _ e) z.5 y.2,
         entry_tried c.in-Some.answer c.args.by.token.now c.args.by.run c.entries.count c.send_entry.new.count c.args.by.tries c.in-Ok-Some.entry d.entries _ _ (λ ends. c.in-Some.ensures.stays d stands ends) c.in-Some.ensures.full y.2,
       ),
 )

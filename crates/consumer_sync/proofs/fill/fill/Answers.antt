@@ -18,11 +18,13 @@ use Rattle.exchange_link.proofs.AskedLemmas.{sends_weaker}
 use Rattle.exchange_link.proofs.FitLemmas.{copy_on}
 use Rattle.exchange_link.specs.Asked.{IsPageUnder}
 use Rattle.exchange_link.specs.Causes.{IsPageStatus}
-use Rattle.consumer_sync.proofs.BoundLemmas.{StandingIf, bound_done, bound_end, bound_on, call_pin, pin_performs, pin_same, standing_if}
+use Rattle.consumer_sync.proofs.BoundLemmas.{StandingIf, bound_done, bound_end, bound_on, call_pin, pin_performs}
+use Rattle.consumer_sync.proofs.BoundLemmas.{pin_same, standing_if}
 use Rattle.consumer_sync.proofs.CauseLemmas.{answer_cause, broken_cause, exact_own, page_status, performs_on}
 use Rattle.consumer_sync.proofs.DoneLemmas.{broken_told, own_done, own_told}
 use Rattle.consumer_sync.proofs.FaultLemmas.{says_gone}
-use Rattle.consumer_sync.proofs.FillLemmas.{can_next, ends_on, fault_stage, fills_end, fills_on, kinds_on, pin_on, small_fits, small_on, token_on, weight_falls}
+use Rattle.consumer_sync.proofs.FillLemmas.{can_next, ends_on, fault_stage, fills_end, fills_on, kinds_on, pin_on}
+use Rattle.consumer_sync.proofs.FillLemmas.{small_fits, small_on, token_on, weight_falls}
 use Rattle.consumer_sync.proofs.JudgeLemmas.{taken_page}
 use Rattle.consumer_sync.proofs.SyncLemmas.{cause_end}
 use Rattle.consumer_sync.proofs.TriedLemmas.{sends_page, tried_own, tried_page}

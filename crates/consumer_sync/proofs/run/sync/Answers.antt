@@ -1,4 +1,5 @@
 use Rattle.std.proofs.Common.{arith, ◌≡◌, ◌+◌, ◌≤◌, ◌⊎◌, sym, subst, None, Some, ◌∙◌, ap, ⊎_elim, inl, inr}
+use Rattle.std.proofs.lemmas.Option.{none-some, same_Some}
 use Rattle.std.specs.Prelude.{Option}
 use Rattle.keeper_memory.specs.copy.Copies.{Copy}
 use Rattle.keeper_memory.specs.copy.Lists.{kind_count}
@@ -20,7 +21,10 @@ use Rattle.consumer_sync.proofs.BoundLemmas.{bounded_map, bounded_zero, swap_pin
 use Rattle.consumer_sync.proofs.CauseLemmas.{exact_page}
 use Rattle.consumer_sync.proofs.DoneLemmas.{start_told}
 use Rattle.consumer_sync.proofs.MarkLemmas.{marks_asked, marks_dropped, marks_kept}
-use Rattle.consumer_sync.proofs.SyncLemmas.{begun_is, cause_whole, drop_done, drop_fails, drop_sync, enter_cause, enter_done, enter_leaves, enter_sync, entry, fill_leaves, fill_sync, finish_by, finish_other, last_dropped, last_ended, last_entered, last_low, own_few, own_token, start_cause, start_on, swap_leaves, swap_run, swap_sync}
+use Rattle.consumer_sync.proofs.SyncLemmas.{begun_is, cause_whole, drop_done, drop_fails, drop_sync, enter_cause}
+use Rattle.consumer_sync.proofs.SyncLemmas.{enter_done, enter_leaves, enter_sync, entry, fill_leaves, fill_sync}
+use Rattle.consumer_sync.proofs.SyncLemmas.{finish_by, finish_other, last_dropped, last_ended, last_entered, last_low}
+use Rattle.consumer_sync.proofs.SyncLemmas.{own_few, own_token, start_cause, start_on, swap_leaves, swap_run, swap_sync}
 use Rattle.consumer_sync.proofs.TriedLemmas.{tried_entered, tried_start}
 use Rattle.consumer_sync.specs.Starting.{StartCause, unentered}
 use Rattle.exchange_link.proofs.AskedLemmas.{sends_refl, sends_weaker}
@@ -83,10 +87,10 @@ returns-in-Some-clause-told g c agree after tells stands told =
           after tells stands told),
     )
 
-pub returns-in-Some-stage-clause-told : goal.returns-in-Some-stage-clause-told
-returns-in-Some-stage-clause-told g c agree after tells stands told =
+pub returns-clause-told : goal.returns-clause-told
+returns-clause-told g c agree after tells stands told =
     let w = c.finish.ensures.told after stands in
-    let z = c.in-None.ensures.copy w.0 w.1 in
+    let z = c.in_default.ensures.copy w.0 w.1 in
     let y = c.in-Ok-drop_other.ensures.told z.0 z.1 in
     let x = c.in-Ok.ensures.told y.0 y.1 in
     let begun = begun_is c.args.token.now x.0 y.0 z.0 c.in-Ok.state c.in-Ok-drop_other.begun x.2 y.2 in
@@ -96,7 +100,7 @@ returns-in-Some-stage-clause-told g c agree after tells stands told =
     let stage_is : c.in-Ok-drop_other.begun ≡ own_state c.args.token.now (stage_of x.0) =
     c.in-Ok-drop_other.ensures.ok ∙ ap (own_state c.args.token.now) (sym ((c.in-Ok.ensures.holds y.0 y.1).1) ∙ ap stage_of (x.2).1) in
     let small = subst (λ (o : Option StageState). IsSmall o) (sym stage_is) (small_own c.args.token.now (stage_of x.0) (small_fits (l.0).hub (g.met.L.Link.is_hub c.args.link.now l.0 l.1) (x.0).stage first.fits.stage)) in
-    let law = l.4 c.in-None.is small (ready_from (x.0).run c.in-Ok.state.run (l.0).sent run_is first.differ first.below) in
+    let law = l.4 c.in_default.is small (ready_from (x.0).run c.in-Ok.state.run (l.0).sent run_is first.differ first.below) in
     let fits = c.fill.ensures.agree
     (λ (d : Copy) (t : Told) sd tt.
     let y2 = c.in-Ok-drop_other.ensures.told d sd in
@@ -110,8 +114,8 @@ returns-in-Some-stage-clause-told g c agree after tells stands told =
       swap_sync c.args.token.now c.in-Ok.state.run l.2 x.0 w.0 after c.in-Some-stage.s l.0 tells c.finish.result
           (record {
             ends = subst (λ (d : Copy). Ends c.args.token.now None d w.0) begun z.2;
-            state = c.fill.ensures.holds c.in-None.is w.0 w.1 ∙ c.in-Some-stage.is;
-            all = subst (λ (o : Option StageState). kinds_of o ≡ kind_count) c.in-Some-stage.is (c.fill.ensures.done c.in-None.is);
+            state = c.fill.ensures.holds c.in_default.is w.0 w.1 ∙ c.in-Some-stage.is;
+            all = subst (λ (o : Option StageState). kinds_of o ≡ kind_count) c.in-Some-stage.is (c.fill.ensures.done c.in_default.is);
             run_is = run_is;
             asks = l.3;
             agree = first;
@@ -153,15 +157,15 @@ returns-in-Some-clause-bound g c agree after tells stands told =
           n.2,
     )
 
-pub returns-in-Some-stage-clause-bound : goal.returns-in-Some-stage-clause-bound
-returns-in-Some-stage-clause-bound g c agree after tells stands told =
+pub returns-clause-bound : goal.returns-clause-bound
+returns-clause-bound g c agree after tells stands told =
     let w = c.finish.ensures.told after stands in
-    let z = c.in-None.ensures.copy w.0 w.1 in
+    let z = c.in_default.ensures.copy w.0 w.1 in
     let y = c.in-Ok-drop_other.ensures.told z.0 z.1 in
     let x = c.in-Ok.ensures.told y.0 y.1 in
     let stage_is : c.in-Ok-drop_other.begun ≡ own_state c.args.token.now (stage_of x.0) =
     c.in-Ok-drop_other.ensures.ok ∙ ap (own_state c.args.token.now) (sym ((c.in-Ok.ensures.holds y.0 y.1).1) ∙ ap stage_of (x.2).1) in
-    let n = c.in-None.ensures.bound
+    let n = c.in_default.ensures.bound
     (λ (d : Copy) (t : Told) sd tt.
     let y2 = c.in-Ok-drop_other.ensures.told d sd in
     let x2 = c.in-Ok.ensures.told y2.0 y2.1 in
@@ -173,7 +177,7 @@ returns-in-Some-stage-clause-bound g c agree after tells stands told =
       n.1,
       subst (λ (o : Option StageState). Bounded n.0 c.args.tries c.args.limit c.args.token.now o (λ v. IsCallPin c.finish.result after tells.sent v) tells.hub) stage_is
           (bounded_map n.0 c.args.tries c.args.limit c.args.token.now c.in-Ok-drop_other.begun (λ v. HasPin v (w.0).stage) (λ v. IsCallPin c.finish.result after tells.sent v) tells.hub
-          (λ v h. swap_pin c.finish.result c.in-Some-stage.s w.0 after tells.sent v (c.fill.ensures.holds c.in-None.is w.0 w.1 ∙ c.in-Some-stage.is) w.2 h) n.2),
+          (λ v h. swap_pin c.finish.result c.in-Some-stage.s w.0 after tells.sent v (c.fill.ensures.holds c.in_default.is w.0 w.1 ∙ c.in-Some-stage.is) w.2 h) n.2),
     )
 
 pub returns-in-Err-clause-complete : goal.returns-in-Err-clause-complete
@@ -203,10 +207,10 @@ returns-in-Some-clause-complete g c agree link copy after tells stands told =
     after tells stands told in
     (x.0, n.0, x.1, n.1, λ low hub at. n.2 hub (subst (λ (o : Option StageState). StandsAt (first_pin o (n.0).hub) c.args.token.now tells.hub) (sym stage_is) at))
 
-pub returns-in-Some-stage-clause-complete : goal.returns-in-Some-stage-clause-complete
-returns-in-Some-stage-clause-complete g c agree link copy after tells stands told =
+pub returns-clause-complete : goal.returns-clause-complete
+returns-clause-complete g c agree link copy after tells stands told =
     let w = c.finish.ensures.told after stands in
-    let z = c.in-None.ensures.copy w.0 w.1 in
+    let z = c.in_default.ensures.copy w.0 w.1 in
     let y = c.in-Ok-drop_other.ensures.told z.0 z.1 in
     let x = c.in-Ok.ensures.told y.0 y.1 in
     let l = c.fill.ensures.link tells told in (
@@ -222,16 +226,16 @@ returns-in-Some-stage-clause-complete g c agree link copy after tells stands tol
           c.finish.ensures.answers,
     )
 
-pub returns-in-Some-stage-clause-copy : goal.returns-in-Some-stage-clause-copy
-returns-in-Some-stage-clause-copy g c after stands =
+pub returns-clause-copy : goal.returns-clause-copy
+returns-clause-copy g c after stands =
     let w = c.finish.ensures.told after stands in
-    let z = c.in-None.ensures.copy w.0 w.1 in
+    let z = c.in_default.ensures.copy w.0 w.1 in
     let y = c.in-Ok-drop_other.ensures.told z.0 z.1 in
     let x = c.in-Ok.ensures.told y.0 y.1 in (
       x.0,
       x.1,
       swap_leaves c.args.token.now x.0 z.0 w.0 after c.in-Some-stage.s c.finish.result (begun_is c.args.token.now x.0 y.0 z.0 c.in-Ok.state c.in-Ok-drop_other.begun x.2 y.2) z.2
-          (c.fill.ensures.holds c.in-None.is w.0 w.1 ∙ c.in-Some-stage.is) (subst (λ (o : Option StageState). kinds_of o ≡ kind_count) c.in-Some-stage.is (c.fill.ensures.done c.in-None.is)) w.2,
+          (c.fill.ensures.holds c.in_default.is w.0 w.1 ∙ c.in-Some-stage.is) (subst (λ (o : Option StageState). kinds_of o ≡ kind_count) c.in-Some-stage.is (c.fill.ensures.done c.in_default.is)) w.2,
     )
 
 pub returns-in-Err-clause-cause_told : goal.returns-in-Err-clause-cause_told
@@ -249,8 +253,8 @@ returns-in-Some-clause-cause_told g c agree after tells stands told =
     entry c.args.token.now c.in-Ok.state.run x2.0 d t (begun_is c.args.token.now x2.0 y2.0 d c.in-Ok.state c.in-Ok-drop_other.begun x2.2 y2.2) (x2.2).0 (agree x2.0 t x2.1 tt))
     after tells stands told
 
-pub returns-in-Some-stage-clause-cause_told : goal.returns-in-Some-stage-clause-cause_told
-returns-in-Some-stage-clause-cause_told g c agree after tells stands told =
+pub returns-clause-cause_told : goal.returns-clause-cause_told
+returns-clause-cause_told g c agree after tells stands told =
     let l = c.fill.ensures.link tells told in (
       l.0,
       l.1,
@@ -290,12 +294,6 @@ returns-in-Err-drop_other-clause-cause g c =
       on = λ on. absurd (start_on _ c.in-Err-drop_other.answer (c.in-Err-drop_other.ensures.cause).1 on);
     }
 
-some_answer : {a b : SyncAnswer} → Some a ≡ Some b → a ≡ b
-some_answer e = cc
-
-none_memory : {a : SyncAnswer} → None ≡ Some a → ⊥
-none_memory e = cc
-
 pub returns-in-Some-clause-cause : goal.returns-in-Some-clause-cause
 returns-in-Some-clause-cause g c =
     let x = c.in-Some.ensures.cause in
@@ -310,13 +308,13 @@ returns-in-Some-clause-cause g c =
           (z.2).run ∙ ap (λ (e : Copy). e.run) y.2 ∙ (c.in-Ok.ensures.holds y.0 y.1).0;
       only = cause_whole x.0 c.args.limit _ _ x.1 _ _ _ c.in-Some.answer (λ rose. omega (arith, rose, c.begin_run.ensures.later, c.drop_other.ensures.later)) x.3;
       exact = x.4;
-      last = λ some ne t tells. x.5 some (λ e. ne (some_answer e)) t tells;
+      last = λ some ne t tells. x.5 some (λ e. ne (same_Some _ _ e)) t tells;
       on = x.6;
     }
 
-pub returns-in-Some-stage-clause-cause : goal.returns-in-Some-stage-clause-cause
-returns-in-Some-stage-clause-cause g c =
-    let x = c.in-None.ensures.cause in
+pub returns-clause-cause : goal.returns-clause-cause
+returns-clause-cause g c =
+    let x = c.in_default.ensures.cause in
     record {
       run = c.in-Ok.state.run;
       count = x.1;
@@ -324,7 +322,7 @@ returns-in-Some-stage-clause-cause g c =
       counts = x.2;
       runs = λ some d stands.
           let v = c.finish.ensures.told d stands in
-          let z = c.in-None.ensures.copy v.0 v.1 in
+          let z = c.in_default.ensures.copy v.0 v.1 in
           let y = c.in-Ok-drop_other.ensures.told z.0 z.1 in
           swap_run c.finish.result _ v.0 d v.2 ∙ (z.2).run ∙ ap (λ (e : Copy). e.run) y.2 ∙ (c.in-Ok.ensures.holds y.0 y.1).0;
       only = finish_by (λ a. CauseOf x.0 c.args.limit (g.L.Link.kept c.fill.new.link) c.in-Ok.state.run x.1
@@ -333,7 +331,7 @@ returns-in-Some-stage-clause-cause g c =
           (λ e. let rose = c.finish.ensures.cause e in omega (arith, rose, c.begin_run.ensures.later, c.drop_other.ensures.later, c.fill.ensures.later)) tt;
       exact = λ w own. finish_by (λ a. IsAside a ⊎ AnswersTo (pin_of x.0) w a) c.finish.result c.in-Some-stage.s.pin c.finish.ensures.answers
           (inr (exact_page (pin_of x.0) w (answer.Complete c.in-Some-stage.s.pin) (x.4 w own))) (λ e. inl tt) (inl tt);
-      last = λ some ne t tells. x.5 some none_memory t tells;
+      last = λ some ne t tells. x.5 some (none-some _) t tells;
       on = λ on. absurd (finish_by (λ a. AsksOn a → ⊥) c.finish.result c.in-Some-stage.s.pin c.finish.ensures.answers (λ n. n) (λ e n. n) (λ n. n) on);
     }
 
@@ -355,16 +353,16 @@ returns-in-Some-clause-faulted g c is after stands =
     let x = c.in-Ok.ensures.told y.0 y.1 in
     (x.0, x.1, fill_faults c.args.token.now _ x.0 z.0 after (begun_is c.args.token.now x.0 y.0 z.0 c.in-Ok.state c.in-Ok-drop_other.begun x.2 y.2) z.2.1)
 
-pub returns-in-Some-stage-clause-faulted : goal.returns-in-Some-stage-clause-faulted
-returns-in-Some-stage-clause-faulted g c is after stands =
+pub returns-clause-faulted : goal.returns-clause-faulted
+returns-clause-faulted g c is after stands =
     let w = c.finish.ensures.told after stands in
-    let z = c.in-None.ensures.copy w.0 w.1 in
+    let z = c.in_default.ensures.copy w.0 w.1 in
     let y = c.in-Ok-drop_other.ensures.told z.0 z.1 in
     let x = c.in-Ok.ensures.told y.0 y.1 in (
       x.0,
       x.1,
       swap_faults c.args.token.now _ x.0 z.0 w.0 after c.in-Some-stage.s c.finish.result (begun_is c.args.token.now x.0 y.0 z.0 c.in-Ok.state c.in-Ok-drop_other.begun x.2 y.2) z.2
-          (c.fill.ensures.holds c.in-None.is w.0 w.1 ∙ c.in-Some-stage.is) (subst (λ (o : Option StageState). kinds_of o ≡ kind_count) c.in-Some-stage.is (c.fill.ensures.done c.in-None.is)) is w.2,
+          (c.fill.ensures.holds c.in_default.is w.0 w.1 ∙ c.in-Some-stage.is) (subst (λ (o : Option StageState). kinds_of o ≡ kind_count) c.in-Some-stage.is (c.fill.ensures.done c.in_default.is)) is w.2,
     )
 
 pub returns-in-Err-clause-last_run : goal.returns-in-Err-clause-last_run
@@ -385,10 +383,10 @@ returns-in-Some-clause-last_run g c after stands =
     let x = c.in-Ok.ensures.told y.0 y.1 in
     (x.0, x.1, last_ended c.in-Some.answer x.0 after c.in-Ok.state.run c.in-Some.ensures.ends (x.2).0 c.in-Ok.ensures.run.1)
 
-pub returns-in-Some-stage-clause-last_run : goal.returns-in-Some-stage-clause-last_run
-returns-in-Some-stage-clause-last_run g c after stands =
+pub returns-clause-last_run : goal.returns-clause-last_run
+returns-clause-last_run g c after stands =
     let w = c.finish.ensures.told after stands in
-    let z = c.in-None.ensures.copy w.0 w.1 in
+    let z = c.in_default.ensures.copy w.0 w.1 in
     let y = c.in-Ok-drop_other.ensures.told z.0 z.1 in
     let x = c.in-Ok.ensures.told y.0 y.1 in
     (x.0, x.1, last_low c.finish.result x.0 after c.in-Ok.state.run (finish_other c.finish.result c.in-Some-stage.s.pin c.finish.ensures.answers) (x.2).0 c.in-Ok.ensures.run.1)
@@ -410,9 +408,9 @@ returns-in-Some-clause-marks g c agree after tells stands told =
     let l = c.fill.ensures.link tells told in
     marks_kept c.args.token.now _ x.0 after tells x.2 (marks_asked c.in-Ok.state.run l.2 x.0 l.0 tells l.3 (agree x.0 l.0 x.1 l.1))
 
-pub returns-in-Some-stage-clause-marks : goal.returns-in-Some-stage-clause-marks
-returns-in-Some-stage-clause-marks g c agree after tells stands told =
-    let x = returns-in-Some-stage-clause-copy g c after stands in
+pub returns-clause-marks : goal.returns-clause-marks
+returns-clause-marks g c agree after tells stands told =
+    let x = returns-clause-copy g c after stands in
     let l = c.fill.ensures.link tells told in
     marks_kept c.args.token.now _ x.0 after tells x.2 (marks_asked c.in-Ok.state.run l.2 x.0 l.0 tells l.3 (agree x.0 l.0 x.1 l.1))
 
@@ -458,14 +456,14 @@ returns-in-Some-clause-asks g c after tells =
             let y = c.in-Ok-drop_other.ensures.told z.0 z.1 in
             (z.2).run ∙ ap (λ (e : Copy). e.run) y.2 ∙ (c.in-Ok.ensures.holds y.0 y.1).0;
         counts = f.1;
-        pages = sends_weaker (IsPageUnder c.args.token.now c.args.limit) (IsPageUnder c.args.token.now c.args.limit) c.in-Ok.state.run 0 f.0 _ _ _ _ (λ n q h. h) (λ e. some_answer e) x.2;
+        pages = sends_weaker (IsPageUnder c.args.token.now c.args.limit) (IsPageUnder c.args.token.now c.args.limit) c.in-Ok.state.run 0 f.0 _ _ _ _ (λ n q h. h) (λ e. same_Some _ _ e) x.2;
         tried = x.3;
       },
     )
 
-pub returns-in-Some-stage-clause-asks : goal.returns-in-Some-stage-clause-asks
-returns-in-Some-stage-clause-asks g c after tells =
-    let f = c.in-None.ensures.asks in
+pub returns-clause-asks : goal.returns-clause-asks
+returns-clause-asks g c after tells =
+    let f = c.in_default.ensures.asks in
     let x = f.2 after tells in (
       x.0,
       x.1,
@@ -474,11 +472,11 @@ returns-in-Some-stage-clause-asks g c after tells =
         count = f.0;
         runs = λ some d stands.
             let v = c.finish.ensures.told d stands in
-            let z = c.in-None.ensures.copy v.0 v.1 in
+            let z = c.in_default.ensures.copy v.0 v.1 in
             let y = c.in-Ok-drop_other.ensures.told z.0 z.1 in
             swap_run c.finish.result _ v.0 d v.2 ∙ (z.2).run ∙ ap (λ (e : Copy). e.run) y.2 ∙ (c.in-Ok.ensures.holds y.0 y.1).0;
         counts = f.1;
-        pages = sends_weaker (IsPageUnder c.args.token.now c.args.limit) (IsPageUnder c.args.token.now c.args.limit) c.in-Ok.state.run 0 f.0 _ _ _ _ (λ n q h. h) (λ e. absurd (none_memory e)) x.2;
+        pages = sends_weaker (IsPageUnder c.args.token.now c.args.limit) (IsPageUnder c.args.token.now c.args.limit) c.in-Ok.state.run 0 f.0 _ _ _ _ (λ n q h. h) (λ e. absurd (none-some _ e)) x.2;
         tried = finish_by (λ a. TriedFor a c.args.token.now c.args.limit c.in-Ok.state.run f.0 c.args.tries after.sent) c.finish.result c.in-Some-stage.s.pin c.finish.ensures.answers tt (λ e. tt) tt;
       },
     )
@@ -492,8 +490,8 @@ returns-in-Err-drop_other-clause-later g c = omega (arith, c.begin_run.ensures.l
 pub returns-in-Some-clause-later : goal.returns-in-Some-clause-later
 returns-in-Some-clause-later g c = omega (arith, c.begin_run.ensures.later, c.drop_other.ensures.later, c.fill.ensures.later)
 
-pub returns-in-Some-stage-clause-later : goal.returns-in-Some-stage-clause-later
-returns-in-Some-stage-clause-later g c = omega (arith, c.begin_run.ensures.later, c.drop_other.ensures.later, c.fill.ensures.later, c.finish.ensures.later)
+pub returns-clause-later : goal.returns-clause-later
+returns-clause-later g c = omega (arith, c.begin_run.ensures.later, c.drop_other.ensures.later, c.fill.ensures.later, c.finish.ensures.later)
 
 pub returns-in-Err-clause-link_leads : goal.returns-in-Err-clause-link_leads
 returns-in-Err-clause-link_leads g c = g.met.L.Link.stays _
@@ -508,6 +506,6 @@ pub returns-in-Some-clause-copy_leads : goal.returns-in-Some-clause-copy_leads
 returns-in-Some-clause-copy_leads g c =
     g.met.C.CopyKeeper.leads_on _ _ _ (g.met.C.CopyKeeper.leads_on _ _ _ c.begin_run.ensures.copy_leads c.drop_other.ensures.copy_leads) c.fill.ensures.copy_leads
 
-pub returns-in-Some-stage-clause-copy_leads : goal.returns-in-Some-stage-clause-copy_leads
-returns-in-Some-stage-clause-copy_leads g c =
+pub returns-clause-copy_leads : goal.returns-clause-copy_leads
+returns-clause-copy_leads g c =
     g.met.C.CopyKeeper.leads_on _ _ _ (g.met.C.CopyKeeper.leads_on _ _ _ (g.met.C.CopyKeeper.leads_on _ _ _ c.begin_run.ensures.copy_leads c.drop_other.ensures.copy_leads) c.fill.ensures.copy_leads) c.finish.ensures.copy_leads

@@ -4,7 +4,8 @@ use Rattle.roster_values.specs.Table.{Info, info_of, table}
 use Rattle.roster_values.proofs.FieldLaws.{next_field}
 use Rattle.csv_sets.proofs.PlaceSteps.{none_told, places_end, places_missing, places_on, some_told}
 use Rattle.csv_sets.proofs.header.read_places.Goals as goal
-use Rattle.csv_sets.proofs.header.read_places.Goals.{else-is_none-via-then-is_none+else-info_in, else-is_none-via-else-is_none}
+use Rattle.csv_sets.proofs.header.read_places.Goals.{else-is_none-via-then-is_none+else-info_in}
+use Rattle.csv_sets.proofs.header.read_places.Goals.{else-is_none-via-else-is_none}
 
 pub returns-then-info_in : goal.returns-then-info_in
 returns-then-info_in c =

@@ -5,7 +5,8 @@ use Rattle.csv_sets.specs.Cells.{cell_at}
 use Rattle.roster_base.proofs.ListSteps.{next_item}
 use Rattle.csv_sets.proofs.MetadataSteps.{entry_rises, gathers_blank, gathers_end, gathers_one, plain_from}
 use Rattle.csv_sets.proofs.row.read_metadata.Goals as goal
-use Rattle.csv_sets.proofs.row.read_metadata.Goals.{then-not-is_empty+in_ok-copy+in_ok-new+in_ok-push, else-not-is_empty}
+use Rattle.csv_sets.proofs.row.read_metadata.Goals.{then-not-is_empty+in_ok-copy+in_ok-new+in_ok-push}
+use Rattle.csv_sets.proofs.row.read_metadata.Goals.{else-not-is_empty}
 
 pub push-requires-clause-order : goal.push-requires-clause-order
 push-requires-clause-order c =

@@ -10,7 +10,7 @@ use Rattle.delta_parts.proofs.among.delta_part_among.Goals as goal
 
 pub loop-id-init : goal.loop-id-init
 loop-id-init g c =
-    list_start c.args.kind c.args.limit c.args.offset (g.A.Rows.rows c.args.before.now) (g.B.Rows.rows c.args.after.now) (map (λ id. id.now) c.args.ids.now) c.new-found.result.items
+    list_start c.args.kind c.args.paging.limit c.args.paging.offset (g.A.Rows.rows c.args.before.now) (g.B.Rows.rows c.args.after.now) (map (λ id. id.now) c.args.ids.now) c.new-found.result.items
     c.ascend.ensures.order c.ascend-2.ensures.order c.requires.order c.requires.cover c.new-found.ensures.items
 
 pub loop-id-preserved : goal.loop-id-preserved
@@ -22,17 +22,17 @@ loop-id-preserved g c =
     ap (map (λ id. id.now)) (drop_more c.args.ids.now c.loop-id.id-index c.id-item.result within) ∙ (λ i. (sym c.id-item.is i).now ∷ rest) in
     let differs : option_map entry_shown c.difference-entry.result ≡ difference (look_up row_key (id_key c.args.kind id) (g.A.Rows.rows c.args.before.now)) (look_up row_key (id_key c.args.kind id) (g.B.Rows.rows c.args.after.now)) =
     c.difference-entry.ensures ∙ (λ i. difference (c.row.ensures i) (c.row-in-loop-id.ensures i)) in
-    list_on c.args.kind c.args.limit c.args.offset (g.A.Rows.rows c.args.before.now) (g.B.Rows.rows c.args.after.now) c.loop-id.total c.loop-id.found.items
+    list_on c.args.kind c.args.paging.limit c.args.paging.offset (g.A.Rows.rows c.args.before.now) (g.B.Rows.rows c.args.after.now) c.loop-id.total c.loop-id.found.items
     (map (λ id. id.now) (drop c.loop-id.id-index c.args.ids.now)) id rest c.in_ok-total.total c.add_within.new.found.items c.ascend.ensures.order c.ascend-2.ensures.order c.loop-id.invariant here
     (c.in_ok-total.ensures.count ∙ ap (count_on c.loop-id.total) differs)
-    (c.in_ok-total.ensures.found ∙ ap (λ o. with_option c.args.limit c.args.offset c.loop-id.total o c.loop-id.found.items) differs)
+    (c.in_ok-total.ensures.found ∙ ap (λ o. with_option c.args.paging.limit c.args.paging.offset c.loop-id.total o c.loop-id.found.items) differs)
 
 pub add_within-requires : goal.add_within-requires
 add_within-requires g c =
-    omega (arith, c.loop-id.invariant.total, length-kinds c.args.kind c.args.limit c.args.offset (g.A.Rows.rows c.args.before.now) (g.B.Rows.rows c.args.after.now), c.requires.few)
+    omega (arith, c.loop-id.invariant.total, length-kinds c.args.kind c.args.paging.limit c.args.paging.offset (g.A.Rows.rows c.args.before.now) (g.B.Rows.rows c.args.after.now), c.requires.few)
 
 pub returns : goal.returns
 returns g c =
     let left : map (λ id. id.now) (drop c.loop-id.id-index c.args.ids.now) ≡ [] = ap (map (λ id. id.now)) (drop_all c.loop-id.id-index c.args.ids.now (omega arith)) in
     c.in_ok-part.ensures
-    ∙ list_end c.args.kind c.args.limit c.args.offset (g.A.Rows.rows c.args.before.now) (g.B.Rows.rows c.args.after.now) c.loop-id.total c.loop-id.found.items (map (λ id. id.now) (drop c.loop-id.id-index c.args.ids.now)) c.loop-id.invariant left
+    ∙ list_end c.args.kind c.args.paging.limit c.args.paging.offset (g.A.Rows.rows c.args.before.now) (g.B.Rows.rows c.args.after.now) c.loop-id.total c.loop-id.found.items (map (λ id. id.now) (drop c.loop-id.id-index c.args.ids.now)) c.loop-id.invariant left

@@ -8,7 +8,7 @@ use Rattle.gradebook_core.proofs.judging.judge.Goals as goal
 pub returns-in-Some-clause-verdict : goal.returns-in-Some-clause-verdict
 returns-in-Some-clause-verdict c = λ state newest marks.
     let version = newest_of c.args.table.now in
-    judges state version c.args.marks.now.marks c.args.by.now c.args.mark c.args.write.now c.args.at (Some c.in-Some.held.now) newest marks c.in-Some.ensures (verdict_of version c.repeated.result) (c.repeated.ensures.verdict version)
+    judges state version c.args.marks.now.marks c.args.asking.now.by.now c.args.asking.now.mark c.args.write.now c.args.asking.now.at (Some c.in-Some.held.now) newest marks c.in-Some.ensures (verdict_of version c.repeated.result) (c.repeated.ensures.verdict version)
 
 pub returns-in-Some-clause-leads : goal.returns-in-Some-clause-leads
 returns-in-Some-clause-leads c = c.repeated.ensures.leads (newest_of c.args.table.now)
@@ -16,23 +16,23 @@ returns-in-Some-clause-leads c = c.repeated.ensures.leads (newest_of c.args.tabl
 pub returns-in-None-clause-verdict : goal.returns-in-None-clause-verdict
 returns-in-None-clause-verdict c = λ state newest marks.
     let version = newest_of c.args.table.now in
-    let by = c.args.by.now in
+    let by = c.args.asking.now.by.now in
     let write = c.args.write.now in
-    each (λ made. NewJudged write.delete version by write c.args.at (verdict_of version made)) (λ made. Judges state by c.args.mark write c.args.at (verdict_of version made)) c.new_judged.result
-    (λ made judged. judges state version c.args.marks.now.marks by c.args.mark write c.args.at None newest marks c.in-None.ensures (verdict_of version made) judged)
+    each (λ made. NewJudged write.delete version by write c.args.asking.now.at (verdict_of version made)) (λ made. Judges state by c.args.asking.now.mark write c.args.asking.now.at (verdict_of version made)) c.new_judged.result
+    (λ made judged. judges state version c.args.marks.now.marks by c.args.asking.now.mark write c.args.asking.now.at None newest marks c.in-None.ensures (verdict_of version made) judged)
     c.new_judged.ensures.verdict
 
 pub returns-in-None-clause-leads : goal.returns-in-None-clause-leads
 returns-in-None-clause-leads c =
     let version = newest_of c.args.table.now in
-    let by = c.args.by.now in
+    let by = c.args.asking.now.by.now in
     let write = c.args.write.now in
-    both (λ made. NewJudged write.delete version by write c.args.at (verdict_of version made)) IsNewlyMade (MayLead version) c.new_judged.result
-    (λ made judged order. may_lead version c.newest_rows.ensures.version by write c.args.at made judged order)
+    both (λ made. NewJudged write.delete version by write c.args.asking.now.at (verdict_of version made)) IsNewlyMade (MayLead version) c.new_judged.result
+    (λ made judged order. may_lead version c.newest_rows.ensures.version by write c.args.asking.now.at made judged order)
     c.new_judged.ensures.verdict c.new_judged.ensures.order
 
 pub returns-in-Some-clause-repeats : goal.returns-in-Some-clause-repeats
-returns-in-Some-clause-repeats c = repeats_held c.args.marks.now.marks c.args.by.now.caller c.args.mark c.in-Some.held.now c.in-Some.ensures c.repeated.result c.repeated.ensures.repeats
+returns-in-Some-clause-repeats c = repeats_held c.args.marks.now.marks c.args.asking.now.by.now.caller c.args.asking.now.mark c.in-Some.held.now c.in-Some.ensures c.repeated.result c.repeated.ensures.repeats
 
 pub returns-in-None-clause-repeats : goal.returns-in-None-clause-repeats
 returns-in-None-clause-repeats c =

@@ -22,8 +22,8 @@ loop-cells-preserved c =
     let added = c.in_ok-add_record.ensures l.front l.stands in
     leads_on (fields_of c.read.new.cells) c.read.new.self added.0 l first added.1 added.2
 
-pub returns-then-number-gt-LAST_NUMBER-clause-entries : goal.returns-then-number-gt-LAST_NUMBER-clause-entries
-returns-then-number-gt-LAST_NUMBER-clause-entries c =
+pub returns-then-number-gt-END_NUMBER-clause-entries : goal.returns-then-number-gt-END_NUMBER-clause-entries
+returns-then-number-gt-END_NUMBER-clause-entries c =
     leads_many c.loop-cells.invariant (found_none c.loop-cells.reader c.read.new.self c.in_ok-read.field-0 (fields_of c.read.new.cells) c.in_ok-read.ensures.ok c.if-branch.false) (omega arith)
 
 pub returns-clause-entries : goal.returns-clause-entries

@@ -1,7 +1,8 @@
 use Rattle.std.proofs.Common.{◌≡◌, ◌≤◌, length, arith, sym, ◌∙◌}
 use Rattle.std.proofs.lemmas.Result.{err_from_is_err_and}
 use Rattle.http_wire.specs.Answers.{max_reply_head}
-use Rattle.http_wire.proofs.AnswerLemmas.{answer_found, faulty, head_refused, length_stated, never_room, never_short, never_stated, reply_fits, short_refused}
+use Rattle.http_wire.proofs.AnswerLemmas.{answer_found, faulty, head_refused, length_stated, never_room, never_short}
+use Rattle.http_wire.proofs.AnswerLemmas.{never_stated, reply_fits, short_refused}
 use Rattle.http_wire.proofs.reply_reading.reply_length.Goals as goal
 
 pub returns-in_err-length-in-Ok-Complete : goal.returns-in_err-length-in-Ok-Complete

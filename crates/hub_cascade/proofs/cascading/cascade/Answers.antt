@@ -1,6 +1,7 @@
 use Rattle.std.proofs.Common.{◌≡◌, inl, refl, subst, sym, Result}
 use Rattle.std.specs.Prelude.{IfOk}
-use Rattle.hub_cascade.proofs.Answering.{answer_alone, answer_counts, answer_leaves, answer_makes, answer_tells, copy_alone, copy_counts, copy_leaves, copy_makes, copy_tells}
+use Rattle.hub_cascade.proofs.Answering.{answer_alone, answer_counts, answer_leaves, answer_makes, answer_tells}
+use Rattle.hub_cascade.proofs.Answering.{copy_alone, copy_counts, copy_leaves, copy_makes, copy_tells}
 use Rattle.hub_cascade.proofs.Leading.{makes_held, served}
 use Rattle.hub_cascade.specs.Answers.{CountsCopy, CountsHub, LeavesOpen, MakesCascade, TellsHeld}
 use Rattle.hub_cascade.specs.Cascading.{active_rows, current_rows}

@@ -1,6 +1,8 @@
-use Rattle.std.proofs.Common.{◌≡◌, ◌+◌, ◌==◌, length, false, true, List, [], ◌∷◌, None, arith, refl, suc, sym, ap, subst, ◌∙◌}
+use Rattle.std.proofs.Common.{◌≡◌, ◌+◌, ◌==◌, length, false, true, List, [], ◌∷◌, None, arith, refl, suc, sym, ap}
+use Rattle.std.proofs.Common.{subst, ◌∙◌}
 use Rattle.std.proofs.lemmas.Bool.Decides.{nat_tests}
-use Rattle.hub_cascade.proofs.Outcomes.{leads, leads_with, refused_at_last, refused_for_owner, refused_for_rows, unchanged}
+use Rattle.hub_cascade.proofs.Outcomes.{leads, leads_with, refused_at_last, refused_for_owner, refused_for_rows}
+use Rattle.hub_cascade.proofs.Outcomes.{unchanged}
 use Rattle.hub_cascade.specs.Cascading.{Cascades}
 use Rattle.hub_cascade.specs.Steps.{LeadsWith}
 use Rattle.version_changes.specs.sets.Applying.{Leads, Refuses, Unchanged}

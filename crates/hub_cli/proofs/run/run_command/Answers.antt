@@ -1,6 +1,9 @@
 use Rattle.std.proofs.Common.{refl}
 use Rattle.script_runs.specs.Below.Consumers.{copy_between, link_between}
-use Rattle.hub_cli.proofs.Ending.{leads-cascaded, leads-command, leads-delta, leads-entered, leads-exported, leads-exported-since, leads-followed, leads-listed, leads-made-answer, leads-manifest, leads-outbox, leads-rehearsed-answer, leads-resting, leads-sent, leads-shown, leads-synchronised, leads-told}
+use Rattle.hub_cli.proofs.Ending.{leads-cascaded, leads-command, leads-delta, leads-entered, leads-exported}
+use Rattle.hub_cli.proofs.Ending.{leads-exported-since, leads-followed, leads-listed, leads-made-answer, leads-manifest}
+use Rattle.hub_cli.proofs.Ending.{leads-outbox, leads-rehearsed-answer, leads-resting, leads-sent, leads-shown}
+use Rattle.hub_cli.proofs.Ending.{leads-synchronised, leads-told}
 use Rattle.script_runs.proofs.Below.Telling.{writes_as}
 use Rattle.script_runs.specs.Below.ExportAnswers.{file_answer}
 use Rattle.script_runs.specs.Below.Outside.{faults_between, outside_between}

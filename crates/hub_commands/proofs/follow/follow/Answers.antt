@@ -19,10 +19,10 @@ returns-in-Ok g c =
     let task : Task = record { token = c.token.result.now; limit = c.limit.result; tries = c.tries.result } in
     let copies : CopyRun = copy_between g.C.CopyKeeper.stands_for g.C.CopyKeeper.fault_count c.args.copy.now made.new.copy in
     let link : LinkRun = link_between g.L.Link.tells g.L.Link.asked g.L.Link.missed g.L.Link.kept g.L.Link.fault_count c.args.link.now made.new.link in
-    follow_opened c.args.task.now c.args.feed.now moment (count c.args.keeper.now) (count made.new.keeper) copies link (stands c.args.keeper.now) (stands made.new.keeper)
+    follow_opened c.args.words.now.sync.now c.args.words.now.feed.now moment (count c.args.keeper.now) (count made.new.keeper) copies link (stands c.args.keeper.now) (stands made.new.keeper)
     c.token.result.now c.limit.result c.tries.result c.token.ensures c.limit.ensures.value c.tries.ensures.value
     (count c.open.new.keeper) (stands c.open.new.keeper) c.told_end.result c.in-Ok.ensures.told c.in-Ok.ensures.cause
-    (followed task c.args.feed.now moment (faults_between count c.open.new.keeper made.new.keeper) copies link c.moment_of.result c.moment_of.ensures
+    (followed task c.args.words.now.feed.now moment (faults_between count c.open.new.keeper made.new.keeper) copies link c.moment_of.result c.moment_of.ensures
     (stands c.open.new.keeper) (stands made.new.keeper) c.in-Ok.hub made.new.hub made.result c.told_end.result
     c.in-Ok.ensures.kept c.in-Ok.ensures.settled.0 made.ensures.fits made.ensures.told made.ensures.held made.ensures.hub_cause
     (if_weaker made.result _ _ _ _ (λ a x. (g.C.CopyKeeper.fault_count x.0, x.3, x.4)) (λ x. x) made.ensures.copy_cause)
@@ -42,6 +42,6 @@ returns-in-Ok g c =
 pub returns-in-Err : goal.returns-in-Err
 returns-in-Err g c =
     rw (c.nothing_done.ensures, c.end_of_error.ensures)
-    (follow_not_opened c.args.task.now c.args.feed.now (g.K.Clock.moment c.args.clock.now) (g.H.HubKeeper.fault_count c.args.keeper.now) (g.H.HubKeeper.fault_count c.open.new.keeper)
+    (follow_not_opened c.args.words.now.sync.now c.args.words.now.feed.now (g.K.Clock.moment c.args.clock.now) (g.H.HubKeeper.fault_count c.args.keeper.now) (g.H.HubKeeper.fault_count c.open.new.keeper)
     (copy_between g.C.CopyKeeper.stands_for g.C.CopyKeeper.fault_count c.args.copy.now c.args.copy.now) (link_between g.L.Link.tells g.L.Link.asked g.L.Link.missed g.L.Link.kept g.L.Link.fault_count c.args.link.now c.args.link.now)
     (g.H.HubKeeper.stands_for c.args.keeper.now) (g.H.HubKeeper.stands_for c.open.new.keeper) Hub c.in-Err.error refl refl c.in-Err.ensures.refused c.in-Err.ensures.cause c.in-Err.ensures.told)

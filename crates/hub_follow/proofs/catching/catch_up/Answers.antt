@@ -1,11 +1,12 @@
 use Rattle.std.proofs.Common.{⊎_elim, ℕ, Result, sym, subst, ◌∙◌, arith}
 use Rattle.std.specs.Prelude.{IfErr}
 use Rattle.consumer_deltas.proofs.DeltaDoneLemmas.{cause_fails}
+use Rattle.exchange_link.proofs.AskLemmas.{cause_more}
 use Rattle.exchange_link.specs.Completeness.{IsDone}
 use Rattle.hub_follow.proofs.Ending.{miss_delta, miss_sync, sync_whole}
 use Rattle.hub_follow.proofs.Standing.{done_delta, done_lacking, run_behind, run_low, stands_behind}
 use Rattle.hub_follow.proofs.Wholes.{by_delta, by_sync, told_by_delta, told_by_sync}
-use Rattle.hub_follow.proofs.Joining.{cause_more, first_both, first_delta, leaves_both, leaves_delta, told_both, told_delta}
+use Rattle.hub_follow.proofs.Joining.{first_both, first_delta, leaves_both, leaves_delta, told_both, told_delta}
 use Rattle.hub_follow.specs.Catching.{CatchesUp, CatchesUpTold}
 use Rattle.hub_follow.specs.Causes.{MissedBy, MissedTold, keeper_view, link_view}
 use Rattle.hub_follow.specs.Ends.{IsMiss, sync_of}

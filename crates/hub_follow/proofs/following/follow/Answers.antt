@@ -5,7 +5,8 @@ use Rattle.hub_cascade.specs.Answers.{CountsCopy, CountsHub, LeavesOpen, MakesCa
 use Rattle.hub_cascade.specs.Cascading.{active_rows, current_rows}
 use Rattle.hub_cascade.specs.Held.{CascadesHeld, held_rows}
 use Rattle.hub_follow.proofs.Standing.{followed_cascade, followed_miss, held_some, is_followed}
-use Rattle.hub_follow.proofs.Wholes.{err_synced, if_cascaded, if_done, if_missed, if_undone, ok_synced, rows_complete, serves, shows_rows}
+use Rattle.hub_follow.proofs.Wholes.{err_synced, if_cascaded, if_done, if_missed, if_undone, ok_synced, rows_complete}
+use Rattle.hub_follow.proofs.Wholes.{serves, shows_rows}
 use Rattle.hub_follow.specs.Catching.{CatchesUp, CatchesUpTold, rows_seen}
 use Rattle.hub_follow.specs.Causes.{MissedBy, MissedTold, keeper_view, link_view}
 use Rattle.hub_follow.specs.Ends.{IsFollowed, IsMiss, sync_of}

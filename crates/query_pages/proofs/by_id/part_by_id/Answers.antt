@@ -1,4 +1,5 @@
-use Rattle.std.proofs.Common.{◌≡◌, ◌≤◌, ◌+◌, ◌∙◌, ap, subst, sym, arith, filter, length, None, Some, List, [], ◌∷◌, option_copied}
+use Rattle.std.proofs.Common.{◌≡◌, ◌≤◌, ◌+◌, ◌∙◌, ap, subst, sym, arith, filter, length, None, Some, List, [], ◌∷◌}
+use Rattle.std.proofs.Common.{option_copied}
 use Rattle.hub_spec.specs.views.Pages.{slice}
 use Rattle.roster_types.specs.Keys.{count_of}
 use Rattle.roster_types.specs.Records.{Record}

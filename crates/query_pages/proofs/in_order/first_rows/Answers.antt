@@ -1,4 +1,5 @@
-use Rattle.std.proofs.Common.{◌≡◌, ◌≤◌, ◌+◌, ◌++◌, ◌∙◌, append-nil, append_assoc, ap, subst, sym, arith, filter, length, None, Some, List, [], ◌∷◌, option_copied}
+use Rattle.std.proofs.Common.{◌≡◌, ◌≤◌, ◌+◌, ◌++◌, ◌∙◌, append-nil, append_assoc, ap, subst, sym, arith, filter, length}
+use Rattle.std.proofs.Common.{None, Some, List, [], ◌∷◌, option_copied}
 use Rattle.roster_types.specs.Keys.{count_of}
 use Rattle.roster_types.specs.Records.{Record}
 use Rattle.query_pages.proofs.Firsts.{first_of_first}

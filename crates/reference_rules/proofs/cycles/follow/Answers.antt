@@ -1,6 +1,7 @@
 use Rattle.std.proofs.Common.{sym, ◌∙◌}
 use Rattle.reference_rules.proofs.PassedLemmas.{follows_passed, passed_more}
-use Rattle.reference_rules.proofs.cycles.follow.Goals.{else-loop-turn-test, then-loop-turn-test+then-contains_key, then-loop-turn-test+else-contains_key+in_ok-push+in-Some+then-is_same}
+use Rattle.reference_rules.proofs.cycles.follow.Goals.{else-loop-turn-test, then-loop-turn-test+then-contains_key}
+use Rattle.reference_rules.proofs.cycles.follow.Goals.{then-loop-turn-test+else-contains_key+in_ok-push+in-Some+then-is_same}
 use Rattle.reference_rules.proofs.cycles.follow.Goals as goal
 
 pub loop-turn-preserved : goal.loop-turn-preserved

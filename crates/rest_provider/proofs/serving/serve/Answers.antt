@@ -8,7 +8,7 @@ serving-init g c = record {
   fits = c.requires.fits;
   leads = g.met.H.HubKeeper.stays _;
   fresh = c.requires.fresh;
-  progress = begins _ c.args.reader.now.kept (g.K.Clock.moment c.args.clock.now) c.requires.none_kept;
+  progress = begins _ c.args.reader.now.kept (g.K.Clock.moment c.args.desk.now.clock.now) c.requires.none_kept;
 }
 
 pub serving-preserved : goal.serving-preserved

@@ -1,6 +1,7 @@
 use Rattle.std.proofs.Common.{◌≡◌, ◌++◌, ◌∷◌, [], length, append-nil, arith, sym, ap, ◌∙◌}
+use Rattle.std.proofs.lemmas.List.{nil_from_length}
 use Rattle.std.specs.Vec.Iter.{into_iter_items}
-use Rattle.roster_base.proofs.Kept.{kept, kept-in_order, kept-on, nothing_left}
+use Rattle.roster_base.proofs.Kept.{kept, kept-in_order, kept-on}
 use Rattle.roster_base.specs.Order.{last_key}
 use Rattle.roster_base.proofs.order.firsts.Goals as goal
 
@@ -27,7 +28,7 @@ returns g c =
     let key = g.T.Keyed.key_of in
     let at = c.loop-item in
     let none = c.in-None.ensures.steps in
-    let empty : into_iter_items at.item-iterator ≡ [] = nothing_left (into_iter_items at.item-iterator) (sym at.invariant.left ∙ none.0) in
+    let empty : into_iter_items at.item-iterator ≡ [] = nil_from_length (into_iter_items at.item-iterator) (sym at.invariant.left ∙ none.0) in
     sym (append-nil at.kept.items)
     ∙ ap (λ items. at.kept.items ++ kept key (last_key key at.kept.items) items) (sym empty)
     ∙ at.invariant.kept ∙ kept-in_order key c.args.items.items c.requires

@@ -1,4 +1,5 @@
-use Rattle.std.proofs.Common.{rules, ◌≡◌, ◌++◌, ◌==◌, ◌∷◌, [], true, false, ap, append-nil, append_assoc, codes, flat_map, length, option_map, sym, ◌∙◌}
+use Rattle.std.proofs.Common.{rules, ◌≡◌, ◌++◌, ◌==◌, ◌∷◌, [], true, false, ap, append-nil, append_assoc, codes}
+use Rattle.std.proofs.Common.{flat_map, length, option_map, sym, ◌∙◌}
 use Rattle.json.specs.Token.{begin_object, end_object, key}
 use Rattle.row_json.specs.Tokens.{entry_tokens, is_chosen, metadata_data}
 use Rattle.row_json.proofs.TokenLaws.{left_out, no_metadata, some_metadata, three_parts}

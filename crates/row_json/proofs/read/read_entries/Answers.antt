@@ -3,7 +3,8 @@ use Rattle.std.proofs.lemmas.Result.{err_from_is_err_and}
 use Rattle.serde_json.specs.Find.{as_str}
 use Rattle.serde_json.specs.View.{view}
 use Rattle.row_json.specs.Reading.{entry_in}
-use Rattle.row_json.proofs.MetadataSteps.{entry_read, entry_rises, gathers-blank, gathers-end, gathers-fail, gathers-one, gathers-start}
+use Rattle.row_json.proofs.MetadataSteps.{entry_read, entry_rises, gathers-blank, gathers-end, gathers-fail}
+use Rattle.row_json.proofs.MetadataSteps.{gathers-one, gathers-start}
 use Rattle.row_json.proofs.read.read_entries.Goals as goal
 
 pub loop-name-init : goal.loop-name-init

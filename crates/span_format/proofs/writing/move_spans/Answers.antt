@@ -1,9 +1,11 @@
 use Rattle.std.proofs.Common.{◌≡◌, ◌++◌, ◌∷◌, [], length, append_assoc, append-nil, arith, sym, ap, subst, map, ◌∙◌}
+use Rattle.std.proofs.lemmas.List.{nil_from_length}
 use Rattle.std.specs.List.{AllByRecursion}
 use Rattle.std.specs.Vec.Iter.{into_iter_items}
 use Rattle.hub_format.specs.Edits.{puts}
+use Rattle.version_core.proofs.VersionLemmas.{AllByRecursion-push}
 use Rattle.span_format.specs.Format.{HasPlainId, span_entry, spans_from}
-use Rattle.span_format.proofs.Steps.{all-push, none_left, spans-push}
+use Rattle.span_format.proofs.Steps.{spans-push}
 use Rattle.span_format.proofs.writing.move_spans.Goals as goal
 
 pub loop-row-preserved : goal.loop-row-preserved
@@ -19,14 +21,14 @@ loop-row-preserved c =
           let short = ap length steps in
           omega arith;
       edits = c.in_ok-push.ensures.items ∙ spans-push c.args.first c.args.edits.now.items at.edits.items at.yielded row c.in_ok-put_span.field-0 at.invariant.edits c.in_ok-put_span.ensures.edit;
-      plain = all-push HasPlainId at.yielded row at.invariant.plain c.in_ok-put_span.ensures.plain;
+      plain = AllByRecursion-push HasPlainId at.yielded row at.invariant.plain c.in_ok-put_span.ensures.plain;
     }
 
 pub returns : goal.returns
 returns c =
     let at = c.loop-row in
     let none = c.in-None.ensures.steps in
-    let empty : into_iter_items at.row-iterator ≡ [] = none_left (into_iter_items at.row-iterator) (sym at.invariant.left ∙ none.0) in
+    let empty : into_iter_items at.row-iterator ≡ [] = nil_from_length (into_iter_items at.row-iterator) (sym at.invariant.left ∙ none.0) in
     let whole : at.yielded ≡ c.args.rows = sym (append-nil at.yielded) ∙ rw empty at at.invariant.whole in
     record {
       edits = at.invariant.edits ∙ ap (λ rows. c.args.edits.now.items ++ puts 7 (map span_entry (spans_from c.args.first rows))) whole;

@@ -14,9 +14,9 @@ returns-in-Ok-clause-own c e q is xs ys =
 pub returns-in-Ok-clause-carried : goal.returns-in-Ok-clause-carried
 returns-in-Ok-clause-carried c q is =
     let same : c.as_slice.result.now ≡ c.args.past.now.items = cc in
-    is_carried (λ v. v.items) c.deliver.result c.args.fate c.args.exchange q c.args.at c.args.past.now.items c.deliver.new.past.items c.args.events.now.items c.come_to_pass.new.events.items c.args.world.now c.come_to_pass.new.world
+    is_carried (λ v. v.items) c.deliver.result c.args.exchange.now.fate c.args.exchange.now.number q c.args.exchange.now.at c.args.past.now.items c.deliver.new.past.items c.args.events.now.items c.come_to_pass.new.events.items c.args.world.now c.come_to_pass.new.world
     c.deliver.new.world c.args.said.now.items c.come_to_pass.new.said.items
-    (subst (λ (p : List Past). Passed p c.args.at (events_at c.args.exchange c.args.events.now.items) c.args.world.now c.come_to_pass.new.world c.args.said.now.items c.come_to_pass.new.said.items) same c.in-Ok.ensures.passed)
+    (subst (λ (p : List Past). Passed p c.args.exchange.now.at (events_at c.args.exchange.now.number c.args.events.now.items) c.args.world.now c.come_to_pass.new.world c.args.said.now.items c.come_to_pass.new.said.items) same c.in-Ok.ensures.passed)
     c.in-Ok.ensures.aside (c.deliver.ensures.delivered q is)
 
 pub returns-in-Ok-clause-walks : goal.returns-in-Ok-clause-walks

@@ -1,4 +1,5 @@
-use Rattle.std.proofs.Common.{◌≡◌, ◌++◌, ◌∷◌, [], drop, length, refl, reverse, sym, ap, append-nil, append_assoc, take, ◌∙◌, arith, rules}
+use Rattle.std.proofs.Common.{◌≡◌, ◌++◌, ◌∷◌, [], drop, length, refl, reverse, sym, ap, append-nil, append_assoc, take}
+use Rattle.std.proofs.Common.{◌∙◌, arith, rules}
 use Rattle.std.proofs.lemmas.List.{reverse-append}
 use Rattle.version_core.proofs.histories.move_from.Goals as goal
 use Rattle.version_core.proofs.PutLemmas.{drop_parts, take_parts}

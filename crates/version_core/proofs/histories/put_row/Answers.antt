@@ -1,4 +1,5 @@
-use Rattle.std.proofs.Common.{◌≡◌, ◌∷◌, [], ◌<◌, drop, get_or, length, List, reverse, sym, subst, ap, vec_capacity, vec_len, ◌∙◌, arith, rules}
+use Rattle.std.proofs.Common.{◌≡◌, ◌∷◌, [], ◌<◌, drop, get_or, length, List, reverse, sym, subst, ap, vec_capacity}
+use Rattle.std.proofs.Common.{vec_len, ◌∙◌, arith, rules}
 use Rattle.std.proofs.lemmas.Fn.{always_returns_same}
 use Rattle.std.proofs.lemmas.List.{reverse-append}
 use Rattle.std.specs.List.{AllByRecursion, AllWithin}
@@ -12,8 +13,8 @@ use Rattle.version_core.specs.declared.history.History.{History}
 use Rattle.version_core.specs.declared.history.Place.{Place}
 use Rattle.version_core.specs.declared.row_change.RowChange.{RowChange}
 use Rattle.version_core.proofs.HistoryLemmas.{Ascends-histories, all_at, all_from, all_take}
-use Rattle.version_core.proofs.PartsLemmas.{all_set, ascends_first, less_from_greater, puts_grown, puts_new}
-use Rattle.version_core.proofs.Places.{searchable}
+use Rattle.version_core.proofs.PartsLemmas.{all_set, ascends_first, puts_grown, puts_new}
+use Rattle.version_core.proofs.Places.{less_from_greater, searchable}
 use Rattle.version_core.proofs.PutLemmas.{all_append, all_first, all_second, key_same, pushed_key}
 use Rattle.version_core.proofs.histories.put_row.Goals as goal
 

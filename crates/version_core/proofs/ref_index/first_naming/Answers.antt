@@ -1,5 +1,5 @@
-use Rattle.std.proofs.Common.{◌≡◌, ◌∙◌, Bool, true, false, not, refl, get_or, option_copied, sym, ap, arith, inl, inr, rules, subst}
-use Rattle.std.proofs.lemmas.Bool.{cases_lt}
+use Rattle.std.proofs.Common.{◌≡◌, ◌∙◌, true, false, not, get_or, option_copied, sym, ap, arith, inl, inr, rules, subst}
+use Rattle.std.proofs.lemmas.Bool.{cases_lt, not-false, not-true}
 use Rattle.std.proofs.lemmas.List.{get_or_default}
 use Rattle.std.proofs.lemmas.List.Sorted.{IsPartitionPoint-from_clause}
 use Rattle.version_core.specs.Changes.{rows_of}
@@ -13,26 +13,18 @@ use Rattle.version_core.proofs.NamingLemmas.{parted, past, rise}
 use Rattle.version_core.proofs.NamingRows.{before_fails, named, naming_passes, other_fails, refers_after}
 use Rattle.version_core.proofs.ref_index.first_naming.Goals as goal
 
-not_true : (b : Bool) → not b ≡ true → b ≡ false
-not_true true e = cc
-not_true false e = refl
-
-not_false : (b : Bool) → not b ≡ false → b ≡ true
-not_false true e = refl
-not_false false e = cc
-
 pub loop-at-init : goal.loop-at-init
 loop-at-init c =
     let rows = rows_of (rows_at c.args.version (pasts_of c.args.histories.now)) in
     let after = option_copied c.args.after in
     let entries = c.args.entries.now in
-    let key = named c.args.kind c.args.place c.args.name.now c.args.target.now after rows in
+    let key = named c.args.asked.now.kind c.args.place c.args.asked.now.name.now c.args.asked.now.target.now after rows in
     let n = c.partition_point-at.result in
     let split = IsPartitionPoint-from_clause (λ (entry : RefEntry). not (is_from key after entry)) entries n c.partition_point-at.ensures.partitioned (parted entries c.requires.order key after) (λ a r f called. (search rules, search rules)) in
     record {
       in_range = c.partition_point-at.ensures.bound;
-      none = λ k d low lt of. before_fails c.args.kind c.args.place c.args.name.now c.args.target.now after rows (get_or entries k d) of (not_true _ (split.0 k d low lt));
-      from = λ k d low lt. not_false _ (split.1 k d low lt);
+      none = λ k d low lt of. before_fails c.args.asked.now.kind c.args.place c.args.asked.now.name.now c.args.asked.now.target.now after rows (get_or entries k d) of (not-true _ (split.0 k d low lt));
+      from = λ k d low lt. not-false _ (split.1 k d low lt);
     }
 
 -- the entry is of a greater name
@@ -41,7 +33,7 @@ returns-then-not-is_of c =
     let rows = rows_of (rows_at c.args.version (pasts_of c.args.histories.now)) in
     let after = option_copied c.args.after in
     let entries = c.args.entries.now in
-    let key = named c.args.kind c.args.place c.args.name.now c.args.target.now after rows in
+    let key = named c.args.asked.now.kind c.args.place c.args.asked.now.name.now c.args.asked.now.target.now after rows in
     let loop = c.loop-at.invariant in
     let at = c.loop-at.at in
     let other : is_of key c.index-entries-at.result ≡ false = sym c.is_of.ensures ∙ c.if-not-is_of.true in
@@ -60,14 +52,14 @@ returns-in-Some c =
     let rows = rows_of (rows_at c.args.version (pasts_of c.args.histories.now)) in
     let after = option_copied c.args.after in
     let entries = c.args.entries.now in
-    let key = named c.args.kind c.args.place c.args.name.now c.args.target.now after rows in
+    let key = named c.args.asked.now.kind c.args.place c.args.asked.now.name.now c.args.asked.now.target.now after rows in
     let loop = c.loop-at.invariant in
     let at = c.loop-at.at in
     let entry = c.index-entries-at.result in
     let here : entry ≡ get_or entries at entry = c.index-entries-at.is in
     let of : is_of key entry ≡ true = sym c.is_of.ensures ∙ c.if-not-is_of.false in
     let from : is_from key after entry ≡ true = ap (is_from key after) here ∙ loop.from at entry (omega arith) c.loop-at-test.true in
-    let found = naming_passes c.args.kind c.args.place c.args.name.now c.args.target.now after rows entry c.in-Some.row.now of from (sym c.in-Some.ensures) in
+    let found = naming_passes c.args.asked.now.kind c.args.place c.args.asked.now.name.now c.args.asked.now.target.now after rows entry c.in-Some.row.now of from (sym c.in-Some.ensures) in
     record {
       stands = found.0;
       passes = found.1;
@@ -89,7 +81,7 @@ loop-at-preserved c =
     let loop = c.loop-at.invariant in
     let at = c.loop-at.at in
     let entry = c.index-entries-at.result in
-    let fails = other_fails c.args.kind c.args.place c.args.name.now c.args.target.now after rows entry.id (sym c.in_default.ensures) in
+    let fails = other_fails c.args.asked.now.kind c.args.place c.args.asked.now.name.now c.args.asked.now.target.now after rows entry.id (sym c.in_default.ensures) in
     record {
       in_range = omega (arith, c.loop-at-test.true);
       none = λ k d low lt of. elim (cases_lt k at) [
@@ -97,7 +89,7 @@ loop-at-preserved c =
         | inr from ↦
             let same : k ≡ at = omega arith in
             let here : entry ≡ get_or entries k d = c.index-entries-at.is ∙ get_or_default entries at entry d c.loop-at-test.true ∙ ap (λ i. get_or entries i d) (sym same) in
-            subst (λ (e : RefEntry). passes_at (refers_after c.args.kind c.args.place c.args.name.now c.args.target.now after rows) rows (place_of_kind c.args.kind, e.id) ≡ false) here fails
+            subst (λ (e : RefEntry). passes_at (refers_after c.args.asked.now.kind c.args.place c.args.asked.now.name.now c.args.asked.now.target.now after rows) rows (place_of_kind c.args.asked.now.kind, e.id) ≡ false) here fails
       ];
       from = λ k d low lt. loop.from k d (omega arith) lt;
     }

@@ -11,10 +11,10 @@ abbrev pub invariant-loop-at : goal.invariant-loop-at
 invariant-loop-at l =
     let rows = rows_of (rows_at l.version (pasts_of l.histories)) in
     let after = option_copied l.fn.after in
-    let key = named l.kind l.place l.name l.target after rows in
+    let key = named l.asked.kind l.place l.asked.name.now l.asked.target.now after rows in
     record {
       in_range : l.at ≤ length l.entries;
-      none : AllWithin (Fails (refers_after l.kind l.place l.name l.target after rows) rows key) l.entries 0 l.at;
+      none : AllWithin (Fails (refers_after l.asked.kind l.place l.asked.name.now l.asked.target.now after rows) rows key) l.entries 0 l.at;
       from : AllWithin (λ entry. is_from key after entry ≡ true) l.entries l.at (length l.entries);
     }
 

@@ -12,8 +12,8 @@ pub loop-run-preserved : goal.loop-run-preserved
 loop-run-preserved c =
     let rows = rows_of (rows_at c.args.version (pasts_of c.args.histories.now)) in
     let after = option_copied c.args.after in
-    let test = refers_after c.args.kind c.args.place c.args.name.now c.args.target.now after rows in
-    let key = named c.args.kind c.args.place c.args.name.now c.args.target.now after rows in
+    let test = refers_after c.args.asked.now.kind c.args.place c.args.asked.now.name.now c.args.asked.now.target.now after rows in
+    let key = named c.args.asked.now.kind c.args.place c.args.asked.now.name.now c.args.asked.now.target.now after rows in
     let runs = c.args.runs.now in
     let i = c.loop-run.run-index in
     let run = c.run-item.result in

@@ -10,4 +10,4 @@ abbrev pub invariant-loop-run : goal.invariant-loop-run
 invariant-loop-run l =
     let rows = rows_of (rows_at l.version (pasts_of l.histories)) in
     let after = option_copied l.after in
-    FirstOf (refers_after l.kind l.place l.name l.target after rows) rows (named l.kind l.place l.name l.target after rows) (AllUpTo l.runs l.run-index) (option_copied l.first)
+    FirstOf (refers_after l.asked.kind l.place l.asked.name.now l.asked.target.now after rows) rows (named l.asked.kind l.place l.asked.name.now l.asked.target.now after rows) (AllUpTo l.runs l.run-index) (option_copied l.first)

@@ -1,5 +1,6 @@
 use Rattle.filter_grammar.specs.Decoded.{decoded_left}
-use Rattle.filter_grammar.proofs.FirstCharacter.{utf8_four, utf8_no_fourth, utf8_no_second, utf8_no_third, utf8_one, utf8_three, utf8_two}
+use Rattle.filter_grammar.proofs.FirstCharacter.{utf8_four, utf8_no_fourth, utf8_no_second, utf8_no_third, utf8_one}
+use Rattle.filter_grammar.proofs.FirstCharacter.{utf8_three, utf8_two}
 use Rattle.filter_grammar.proofs.decoded.Decoded.takes_character.Goals as goal
 
 pub returns-then-first-lt128-clause-text : goal.returns-then-first-lt128-clause-text

@@ -1,8 +1,8 @@
 use Rattle.keeper_memory.specs.copy.Changes.{copy_after}
-use Rattle.keeper_sqlite.proofs.HubKeepingLemmas.{keeps_on, on_any, on_err}
+use Rattle.keeper_sqlite.proofs.HubKeepingLemmas.{keeps_on, on_any}
 use Rattle.keeper_sqlite.proofs.CopyKeepingLemmas.{keeps_either, keeps_or_new, some_keeps}
 use Rattle.std.proofs.Common.{inl, inr, refl}
-use Rattle.std.proofs.lemmas.Result.{err_from_is_err_and}
+use Rattle.std.proofs.lemmas.Result.{err_from_is_err_and, on_err_weaker}
 use Rattle.keeper_sqlite.proofs.HoldingLemmas.{became_more, nothing_became}
 use Rattle.copy_format.specs.Format.{Keep}
 use Rattle.keeper_sqlite.specs.copy.Keeping.{KeepEither, KeepOrNew}
@@ -16,7 +16,7 @@ returns-clause-ok g c copy this can sure =
 pub returns-clause-err : goal.returns-clause-err
 returns-clause-err g c copy this sure =
     let ready = c.in_ok-prepare.ensures.ok copy this (c.commit_ready.ensures.trust sure) in
-    on_err c.commit_ready.result (keeps_or_new (g.S.StoredItems.stands_for c.commit_ready.new.store) copy) (c.commit_ready.ensures.err copy ready)
+    on_err_weaker c.commit_ready.result (keeps_or_new (g.S.StoredItems.stands_for c.commit_ready.new.store) copy) (c.commit_ready.ensures.err copy ready)
 
 pub returns-in_err-prepare-clause-err : goal.returns-in_err-prepare-clause-err
 returns-in_err-prepare-clause-err g c copy this sure =
@@ -26,7 +26,7 @@ pub returns-clause-whole : goal.returns-clause-whole
 returns-clause-whole g c copy this sure =
     let s = g.S.StoredItems.stands_for in
     let ready = c.in_ok-prepare.ensures.ok copy (some_keeps (s c.args.store.now) copy this) (c.commit_ready.ensures.trust sure) in
-    on_err c.commit_ready.result (keeps_either (s c.commit_ready.new.store) copy) (c.commit_ready.ensures.err copy ready)
+    on_err_weaker c.commit_ready.result (keeps_either (s c.commit_ready.new.store) copy) (c.commit_ready.ensures.err copy ready)
 
 pub returns-in_err-prepare-clause-whole : goal.returns-in_err-prepare-clause-whole
 returns-in_err-prepare-clause-whole g c copy this sure =

@@ -1,6 +1,7 @@
 use Rattle.std.proofs.Common.{map, ap, ◌∙◌, inl, inr}
+use Rattle.std.proofs.lemmas.Result.{on_ok_weaker}
 use Rattle.item_maps.specs.Edits.{entry_of}
-use Rattle.keeper_sqlite.proofs.HubKeepingLemmas.{on_any, on_ok}
+use Rattle.keeper_sqlite.proofs.HubKeepingLemmas.{on_any}
 use Rattle.keeper_sqlite.specs.copy.Keeping.{KeepOrNew}
 use Rattle.keeper_sqlite.proofs.CopyKeepingLemmas.{first_keeps, is_kept, is_new, is_old, made_new, some_kept}
 use Rattle.keeper_sqlite.proofs.HoldingLemmas.{made_either}
@@ -12,7 +13,7 @@ returns-in-New-clause-ok g c copy this sure =
     let seen = ap (map entry_of) c.as_slice.ensures.value in
     let none = is_new this.items copy (map entry_of c.in_ok-items.items.items) this.kept told (λ one. absurd (let other = c.in-New.ensures.one (seen ∙ one) in cc)) (λ two. absurd (let other = c.in-New.ensures.two (seen ∙ two) in cc)) in
     let stays = c.in_ok-items.ensures.same this.items this.stands in
-    on_ok c.commit.result
+    on_ok_weaker c.commit.result
     (made_new (g.S.StoredItems.stands_for c.commit.new.self) copy c.as_slice-in-New.result.now this.items (c.as_slice-in-New.ensures.value ∙ c.in_ok-edits-in-New.ensures) none)
     (c.commit.ensures.ok this.items stays)
 

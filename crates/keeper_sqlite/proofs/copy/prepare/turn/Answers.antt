@@ -1,13 +1,14 @@
 use Rattle.std.proofs.Common.{◌∙◌, inl, inr}
+use Rattle.std.proofs.lemmas.Result.{on_ok_weaker}
 use Rattle.keeper_sqlite.specs.copy.Keeping.{KeepEither}
-use Rattle.keeper_sqlite.proofs.HubKeepingLemmas.{on_any, on_ok}
+use Rattle.keeper_sqlite.proofs.HubKeepingLemmas.{on_any}
 use Rattle.keeper_sqlite.proofs.CopyKeepingLemmas.{made_turned, turned_keeps}
 use Rattle.keeper_sqlite.proofs.HoldingLemmas.{made_either}
 use Rattle.keeper_sqlite.proofs.copy.prepare.turn.Goals as goal
 
 pub returns-clause-ok : goal.returns-clause-ok
 returns-clause-ok g c copy this =
-    on_ok c.commit.result
+    on_ok_weaker c.commit.result
     (made_turned (g.S.StoredItems.stands_for c.commit.new.self) copy c.as_slice.result.now this.items (c.as_slice.ensures.value ∙ c.in_ok-edits.ensures) this.kept)
     (c.commit.ensures.ok this.items (c.in_ok-stored_root.ensures.same this.items this.stands))
 

@@ -1,7 +1,7 @@
 use Rattle.std.proofs.Common.{◌∙◌, inl, inr, refl}
 use Rattle.span_format.specs.Format.{KeepSpans}
-use Rattle.keeper_sqlite.proofs.HubKeepingLemmas.{can_here, commit_keeps, committed, keeps_on, on_any, on_err, on_ok, spans_of}
-use Rattle.std.proofs.lemmas.Result.{err_from_is_err_and}
+use Rattle.keeper_sqlite.proofs.HubKeepingLemmas.{can_here, commit_keeps, committed, keeps_on, on_any, spans_of}
+use Rattle.std.proofs.lemmas.Result.{err_from_is_err_and, on_err_weaker, on_ok_weaker}
 use Rattle.keeper_sqlite.proofs.HoldingLemmas.{became}
 use Rattle.keeper_memory.specs.Commits.{with_commit}
 use Rattle.keeper_sqlite.proofs.hub.commit.commit_ready.Goals as goal
@@ -11,7 +11,7 @@ returns-clause-ok g c state this can sure =
     let old = g.S.StoredItems.stands_for c.args.store.now in
     let commit = c.args.commit.now in
     let is = c.in_ok-edits.ensures.edits this.kept.tables (spans_of old state this) (can_here old state commit this can) (c.commit.ensures.trust sure) in
-    on_ok c.commit.result (committed old (g.S.StoredItems.stands_for c.commit.new.self) state commit this c.as_slice.result.now can c.in_ok-edits.ensures.fits (c.as_slice.ensures.value ∙ is))
+    on_ok_weaker c.commit.result (committed old (g.S.StoredItems.stands_for c.commit.new.self) state commit this c.as_slice.result.now can c.in_ok-edits.ensures.fits (c.as_slice.ensures.value ∙ is))
     (c.commit.ensures.ok this.items (c.in_ok-edits.ensures.same this.items this.stands))
 
 pub returns-in_err-edits-clause-err : goal.returns-in_err-edits-clause-err
@@ -20,7 +20,7 @@ returns-in_err-edits-clause-err g c state this =
 
 pub returns-clause-err : goal.returns-clause-err
 returns-clause-err g c state this =
-    on_err c.commit.result (keeps_on KeepSpans (g.S.StoredItems.stands_for c.args.store.now) (g.S.StoredItems.stands_for c.commit.new.self) state this)
+    on_err_weaker c.commit.result (keeps_on KeepSpans (g.S.StoredItems.stands_for c.args.store.now) (g.S.StoredItems.stands_for c.commit.new.self) state this)
     (c.commit.ensures.err this.items (c.in_ok-edits.ensures.same this.items this.stands))
 
 pub returns-in_err-edits-clause-made : goal.returns-in_err-edits-clause-made

@@ -1,7 +1,7 @@
-use Rattle.keeper_sqlite.proofs.HubKeepingLemmas.{keeps_either, keeps_on, keeps_or_new, on_any, on_err, some_keeps}
+use Rattle.keeper_sqlite.proofs.HubKeepingLemmas.{keeps_either, keeps_on, keeps_or_new, on_any, some_keeps}
 use Rattle.keeper_memory.specs.Commits.{with_commit}
 use Rattle.std.proofs.Common.{inl, inr, refl}
-use Rattle.std.proofs.lemmas.Result.{err_from_is_err_and}
+use Rattle.std.proofs.lemmas.Result.{err_from_is_err_and, on_err_weaker}
 use Rattle.keeper_sqlite.proofs.HoldingLemmas.{became_more, nothing_became}
 use Rattle.span_format.specs.Format.{KeepSpans}
 use Rattle.keeper_sqlite.specs.hub.Keeping.{KeepEither, KeepOrNew}
@@ -15,7 +15,7 @@ returns-clause-ok g c state this can sure =
 pub returns-clause-err : goal.returns-clause-err
 returns-clause-err g c state this sure =
     let ready = c.in_ok-prepare.ensures.ok state this (c.commit_ready.ensures.trust sure) in
-    on_err c.commit_ready.result (keeps_or_new c.args.keep (g.S.StoredItems.stands_for c.commit_ready.new.store) state) (c.commit_ready.ensures.err state ready)
+    on_err_weaker c.commit_ready.result (keeps_or_new c.args.keep (g.S.StoredItems.stands_for c.commit_ready.new.store) state) (c.commit_ready.ensures.err state ready)
 
 pub returns-in_err-prepare-clause-err : goal.returns-in_err-prepare-clause-err
 returns-in_err-prepare-clause-err g c state this sure =
@@ -26,7 +26,7 @@ pub returns-clause-whole : goal.returns-clause-whole
 returns-clause-whole g c state this sure =
     let s = g.S.StoredItems.stands_for in
     let ready = c.in_ok-prepare.ensures.ok state (some_keeps c.args.keep (s c.args.store.now) state this) (c.commit_ready.ensures.trust sure) in
-    on_err c.commit_ready.result (keeps_either (s c.commit_ready.new.store) state) (c.commit_ready.ensures.err state ready)
+    on_err_weaker c.commit_ready.result (keeps_either (s c.commit_ready.new.store) state) (c.commit_ready.ensures.err state ready)
 
 pub returns-in_err-prepare-clause-whole : goal.returns-in_err-prepare-clause-whole
 returns-in_err-prepare-clause-whole g c state this sure =

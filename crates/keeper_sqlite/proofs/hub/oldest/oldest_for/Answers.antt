@@ -1,9 +1,9 @@
+use Rattle.std.proofs.lemmas.Result.{IfOk-weaker}
 use Rattle.span_format.specs.Oldest.{AreOldest, AreOldestFor}
-use Rattle.keeper_sqlite.proofs.HubKeepingLemmas.{if_ok}
 use Rattle.keeper_sqlite.proofs.hub.oldest.oldest_for.Goals as goal
 
 pub returns-then-goes-clause-oldest : goal.returns-then-goes-clause-oldest
-returns-then-goes-clause-oldest g c t has bases sure = if_ok c.oldest_of.result (λ o. AreOldest t o.grants.items o.version.items o.names.items) (λ o. AreOldestFor t c.args.keep c.args.base c.args.change.now o.grants.items o.version.items o.names.items)
+returns-then-goes-clause-oldest g c t has bases sure = IfOk-weaker c.oldest_of.result (λ o. AreOldest t o.grants.items o.version.items o.names.items) (λ o. AreOldestFor t c.args.keep c.args.base c.args.change.now o.grants.items o.version.items o.names.items)
     (λ oldest told change is above. told) (c.oldest_of.ensures.oldest t has bases sure)
 
 pub returns-clause-oldest : goal.returns-clause-oldest

@@ -1,6 +1,7 @@
 use Rattle.std.proofs.Common.{◌∙◌, inl, inr}
+use Rattle.std.proofs.lemmas.Result.{on_ok_weaker}
 use Rattle.keeper_sqlite.specs.hub.Keeping.{KeepEither}
-use Rattle.keeper_sqlite.proofs.HubKeepingLemmas.{made_turned, on_any, on_ok, rows_in_areas, turned_keeps}
+use Rattle.keeper_sqlite.proofs.HubKeepingLemmas.{made_turned, on_any, rows_in_areas, turned_keeps}
 use Rattle.keeper_sqlite.proofs.HoldingLemmas.{made_either}
 use Rattle.keeper_sqlite.proofs.hub.prepare.turn.Goals as goal
 
@@ -8,7 +9,7 @@ pub returns-clause-ok : goal.returns-clause-ok
 returns-clause-ok g c state this sure =
     let s = g.S.StoredItems.stands_for in
     let read = c.in_ok-tables.ensures.tables this.kept.tables (rows_in_areas (s c.args.store.now) state this) (c.commit.ensures.trust sure) in
-    on_ok c.commit.result
+    on_ok_weaker c.commit.result
     (made_turned (s c.commit.new.self) state c.as_slice.result.now this.items this.kept c.in_ok-tables.tables read (c.as_slice.ensures.value ∙ c.in_ok-edits.ensures.edits) c.in_ok-edits.ensures.plain)
     (c.commit.ensures.ok this.items (c.in_ok-tables.ensures.same this.items this.stands))
 

@@ -1,8 +1,7 @@
 use Rattle.std.proofs.Common.{◌≡◌, ◌++◌, ◌∷◌, [], map, length, append_assoc, append-nil, arith, sym, ap, subst, ◌∙◌}
 use Rattle.std.specs.Vec.Iter.{into_iter_items}
-use Rattle.std.proofs.lemmas.List.{map-append}
+use Rattle.std.proofs.lemmas.List.{map-append, nil_from_length}
 use Rattle.item_maps.specs.Edits.{entry_of}
-use Rattle.span_format.proofs.Steps.{none_left}
 use Rattle.keeper_sqlite.specs.hub.Rows.{AreLaid}
 use Rattle.keeper_sqlite.proofs.hub.spans.lay_out.Goals as goal
 
@@ -28,6 +27,6 @@ pub returns : goal.returns
 returns c seen h done =
     let at = c.loop-item in
     let none = c.in-None.ensures.steps in
-    let empty : into_iter_items at.item-iterator ≡ [] = none_left (into_iter_items at.item-iterator) (sym at.invariant.left ∙ none.0) in
+    let empty : into_iter_items at.item-iterator ≡ [] = nil_from_length (into_iter_items at.item-iterator) (sym at.invariant.left ∙ none.0) in
     let whole : at.yielded ≡ c.args.items.items = sym (append-nil at.yielded) ∙ rw empty at at.invariant.whole in
     subst (λ xs. AreLaid c.args.base (seen ++ map entry_of xs) at.laid) whole (at.invariant.laid seen h)

@@ -1,5 +1,6 @@
 use Rattle.std.proofs.Common.{arith}
-use Rattle.query_pages.proofs.Adding.{added_all, adding_more, closed_end, closed_known, closed_turns, put_of, was_in, was_out}
+use Rattle.query_pages.proofs.Adding.{added_all, adding_more, closed_end, closed_known, closed_turns, put_of, was_in}
+use Rattle.query_pages.proofs.Adding.{was_out}
 use Rattle.query_pages.proofs.seen.ancestors.add_chain.Goals as goal
 
 -- the chain has come to an id that was in before

@@ -6,7 +6,8 @@ use Rattle.sync_world.specs.Deliveries.{Carried, OnCome}
 use Rattle.sync_world.specs.Given.{is_stale, requests_in}
 use Rattle.sync_world.specs.Links.{link_in, told_world}
 use Rattle.sync_world.specs.Planned.{fate_at}
-use Rattle.sync_world.proofs.ExchangeLemmas.{broken_leads, came_leads, counts_as, exchanged, noted_or, own_carries, sure}
+use Rattle.sync_world.proofs.ExchangeLemmas.{broken_leads, came_leads, counts_as, exchanged, noted_or, own_carries}
+use Rattle.sync_world.proofs.ExchangeLemmas.{sure}
 use Rattle.sync_world.proofs.world_link.WorldLinkLink.exchange.Goals as goal
 
 pub returns-in-Ok-clause-own : goal.returns-in-Ok-clause-own

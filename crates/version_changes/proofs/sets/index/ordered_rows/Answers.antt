@@ -1,9 +1,8 @@
 use Rattle.std.proofs.Common.{rules, ◌≡◌, ◌++◌, ◌∷◌, [], length, append_assoc, append-nil, arith, sym, ap, subst, ◌∙◌}
-use Rattle.std.proofs.lemmas.List.{flat_map_more}
+use Rattle.std.proofs.lemmas.List.{flat_map_more, nil_from_length}
 use Rattle.std.specs.Vec.Iter.{into_iter_items}
 use Rattle.roster_types.specs.Keys.{Ascends, look_up}
 use Rattle.version_changes.proofs.IndexLemmas.{index_ascends, index_look_up}
-use Rattle.version_changes.proofs.ListedLemmas.{nothing_left}
 use Rattle.version_changes.specs.sets.Applying.{set_key}
 use Rattle.version_changes.specs.sets.Steps.{indexed, part_indexed}
 use Rattle.version_changes.proofs.sets.index.ordered_rows.Goals as goal
@@ -28,7 +27,7 @@ pub returns : goal.returns
 returns c =
     let at = c.loop-part in
     let none = c.in-None.ensures.steps in
-    let empty : into_iter_items at.part-iterator ≡ [] = nothing_left (into_iter_items at.part-iterator) (sym at.invariant.left ∙ none.0) in
+    let empty : into_iter_items at.part-iterator ≡ [] = nil_from_length (into_iter_items at.part-iterator) (sym at.invariant.left ∙ none.0) in
     let whole : at.yielded ≡ c.args.parts = sym (append-nil at.yielded) ∙ rw empty at at.invariant.whole in
     let all : at.all.items ≡ indexed c.args.parts = at.invariant.rows ∙ ap indexed whole in
     record {

@@ -1,9 +1,10 @@
 use Rattle.std.proofs.Common.{◌≡◌, ◌++◌, ◌∷◌, [], length, append_assoc, append-nil, arith, sym, ap, subst, ◌∙◌}
+use Rattle.std.proofs.lemmas.List.{nil_from_length}
 use Rattle.std.specs.Option.{option_copied}
 use Rattle.std.specs.Vec.Iter.{into_iter_items}
 use Rattle.roster_types.specs.Keys.{look_up}
 use Rattle.roster_values.specs.Kinds.{place_of_kind}
-use Rattle.version_changes.proofs.ListedLemmas.{Changed, changed_all, changed_next, nothing_left}
+use Rattle.version_changes.proofs.ListedLemmas.{Changed, changed_all, changed_next}
 use Rattle.version_changes.specs.sets.Applying.{set_key}
 use Rattle.version_changes.specs.sets.Steps.{IsListedChange}
 use Rattle.version_core.specs.Changes.{change_key}
@@ -39,6 +40,6 @@ pub returns : goal.returns
 returns c =
     let at = c.loop-listed in
     let none = c.in-None.ensures.steps in
-    let empty : into_iter_items at.listed-iterator ≡ [] = nothing_left (into_iter_items at.listed-iterator) (sym at.invariant.left ∙ none.0) in
+    let empty : into_iter_items at.listed-iterator ≡ [] = nil_from_length (into_iter_items at.listed-iterator) (sym at.invariant.left ∙ none.0) in
     let whole : at.yielded ≡ c.args.rows.items = sym (append-nil at.yielded) ∙ rw empty at at.invariant.whole in
     changed_all c.args.feed.now c.args.at c.args.rows.items c.args.view.now.rows at.yielded at.changes whole at.invariant.changed

@@ -1,4 +1,5 @@
-use Rattle.std.proofs.Common.{◌≡◌, ◌++◌, List, append_assoc, append-nil, false, length, Some, sym, ap, subst, ◌∙◌, arith, option_copied}
+use Rattle.std.proofs.Common.{◌≡◌, ◌++◌, List, append_assoc, append-nil, false, length, Some, sym, ap, subst, ◌∙◌}
+use Rattle.std.proofs.Common.{arith, option_copied}
 use Rattle.std.specs.Option.{option_to_list}
 use Rattle.reference_rules.proofs.Rest.{rest_of, rest_start}
 use Rattle.roster_types.specs.Keys.{look_up}

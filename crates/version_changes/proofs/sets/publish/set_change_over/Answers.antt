@@ -1,5 +1,6 @@
 use Rattle.std.proofs.Common.{◌≡◌, ◌+◌, ◌==◌, length, false, List, [], ◌∷◌, None, sym, ap, subst, ◌∙◌}
-use Rattle.version_changes.proofs.Answering.{leads, leads_on, refused_at_last, refused_for_owner, refused_for_rows, unchanged}
+use Rattle.version_changes.proofs.Answering.{leads, leads_on, refused_at_last, refused_for_owner, refused_for_rows}
+use Rattle.version_changes.proofs.Answering.{unchanged}
 use Rattle.reference_rules.specs.Faults.{faults_of}
 use Rattle.version_changes.proofs.SoundLemmas.{none_from_empty, sound_from_none}
 use Rattle.version_core.specs.Changes.{change_key, rows_of}

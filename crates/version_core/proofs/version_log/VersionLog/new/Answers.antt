@@ -8,7 +8,7 @@ no_pasts = record { all = tt; ascend = refl }
 
 pub invariant_of-result : goal.invariant_of-result
 invariant_of-result c = record {
-  versions = rw (c.first_moment.ensures, c.new-2.ensures.items, c.new-3.ensures.items, c.new.ensures.items) (record { number = search rules; rows = refl; few = λ kind. search rules; grants = no_grants 0 }, tt);
+  versions = rw (c.epoch.ensures, c.new-2.ensures.items, c.new-3.ensures.items, c.new.ensures.items) (record { number = search rules; rows = refl; few = λ kind. search rules; grants = no_grants 0 }, tt);
   pasts = rw c.new-3.ensures.items no_pasts;
   up_to = rw c.new-3.ensures.items tt;
   grants = rw c.new-2.ensures.items tt;

@@ -1,4 +1,5 @@
-use Rattle.std.proofs.Common.{◌≡◌, ◌+◌, ◌<◌, ◌≤◌, ℕ, ℤ, List, [], ◌∷◌, ◌++◌, None, length, map, unwrap_or, vec_capacity, vec_len, sym, ap, subst, ◌∙◌, arith, rules}
+use Rattle.std.proofs.Common.{◌≡◌, ◌+◌, ◌<◌, ◌≤◌, ℕ, ℤ, List, [], ◌∷◌, ◌++◌, None, length, map, unwrap_or, vec_capacity}
+use Rattle.std.proofs.Common.{vec_len, sym, ap, subst, ◌∙◌, arith, rules}
 use Rattle.std.specs.List.{AllByRecursion, AllWithin}
 use Rattle.version_core.specs.Changes.{change_key}
 use Rattle.version_core.specs.History.{AllHaveRoom, AreUpTo, Past, PutsRows, history_key, pasts_of}

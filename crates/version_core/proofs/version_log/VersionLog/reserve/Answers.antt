@@ -1,4 +1,5 @@
-use Rattle.std.proofs.Common.{◌≡◌, ◌+◌, ◌<◌, ◌≤◌, ◌∷◌, List, length, map, vec_capacity, vec_len, sym, ap, subst, ◌∙◌, arith}
+use Rattle.std.proofs.Common.{◌≡◌, ◌+◌, ◌<◌, ◌≤◌, ◌∷◌, List, length, map, vec_capacity, vec_len, sym, ap, subst, ◌∙◌}
+use Rattle.std.proofs.Common.{arith}
 use Rattle.std.specs.List.{AllByRecursion}
 use Rattle.roster_types.specs.Keys.{Key}
 use Rattle.version_core.specs.Changes.{change_key}
@@ -13,6 +14,21 @@ use Rattle.version_core.proofs.AddLemmas.{length_map}
 use Rattle.version_core.proofs.HistoryLemmas.{all_map}
 use Rattle.version_core.proofs.IndexedVersions.{versions_stay}
 use Rattle.version_core.proofs.version_log.VersionLog.reserve.Goals as goal
+
+-- the same versions, and an index that still has all
+pub invariant_of-self-in_err-note : goal.invariant_of-self-in_err-note
+invariant_of-self-in_err-note c =
+    let table = c.self.inside in
+    record {
+      versions = c.self.invariant.versions;
+      pasts = c.self.invariant.pasts;
+      up_to = c.self.invariant.up_to;
+      grants = c.self.invariant.grants;
+      spare = c.self.invariant.spare;
+      fresh = c.self.invariant.fresh;
+      index = λ on. versions_stay table.refs.items c.note.new.runs.items c.note.ensures (kept_of table) (c.self.invariant.index on);
+      room = λ keys none. cc;
+    }
 
 -- the same versions
 pub invariant_of-self-in_err-make_room : goal.invariant_of-self-in_err-make_room
@@ -31,7 +47,7 @@ invariant_of-self-in_err-make_room c =
           (subst (AllByRecursion (λ (entry : Since (List GrantRow)). entry.version ≤ last_number table)) (sym e.grants) c.self.invariant.grants);
       spare = e.spare ∙ c.self.invariant.spare;
       fresh = e.fresh;
-      index = λ on. subst (AllByRecursion (IsVersionIndexed c.make_room.new.refs.items)) (sym same) (versions_stay table.refs.items c.make_room.new.refs.items e.refs (kept_of table) (c.self.invariant.index on));
+      index = λ on. subst (AllByRecursion (IsVersionIndexed c.note.new.runs.items)) (sym same) (versions_stay table.refs.items c.note.new.runs.items c.note.ensures (kept_of table) (c.self.invariant.index on));
       room = λ keys none. cc;
     }
 
@@ -54,7 +70,7 @@ invariant_of-self-2 c =
           (subst (AllByRecursion (λ (entry : Since (List GrantRow)). entry.version ≤ last_number table)) (sym e.grants) c.self.invariant.grants);
       spare = e.spare ∙ c.self.invariant.spare;
       fresh = e.fresh;
-      index = λ on. subst (AllByRecursion (IsVersionIndexed c.make_room.new.refs.items)) (sym same) (versions_stay table.refs.items c.make_room.new.refs.items e.refs (kept_of table) (c.self.invariant.index on));
+      index = λ on. subst (AllByRecursion (IsVersionIndexed c.note.new.runs.items)) (sym same) (versions_stay table.refs.items c.note.new.runs.items c.note.ensures (kept_of table) (c.self.invariant.index on));
       room = λ (keys : List Key) some.
           let given : map key_of c.in_ok-keys.keys.items ≡ keys = cc in
           let are : map change_key changes ≡ keys = sym c.in_ok-keys.ensures ∙ given in

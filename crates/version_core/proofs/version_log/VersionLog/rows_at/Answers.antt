@@ -1,6 +1,7 @@
 use Rattle.std.proofs.Common.{◌≡◌, ◌+◌, ◌-◌, ◌≤◌, ◌∷◌, ℕ, ℤ, Some, length, slice_get, ap, ◌∙◌, arith}
+use Rattle.std.proofs.lemmas.Bool.Decides.{nat_tests}
 use Rattle.version_core.specs.History.{pasts_of}
-use Rattle.version_core.specs.VersionLog.{IsVersionIndexed, kept_of, version_at}
+use Rattle.version_core.specs.VersionLog.{IsVersionIndexed, kept_of, last_number, version_at}
 use Rattle.version_core.specs.Version.{IsVersion, empty_version, last_or}
 use Rattle.version_core.specs.declared.change.BaseVersion.{BaseVersion}
 use Rattle.version_core.specs.declared.version_log.VersionLog.TheInside.{Inside}
@@ -24,20 +25,24 @@ moment_at-moment-requires c =
     let le = in_range c.self.inside c.args.version (rw (← c.self.view_is) at c.requires.oldest) (rw (← c.self.view_is) at c.requires.newest) in
     rw c.deref.ensures.value le
 
-pub new-requires-clause-version : goal.new-requires-clause-version
-new-requires-clause-version c =
+pub invariant_of-result : goal.invariant_of-result
+invariant_of-result c =
     let table = c.self.inside in
     let at = stands table c.args.version (rw (← c.self.view_is) at c.requires.oldest) (rw (← c.self.view_is) at c.requires.newest) c.moment_at-moment.result (rw c.deref.ensures.value at c.moment_at-moment.ensures) in
-    rw (c.grants_at-grants.ensures, c.deref-2.ensures.value, c.deref-3.ensures.value) (held_at IsVersion (kept_of table) (c.args.version - table.number) _ c.self.invariant.versions at)
+    record {
+      pasts = rw c.deref-3.ensures.value c.self.invariant.pasts;
+      newest = λ on.
+          let last : c.args.version ≡ last_number table = grind (arith, nat_tests, on) in
+          rw (c.deref-3.ensures.value, last) c.self.invariant.up_to;
+      version = rw (c.grants_at-grants.ensures, c.deref-2.ensures.value, c.deref-3.ensures.value) (held_at IsVersion (kept_of table) (c.args.version - table.number) _ c.self.invariant.versions at);
+      index = λ on. rw (c.deref-3.ensures.value, c.deref-4.ensures.value) (held_at (IsVersionIndexed table.refs.items) (kept_of table) (c.args.version - table.number) _ (c.self.invariant.index on) at);
+    }
+
+pub returns-clause-version : goal.returns-clause-version
+returns-clause-version c = (invariant_of-result c).version
 
 pub returns-clause-at : goal.returns-clause-at
 returns-clause-at c =
     let table = c.self.inside in
     let at = stands table c.args.version (rw (← c.self.view_is) at c.requires.oldest) (rw (← c.self.view_is) at c.requires.newest) c.moment_at-moment.result (rw c.deref.ensures.value at c.moment_at-moment.ensures) in
-    rw (← c.self.view_is, c.new.ensures, c.grants_at-grants.ensures, c.deref-2.ensures.value, c.deref-3.ensures.value) at
-
-pub new-requires-clause-index : goal.new-requires-clause-index
-new-requires-clause-index c = λ on.
-    let table = c.self.inside in
-    let at = stands table c.args.version (rw (← c.self.view_is) at c.requires.oldest) (rw (← c.self.view_is) at c.requires.newest) c.moment_at-moment.result (rw c.deref.ensures.value at c.moment_at-moment.ensures) in
-    rw (c.deref-3.ensures.value, c.deref-4.ensures.value) (held_at (IsVersionIndexed table.refs.items) (kept_of table) (c.args.version - table.number) _ (c.self.invariant.index on) at)
+    rw (← c.self.view_is, c.grants_at-grants.ensures, c.deref-2.ensures.value, c.deref-3.ensures.value) at

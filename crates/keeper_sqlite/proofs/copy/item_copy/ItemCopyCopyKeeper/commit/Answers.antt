@@ -1,9 +1,9 @@
 use Rattle.std.proofs.Common.{refl}
+use Rattle.std.proofs.lemmas.Result.{on_ok_weaker}
 use Rattle.keeper_memory.specs.copy.Changes.{CanChange, copy_after}
 use Rattle.keeper_sqlite.proofs.TellingLemmas.{still_keep, told_back}
 use Rattle.keeper_sqlite.specs.copy.Keeping.{KeepOrNew}
 use Rattle.keeper_sqlite.proofs.CopyKeepingLemmas.{copy_came, counts_later, keeps_or_new, one_copy}
-use Rattle.keeper_sqlite.proofs.HubKeepingLemmas.{on_ok}
 use Rattle.keeper_sqlite.proofs.copy.item_copy.ItemCopyCopyKeeper.commit.Goals as goal
 
 pub invariant_of-self : goal.invariant_of-self
@@ -13,7 +13,7 @@ invariant_of-self g c =
     let change = c.args.change in
     still_keep KeepOrNew (s.stands_for old.origin.value) (s.stands_for old.store) (s.stands_for c.commit_to.new.store) (s.may_hold old.store) (s.is_trusted old.store) (CanChange change) (copy_after change)
     c.self.invariant (g.met.S.StoredItems.holds old.store) (rw (← c.self.view_is) at c.requires) c.commit_to.result (s.is_trusted c.commit_to.new.store) c.commit_to.ensures.trust
-    (λ copy this can sure. on_ok c.commit_to.result (keeps_or_new (s.stands_for c.commit_to.new.store) (copy_after change copy)) (c.commit_to.ensures.ok copy this can sure)) c.commit_to.ensures.err
+    (λ copy this can sure. on_ok_weaker c.commit_to.result (keeps_or_new (s.stands_for c.commit_to.new.store) (copy_after change copy)) (c.commit_to.ensures.ok copy this can sure)) c.commit_to.ensures.err
 
 pub returns-clause-told : goal.returns-clause-told
 returns-clause-told g c =

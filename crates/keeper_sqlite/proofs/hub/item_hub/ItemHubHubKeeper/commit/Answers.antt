@@ -1,7 +1,8 @@
 use Rattle.std.proofs.Common.{refl}
+use Rattle.std.proofs.lemmas.Result.{on_ok_weaker}
 use Rattle.keeper_memory.specs.Commits.{CanCommit, with_commit}
 use Rattle.keeper_sqlite.specs.hub.Keeping.{KeepOrNew}
-use Rattle.keeper_sqlite.proofs.HubKeepingLemmas.{keeps_or_new, on_ok, one_state}
+use Rattle.keeper_sqlite.proofs.HubKeepingLemmas.{keeps_or_new, one_state}
 use Rattle.keeper_sqlite.proofs.TellingLemmas.{hub_came, still_keep, told_back}
 use Rattle.keeper_sqlite.proofs.hub.item_hub.ItemHubHubKeeper.commit.Goals as goal
 
@@ -13,7 +14,7 @@ invariant_of-self g c =
     still_keep (KeepOrNew old.keep) (s.stands_for old.origin.value) (s.stands_for old.store) (s.stands_for c.commit_to.new.store) (s.may_hold old.store) (s.is_trusted old.store)
     (λ state. CanCommit state commit) (λ state. with_commit state commit) c.self.invariant (g.met.S.StoredItems.holds old.store) (rw (← c.self.view_is) at c.requires) c.commit_to.result
     (s.is_trusted c.commit_to.new.store) c.commit_to.ensures.trust
-    (λ state this can sure. on_ok c.commit_to.result (keeps_or_new old.keep (s.stands_for c.commit_to.new.store) (with_commit state commit)) (c.commit_to.ensures.ok state this can sure)) c.commit_to.ensures.err
+    (λ state this can sure. on_ok_weaker c.commit_to.result (keeps_or_new old.keep (s.stands_for c.commit_to.new.store) (with_commit state commit)) (c.commit_to.ensures.ok state this can sure)) c.commit_to.ensures.err
 
 pub returns-clause-told : goal.returns-clause-told
 returns-clause-told g c =

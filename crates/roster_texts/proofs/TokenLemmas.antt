@@ -1,5 +1,6 @@
 -- A token is a text.
-use Rattle.std.proofs.Common.{◌≡◌, ℕ, ◌<◌, ◌≤◌, ◌==◌, Bool, true, false, ◌&&◌, List, [], ◌∷◌, arith, refl, length, drop, one-add, take, Some, None, ◌+◌, nat_le, nat_lt, slice_index, if◌then◌else◌, zero, suc}
+use Rattle.std.proofs.Common.{◌≡◌, ℕ, ◌<◌, ◌≤◌, ◌==◌, Bool, true, false, ◌&&◌, List, [], ◌∷◌, arith, refl, length, drop}
+use Rattle.std.proofs.Common.{one-add, take, Some, None, ◌+◌, nat_le, nat_lt, slice_index, if◌then◌else◌, zero, suc}
 use Rattle.std.proofs.lemmas.Bool.{and_parts}
 use Rattle.std.specs.Prelude.{IsUtf8}
 use Rattle.std.specs.List.{prefix_len}
