@@ -10,13 +10,13 @@ use Rattle.roster_types.specs.declared.set_row.SetRow.{SetRow}
 use Rattle.roster_values.specs.declared.kind.Kind.{Kind}
 use Rattle.version_changes.specs.sets.Applying.{set_key}
 use Rattle.bulk_export.specs.Changes.{AreChanges, told}
-use Rattle.bulk_export.specs.Steps.{earlier_at, earlier_key, lying}
+use Rattle.bulk_export.specs.Steps.{earlier_at, earlier_key, set_row}
 use Rattle.bulk_export.specs.declared.earlier.EarlierRow.{EarlierRow}
 use Rattle.bulk_export.proofs.Ordering.{list_ascends, ordered_at, ordered_list, ordered_up}
 use Rattle.bulk_export.proofs.Telling.{gathered, of_one_kind, told_under}
 
 module _ (kind : Kind) (at : ℤ) (earlier : List SetRow) (held : List Record) (es : List EarlierRow) (is : IsList kind held) (rise : Ascends earlier_key es) (same : (k : Key) → earlier_at es k ≡ look_up set_key k earlier)
-    (kinds : AllByRecursion (λ (e : EarlierRow). (lying e).row.kind ≡ kind) es) where
+    (kinds : AllByRecursion (λ (e : EarlierRow). (set_row e).row.kind ≡ kind) es) where
   all_of_kind : AllByRecursion (λ (row : Record). row.kind ≡ kind) (gathered at held es)
   all_of_kind = of_one_kind at held es (λ (row : Record). row.kind ≡ kind) (λ row e. e) (recursion_from_All (λ (row : Record). row.kind ≡ kind) held is.kinds) kinds
 

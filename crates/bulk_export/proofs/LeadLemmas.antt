@@ -14,7 +14,7 @@ use Rattle.row_deltas.proofs.SameLemmas.{row_decides}
 use Rattle.row_deltas.specs.Sameness.{same_row}
 use Rattle.version_changes.specs.sets.Applying.{is_active, set_key}
 use Rattle.version_core.proofs.OrderLemmas.{look_up-overlaid}
-use Rattle.bulk_export.specs.Changes.{AreChanges, LeadsTo, is_told, marked, put_over, told}
+use Rattle.bulk_export.specs.Changes.{AreChanges, LeadsTo, is_as_before, marked, put_over, told}
 
 abbrev row_of : SetRow → Record
 row_of listed = listed.row
@@ -24,7 +24,7 @@ keep [] = tt
 keep (listed ∷ earlier) = (refl, keep earlier)
 
 -- a held row that the earlier set tells stands there
-told_stands : (listed : SetRow) (held : Record) (b : Bool) → is_told (Some listed) held ≡ b → option_or (cond b None (Some held)) (Some listed.row) ≡ Some held
+told_stands : (listed : SetRow) (held : Record) (b : Bool) → is_as_before (Some listed) held ≡ b → option_or (cond b None (Some held)) (Some listed.row) ≡ Some held
 told_stands listed held true e = ap (λ r. Some r) ((row_decides listed.row held).0 (and_parts listed.dated (same_row listed.row held) e).1)
 told_stands listed held false e = refl
 
@@ -36,7 +36,7 @@ stands : (at : ℤ) (earlier : Option SetRow) (held : Option Record) → LeadsTo
 stands at None None = tt
 stands at (Some listed) None = left at listed listed.row.status refl
 stands at None (Some held) = refl
-stands at (Some listed) (Some held) = told_stands listed held (is_told (Some listed) held) refl
+stands at (Some listed) (Some held) = told_stands listed held (is_as_before (Some listed) held) refl
 
 pub leads : (at : ℤ) (earlier : List SetRow) (held changes : List Record) → AreChanges at earlier held changes → (k : Key) → LeadsTo (look_up set_key k earlier) (look_up row_key k held) (look_up row_key k (put_over earlier changes))
 leads at earlier held changes are k =

@@ -1,7 +1,7 @@
 mod Changed
 mod FolderLemmas
 mod LeadLemmas
-mod Lying
+mod EarlierRows
 mod Ordering
-mod Standing
+mod AnyResult
 mod Telling

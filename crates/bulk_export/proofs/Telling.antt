@@ -14,8 +14,8 @@ use Rattle.version_core.proofs.PutLemmas.{all_append}
 use Rattle.std.specs.FinMap.Entries as entries
 use Rattle.roster_types.specs.Keys.{keyed}
 use Rattle.version_changes.specs.sets.Applying.{is_active}
-use Rattle.bulk_export.specs.Changes.{is_told, marked, told}
-use Rattle.bulk_export.specs.Steps.{each_told, earlier_at, earlier_key, gone_row, gone_where, lying, new_row}
+use Rattle.bulk_export.specs.Changes.{is_as_before, marked, told}
+use Rattle.bulk_export.specs.Steps.{each_told, earlier_at, earlier_key, gone_row, gone_where, new_row, set_row}
 use Rattle.bulk_export.specs.declared.earlier.EarlierRow.{EarlierRow}
 
 look_up-append : (k : Key) (xs ys : List Record) → look_up row_key k (xs ++ ys) ≡ option_or (look_up row_key k xs) (look_up row_key k ys)
@@ -58,7 +58,7 @@ each_picked P Q f holds (x ∷ xs) all = by (f x) (λ r e. holds x r all.0 e) (e
 -- ---- what each row becomes
 
 new_is : (es : List EarlierRow) (held r : Record) → new_row es held ≡ Some r → r ≡ held
-new_is es held r e = by (is_told (earlier_at es (row_key held)) held) e
+new_is es held r e = by (is_as_before (earlier_at es (row_key held)) held) e
   where
     by : (b : Bool) → cond b None (Some held) ≡ Some r → r ≡ held
     by true e2 = cc e2
@@ -78,7 +78,7 @@ none_both false = refl
 
 module _ (at : ℤ) (held : List Record) (es : List EarlierRow) where
   abbrev gone : EarlierRow → Option Record
-  gone e = gone_row at held (lying e)
+  gone e = gone_row at held (set_row e)
 
   abbrev pub gathered : List Record
   gathered = each_told (new_row es) held ++ each_told gone es
@@ -87,19 +87,19 @@ module _ (at : ℤ) (held : List Record) (es : List EarlierRow) where
   new_keeps row r e = ap row_key (new_is es row r e)
 
   gone_keeps : (e : EarlierRow) (r : Record) → gone e ≡ Some r → row_key r ≡ earlier_key e
-  gone_keeps e r is = ap row_key (gone_is at (lying e) (is_some (look_up row_key (earlier_key e) held)) r is)
+  gone_keeps e r is = ap row_key (gone_is at (set_row e) (is_some (look_up row_key (earlier_key e) held)) r is)
 
   under : (k : Key) (h : Option Record) (m : Option EarlierRow) → look_up row_key k held ≡ h → look_up earlier_key k es ≡ m
-      → option_or (option_and_then (new_row es) h) (option_and_then gone m) ≡ told at (option_map lying m) h
+      → option_or (option_and_then (new_row es) h) (option_and_then gone m) ≡ told at (option_map set_row m) h
   under k None None h m = refl
-  under k None (Some e) h m = ap (λ o. gone_where at (lying e) (is_some o)) (ap (λ q. look_up row_key q held) (found_key earlier_key k es e m) ∙ h)
+  under k None (Some e) h m = ap (λ o. gone_where at (set_row e) (is_some o)) (ap (λ q. look_up row_key q held) (found_key earlier_key k es e m) ∙ h)
   under k (Some r) None h m =
       or_none (new_row es r)
-      ∙ ap (λ o. cond (is_told o r) None (Some r)) (ap (earlier_at es) (found_key row_key k held r h) ∙ ap (option_map lying) m)
+      ∙ ap (λ o. cond (is_as_before o r) None (Some r)) (ap (earlier_at es) (found_key row_key k held r h) ∙ ap (option_map set_row) m)
   under k (Some r) (Some e) h m =
-      let here : gone e ≡ None = ap (λ o. gone_where at (lying e) (is_some o)) (ap (λ q. look_up row_key q held) (found_key earlier_key k es e m) ∙ h) ∙ none_both (is_active (lying e).row.status) in
+      let here : gone e ≡ None = ap (λ o. gone_where at (set_row e) (is_some o)) (ap (λ q. look_up row_key q held) (found_key earlier_key k es e m) ∙ h) ∙ none_both (is_active (set_row e).row.status) in
       ap (option_or (new_row es r)) here ∙ or_none (new_row es r)
-      ∙ ap (λ o. cond (is_told o r) None (Some r)) (ap (earlier_at es) (found_key row_key k held r h) ∙ ap (option_map lying) m)
+      ∙ ap (λ o. cond (is_as_before o r) None (Some r)) (ap (earlier_at es) (found_key row_key k held r h) ∙ ap (option_map set_row) m)
 
   pub told_under : (k : Key) → Ascends row_key held → Ascends earlier_key es → look_up row_key k gathered ≡ told at (earlier_at es k) (look_up row_key k held)
   told_under k up rise =
@@ -108,7 +108,7 @@ module _ (at : ℤ) (held : List Record) (es : List EarlierRow) where
       ∙ under k (look_up row_key k held) (look_up earlier_key k es) refl refl
 
   -- each is of the kind of which all are
-  pub of_one_kind : (P : Record → Type 0) → ((row : Record) → P row → P (marked at row)) → AllByRecursion P held → AllByRecursion (λ e. P (lying e).row) es → AllByRecursion P gathered
+  pub of_one_kind : (P : Record → Type 0) → ((row : Record) → P row → P (marked at row)) → AllByRecursion P held → AllByRecursion (λ e. P (set_row e).row) es → AllByRecursion P gathered
   of_one_kind P marks held_are earlier_are = all_append P (each_told (new_row es) held) (each_told gone es)
       (each_picked P P (new_row es) (λ row r is e. subst P (sym (new_is es row r e)) is) held held_are)
-      (each_picked P (λ e. P (lying e).row) gone (λ e r is here. subst P (sym (gone_is at (lying e) (is_some (look_up row_key (earlier_key e) held)) r here)) (marks (lying e).row is)) es earlier_are)
+      (each_picked P (λ e. P (set_row e).row) gone (λ e r is here. subst P (sym (gone_is at (set_row e) (is_some (look_up row_key (earlier_key e) held)) r here)) (marks (set_row e).row is)) es earlier_are)

@@ -21,26 +21,28 @@ rows_in kind [] = []
 rows_in kind (part ∷ parts) = if place_of_kind part.kind == place_of_kind kind then part.rows else rows_in kind parts
 
 -- an earlier row tells a held one where it is the same, its date among all
-abbrev pub is_told : Option SetRow → Record → Bool
-is_told None held = false
-is_told (Some earlier) held = earlier.dated && same_row earlier.row held
+abbrev pub is_as_before : Option SetRow → Record → Bool
+is_as_before None held = false
+is_as_before (Some earlier) held = earlier.dated && same_row earlier.row held
 
 abbrev pub marked : ℤ → Record → Record
 marked at row = record row { status = ToBeDeleted; modified = at }
 
 -- what is told under an id, by what the earlier set has there and what is held
 abbrev pub told : ℤ → Option SetRow → Option Record → Option Record
-told at earlier (Some held) = if is_told earlier held then None else Some held
+told at earlier (Some held) = if is_as_before earlier held then None else Some held
 told at (Some earlier) None = if is_active earlier.row.status then Some (marked at earlier.row) else None
 told at None None = None
 
--- In order of id, each held row that the earlier set lacks or has otherwise, and each active row of the earlier set that isn't held.
+-- In order of id, each held row that the earlier set lacks or has otherwise, and each active row of the earlier set
+-- that isn't held.
 pub record AreChanges (at : ℤ) (earlier : List SetRow) (held changes : List Record) : Type 0 where
   pub order : Ascends row_key changes
   pub entries : (k : Key) → look_up row_key k changes ≡ told at (look_up set_key k earlier) (look_up row_key k held)
 
 -- the text is that of the changes of a kind that each of these copies holds
-pub record IsChangesExport (at : ℤ) (earlier : List SetRow) (kind : Kind) (copies : Copy → Type 0) (text : List ℕ) : Type 0 where
+pub record IsChangesExport (at : ℤ) (earlier : List SetRow) (kind : Kind) (copies : Copy → Type 0)
+    (text : List ℕ) : Type 0 where
   pub held : List Record
   pub are : AreHeld kind copies held
   pub rows : List Record

@@ -15,9 +15,9 @@ use Rattle.roster_values.specs.declared.mode.Mode.TheVariants.{Bulk, Delta}
 use Rattle.bulk_export.specs.declared.error.ExportError.{ExportError}
 use Rattle.bulk_export.specs.declared.error.ExportError.TheVariants as error
 
-abbrev pub broken : KeeperError → ExportError
-broken keeper.Failed = error.KeeperFault
-broken keeper.NoMemory = error.NoMemory
+abbrev pub export_error : KeeperError → ExportError
+export_error keeper.Failed = error.KeeperFault
+export_error keeper.NoMemory = error.NoMemory
 
 -- the copy holds something, of the kind these rows
 pub record IsHeld (kind : Kind) (copy : Copy) (rows : List Record) : Type 0 where
@@ -44,7 +44,8 @@ pub record IsExport (kind : Kind) (copies : Copy → Type 0) (text : List ℕ) :
 abbrev pub CauseOf : (Copy → Type 0) → Type 0 → (Copy → ℕ → Type 0) → ExportError → Type 0
 CauseOf copies broke HasBytes error.NothingHeld = (copy : Copy) → copies copy → copy.held ≡ None
 CauseOf copies broke HasBytes error.KeeperFault = broke
-CauseOf copies broke HasBytes (error.TooLarge bytes) = (largest < bytes) × ((copy : Copy) → copies copy → HasBytes copy bytes)
+CauseOf copies broke HasBytes (error.TooLarge bytes) =
+    (largest < bytes) × ((copy : Copy) → copies copy → HasBytes copy bytes)
 CauseOf copies broke HasBytes error.NoMemory = Unit {0}
 
 -- the text of rows is too large, or memory ran out
@@ -66,4 +67,5 @@ file_line mode kind = codes "file." ++ plural_of kind ++ codes "," ++ mode_word 
 -- the header, the versions, a line for each kind in their order, and whose set it is
 unfoldable pub manifest_text : Mode → List ℕ
 manifest_text mode =
-    codes "propertyName,value\nmanifest.version,1.0\noneroster.version,1.1\n" ++ (flat_map (file_line mode) all_kinds ++ codes "source.systemName,hub\nsource.systemCode,hub\n")
+    codes "propertyName,value\nmanifest.version,1.0\noneroster.version,1.1\n"
+    ++ (flat_map (file_line mode) all_kinds ++ codes "source.systemName,hub\nsource.systemCode,hub\n")

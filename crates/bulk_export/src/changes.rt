@@ -2,9 +2,9 @@
 
 ghost use Rattle.std.specs.Prelude.{◌≡◌, ◌≤◌, ◌++◌, is_some, option_copied, option_to_list, IfErr, IfOk, OnOk};
 ghost use Rattle.std.specs.List.{All};
-ghost use Rattle.bulk_export.specs.Changes.{AreChanges, HasTooMany, IsChangesExport, is_told, rows_in};
+ghost use Rattle.bulk_export.specs.Changes.{AreChanges, HasTooMany, IsChangesExport, is_as_before, rows_in};
 ghost use Rattle.bulk_export.specs.Exports.{CauseOf};
-ghost use Rattle.bulk_export.specs.Steps.{each_told, earlier_key, gone_row, lying, new_row};
+ghost use Rattle.bulk_export.specs.Steps.{each_told, earlier_key, gone_row, new_row, set_row};
 ghost use Rattle.keeper_memory.specs.copy.Copies.{Copy};
 ghost use Rattle.keeper_memory.specs.copy.Lists.{IsList};
 ghost use Rattle.roster_base.specs.Faults.{Rose};
@@ -12,7 +12,7 @@ ghost use Rattle.roster_types.specs.Keys.{Ascends, look_up, row_key};
 ghost use Rattle.roster_values.specs.Kinds.{place_of_kind};
 ghost use Rattle.row_deltas.specs.Sameness.{same_row};
 
-use crate::earlier::{EarlierRow, found, ordered, rows_in};
+use crate::earlier::{EarlierRow, earlier_at, ordered, rows_in};
 use crate::error::ExportError;
 use crate::text::{file_text, held_rows};
 use keeper_memory::CopyKeeper;
@@ -26,6 +26,7 @@ use roster_values::Kind;
 use std::alloc::Global;
 use version_changes::is_active;
 
+// Whether two rows are the same in all that they say.
 fn is_same(one: &Row, other: &Row) -> bool
     ensures { result ≡ same_row one.now other.now }
 {
@@ -33,8 +34,8 @@ fn is_same(one: &Row, other: &Row) -> bool
 }
 
 // Whether the earlier set tells a held row already: as it stands, and with its date.
-fn is_told(earlier: Option<&SetRow>, held: &Row) -> bool
-    ensures { result ≡ is_told (option_copied earlier.entry) held.now }
+fn is_as_before(earlier: Option<&SetRow>, held: &Row) -> bool
+    ensures { result ≡ is_as_before (option_copied earlier.entry) held.now }
 {
     match earlier {
         Some(listed) => listed.dated && is_same(&listed.row, held),
@@ -52,7 +53,7 @@ fn add_new(
     requires { Ascends earlier_key earlier.now }
     ensures { OnOk result (changes.new.items ≡ changes.old.items ++ option_to_list (new_row earlier.now held.now)) }
 {
-    if is_told(found(earlier, held.kind(), held.id()), held) {
+    if is_as_before(earlier_at(earlier, held.kind(), held.id()), held) {
         return Ok(());
     }
     changes.push(held.copy(alloc)?)?;
@@ -113,7 +114,8 @@ fn add_gone_rows(
     changes: &mut Vec<Row>,
 ) -> Result<(), NoMemory>
     requires { Ascends row_key held.now }
-    ensures { OnOk result (changes.new.items ≡ changes.old.items ++ each_told (λ listed. gone_row at held.now (lying listed)) earlier.now) }
+    ensures { OnOk result (changes.new.items
+        ≡ changes.old.items ++ each_told (λ listed. gone_row at held.now (set_row listed)) earlier.now) }
 {
     for listed in earlier {
         add_gone(alloc, held, listed.listed, at, changes)?;
@@ -121,8 +123,8 @@ fn add_gone_rows(
     Ok(())
 }
 
-// What changed of the rows of a kind, in order of id: each held row that the earlier set lacks or has otherwise, and each
-// active row of the earlier set that isn't held, marked as deleted.
+// What changed of the rows of a kind, in order of id: each held row that the earlier set lacks or has otherwise, and
+// each active row of the earlier set that isn't held, marked as deleted.
 fn changes(
     alloc: Global,
     kind: Kind,
@@ -142,9 +144,9 @@ fn changes(
     Ok(changes)
 }
 
-/// The file of what changed of the rows of a kind since an earlier set. Put over the rows of the earlier set, the changes give
-/// the rows that the copy holds, and beside them only rows marked as deleted that the earlier set had. An earlier row that
-/// brings no date counts as changed, whatever it says.
+/// The file of what changed of the rows of a kind since an earlier set. Put over the rows of the earlier set, the
+/// changes give the rows that the copy holds, and beside them only rows marked as deleted that the earlier set had. An
+/// earlier row that brings no date counts as changed, whatever it says.
 ///
 /// # Errors
 ///
@@ -156,12 +158,15 @@ pub fn export_changes<C: CopyKeeper>(
     kind: Kind,
     at: Moment,
 ) -> Result<Vec<u8>, ExportError>
-    ensures text { IfOk result (λ v. IsChangesExport at (rows_in kind earlier.now.parts) kind (C.stands_for copy.new) v.items) }
+    ensures text { IfOk result
+        (λ v. IsChangesExport at (rows_in kind earlier.now.parts) kind (C.stands_for copy.new) v.items) }
     ensures same { (c : Copy) → C.stands_for copy.new c → C.stands_for copy.old c }
     ensures leads { C.leads copy.old copy.new }
     ensures later { C.fault_count copy.old ≤ C.fault_count copy.new }
     ensures stood { OnOk result (C.fault_count copy.new ≡ C.fault_count copy.old) }
-    ensures cause { IfErr result (λ e. CauseOf (C.stands_for copy.new) (Rose (C.fault_count copy.old) (C.fault_count copy.new)) (λ c n. HasTooMany at (rows_in kind earlier.now.parts) kind c n) e) }
+    ensures cause { IfErr result
+        (λ e. CauseOf (C.stands_for copy.new) (Rose (C.fault_count copy.old) (C.fault_count copy.new))
+        (λ c n. HasTooMany at (rows_in kind earlier.now.parts) kind c n) e) }
 {
     let held = held_rows(alloc, copy, kind)?;
     let Ok(rows) = changes(alloc, kind, rows_in(earlier, kind), held.as_slice(), at) else {

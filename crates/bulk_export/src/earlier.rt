@@ -3,7 +3,7 @@
 ghost use Rattle.std.specs.Prelude.{◌≡◌, IfOk, map, option_copied};
 ghost use Rattle.std.specs.List.{All, AllByRecursion};
 ghost use Rattle.bulk_export.specs.Changes.{rows_in};
-ghost use Rattle.bulk_export.specs.Steps.{earlier_at, earlier_key, lying};
+ghost use Rattle.bulk_export.specs.Steps.{earlier_at, earlier_key, set_row};
 ghost use Rattle.roster_types.specs.Keys.{Ascends, Key, look_up};
 ghost use Rattle.roster_values.specs.Kinds.{place_of_kind};
 ghost use Rattle.version_changes.specs.sets.Applying.{set_key};
@@ -43,14 +43,15 @@ pub fn rows_in(set: &RosterSet, kind: Kind) -> &[SetRow]
     &[]
 }
 
-fn lent<'a>(alloc: Global, rows: &'a [SetRow]) -> Result<Vec<EarlierRow<'a>>, NoMemory>
-    ensures { IfOk result (λ v. map lying v.items ≡ rows.now) }
+// The rows of a set, each as a reference to it.
+fn earlier_rows<'a>(alloc: Global, rows: &'a [SetRow]) -> Result<Vec<EarlierRow<'a>>, NoMemory>
+    ensures { IfOk result (λ v. map set_row v.items ≡ rows.now) }
 {
-    let mut lent = Vec::new(alloc);
+    let mut earlier = Vec::new(alloc);
     for listed in rows {
-        lent.push(EarlierRow { listed })?;
+        earlier.push(EarlierRow { listed })?;
     }
-    Ok(lent)
+    Ok(earlier)
 }
 
 /// The rows of a kind in order of id, as they lie in the set. No row is copied.
@@ -62,16 +63,17 @@ pub fn ordered<'a>(
     requires { All (λ listed. listed.row.kind ≡ kind) rows.now }
     ensures order { IfOk result (λ v. Ascends earlier_key v.items) }
     ensures rows { IfOk result (λ v. (k : Key) → earlier_at v.items k ≡ look_up set_key k rows.now) }
-    ensures kinds { IfOk result (λ v. AllByRecursion (λ earlier. (lying earlier).row.kind ≡ kind) v.items) }
+    ensures kinds { IfOk result (λ v. AllByRecursion (λ earlier. (set_row earlier).row.kind ≡ kind) v.items) }
 {
+    // The contract alone speaks of it.
     let _ = kind;
-    let lent = lent(alloc, rows)?;
-    let ordered = sorted(alloc, lent)?;
+    let earlier = earlier_rows(alloc, rows)?;
+    let ordered = sorted(alloc, earlier)?;
     Ok(ordered)
 }
 
 /// The row of this kind and id among rows in order.
-pub fn found<'a>(rows: &[EarlierRow<'a>], kind: Kind, id: &Id) -> Option<&'a SetRow>
+pub fn earlier_at<'a>(rows: &[EarlierRow<'a>], kind: Kind, id: &Id) -> Option<&'a SetRow>
     requires { Ascends earlier_key rows.now }
     ensures { option_copied result ≡ earlier_at rows.now (place_of_kind kind, id.now) }
 {

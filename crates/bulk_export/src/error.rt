@@ -1,7 +1,7 @@
 //! Why nothing was exported.
 
 ghost use Rattle.std.specs.Prelude.{◌≡◌};
-ghost use Rattle.bulk_export.specs.Exports.{broken};
+ghost use Rattle.bulk_export.specs.Exports.{export_error};
 
 use roster_base::KeeperError;
 
@@ -19,8 +19,8 @@ pub enum ExportError {
 }
 
 /// The error for a failure of the copy's keeper.
-pub fn broken(error: KeeperError) -> ExportError
-    ensures { result ≡ broken error }
+pub fn export_error(error: KeeperError) -> ExportError
+    ensures { result ≡ export_error error }
 {
     match error {
         KeeperError::Failed => ExportError::KeeperFault,

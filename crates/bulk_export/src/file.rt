@@ -12,13 +12,13 @@ use keeper_memory::CopyKeeper;
 use roster_values::Kind;
 use std::alloc::Global;
 
-/// The file of the rows of a kind that the copy holds, in order of id: what `read_file` reads from it in each mode is these
-/// rows, each with its date.
+/// The file of the rows of a kind that the copy holds, in order of id: what `read_file` reads from it in each mode is
+/// these rows, each with its date.
 ///
 /// # Errors
 ///
-/// `NothingHeld` where the copy holds nothing; `KeeperFault` where its keeper failed; `TooLarge` where the file would have more
-/// than 67,108,864 bytes; `NoMemory`.
+/// `NothingHeld` where the copy holds nothing; `KeeperFault` where its keeper failed; `TooLarge` where the file would
+/// have more than 67,108,864 bytes; `NoMemory`.
 pub fn export_file<C: CopyKeeper>(
     alloc: Global,
     copy: &mut C,
@@ -29,7 +29,9 @@ pub fn export_file<C: CopyKeeper>(
     ensures leads { C.leads copy.old copy.new }
     ensures later { C.fault_count copy.old ≤ C.fault_count copy.new }
     ensures stood { OnOk result (C.fault_count copy.new ≡ C.fault_count copy.old) }
-    ensures cause { IfErr result (λ e. CauseOf (C.stands_for copy.new) (Rose (C.fault_count copy.old) (C.fault_count copy.new)) (λ c n. n ≡ length (written_text kind (held_list c kind))) e) }
+    ensures cause { IfErr result
+        (λ e. CauseOf (C.stands_for copy.new) (Rose (C.fault_count copy.old) (C.fault_count copy.new))
+        (λ c n. n ≡ length (written_text kind (held_list c kind))) e) }
 {
     let rows = held_rows(alloc, copy, kind)?;
     file_text(alloc, kind, rows.as_slice())

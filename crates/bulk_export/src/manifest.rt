@@ -8,6 +8,7 @@ use roster_base::NoMemory;
 use roster_values::{Kind, Mode};
 use std::alloc::Global;
 
+// The word for a mode in a manifest.
 fn mode_word(mode: Mode) -> &'static str
     ensures { result.now ≡ spec.mode_word mode }
 {

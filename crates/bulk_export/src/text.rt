@@ -9,7 +9,7 @@ ghost use Rattle.keeper_memory.specs.copy.Lists.{IsList};
 ghost use Rattle.roster_base.specs.Faults.{CountsFailure, Rose};
 ghost use Rattle.roster_values.specs.declared.mode.Mode.{Mode};
 
-use crate::error::{ExportError, broken};
+use crate::error::{ExportError, export_error};
 use csv_sets::file::LARGEST;
 use csv_sets::write_file;
 use keeper_memory::CopyKeeper;
@@ -42,16 +42,17 @@ pub fn held_rows<C: CopyKeeper>(
     ensures leads { C.leads copy.old copy.new }
     ensures later { C.fault_count copy.old ≤ C.fault_count copy.new }
     ensures stood { OnOk result (C.fault_count copy.new ≡ C.fault_count copy.old) }
-    ensures cause { IfErr result (λ e. CauseOf (C.stands_for copy.new) (Rose (C.fault_count copy.old) (C.fault_count copy.new)) (λ c n. ⊥) e) }
+    ensures cause { IfErr result
+        (λ e. CauseOf (C.stands_for copy.new) (Rose (C.fault_count copy.old) (C.fault_count copy.new)) (λ c n. ⊥) e) }
 {
     match holds(alloc, copy) {
         Ok(true) => (),
         Ok(false) => return Err(ExportError::NothingHeld),
-        Err(error) => return Err(broken(error)),
+        Err(error) => return Err(export_error(error)),
     }
     match copy.held(alloc, kind) {
         Ok(rows) => Ok(rows),
-        Err(error) => Err(broken(error)),
+        Err(error) => Err(export_error(error)),
     }
 }
 

@@ -2,6 +2,9 @@
 use Rattle.std.specs.Prelude.{ℕ, ◌++◌, List, Option, None, Some, codes, decimal}
 use Rattle.keeper_memory.specs.declared.copy.entry.OutEntry.{OutEntry}
 use Rattle.keeper_memory.specs.declared.copy.entry.Settled.{Settled}
+use Rattle.hub_words.specs.Statuses.{bad_reply_status, copy_failed_status, done_status, peer_failed_status}
+use Rattle.hub_words.specs.Statuses.{peer_no_memory_status, interrupted_status, last_number_status}
+use Rattle.hub_words.specs.Statuses.{mark_taken_status, no_memory_status, no_scope_status, unknown_token_status}
 use Rattle.exchange_link.specs.declared.send_answer.EnterError.{EnterError}
 use Rattle.exchange_link.specs.declared.send_answer.EnterError.TheVariants as error
 use Rattle.exchange_link.specs.declared.send_answer.SendAnswer.{SendAnswer}
@@ -13,19 +16,21 @@ number_text word number = word ++ decimal number ++ codes "\n"
 
 -- ---- sending
 
+-- the status of the process after the entries were sent
 abbrev pub send_status : SendAnswer → ℕ
-send_status (answer.Settled count) = 0
-send_status answer.KeeperFault = 6
-send_status (answer.Interrupted number) = 7
-send_status answer.UnknownToken = 9
-send_status (answer.NoScope number) = 10
-send_status (answer.MarkTaken number) = 11
-send_status (answer.BadReply number) = 12
-send_status (answer.HubFault number) = 14
-send_status (answer.HubNoMemory number) = 15
-send_status answer.LastRun = 16
-send_status answer.NoMemory = 17
+send_status (answer.Settled count) = done_status
+send_status answer.KeeperFault = copy_failed_status
+send_status (answer.Interrupted number) = interrupted_status
+send_status answer.UnknownToken = unknown_token_status
+send_status (answer.NoScope number) = no_scope_status
+send_status (answer.MarkTaken number) = mark_taken_status
+send_status (answer.BadReply number) = bad_reply_status
+send_status (answer.HubFault number) = peer_failed_status
+send_status (answer.HubNoMemory number) = peer_no_memory_status
+send_status answer.LastRun = last_number_status
+send_status answer.NoMemory = no_memory_status
 
+-- the line that tells how the sending ended
 unfoldable pub send_text : SendAnswer → List ℕ
 send_text (answer.Settled count) = number_text (codes "settled ") count
 send_text answer.KeeperFault = codes "copy store failed\n"
@@ -41,14 +46,17 @@ send_text answer.NoMemory = codes "no memory\n"
 
 -- ---- entering
 
+-- the line that tells under which number a write was entered
 abbrev pub entered_text : ℕ → List ℕ
 entered_text number = number_text (codes "entered ") number
 
+-- the status of the process where a write wasn't entered
 abbrev pub enter_status : EnterError → ℕ
-enter_status error.KeeperFault = 6
-enter_status error.LastNumber = 16
-enter_status error.NoMemory = 17
+enter_status error.KeeperFault = copy_failed_status
+enter_status error.LastNumber = last_number_status
+enter_status error.NoMemory = no_memory_status
 
+-- the line that tells why it wasn't
 unfoldable pub enter_text : EnterError → List ℕ
 enter_text error.KeeperFault = codes "copy store failed\n"
 enter_text error.LastNumber = codes "last number\n"
@@ -56,10 +64,11 @@ enter_text error.NoMemory = codes "no memory\n"
 
 -- ---- the entries
 
--- the status and the version that the hub kept, or `waiting`
+-- what stands behind the number of an entry: the status and the version that the hub kept, or `waiting`
 abbrev pub settled_text : Option Settled → List ℕ
 settled_text None = codes " waiting\n"
 settled_text (Some settled) = codes " " ++ decimal settled.status ++ codes " " ++ decimal settled.version ++ codes "\n"
 
+-- the line of an entry
 unfoldable pub entry_text : OutEntry → List ℕ
 entry_text entry = decimal entry.number ++ settled_text entry.settled

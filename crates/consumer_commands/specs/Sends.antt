@@ -1,11 +1,12 @@
--- What is promised of the outbox between a copy and a link: the clauses of `consumer_outbox::enter` and `consumer_outbox::send`, one by one.
+-- What is promised of the outbox between a copy and a link: the clauses of `consumer_outbox::enter` and
+-- `consumer_outbox::send`, one by one.
 use Rattle.std.specs.Prelude.{◌≡◌, ◌≢◌, ℕ, ◌*◌, ◌+◌, ◌≤◌, Result, Err}
 use Rattle.keeper_memory.specs.copy.Copies.{Copy}
 use Rattle.keeper_memory.specs.declared.copy.state.TheConstants.{LAST}
 use Rattle.exchange_link.specs.Asked.{AsksWrites}
 use Rattle.exchange_link.specs.Causes.{RoseBy}
 use Rattle.exchange_link.specs.Entering.{EntersWrite}
-use Rattle.exchange_link.specs.Exchanges.{Told}
+use Rattle.exchange_link.specs.Exchanges.{LinkState}
 use Rattle.exchange_link.specs.Marks.{Agree}
 use Rattle.exchange_link.specs.SendCauses.{SendCaused, SendLastLaw}
 use Rattle.exchange_link.specs.SendCompleteness.{CanSendAll, IsFine}
@@ -17,37 +18,37 @@ use Rattle.exchange_link.specs.declared.send_answer.SendAnswer.{SendAnswer}
 use Rattle.roster_base.specs.Faults.{Rose}
 use Rattle.version_core.specs.HubStates.{newest_number}
 use Rattle.version_core.specs.declared.mark.Write.{Write}
-use Rattle.consumer_commands.specs.Consumers.{CopyRun, LinkRun}
+use Rattle.consumer_commands.specs.Consumers.{CopyRun, FromBefore, FromBoth, LinkRun}
 use Rattle.hub_words.specs.Tasks.{Sending}
 
 -- ---- entering
 
+-- what holds of the entering of a write that gives `r`, in the words of `IsSyncOf`
 pub record IsEnterOf (write : Write) (r : Result ℕ EnterError) (copies : CopyRun) : Type 0 where
-  pub told : (after : Copy) → copies.stands after → (before : Copy) × copies.stood before × EntersWrite write r before after
+  pub told : FromBefore copies (EntersWrite write r)
   -- over any link that agrees with the copy before
-  pub agree : (told : Told) → ((c : Copy) → copies.stood c → Agree c told) → (c : Copy) → copies.stands c → Agree c told
+  pub agree : (told : LinkState) → ((c : Copy) → copies.stood c → Agree c told) → (c : Copy) → copies.stands c → Agree c told
   pub cause : r ≡ Err error.KeeperFault → Rose copies.faults_before copies.faults_now
 
 -- ---- sending
 
 -- copy and link agreed before, where both tell, on the stage and on the marks
 abbrev pub AgreedAll : CopyRun → LinkRun → Type 0
-AgreedAll copy link = (c : Copy) (t : Told) → copy.stood c → link.told t → Agree c t
+AgreedAll copy link = (c : Copy) (t : LinkState) → copy.stood c → link.told t → Agree c t
 
+-- what holds of a sending with the answer `a`, in the words of `IsSyncOf`
 pub record IsSendOf (task : Sending) (a : SendAnswer) (copies : CopyRun) (link : LinkRun) : Type 0 where
   -- over any link
   pub copy : (after : Copy) → copies.stands after → (before : Copy) × copies.stood before × SendLeaves a before after
       × (link.asked_now ≤ link.asked_before + task.tries * unsettled before.entries)
-  pub last_run : (after : Copy) → copies.stands after → (before : Copy) × copies.stood before × SendLastLaw a before after
+  pub last_run : FromBefore copies (SendLastLaw a)
   pub cause : SendCaused task.token copies.stands link.tells link.asked_before link.asked_now link.kept
       (λ n. (task.tries ≤ link.missed) × (task.tries ≤ n) × RoseBy task.tries link.faults_before link.faults_now) (Rose copies.faults_before copies.faults_now) a
   -- over one that tells
-  pub asks : (after : Copy) (tells : Told) → copies.stands after → link.tells tells → (before : Copy) × (told : Told) × copies.stood before × link.told told
-      × AsksWrites task.token task.tries link.asked_before link.asked_now a before after told.sent tells.sent
-  pub told : AgreedAll copies link → (after : Copy) (tells : Told) → copies.stands after → link.tells tells
-      → (before : Copy) × (told : Told) × copies.stood before × link.told told × WasSent task.token a before told after tells
+  pub asks : FromBoth copies link
+      (λ before told after tells. AsksWrites task.token task.tries link.asked_before link.asked_now a before after told.sent tells.sent)
+  pub told : AgreedAll copies link → FromBoth copies link (WasSent task.token a)
   -- where no call of the link and of the copy's keeper failed
   pub complete : AgreedAll copies link → ¬ Rose link.faults_before link.faults_now → ¬ Rose copies.faults_before copies.faults_now
-      → (after : Copy) (tells : Told) → copies.stands after → link.tells tells
-      → (before : Copy) × (told : Told) × copies.stood before × link.told told
-      × (before.run ≢ LAST → ¬ Rose told.hub_faults tells.hub_faults → CanSendAll task.token (newest_number told.hub) before.entries tells.hub → IsFine a)
+      → FromBoth copies link (λ before told after tells. before.run ≢ LAST → ¬ Rose told.hub_faults tells.hub_faults
+      → CanSendAll task.token (newest_number told.hub) before.entries tells.hub → IsFine a)

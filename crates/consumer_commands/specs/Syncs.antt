@@ -9,44 +9,42 @@ use Rattle.exchange_link.specs.Asked.{AsksPages}
 use Rattle.exchange_link.specs.Bounds.{Bounded, IsCallPin}
 use Rattle.exchange_link.specs.Causes.{Caused, LastLaw, RoseBy, ToldCause}
 use Rattle.exchange_link.specs.Completeness.{IsDone, StandsAt, first_pin}
-use Rattle.exchange_link.specs.Exchanges.{Told}
+use Rattle.exchange_link.specs.Exchanges.{LinkState}
 use Rattle.exchange_link.specs.Marks.{MarksTold}
 use Rattle.exchange_link.specs.Synchronised.{Leaves, Synchronised, own_state}
 use Rattle.exchange_link.specs.declared.answer.SyncAnswer.{SyncAnswer}
 use Rattle.exchange_link.specs.declared.answer.SyncAnswer.TheVariants.{KeeperFault}
 use Rattle.roster_base.specs.Faults.{Rose}
-use Rattle.consumer_commands.specs.Consumers.{CopyRun, LinkRun}
+use Rattle.consumer_commands.specs.Consumers.{CopyRun, FromBefore, FromBoth, LinkRun}
 use Rattle.hub_words.specs.Tasks.{Task}
 
 -- before the call the copy agreed with what the link told, where both tell
 abbrev pub Agreed : CopyRun → LinkRun → Type 0
-Agreed copy link = (c : Copy) (t : Told) → copy.stood c → link.told t → StageAgrees c t
+Agreed copy link = (c : Copy) (t : LinkState) → copy.stood c → link.told t → StageAgrees c t
 
--- what holds of a synchronisation with the answer `a`. `stood` and `told` speak of the time before the call, `stands` and `tells` of that
--- after it; a clause about `after` says from which copy or hub before it came
+-- what holds of a synchronisation with the answer `a`. `stood`, `told` and `before` speak of the time before the call,
+-- `stands`, `tells` and `after` of that behind it
 pub record IsSyncOf (task : Task) (a : SyncAnswer) (copies : CopyRun) (link : LinkRun) : Type 0 where
   -- over any link
-  pub copy : (after : Copy) → copies.stands after → (before : Copy) × copies.stood before × Leaves task.token a before after
-  pub faulted : a ≡ KeeperFault → (after : Copy) → copies.stands after → (before : Copy) × copies.stood before × FaultLaw task.token link.kept before after
-  pub last_run : (after : Copy) → copies.stands after → (before : Copy) × copies.stood before × LastLaw a before after
+  pub copy : FromBefore copies (Leaves task.token a)
+  pub faulted : a ≡ KeeperFault → FromBefore copies (FaultLaw task.token link.kept)
+  pub last_run : FromBefore copies (LastLaw a)
   pub later : copies.faults_before ≤ copies.faults_now
   pub cause : Caused task.token task.limit copies.stands link.tells link.asked_before link.asked_now link.kept
       (λ n. (task.tries ≤ link.missed) × (task.tries ≤ n) × RoseBy task.tries link.faults_before link.faults_now) (Rose copies.faults_before copies.faults_now) a
   -- over one that tells
-  pub asks : (after : Told) → link.tells after → (before : Told) × link.told before
+  pub asks : (after : LinkState) → link.tells after → (before : LinkState) × link.told before
       × AsksPages task.token task.limit task.tries copies.stands link.asked_before link.asked_now a before.sent after.sent
-  pub told : Agreed copies link → (after : Copy) (tells : Told) → copies.stands after → link.tells tells
-      → (before : Copy) × (told : Told) × copies.stood before × link.told told × Synchronised task.token a before told after tells
-  pub bound : Agreed copies link → (after : Copy) (tells : Told) → copies.stands after → link.tells tells
+  pub told : Agreed copies link → FromBoth copies link (Synchronised task.token a)
+  pub bound : Agreed copies link → (after : Copy) (tells : LinkState) → copies.stands after → link.tells tells
       → (before : Copy) × copies.stood before × (n : ℕ) × (link.asked_now ≤ link.asked_before + n)
       × Bounded n task.tries task.limit task.token (own_state task.token (stage_of before)) (λ v. IsCallPin a after tells.sent v) tells.hub
-  pub cause_told : Agreed copies link → (after : Copy) (tells : Told) → copies.stands after → link.tells tells
-      → (told : Told) × link.told told × ToldCause task.token told tells a
+  pub cause_told : Agreed copies link → (after : Copy) (tells : LinkState) → copies.stands after → link.tells tells
+      → (told : LinkState) × link.told told × ToldCause task.token told tells a
   -- where no call of the link and of the copy's keeper failed
   pub complete : Agreed copies link → ¬ Rose link.faults_before link.faults_now → ¬ Rose copies.faults_before copies.faults_now
-      → (after : Copy) (tells : Told) → copies.stands after → link.tells tells
-      → (before : Copy) × (told : Told) × copies.stood before × link.told told
-      × (before.run ≢ LAST → ¬ Rose told.hub_faults tells.hub_faults → StandsAt (first_pin (own_state task.token (stage_of before)) told.hub) task.token tells.hub → IsDone a)
+      → FromBoth copies link (λ before told after tells. before.run ≢ LAST → ¬ Rose told.hub_faults tells.hub_faults
+      → StandsAt (first_pin (own_state task.token (stage_of before)) told.hub) task.token tells.hub → IsDone a)
   -- where they agreed on marks
-  pub marks : ((c : Copy) (t : Told) → copies.stood c → link.told t → MarksTold c t)
-      → (after : Copy) (tells : Told) → copies.stands after → link.tells tells → MarksTold after tells
+  pub marks : ((c : Copy) (t : LinkState) → copies.stood c → link.told t → MarksTold c t)
+      → (after : Copy) (tells : LinkState) → copies.stands after → link.tells tells → MarksTold after tells

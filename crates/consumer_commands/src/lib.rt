@@ -1,4 +1,5 @@
-//! What the program makes of a consumer's synchronisation, of its outbox and of what its copy holds: answers, lines, statuses.
+//! What the program makes of a consumer's synchronisation, of its outbox and of what its copy holds: answers, lines,
+//! statuses.
 #![tactic(auto)]
 
 pub mod held;

@@ -6,49 +6,50 @@ ghost use Rattle.consumer_commands.specs.SyncLines as lines;
 
 use consumer_deltas::DeltaAnswer;
 use exchange_link::SyncAnswer;
+use hub_words::statuses;
 use roster_base::NoMemory;
 use roster_values::Kind;
 use std::alloc::Global;
 
-/// Status 6.
+/// The line of `statuses::COPY_FAILED`.
 pub const COPY_FAILED: &str = "copy store failed\n";
 
-/// Status 9.
+/// The line of `statuses::UNKNOWN_TOKEN`.
 pub(crate) const UNKNOWN_TOKEN: &str = "unknown token\n";
 
-/// Status 14.
+/// The line of `statuses::PEER_FAILED`.
 pub(crate) const HUB_FAILED: &str = "hub failed\n";
 
-/// Status 15.
+/// The line of `statuses::PEER_NO_MEMORY`.
 pub(crate) const HUB_NO_MEMORY: &str = "hub without memory\n";
 
-/// Status 16.
+/// The line of `statuses::LAST_NUMBER`.
 pub(crate) const LAST_NUMBER: &str = "last number\n";
 
-/// Status 17.
+/// The line of `statuses::NO_MEMORY`.
 pub(crate) const NO_MEMORY: &str = "no memory\n";
 
-/// The status of the process: each cause of a stop has its own. None is 1, which says that the output couldn't be written.
+/// The status of the process after a synchronisation: each cause of a stop has its own.
 pub fn sync_status(answer: SyncAnswer) -> u8
     ensures value { result ≡ lines.sync_status answer }
     ensures other { result ≢ 1 }
 {
     match answer {
-        SyncAnswer::Complete { .. } => 0,
-        SyncAnswer::KeeperFault => 6,
-        SyncAnswer::Interrupted { .. } => 7,
-        SyncAnswer::PinGone { .. } => 8,
-        SyncAnswer::UnknownToken => 9,
-        SyncAnswer::BadReply { .. } => 12,
-        SyncAnswer::TooLarge { .. } => 13,
-        SyncAnswer::HubFault => 14,
-        SyncAnswer::HubNoMemory => 15,
-        SyncAnswer::LastRun => 16,
-        SyncAnswer::NoMemory => 17,
+        SyncAnswer::Complete { .. } => statuses::DONE,
+        SyncAnswer::KeeperFault => statuses::COPY_FAILED,
+        SyncAnswer::Interrupted { .. } => statuses::INTERRUPTED,
+        SyncAnswer::PinGone { .. } => statuses::PIN_GONE,
+        SyncAnswer::UnknownToken => statuses::UNKNOWN_TOKEN,
+        SyncAnswer::BadReply { .. } => statuses::BAD_REPLY,
+        SyncAnswer::TooLarge { .. } => statuses::TOO_LARGE,
+        SyncAnswer::HubFault => statuses::PEER_FAILED,
+        SyncAnswer::HubNoMemory => statuses::PEER_NO_MEMORY,
+        SyncAnswer::LastRun => statuses::LAST_NUMBER,
+        SyncAnswer::NoMemory => statuses::NO_MEMORY,
     }
 }
 
-/// A word, a kind and a number.
+/// The line of a word, a kind and a number.
 pub fn place_line(alloc: Global, word: &str, kind: Kind, number: u64) -> Result<String, NoMemory>
     ensures { IfOk result (λ t. string_bytes t ≡ lines.place_text word.now kind number) }
 {
@@ -58,12 +59,14 @@ pub fn place_line(alloc: Global, word: &str, kind: Kind, number: u64) -> Result<
     Ok(line)
 }
 
+// The line that tells which version the copy holds, whole.
 fn complete_line(alloc: Global, version: u64) -> Result<String, NoMemory>
     ensures { IfOk result (λ t. string_bytes t ≡ codes "complete " ++ decimal version ++ codes "\n") }
 {
     Ok(format!(in alloc; "complete {version}\n")?)
 }
 
+// The line that tells which pin is gone, and which is the oldest version that the token may ask for.
 fn gone_line(alloc: Global, pin: u64, oldest: u64) -> Result<String, NoMemory>
     ensures { IfOk result (λ t. string_bytes t ≡ codes "pin gone " ++ decimal pin ++ codes " " ++ decimal oldest ++ codes "\n") }
 {
@@ -99,18 +102,20 @@ pub fn sync_line(alloc: Global, answer: SyncAnswer) -> Result<String, NoMemory>
     }
 }
 
-/// The status of an incremental synchronisation: that of a synchronisation, 19 or 20.
+/// The status of the process after an incremental synchronisation: that of a synchronisation, or one of its own where
+/// no base is held, or the hub keeps it no longer.
 pub fn delta_status(answer: DeltaAnswer) -> u8
     ensures value { result ≡ delta_status answer }
     ensures other { result ≢ 1 }
 {
     match answer {
         DeltaAnswer::Ended { answer } => sync_status(answer),
-        DeltaAnswer::NoBase => 19,
-        DeltaAnswer::BaseGone { .. } => 20,
+        DeltaAnswer::NoBase => statuses::NO_BASE,
+        DeltaAnswer::BaseGone { .. } => statuses::BASE_GONE,
     }
 }
 
+// The line that tells which base is gone, and which is the oldest version that the token may ask from.
 fn base_line(alloc: Global, held: u64, oldest: u64) -> Result<String, NoMemory>
     ensures { IfOk result (λ t. string_bytes t ≡ codes "base gone " ++ decimal held ++ codes " " ++ decimal oldest ++ codes "\n") }
 {

@@ -7,31 +7,32 @@ use crate::line::{
     COPY_FAILED, HUB_FAILED, HUB_NO_MEMORY, LAST_NUMBER, NO_MEMORY, UNKNOWN_TOKEN, fixed_line,
 };
 use exchange_link::{EnterError, SendAnswer};
+use hub_words::statuses;
 use keeper_memory::OutEntry;
 use roster_base::NoMemory;
 use std::alloc::Global;
 
-/// The status of the process: each cause of a stop has its own. None is 1, which says that the output couldn't be written.
+/// The status of the process after the entries were sent: each cause of a stop has its own.
 pub fn send_status(answer: SendAnswer) -> u8
     ensures value { result ≡ lines.send_status answer }
     ensures other { result ≢ 1 }
 {
     match answer {
-        SendAnswer::Settled { .. } => 0,
-        SendAnswer::KeeperFault => 6,
-        SendAnswer::Interrupted { .. } => 7,
-        SendAnswer::UnknownToken => 9,
-        SendAnswer::NoScope { .. } => 10,
-        SendAnswer::MarkTaken { .. } => 11,
-        SendAnswer::BadReply { .. } => 12,
-        SendAnswer::HubFault { .. } => 14,
-        SendAnswer::HubNoMemory { .. } => 15,
-        SendAnswer::LastRun => 16,
-        SendAnswer::NoMemory => 17,
+        SendAnswer::Settled { .. } => statuses::DONE,
+        SendAnswer::KeeperFault => statuses::COPY_FAILED,
+        SendAnswer::Interrupted { .. } => statuses::INTERRUPTED,
+        SendAnswer::UnknownToken => statuses::UNKNOWN_TOKEN,
+        SendAnswer::NoScope { .. } => statuses::NO_SCOPE,
+        SendAnswer::MarkTaken { .. } => statuses::MARK_TAKEN,
+        SendAnswer::BadReply { .. } => statuses::BAD_REPLY,
+        SendAnswer::HubFault { .. } => statuses::PEER_FAILED,
+        SendAnswer::HubNoMemory { .. } => statuses::PEER_NO_MEMORY,
+        SendAnswer::LastRun => statuses::LAST_NUMBER,
+        SendAnswer::NoMemory => statuses::NO_MEMORY,
     }
 }
 
-// A line of a word and a number.
+// The line of a word and a number.
 fn number_line(alloc: Global, word: &str, number: u64) -> Result<String, NoMemory>
     ensures { IfOk result (λ t. string_bytes t ≡ lines.number_text word.now number) }
 {
@@ -67,15 +68,15 @@ pub fn entered_line(alloc: Global, number: u64) -> Result<String, NoMemory>
     number_line(alloc, "entered ", number)
 }
 
-/// The status of the process: each cause has its own. None is 1, which says that the output couldn't be written.
+/// The status of the process where a write wasn't entered: each cause has its own.
 pub fn enter_status(error: EnterError) -> u8
     ensures value { result ≡ lines.enter_status error }
     ensures other { result ≢ 1 }
 {
     match error {
-        EnterError::KeeperFault => 6,
-        EnterError::LastNumber => 16,
-        EnterError::NoMemory => 17,
+        EnterError::KeeperFault => statuses::COPY_FAILED,
+        EnterError::LastNumber => statuses::LAST_NUMBER,
+        EnterError::NoMemory => statuses::NO_MEMORY,
     }
 }
 

@@ -11,7 +11,8 @@ use hub_words::SyncTask;
 use keeper_memory::CopyKeeper;
 use std::alloc::Global;
 
-/// Copies what the task's token sees of the hub's newest version, or goes on with the stage that stands under the token.
+/// Copies what the task's token sees of the hub's newest version, or goes on with the stage that stands under the
+/// token.
 pub fn synchronise<C: CopyKeeper, L: Link>(
     alloc: Global,
     task: &SyncTask,
@@ -27,7 +28,8 @@ pub fn synchronise<C: CopyKeeper, L: Link>(
     sync(alloc, copy, link, task.token(), task.limit(), task.tries())
 }
 
-/// Brings what is held to what the task's token sees of the hub's newest version, by what differs from the held version on.
+/// Brings what is held to what the task's token sees of the hub's newest version, by what differs from the held version
+/// on.
 pub fn synchronise_delta<C: CopyKeeper, L: Link>(
     alloc: Global,
     task: &SyncTask,

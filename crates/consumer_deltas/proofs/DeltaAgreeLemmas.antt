@@ -43,8 +43,8 @@ use Rattle.consumer_deltas.specs.DeltaMerging.StagesList.{Staged, TooMany}
 use Rattle.consumer_deltas.specs.DeltaStaging.{Stages, following, part_of}
 use Rattle.consumer_deltas.specs.DeltaStaging.Stages.{Opens, Part, Stays as StaysAll, Whole}
 use Rattle.consumer_deltas.specs.DeltaTelling.{IsPinFrom, MayAsk, Tells}
-use Rattle.consumer_deltas.specs.declared.gather.Delta.{Delta}
-use Rattle.consumer_deltas.specs.declared.gather.Delta.TheVariants as delta
+use Rattle.consumer_deltas.specs.declared.gathering.Delta.{Delta}
+use Rattle.consumer_deltas.specs.declared.gathering.Delta.TheVariants as delta
 
 -- ---- what may be asked for
 
@@ -104,6 +104,10 @@ held_opens None stage h pin base token x has le = absurd has
 held_opens (Some held) None h pin base token x has le = record { standing = x.standing; below = subst (λ n. n ≤ pin) (sym has.0) le; seen = x.seen }
 held_opens (Some held) (Some s) h pin base token x has le = x
 
+pin_held : (o : Option Stage) (a : HubState) (pin : ℕ) → IsPinFrom (pin_of (option_map state_of o)) a pin → PinIs (option_map state_of o) a pin
+pin_held None a pin from = from
+pin_held (Some s) a pin from = from
+
 -- a list with which the next kind of a stage ends
 module _ (a h : HubState) (token : List ℕ) (pin : ℕ) (l : List Record) (up : ascends None l ≡ true) (stands : pin < length h.published) (known : knows (version_at h pin) token ≡ true) where
   abbrev IsNext : Option Stage → Type 0
@@ -118,10 +122,6 @@ module _ (a h : HubState) (token : List ℕ) (pin : ℕ) (l : List Record) (up :
   rest_rows : (o : Option Stage) → HasToken token (option_map state_of o) → IsPinFrom (pin_of (option_map state_of o)) a pin → IsNext o → StageFitsIf o h → following (option_map state_of o) l ≡ drop (staged_of (option_map state_of o)) l
   rest_rows None et ep is x = following_all l
   rest_rows (Some s) et ep is x = following_rest s l up (front_of s et ep is x)
-
-  pin_is : (o : Option Stage) → IsPinFrom (pin_of (option_map state_of o)) a pin → PinIs (option_map state_of o) a pin
-  pin_is None ep = ep
-  pin_is (Some s) ep = ep
 
   rest_stands : (o : Option Stage) → HasToken token (option_map state_of o) → kinds_of (option_map state_of o) < kind_count → IsPinFrom (pin_of (option_map state_of o)) a pin → IsNext o → StageFitsIf o h
       → StandsIn (option_map state_of o) a h token (length l) (rest_of (option_map state_of o) pin l)
@@ -140,7 +140,7 @@ module _ (a h : HubState) (token : List ℕ) (pin : ℕ) (l : List Record) (up :
           total = ap length is;
           done = sym done;
         };
-        pin = pin_is o ep;
+        pin = pin_held o a pin ep;
       }
 
   pub rest_fits : (o : Option Stage) → HasToken token (option_map state_of o) → kinds_of (option_map state_of o) < kind_count → IsPinFrom (pin_of (option_map state_of o)) a pin → IsNext o → StageFitsIf o h
@@ -214,13 +214,9 @@ module _ (c after : Copy) (stage : Option StageState) (a h : HubState) (hub : Is
       let stands : StandsIn (option_map state_of c.stage) a h token 0 (no_page pin) = record {
         standing = shut.standing;
         from = record { known = shut.known; kind = omega (arith, lt', cut_whole (version_at h pin) token); rows = refl; total = ap length is; done = sym done };
-        pin = pin_as c.stage (subst (λ s. IsPinFrom (pin_of s) a pin) (sym e) from);
+        pin = pin_held c.stage a pin (subst (λ s. IsPinFrom (pin_of s) a pin) (sym e) from);
       } in
       adds_fits c h token base pin x has low shut.standing shut.known (no_page pin) r after refl (taken_agrees c.stage a h token 0 (no_page pin) et' x.stage stands) adds
-    where
-      pin_as : (o : Option Stage) → IsPinFrom (pin_of (option_map state_of o)) a pin → PinIs (option_map state_of o) a pin
-      pin_as None ep = ep
-      pin_as (Some s) ep = ep
 
   module _ (pin : ℕ) (entries : Sofar) (r : Option SyncAnswer) (from : IsPinFrom (pin_of stage) a pin) (is : IsDelta h token (first_place stage base limit) pin entries) where
     old : held_list c kind ≡ list_in (version_at h base) token kind

@@ -12,7 +12,7 @@ use Rattle.keeper_memory.specs.declared.copy.state.StageState.{StageState}
 use Rattle.exchange_link.proofs.AskLemmas.{cause_more, grew_on}
 use Rattle.exchange_link.specs.Agreement.{CopyFits, StageFitsIf}
 use Rattle.exchange_link.specs.Bounds.{pages}
-use Rattle.exchange_link.specs.Exchanges.{Told}
+use Rattle.exchange_link.specs.Exchanges.{LinkState}
 use Rattle.exchange_link.specs.Places.{kind_at, kinds_of, pin_of}
 use Rattle.exchange_link.specs.Requests.{Moved}
 use Rattle.exchange_link.specs.Synchronised.{StageOn}
@@ -66,7 +66,7 @@ gone_behind first old start mid a law g gone = tt
 
 -- ---- how many exchanges
 
--- so far: with the stage that stands now
+-- the bound so far: with the stage that stands now
 abbrev pub SoFar : ℕ → ℕ → ℕ → List ℕ → ℕ → Option StageState → Option StageState → HubState → Type 0
 SoFar n tries limit token base first None h = n ≡ 0
 SoFar n tries limit token base first (Some s) h = n + tries * delta_work limit token (Some s) h base s.pin ≤ tries * delta_work limit token first h base s.pin
@@ -86,7 +86,8 @@ work_next limit token old new h base pin lt next =
     ap (delta_pages limit token (version_at h base) (version_at h pin)) (kinds_next (kinds_of old) lt)
     ∙ ap (λ k. max 1 (pages limit (length (what_differs (version_at h base) (version_at h pin) token (kind_at (kinds_of old))))) + delta_pages limit token (version_at h base) (version_at h pin) (drop k all_kinds)) (sym next)
 
--- in numbers: tries t, exchanges n before and m of a kind, its pages p, the work w before and w' behind, the whole work f
+-- the same in numbers: the tries `t`, the exchanges `n` before and `m` of a kind, its pages `p`, the work `w` before
+-- and `w'` behind, and the whole work `f`
 first_num : (n m t p w w' : ℕ) → n ≡ 0 → m ≤ t * p → w ≡ p + w' → n + m + t * w' ≤ t * w
 first_num n m t p w w' so few e = let x : t * w ≡ t * p + t * w' = ap (λ w. t * w) e ∙ grind arith in omega (arith, so, few, x)
 
@@ -196,7 +197,7 @@ stage_pinned (Some f) s e = ap (λ (y : StageState). y.pin) (same_Some _ _ e)
 
 -- ---- what they tell
 
-pub told_more : (token : List ℕ) (z a b : Told) (e : DeltaAnswer) → Moved z a → DeltaTold token a b e → DeltaTold token z b e
+pub told_more : (token : List ℕ) (z a b : LinkState) (e : DeltaAnswer) → Moved z a → DeltaTold token a b e → DeltaTold token z b e
 told_more token z a b (Ended s) m x = cause_more token z a b s m x
 told_more token z a b NoBase m x = tt
 told_more token z a b (BaseGone held oldest) m x = (x.0, grew_on m.grew x.1, x.2, x.3, x.4, x.5, x.6)
@@ -215,7 +216,7 @@ based_behind first old h c a law e = tt
 stands_as : (c : Copy) (old : Option StageState) (h : HubState) → stage_of c ≡ old → CopyFits c h → StandsIf old h
 stands_as c old h e fits = subst (λ s. StandsIf s h) e (stands_by c.stage h fits.stage)
 
-module _ (token : List ℕ) (limit tries base n m : ℕ) (first old new : Option StageState) (start told t : Told) (before c : Copy) (e : stage_of before ≡ old) (fits : CopyFits before told.hub) (has : HasBase base token before) (lt : kinds_of old < kind_count)
+module _ (token : List ℕ) (limit tries base n m : ℕ) (first old new : Option StageState) (start told t : LinkState) (before c : Copy) (e : stage_of before ≡ old) (fits : CopyFits before told.hub) (has : HasBase base token before) (lt : kinds_of old < kind_count)
     (law : PinLaw first start.hub old) (so : SoFar n tries limit token base first old told.hub) (moved : Moved start told) (grew : Grew told.hub t.hub) where
   low : base < length told.hub.published
   low = base_stands before.held before.stage told.hub base token fits.held has
@@ -240,7 +241,7 @@ module _ (token : List ℕ) (limit tries base n m : ℕ) (first old new : Option
       )
 
 -- all kinds are done
-pub all_told : (token : List ℕ) (limit tries base n : ℕ) (first last : Option StageState) (start t : Told) (c : Copy) → stage_of c ≡ last → CopyFits c t.hub → PinLaw first start.hub last → SoFar n tries limit token base first last t.hub
+pub all_told : (token : List ℕ) (limit tries base n : ℕ) (first last : Option StageState) (start t : LinkState) (c : Copy) → stage_of c ≡ last → CopyFits c t.hub → PinLaw first start.hub last → SoFar n tries limit token base first last t.hub
     → FillTold token limit tries base n first last None start t c
 all_told token limit tries base n first last start t c e fits law so = record {
   fits = fits;
@@ -275,7 +276,7 @@ held_on base token a b e has = subst (λ o. IsBase base token o) (sym e) has
 pub count_same : (n m : ℕ) → n ≤ m → (Q : ℕ → Type 0) → Q (n + (m - n)) → Q m
 count_same n m le Q x = let e : n + (m - n) ≡ m = omega (arith, le) in subst Q e x
 
-pub kind_end_if : (token : List ℕ) (limit tries base n m : ℕ) (first old new : Option StageState) (start told t : Told) (before other c : Copy) (r : Option DeltaAnswer) → (r ≡ None → ⊥) → n ≤ m → stage_of before ≡ old → stage_of other ≡ old
+pub kind_end_if : (token : List ℕ) (limit tries base n m : ℕ) (first old new : Option StageState) (start told t : LinkState) (before other c : Copy) (r : Option DeltaAnswer) → (r ≡ None → ⊥) → n ≤ m → stage_of before ≡ old → stage_of other ≡ old
     → CopyFits before told.hub → HasBase base token before → kinds_of old < kind_count → PinLaw first start.hub old → SoFar n tries limit token base first old told.hub → Moved start told → Grew told.hub t.hub
     → DeltaEnds token base r other c → KindTold token limit tries base (m - n) old new r told t c → FillTold token limit tries base m first new r start t c
 kind_end_if token limit tries base n m first old new start told t before other c None not le e e' fits has lt law so moved grew ends k = absurd (not refl)

@@ -7,7 +7,7 @@ use Rattle.std.specs.List.{AllByRecursion}
 use Rattle.consumer_sync.proofs.DoneLemmas.{known_not}
 use Rattle.keeper_memory.specs.copy.Copies.{Copy}
 use Rattle.exchange_link.specs.Completeness.{StandsAt, first_pin}
-use Rattle.exchange_link.specs.Exchanges.{Told}
+use Rattle.exchange_link.specs.Exchanges.{LinkState}
 use Rattle.exchange_link.specs.declared.answer.SyncAnswer.{SyncAnswer}
 use Rattle.exchange_link.specs.declared.answer.SyncAnswer.TheVariants as answer
 use Rattle.hub_spec.proofs.Cutting.{known_at}
@@ -145,7 +145,7 @@ module _ (mid u : HubState) (hub : IsHub u) (grew : Grew mid u) (token : List �
           (cases_lt v (length mid.published))
 
 -- where nothing fails and both versions stand, the call is complete, or wants memory
-pub done_of : (kept : List ℕ) (run count : ℕ) (missed broke : Type 0) (copies : Copy → Type 0) (place : Place) (a : DeltaAnswer) (token : List ℕ) (first : Option StageState) (t u : Told) → IsHub u.hub
+pub done_of : (kept : List ℕ) (run count : ℕ) (missed broke : Type 0) (copies : Copy → Type 0) (place : Place) (a : DeltaAnswer) (token : List ℕ) (first : Option StageState) (t u : LinkState) → IsHub u.hub
     → Halts kept run count missed broke copies place a → DeltaTold token t u a → GoneBehind first t.hub a → (missed → ⊥) → (broke → ⊥) → (Rose t.hub_faults u.hub_faults → ⊥)
     → place.base < length t.hub.published → StandsAt (first_pin first t.hub) token u.hub → StandsAt place.base token u.hub → IsDeltaDone a
 done_of kept run count missed broke copies place (Ended (answer.Complete v)) token first t u hub halts told gone m b quiet low at on = tt

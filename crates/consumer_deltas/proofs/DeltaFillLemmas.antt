@@ -34,8 +34,8 @@ use Rattle.consumer_deltas.specs.DeltaStaging.{Stages, part_of}
 use Rattle.consumer_deltas.specs.DeltaStaging.Stages.{Opens, Part, Stays as StaysAll, Whole}
 use Rattle.consumer_deltas.specs.declared.answer.DeltaAnswer.{DeltaAnswer}
 use Rattle.consumer_deltas.specs.declared.answer.DeltaAnswer.TheVariants.{BaseGone, Ended, NoBase}
-use Rattle.consumer_deltas.specs.declared.gather.Delta.{Delta}
-use Rattle.consumer_deltas.specs.declared.gather.Delta.TheVariants as delta
+use Rattle.consumer_deltas.specs.declared.gathering.Delta.{Delta}
+use Rattle.consumer_deltas.specs.declared.gathering.Delta.TheVariants as delta
 use Rattle.consumer_deltas.specs.declared.judging.Place.{Place}
 use Rattle.consumer_deltas.proofs.DeltaMergeLemmas.{merges_held, same_list}
 use Rattle.consumer_deltas.proofs.DeltaStopLemmas.{IsDeltaEnd}

@@ -25,7 +25,7 @@ use Rattle.consumer_sync.specs.Judging.{agrees}
 use Rattle.consumer_deltas.specs.DeltaRequests.{IsDeltaUnder, page_asked}
 use Rattle.consumer_deltas.specs.declared.answer.DeltaAnswer.{DeltaAnswer}
 use Rattle.consumer_deltas.specs.declared.answer.DeltaAnswer.TheVariants.{Ended}
-use Rattle.consumer_deltas.specs.declared.gather.Delta.{Delta}
+use Rattle.consumer_deltas.specs.declared.gathering.Delta.{Delta}
 use Rattle.consumer_deltas.specs.declared.gathered.Entries.{Entries}
 use Rattle.consumer_deltas.specs.declared.judging.DeltaAct.{DeltaAct}
 use Rattle.consumer_deltas.specs.declared.judging.Place.{Place}

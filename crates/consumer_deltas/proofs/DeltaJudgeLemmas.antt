@@ -71,7 +71,7 @@ others place w status =
 abbrev behind_differing : Place → WireReply → ℕ → DeltaAct
 behind_differing place w status = if status == 403 then closed_act place.pin place.is_fresh w.version else others place w status
 
--- it ends the pages
+-- any other status ends the pages
 others_stop : (place : Place) (w : WireReply) (status : ℕ) → goes_on (others place w status) ≡ false
 unfolding goes_on
 others_stop place w status =

@@ -13,7 +13,7 @@ use Rattle.keeper_memory.specs.declared.copy.state.StageState.{StageState}
 use Rattle.exchange_link.proofs.FitLemmas.{copy_on, held_alone}
 use Rattle.exchange_link.specs.Agreement.{CopyFits}
 use Rattle.exchange_link.specs.Bounds.{pages}
-use Rattle.exchange_link.specs.Exchanges.{Told}
+use Rattle.exchange_link.specs.Exchanges.{LinkState}
 use Rattle.exchange_link.specs.Places.{kind_at, kinds_of, pin_of}
 use Rattle.exchange_link.specs.declared.answer.SyncAnswer.{SyncAnswer}
 use Rattle.exchange_link.specs.declared.answer.SyncAnswer.TheVariants as answer
@@ -45,8 +45,8 @@ use Rattle.consumer_deltas.specs.DeltaStaging.Stages.{Opens, Part, Stays as Stay
 use Rattle.consumer_deltas.specs.DeltaTelling.{GonePin, IsAtPin, IsPinFrom, NamesPin, PagesTold, Tells}
 use Rattle.consumer_deltas.specs.declared.answer.DeltaAnswer.{DeltaAnswer}
 use Rattle.consumer_deltas.specs.declared.answer.DeltaAnswer.TheVariants.{BaseGone, Ended}
-use Rattle.consumer_deltas.specs.declared.gather.Delta.{Delta}
-use Rattle.consumer_deltas.specs.declared.gather.Delta.TheVariants as delta
+use Rattle.consumer_deltas.specs.declared.gathering.Delta.{Delta}
+use Rattle.consumer_deltas.specs.declared.gathering.Delta.TheVariants as delta
 use Rattle.consumer_deltas.specs.declared.judging.Place.{Place}
 
 -- ---- the pin of the stage that is left
@@ -107,7 +107,7 @@ IsBeside (Ended answer.KeeperFault) = Unit {0}
 IsBeside (Ended answer.NoMemory) = Unit {0}
 IsBeside a = ⊥
 
-beside_told : (token : List ℕ) (before after : Told) (a : DeltaAnswer) → IsBeside a → DeltaTold token before after a
+beside_told : (token : List ℕ) (before after : LinkState) (a : DeltaAnswer) → IsBeside a → DeltaTold token before after a
 beside_told token before after (Ended answer.KeeperFault) is = tt
 beside_told token before after (Ended answer.NoMemory) is = tt
 beside_told token before after a is = absurd is
@@ -160,7 +160,7 @@ broken_is_beside : (e : KeeperError) → IsBeside (Ended (broken_answer e))
 broken_is_beside fault.Failed = tt
 broken_is_beside fault.NoMemory = tt
 
-pub broken_told : (token : List ℕ) (limit tries base n : ℕ) (stage new : Option StageState) (told : Told) (c : Copy) → stage_of c ≡ stage → CopyFits c told.hub → n ≤ tries → (e : KeeperError) (a : SyncAnswer) (r : DeltaAnswer) → a ≡ broken_answer e → r ≡ Ended a
+pub broken_told : (token : List ℕ) (limit tries base n : ℕ) (stage new : Option StageState) (told : LinkState) (c : Copy) → stage_of c ≡ stage → CopyFits c told.hub → n ≤ tries → (e : KeeperError) (a : SyncAnswer) (r : DeltaAnswer) → a ≡ broken_answer e → r ≡ Ended a
     → KindTold token limit tries base n stage new (Some r) told told c
 broken_told token limit tries base n stage new told c at fits few e a r is gives =
     let beside : IsBeside r = subst IsBeside (sym (gives ∙ ap Ended is)) (broken_is_beside e) in
@@ -172,7 +172,7 @@ broken_told token limit tries base n stage new told c at fits few e a r is gives
       bound = inl few;
     }
 
-module _ (token : List ℕ) (limit tries base n : ℕ) (stage : Option StageState) (told t : Told) (before : Copy) (e : stage_of before ≡ stage) (fits : CopyFits before t.hub) where
+module _ (token : List ℕ) (limit tries base n : ℕ) (stage : Option StageState) (told t : LinkState) (before : Copy) (e : stage_of before ≡ stage) (fits : CopyFits before t.hub) where
   abbrev place : Place
   place = first_place stage base limit
 
@@ -222,7 +222,7 @@ one_num n t p few = let le : 1 ≤ max 1 p = omega arith in let x : t * 1 ≤ t 
 more_num : (n t p : ℕ) → n ≤ t * p → n ≤ t * max 1 p
 more_num n t p few = let le : p ≤ max 1 p = omega arith in let x : t * p ≤ t * max 1 p = mul-le-mul_left t le in omega (arith, few, x)
 
-module _ (token : List ℕ) (limit tries base n : ℕ) (stage : Option StageState) (told t : Told) (before after : Copy) (d : Delta) (e : stage_of before ≡ stage) (et : HasToken token stage) (lt : kinds_of stage < kind_count)
+module _ (token : List ℕ) (limit tries base n : ℕ) (stage : Option StageState) (told t : LinkState) (before after : Copy) (d : Delta) (e : stage_of before ≡ stage) (et : HasToken token stage) (lt : kinds_of stage < kind_count)
     (hub : IsHub t.hub) (y : CopyFits before told.hub) (grew : Grew told.hub t.hub) (has : HasBase base token before) (p : PagesTold told t token (first_place stage base limit) tries n (let r : Result Delta DeltaAnswer = Ok d in r)) where
   abbrev kind : Kind
   kind = kind_at (kinds_of stage)

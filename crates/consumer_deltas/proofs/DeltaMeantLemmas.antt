@@ -9,7 +9,7 @@ use Rattle.exchange_link.proofs.AskLemmas.{grew_on}
 use Rattle.exchange_link.proofs.CutLemmas.{list_good}
 use Rattle.exchange_link.specs.DeltaPages.{delta_page_request}
 use Rattle.exchange_link.specs.DeltaSayings.{BaseGone, Differs, NotKnown, NotOpened, PinGone, TellsFrom, opens_kind}
-use Rattle.exchange_link.specs.Exchanges.{Told}
+use Rattle.exchange_link.specs.Exchanges.{LinkState}
 use Rattle.exchange_link.specs.Owning.{IsOwnRead}
 use Rattle.exchange_link.specs.Owning.Gives.{Answers as GivesAnswer, Broke as GivesFault, Wants as GivesWant}
 use Rattle.exchange_link.specs.Pages.{Page, asked_by}
@@ -61,7 +61,7 @@ use Rattle.consumer_deltas.specs.DeltaJudging.{lost_act, nothing_yet, read_act, 
 use Rattle.consumer_deltas.specs.DeltaRequests.{page_asked}
 use Rattle.consumer_deltas.specs.DeltaTelling.{IsAtPin, IsPinFrom, MayAsk, PagesBounded}
 use Rattle.consumer_deltas.specs.declared.answer.DeltaAnswer.{DeltaAnswer}
-use Rattle.consumer_deltas.specs.declared.gather.Delta.{Delta}
+use Rattle.consumer_deltas.specs.declared.gathering.Delta.{Delta}
 use Rattle.consumer_deltas.specs.declared.gathered.Entries.{Entries}
 use Rattle.consumer_deltas.specs.declared.judging.DeltaAct.{DeltaAct}
 use Rattle.consumer_deltas.specs.declared.judging.DeltaAct.TheVariants as act
@@ -69,21 +69,21 @@ use Rattle.consumer_deltas.specs.declared.judging.Place.{Place}
 
 -- ---- what the hub said
 
--- what came for a page: want of memory, a fault of the hub's store, or its answer
+-- what came for a page: want of memory, a fault of the hub's keeper, or its answer
 pub data Given (h : HubState) (p : Page) (base : ℕ) (rose : Type 0) (w : WireReply) : Type 0 where
   Wants : w.status ≡ 503 → Given h p base rose w
   Broke : w.status ≡ 500 → rose → Given h p base rose w
   Answers : TellsFrom h p base w → PinLaw h p w → Given h p base rose w
 
 -- at some state between
-pub record IsSaid (before after : Told) (p : Page) (base : ℕ) (w : WireReply) : Type 0 where
+pub record IsSaid (before after : LinkState) (p : Page) (base : ℕ) (w : WireReply) : Type 0 where
   pub mid : HubState
   pub is_hub : IsHub mid
   pub from : Grew before.hub mid
   pub to : Grew mid after.hub
   pub reply : Given mid p base (Rose before.hub_faults after.hub_faults) w
 
-said_of : (a b : Told) (p : Page) (base : ℕ) (n : Echo) (w : WireReply) → CanAsk (asked_by p) → base < 10 ^ 18 → IsOwnRead a b (delta_page_request p base n) w → IsSaid a b p base w
+said_of : (a b : LinkState) (p : Page) (base : ℕ) (n : Echo) (w : WireReply) → CanAsk (asked_by p) → base < 10 ^ 18 → IsOwnRead a b (delta_page_request p base n) w → IsSaid a b p base w
 said_of a b p base n w can small own = record {
   mid = own.mid;
   is_hub = own.is_hub;
@@ -220,7 +220,7 @@ module _ (a mid b : HubState) (from : Grew a mid) (to : Grew mid b) (token : Lis
         pin_from a mid from here.pin pin (sym is ∙ read.pinned),
       )
 
-module _ (a b : Told) (token : List ℕ) (here : Place) (sofar : Sofar) (w : WireReply) (said : IsSaid a b (page_asked token here (count_in sofar)) here.base w) where
+module _ (a b : LinkState) (token : List ℕ) (here : Place) (sofar : Sofar) (w : WireReply) (said : IsSaid a b (page_asked token here (count_in sofar)) here.base w) where
   pub taken_means : (pin : ℕ) (page : Entries) (total : ℕ) → delta_judged here sofar w ≡ act.Take pin page total → TakenMeans a.hub b.hub token here sofar pin page total
   taken_means pin page total e =
       let part = part_taken here sofar w pin page total e in
@@ -315,14 +315,14 @@ page_take place sofar w v t page status version told pinned few same rows ids co
     ∙ pass (ids_ascend (last_id None sofar.gone) page.gone) _ _ up'
     ∙ pass (fits_held place.kind (with_page sofar page t)) _ _ fit
 
--- one of three, of which the last is none
+-- one of three holds, and the last doesn't
 first_two : (A B C : Type 0) → A ⊎ (B ⊎ C) → (C → ⊥) → A ⊎ B
 first_two A B C x none = ⊎_elim (λ (a : A). inl a) (λ y. ⊎_elim (λ (b : B). inr b) (λ (c : C). absurd (none c)) y) x
 
 above_one : (n a b : ℕ) → (n < a) ⊎ (n < b) → n < max a b
 above_one n a b x = ⊎_elim (λ (lt : n < a). omega (arith, lt)) (λ (lt : n < b). omega (arith, lt)) x
 
-module _ (a b : Told) (token : List ℕ) (here : Place) (sofar : Sofar) (w : WireReply) (mid : HubState) (hub : IsHub mid) (from : Grew a.hub mid) (to : Grew mid b.hub) (x : Knows mid token here sofar) (ends : goes_on (delta_judged here sofar w) ≡ false) where
+module _ (a b : LinkState) (token : List ℕ) (here : Place) (sofar : Sofar) (w : WireReply) (mid : HubState) (hub : IsHub mid) (from : Grew a.hub mid) (to : Grew mid b.hub) (x : Knows mid token here sofar) (ends : goes_on (delta_judged here sofar w) ≡ false) where
   abbrev Ends : DeltaAct → Type 0
   Ends y = DeltaTold token a b (ending_of y here (count_in sofar))
 
@@ -438,7 +438,7 @@ module _ (a b : Told) (token : List ℕ) (here : Place) (sofar : Sofar) (w : Wir
   told_ends law (Differs version read status is opened based low told rows ids) = absurd (differs version read.standing read.pinned status is told rows ids)
 
 -- an own reply that ends the pages is the hub's own cause: none is bad
-pub ends_mean : (a b : Told) (token : List ℕ) (here : Place) (sofar : Sofar) (w : WireReply) → IsSaid a b (page_asked token here (count_in sofar)) here.base w → Knows a.hub token here sofar
+pub ends_mean : (a b : LinkState) (token : List ℕ) (here : Place) (sofar : Sofar) (w : WireReply) → IsSaid a b (page_asked token here (count_in sofar)) here.base w → Knows a.hub token here sofar
     → goes_on (delta_judged here sofar w) ≡ false → DeltaTold token a b (ending_of (delta_judged here sofar w) here (count_in sofar))
 ends_mean a b token here sofar w said x ends = elim said.reply as (λ _. DeltaTold token a b (ending_of (delta_judged here sofar w) here (count_in sofar))) [
   | Wants status ↦ subst (λ y. DeltaTold token a b (ending_of y here (count_in sofar))) (sym (judged_at here sofar w 503 status)) tt
@@ -459,7 +459,7 @@ small_pin h hub base None x = tt
 small_pin h hub base (Some pin) x = small_version h hub pin x.0
 
 -- the own reply to a request for the next page is what the hub said to it
-pub own_said : (a b : Told) → IsHub a.hub → (token : List ℕ) (here : Place) (sofar : Sofar) (n : Echo) (w : WireReply) → 1 ≤ here.limit → here.limit ≤ 1000 → count_in sofar ≤ entry_limit → Knows a.hub token here sofar
+pub own_said : (a b : LinkState) → IsHub a.hub → (token : List ℕ) (here : Place) (sofar : Sofar) (n : Echo) (w : WireReply) → 1 ≤ here.limit → here.limit ≤ 1000 → count_in sofar ≤ entry_limit → Knows a.hub token here sofar
     → IsOwnRead a b (delta_page_request (page_asked token here (count_in sofar)) here.base n) w → IsSaid a b (page_asked token here (count_in sofar)) here.base w
 own_said a b hub token here sofar n w some few came x own = said_of a b (page_asked token here (count_in sofar)) here.base n w
     (record { some = some; limit = few; offset = omega (arith, came); pin = small_pin a.hub hub here.base here.pin x.pinned }) (small_version a.hub hub here.base x.based) own
@@ -474,7 +474,7 @@ pub record Gathering (before h : HubState) (token : List ℕ) (place here : Plac
 pub gathering_first : (h : HubState) (token : List ℕ) (place : Place) (held : List Record) (sofar : Sofar) → sofar ≡ nothing_yet held → MayAsk h token place held → Gathering h h token place place sofar
 gathering_first h token place held sofar e may = subst (λ s. Gathering h h token place place s) (sym e) (record { known = knows_first h token place held may; pin = λ v x. x })
 
-module _ (before : HubState) (a b : Told) (hub : IsHub a.hub) (grew : Grew a.hub b.hub) (token : List ℕ) (place here : Place) (sofar : Sofar) (n : Echo) (w : WireReply) (some : 1 ≤ here.limit) (few : here.limit ≤ 1000)
+module _ (before : HubState) (a b : LinkState) (hub : IsHub a.hub) (grew : Grew a.hub b.hub) (token : List ℕ) (place here : Place) (sofar : Sofar) (n : Echo) (w : WireReply) (some : 1 ≤ here.limit) (few : here.limit ≤ 1000)
     (came : count_in sofar ≤ entry_limit) (x : Gathering before a.hub token place here sofar) (own : IsOwnRead a b (delta_page_request (page_asked token here (count_in sofar)) here.base n) w) where
   said : IsSaid a b (page_asked token here (count_in sofar)) here.base w
   said = own_said a b hub token here sofar n w some few came x.known own

@@ -9,7 +9,7 @@ use Rattle.hub_spec.specs.requests.DeltaRequests.{delta_query}
 use Rattle.hub_spec.specs.requests.PageRequests.{page_path, pin_text}
 use Rattle.roster_texts.specs.Texts.{is_token}
 use Rattle.status_info.specs.declared.request.Echo.{Echo}
-use Rattle.consumer_sync.proofs.PageLemmas.{both, decimal_sent, decimal_short, path_sent, path_short, pin_sent}
+use Rattle.consumer_sync.proofs.PageLemmas.{both_sent, decimal_sent, decimal_short, path_sent, path_short, pin_sent}
 use Rattle.consumer_sync.proofs.PageLemmas.{pin_short}
 use Rattle.consumer_deltas.specs.DeltaRequests.{delta_unnumbered}
 
@@ -17,12 +17,12 @@ module _ (limit offset base : ℕ) (pin : Option ℕ) (l : limit < 2 ^ 64) (o : 
   query_sent : list_all is_sent_byte (delta_query limit offset base pin) ≡ true
   unfolding delta_query
   query_sent =
-      both (codes "limit=") (decimal limit ++ (codes "&offset=" ++ (decimal offset ++ (codes "&hubSince=" ++ (decimal base ++ pin_text pin))))) refl
-      (both (decimal limit) (codes "&offset=" ++ (decimal offset ++ (codes "&hubSince=" ++ (decimal base ++ pin_text pin)))) (decimal_sent limit l)
-      (both (codes "&offset=") (decimal offset ++ (codes "&hubSince=" ++ (decimal base ++ pin_text pin))) refl
-      (both (decimal offset) (codes "&hubSince=" ++ (decimal base ++ pin_text pin)) (decimal_sent offset o)
-      (both (codes "&hubSince=") (decimal base ++ pin_text pin) refl
-      (both (decimal base) (pin_text pin) (decimal_sent base b) (pin_sent pin p))))))
+      both_sent (codes "limit=") (decimal limit ++ (codes "&offset=" ++ (decimal offset ++ (codes "&hubSince=" ++ (decimal base ++ pin_text pin))))) refl
+      (both_sent (decimal limit) (codes "&offset=" ++ (decimal offset ++ (codes "&hubSince=" ++ (decimal base ++ pin_text pin)))) (decimal_sent limit l)
+      (both_sent (codes "&offset=") (decimal offset ++ (codes "&hubSince=" ++ (decimal base ++ pin_text pin))) refl
+      (both_sent (decimal offset) (codes "&hubSince=" ++ (decimal base ++ pin_text pin)) (decimal_sent offset o)
+      (both_sent (codes "&hubSince=") (decimal base ++ pin_text pin) refl
+      (both_sent (decimal base) (pin_text pin) (decimal_sent base b) (pin_sent pin p))))))
 
   query_short : length (delta_query limit offset base pin) ≤ 200
   unfolding delta_query
@@ -40,7 +40,7 @@ pub can_ask : (p : Page) (base : ℕ) → is_token p.token ≡ true → p.limit 
 can_ask p base good l o b pin n echo = record {
   verb = refl;
   path = (path_short p.kind).0;
-  target = both (page_path p.kind) (delta_query p.limit p.offset base p.pin) (path_sent p.kind) (query_sent p.limit p.offset base p.pin l o b pin);
+  target = both_sent (page_path p.kind) (delta_query p.limit p.offset base p.pin) (path_sent p.kind) (query_sent p.limit p.offset base p.pin l o b pin);
   short = omega (arith, (path_short p.kind).1, query_short p.limit p.offset base p.pin l o b pin);
   token = good;
   mark = tt;

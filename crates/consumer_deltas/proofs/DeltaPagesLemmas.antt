@@ -11,7 +11,7 @@ use Rattle.version_core.specs.HubStates.{HubState}
 use Rattle.consumer_deltas.specs.DeltaJudging.{Sofar, count_in}
 use Rattle.consumer_deltas.specs.DeltaTelling.{IsAtPin, IsPinFrom, PagesBounded}
 use Rattle.consumer_deltas.specs.declared.answer.DeltaAnswer.{DeltaAnswer}
-use Rattle.consumer_deltas.specs.declared.gather.Delta.{Delta}
+use Rattle.consumer_deltas.specs.declared.gathering.Delta.{Delta}
 use Rattle.consumer_deltas.specs.declared.judging.Place.{Place}
 
 -- a page more for each whole page

@@ -15,14 +15,14 @@ use Rattle.exchange_link.proofs.AskLemmas.{asks_refl}
 use Rattle.exchange_link.specs.Agreement.{CopyFits, StageAgrees}
 use Rattle.exchange_link.specs.Beginning.{Enters}
 use Rattle.exchange_link.specs.Causes.{IsAside, LastLaw}
-use Rattle.exchange_link.specs.Exchanges.{Told}
+use Rattle.exchange_link.specs.Exchanges.{LinkState}
 use Rattle.exchange_link.specs.Marks.{MarksTold}
 use Rattle.exchange_link.specs.Requests.{Asks, Moved}
 use Rattle.exchange_link.specs.Synchronised.{IsPinOf, Leaves, StageOn, Synchronised, own_stage, own_state}
 use Rattle.exchange_link.specs.declared.answer.SyncAnswer.{SyncAnswer}
 use Rattle.exchange_link.specs.declared.answer.SyncAnswer.TheVariants as answer
-use Rattle.exchange_link.specs.declared.begin.NoRun.{NoRun}
-use Rattle.exchange_link.specs.declared.begin.NoRun.TheVariants as no_run
+use Rattle.exchange_link.specs.declared.beginning.NoRun.{NoRun}
+use Rattle.exchange_link.specs.declared.beginning.NoRun.TheVariants as no_run
 use Rattle.roster_base.specs.declared.keeper.KeeperError.{KeeperError}
 use Rattle.roster_base.specs.declared.keeper.KeeperError.TheVariants as fault
 use Rattle.version_core.specs.HubStates.{HubState}
@@ -62,7 +62,7 @@ held_some : (o : Option Held) (token : List ℕ) → option_map_or (λ (h : Held
 held_some None token e f = absurd (none-some _ e)
 held_some (Some held) token e f = cc
 
--- nothing is
+-- nothing is held under the token
 pub baseless : (c : Copy) (s : CopyState) (token : List ℕ) → s ≡ small_part c → (s.held_token ≡ Some token → s.held ≡ None) → LacksBase token c
 baseless c s token shows none e =
     held_some c.held token e (ap (λ (s : CopyState). s.held) (sym shows) ∙ none (ap (λ (s : CopyState). s.held_token) shows ∙ e))
@@ -103,10 +103,10 @@ pub broken_leaves : (token : List ℕ) (e : KeeperError) (c : Copy) → Leaves t
 broken_leaves token fault.Failed c = record { run = inl refl; entries = refl; last_number = refl; held = inl refl; stage = inr (inr (tt, refl)) }
 broken_leaves token fault.NoMemory c = record { run = inl refl; entries = refl; last_number = refl; held = refl; stage = inr (inr (tt, refl)) }
 
-pub same_moved : (t : Told) → Moved t t
+pub same_moved : (t : LinkState) → Moved t t
 same_moved t = (asks_refl 0 0 IsUnmarked t).moved
 
-pub broken_sync : (token : List ℕ) (e : KeeperError) (c : Copy) (t : Told) → StageAgrees c t → DeltaSynchronised token (Ended (broken_answer e)) c t c t
+pub broken_sync : (token : List ℕ) (e : KeeperError) (c : Copy) (t : LinkState) → StageAgrees c t → DeltaSynchronised token (Ended (broken_answer e)) c t c t
 broken_sync token fault.Failed c t agree = record { leaves = broken_leaves token fault.Failed c; agree = agree; held = inl refl; pin = tt; moved = same_moved t }
 broken_sync token fault.NoMemory c t agree = record { leaves = broken_leaves token fault.NoMemory c; agree = agree; held = refl; pin = tt; moved = same_moved t }
 
@@ -127,7 +127,7 @@ broken_last fault.NoMemory b a = record { only = λ e. cc; exact = λ _. inr (in
 pub none_last : (b a : Copy) → DeltaLastLaw NoBase b a
 none_last b a = record { only = λ e. absurd (last_ended_base e); exact = λ _. inl refl }
 
-pub broken_told : (token : List ℕ) (e : KeeperError) (t u : Told) → DeltaTold token t u (Ended (broken_answer e))
+pub broken_told : (token : List ℕ) (e : KeeperError) (t u : LinkState) → DeltaTold token t u (Ended (broken_answer e))
 broken_told token fault.Failed t u = tt
 broken_told token fault.NoMemory t u = tt
 
@@ -145,7 +145,7 @@ broken_cause kept run count missed broke copies place e a is f = subst (λ a. De
 
 -- ---- as a synchronisation ends
 
-pub sync_as : (token : List ℕ) (a : SyncAnswer) (b : Copy) (t : Told) (c : Copy) (u : Told) → Moved t u → Synchronised token a b t c u → DeltaSynchronised token (Ended a) b t c u
+pub sync_as : (token : List ℕ) (a : SyncAnswer) (b : Copy) (t : LinkState) (c : Copy) (u : LinkState) → Moved t u → Synchronised token a b t c u → DeltaSynchronised token (Ended a) b t c u
 sync_as token a b t c u moved s = record { leaves = s.leaves; agree = s.agree; held = s.held; pin = tt; moved = moved }
 
 ended_same : {a b : SyncAnswer} → Ended a ≡ Ended b → a ≡ b
@@ -204,7 +204,7 @@ left_pin : (token : List ℕ) (old new : Option Stage) (h : HubState) → PinLaw
 left_pin token old None h law = tt
 left_pin token old (Some s) h law = pin_law token old h (state_of s) law
 
-pub end_sync : (token : List ℕ) (base run n : ℕ) (a : DeltaAnswer) (b d c : Copy) (t u : Told) → d ≡ begun token b → IsDeltaEnd base a → HasBase base token b → DeltaEnds token base (Some a) d c → run ≡ b.run + 1 → Asks run 0 n IsUnmarked t u → StageAgrees b t
+pub end_sync : (token : List ℕ) (base run n : ℕ) (a : DeltaAnswer) (b d c : Copy) (t u : LinkState) → d ≡ begun token b → IsDeltaEnd base a → HasBase base token b → DeltaEnds token base (Some a) d c → run ≡ b.run + 1 → Asks run 0 n IsUnmarked t u → StageAgrees b t
     → CopyFits c u.hub → BasedBehind (own_state token (stage_of b)) t.hub c a → DeltaSynchronised token a b t c u
 end_sync token base run n (Ended e) b d c t u ed end has x er asks agree fits stays = sync_as token e b t c u asks.moved (fill_sync token run n e b d c t u ed end x er asks agree fits)
 end_sync token base run n NoBase b d c t u ed end has x er asks agree fits stays = absurd x
@@ -277,7 +277,7 @@ swap_pin e st c a h i v is x y = absurd x
 
 -- ---- marks
 
-pub delta_marks : (token : List ℕ) (a : DeltaAnswer) (b c : Copy) (t : Told) → DeltaLeaves token a b c → MarksTold b t → MarksTold c t
+pub delta_marks : (token : List ℕ) (a : DeltaAnswer) (b c : Copy) (t : LinkState) → DeltaLeaves token a b c → MarksTold b t → MarksTold c t
 delta_marks token (Ended a) b c t leaves marks = marks_kept token a b c t leaves marks
 delta_marks token NoBase b c t leaves marks = subst (λ d. MarksTold d t) (sym leaves) marks
 delta_marks token (BaseGone held oldest) b c t leaves marks = marks_kept token answer.HubFault b c t leaves.1 marks

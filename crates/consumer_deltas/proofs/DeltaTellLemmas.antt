@@ -116,7 +116,7 @@ module _ (state : HubState) (hub : IsHub state) (page : Page) (base : ℕ) where
   opened_by : (by : GrantRow) (version : ℕ) → grant_of page.token (version_at state version).grants ≡ Some by → opens_kind (version_at state version) page.token page.kind ≡ opens by.grant.scopes page.kind Read
   opened_by by version found = ap (λ (o : Option GrantRow). option_map_or (λ (by : GrantRow). opens by.grant.scopes page.kind Read) o false) found
 
-  tells_from : (reply : Reply) → is_utf8 (body_text reply) ≡ true → says.SaysFrom state page.token (asked_by page) base reply → TellsFrom state page base (seen_of reply)
+  tells_from : (reply : Reply) → is_utf8 (body_text reply) ≡ true → says.IsDeltaReply state page.token (asked_by page) base reply → TellsFrom state page base (seen_of reply)
   tells_from reply utf8 (says.NotKnown none is) = NotKnown (ap status_of is) (ap is_some none)
   tells_from reply utf8 (says.PinGone by pin found asks out is oldest version) =
       PinGone pin by asks found (ap status_of is) oldest (outside pin (oldest_number state) by.grant.since (newest_number state) out)
@@ -136,7 +136,7 @@ module _ (state : HubState) (hub : IsHub state) (page : Page) (base : ℕ) where
   delta_told_of echo at reply left can small utf8 answers = tells_from reply utf8 (delta_says state hub (asked_by page) can base small page.token (Some echo) at reply left answers).0
 
   -- the pin itself is gone only where it isn't kept, or the grant is younger
-  law_from : (reply : Reply) → says.SaysFrom state page.token (asked_by page) base reply → (pin oldest : ℕ) → page.pin ≡ Some pin → status_of reply.cause ≡ 404 → reply.oldest ≡ Some oldest → pin < oldest
+  law_from : (reply : Reply) → says.IsDeltaReply state page.token (asked_by page) base reply → (pin oldest : ℕ) → page.pin ≡ Some pin → status_of reply.cause ≡ 404 → reply.oldest ≡ Some oldest → pin < oldest
       → (by : GrantRow) × (grant_of page.token (newest_in state).grants ≡ Some by) × ((pin < oldest_number state) ⊎ (pin < by.grant.since))
   law_from reply (says.NotKnown none is) pin oldest asks status old lt = let s : status_of reply.cause ≡ 401 = ap status_of is in absurd (omega (arith, status, s))
   law_from reply (says.NotOpened by version found read shut none is at) pin oldest asks status old lt = let s : status_of reply.cause ≡ 403 = ap status_of is in absurd (omega (arith, status, s))

@@ -11,7 +11,7 @@ use Rattle.exchange_link.specs.Asked.{SendsOn}
 use Rattle.exchange_link.specs.Bounds.{pages}
 use Rattle.exchange_link.specs.Causes.{IsAside, IsMore}
 use Rattle.exchange_link.specs.Completeness.{IsDone}
-use Rattle.exchange_link.specs.Exchanges.{Told}
+use Rattle.exchange_link.specs.Exchanges.{LinkState}
 use Rattle.exchange_link.specs.Places.{kinds_of}
 use Rattle.exchange_link.specs.Requests.{Moved}
 use Rattle.exchange_link.specs.Synchronised.{HeldTold, IsPinOf, own_stage}
@@ -50,12 +50,12 @@ abbrev pub delta_pages : ℕ → List ℕ → BaseVersion → BaseVersion → Li
 delta_pages limit token before after [] = 0
 delta_pages limit token before after (kind ∷ kinds) = max 1 (pages limit (length (delta before after token kind))) + delta_pages limit token before after kinds
 
--- of the kinds that are left of a stage
+-- the pages of the kinds that are left of a stage
 abbrev pub delta_work : ℕ → List ℕ → Option StageState → HubState → ℕ → ℕ → ℕ
 delta_work limit token stage h base pin = delta_pages limit token (version_at h base) (version_at h pin) (drop (kinds_of stage) all_kinds)
 
--- the pin of a call for which no stage stood: the newest version at some time in between, that which the answer names, and that of the
--- stage which is left
+-- the pin of a call for which no stage stood: the newest version at some time in between, that which the answer names,
+-- and that of the stage which is left
 pub record IsNewPin (names : ℕ → Type 0) (c : Copy) (before after : HubState) (v : ℕ) : Type 0 where
   pub newest : newest_number before ≤ v
   pub standing : v < length after.published
@@ -68,13 +68,15 @@ AnswersPin (Ended (answer.Complete version)) v = v ≡ version
 AnswersPin (Ended (answer.PinGone pin oldest)) v = v ≡ pin
 AnswersPin a v = ⊤
 
--- tries * pages at the pin of this call, which is that of the stage; where none stood and no pin was found, the tries of one request
+-- tries * pages at the pin of this call, which is that of the stage; where none stood and no pin was found, the tries
+-- of one request
 abbrev pub DeltaBounded : ℕ → ℕ → ℕ → List ℕ → ℕ → Option StageState → (ℕ → Type 0) → HubState → Type 0
 DeltaBounded n tries limit token base (Some s) is_pin h = n ≤ tries * delta_work limit token (Some s) h base s.pin
 DeltaBounded n tries limit token base None is_pin h = (n ≤ tries) ⊎ ((v : ℕ) × is_pin v × (n ≤ tries * delta_work limit token None h base v))
 
 -- ---- what it leaves
 
+-- want of memory, and the keeper's fault, come before the answer that a reply gives
 abbrev pub IsDeltaAside : DeltaAnswer → Type 0
 IsDeltaAside (Ended a) = IsAside a
 IsDeltaAside a = ⊥
@@ -84,26 +86,30 @@ pub record DeltaLastLaw (a : DeltaAnswer) (before after : Copy) : Type 0 where
   pub only : a ≡ Ended answer.LastRun → (before.run ≡ LAST) × (after ≡ before)
   pub exact : before.run ≡ LAST → (a ≡ NoBase) ⊎ ((a ≡ Ended answer.LastRun) ⊎ IsDeltaAside a)
 
--- where the keeper failed, a stage under this token ends at the swap alone, or where the hub's reply says that its pin isn't kept
+-- where the keeper failed, a stage under this token ends at the swap alone, or where the hub's reply says that its pin
+-- isn't kept
 abbrev pub DeltaFaultLaw : List ℕ → List ℕ → DeltaAnswer → Copy → Copy → Type 0
 DeltaFaultLaw token kept (Ended answer.KeeperFault) before after = FaultLaw token kept before after
 DeltaFaultLaw token kept a before after = ⊤
 
+-- complete, or want of memory at either end
 abbrev pub IsDeltaDone : DeltaAnswer → Type 0
 IsDeltaDone (Ended a) = IsDone a
 IsDeltaDone a = ⊥
 
 -- what is held is as before, or exactly what the token sees of the pinned version
-abbrev pub DeltaHeld : List ℕ → DeltaAnswer → Copy → Told → Copy → Told → Type 0
+abbrev pub DeltaHeld : List ℕ → DeltaAnswer → Copy → LinkState → Copy → LinkState → Type 0
 DeltaHeld token (Ended a) before told after tells = HeldTold token a before told after tells
 DeltaHeld token a before told after tells = after.held ≡ before.held
 
--- where the base is gone, a stage that stands has the pin of that which stood, or else one that isn't older than the newest version then
-abbrev pub DeltaPin : List ℕ → DeltaAnswer → Copy → Told → Copy → Type 0
+-- where the base is gone, a stage that stands has the pin of that which stood, or else one that isn't older than the
+-- newest version then
+abbrev pub DeltaPin : List ℕ → DeltaAnswer → Copy → LinkState → Copy → Type 0
 DeltaPin token (BaseGone held oldest) before told after = IfSome after.stage (λ s. IsPinOf (own_stage token before.stage) told.hub s.pin)
 DeltaPin token a before told after = ⊤
 
-pub record DeltaSynchronised (token : List ℕ) (a : DeltaAnswer) (before : Copy) (told : Told) (after : Copy) (tells : Told) : Type 0 where
+-- all that is promised of a call over a link that tells, where copy and link agreed
+pub record DeltaSynchronised (token : List ℕ) (a : DeltaAnswer) (before : Copy) (told : LinkState) (after : Copy) (tells : LinkState) : Type 0 where
   pub leaves : DeltaLeaves token a before after
   pub agree : StageAgrees after tells
   pub held : DeltaHeld token a before told after tells

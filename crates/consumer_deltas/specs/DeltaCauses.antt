@@ -11,7 +11,8 @@ use Rattle.exchange_link.specs.declared.answer.SyncAnswer.TheVariants as answer
 use Rattle.http_wire.specs.declared.reply_reading.WireReply.{WireReply}
 use Rattle.keeper_memory.specs.copy.Copies.{Copy}
 
--- no base or no run, and so nothing asked for; every kind staged and swapped in, keeper or memory gave up, or the cause of a kind that ended the call
+-- no base or no run, and so nothing asked for; every kind staged and swapped in, keeper or memory gave up, or the cause
+-- of a kind that ended the call
 pub data DeltaCause (kept : List ℕ) (run count : ℕ) (missed broke : Type 0) (copies : Copy → Type 0) (place : Place) (a : DeltaAnswer) : Type 0 where
   Unbased : count ≡ 0 → a ≡ NoBase → DeltaCause kept run count missed broke copies place a
   OutOfRuns : count ≡ 0 → a ≡ Ended answer.LastRun → DeltaCause kept run count missed broke copies place a
@@ -37,8 +38,8 @@ abbrev pub RepliesOn : Place → WireReply → Option DeltaAnswer → Type 0
 RepliesOn place w None = IsPageStatus w.status
 RepliesOn place w (Some a) = RepliesIf place w a
 
--- the cause of an answer, where the keeper stood for `befores` and then stands for `copies`: the run, the number of exchanges of the call,
--- and the first page of the kind at which it ended
+-- the cause of an answer, where the keeper stood for `befores` and then stands for `copies`: the run, the number of
+-- exchanges of the call, and the first page of the kind at which it ended
 pub record DeltaCaused (token : List ℕ) (limit : ℕ) (befores copies : Copy → Type 0) (asked_before asked_after : ℕ) (kept : List ℕ) (missed : ℕ → Type 0) (broke : Type 0) (a : DeltaAnswer) : Type 0 where
   pub run : ℕ
   pub count : ℕ

@@ -11,13 +11,13 @@ use Rattle.consumer_sync.specs.Filling.{Ends, Fills, PinLaw}
 use Rattle.consumer_sync.specs.Staging.{Adds, Taking}
 use Rattle.consumer_deltas.specs.declared.answer.DeltaAnswer.{DeltaAnswer}
 use Rattle.consumer_deltas.specs.declared.answer.DeltaAnswer.TheVariants.{Ended, BaseGone, NoBase}
-use Rattle.consumer_deltas.specs.declared.gather.Delta.{Delta}
-use Rattle.consumer_deltas.specs.declared.gather.Delta.TheVariants as delta
+use Rattle.consumer_deltas.specs.declared.gathering.Delta.{Delta}
+use Rattle.consumer_deltas.specs.declared.gathering.Delta.TheVariants as delta
 use Rattle.consumer_deltas.specs.declared.judging.Place.{Place}
 use Rattle.exchange_link.specs.Agreement.{CopyFits}
 use Rattle.exchange_link.specs.Bounds.{pages}
 use Rattle.exchange_link.specs.Completeness.{first_pin}
-use Rattle.exchange_link.specs.Exchanges.{Told}
+use Rattle.exchange_link.specs.Exchanges.{LinkState}
 use Rattle.exchange_link.specs.Places.{kind_at, kinds_of, pin_of, staged_of}
 use Rattle.exchange_link.specs.declared.answer.SyncAnswer.{SyncAnswer}
 use Rattle.exchange_link.specs.declared.answer.SyncAnswer.TheVariants as answer
@@ -45,6 +45,7 @@ first_place stage base limit = record {
 
 -- ---- a stage whose pin is gone
 
+-- the pin of the stage is gone
 abbrev pub IsPinGone : DeltaAnswer → Type 0
 IsPinGone (Ended (answer.PinGone pin oldest)) = Unit {0}
 IsPinGone a = ⊥
@@ -77,6 +78,7 @@ pin_in (delta.Whole pin entries) = pin
 abbrev pub no_page : ℕ → Taking
 no_page pin = record { pin = pin; rows = []; total = 0; done = true }
 
+-- what was gathered of a kind is staged
 abbrev pub StagesKind : Delta → Kind → Option StageState → List ℕ → Option SyncAnswer → Copy → Copy → Type 0
 StagesKind (delta.Closed pin) kind stage token result before after = Adds (no_page pin) token result before after
 StagesKind (delta.Whole pin entries) kind stage token result before after = Merges kind entries stage pin token result before after
@@ -95,8 +97,8 @@ DeltaEnds token base (Some (Ended a)) before after = Ends token (Some a) before 
 DeltaEnds token base (Some (BaseGone held oldest)) before after = (held ≡ base) × Fills token before after
 DeltaEnds token base (Some NoBase) before after = ⊥
 
--- why the kinds end: the pages of one stopped, which were judged by what is held of it, its entries weren't merged with that, or keeper or
--- memory gave up beside
+-- why the kinds end: the pages of one stopped, which were judged by what is held of it, its entries weren't merged with
+-- that, or keeper or memory gave up beside
 pub data Halts (kept : List ℕ) (run count : ℕ) (missed broke : Type 0) (copies : Copy → Type 0) (place : Place) (a : DeltaAnswer) : Type 0 where
   Stopped : (held : List Record) → ((c : Copy) → copies c → held ≡ held_list c place.kind) → Stops kept run count missed place held a → Halts kept run count missed broke copies place a
   Merging : (entries : Sofar) → AreEntries place.kind entries → ((c : Copy) → copies c → entries.held ≡ held_list c place.kind) → (s : SyncAnswer) → Unmerged broke copies place.kind entries s → a ≡ Ended s → Halts kept run count missed broke copies place a
@@ -105,12 +107,13 @@ pub data Halts (kept : List ℕ) (run count : ℕ) (missed broke : Type 0) (copi
 
 -- ---- over a link that tells
 
-abbrev pub DeltaToldIf : List ℕ → Told → Told → Option DeltaAnswer → Type 0
+-- the kinds go on, or a link that tells says why they ended
+abbrev pub DeltaToldIf : List ℕ → LinkState → LinkState → Option DeltaAnswer → Type 0
 DeltaToldIf token before after None = Unit {0}
 DeltaToldIf token before after (Some a) = DeltaTold token before after a
 
--- how many exchanges are made for a kind: where it is staged, tries * its pages at the pin, at least one; else the tries of one request or
--- those of its pages
+-- how many exchanges are made for a kind: where it is staged, tries * its pages at the pin, at least one; else the
+-- tries of one request or those of its pages
 abbrev pub KindBounded : ℕ → ℕ → ℕ → List ℕ → ℕ → Option StageState → Option StageState → Option DeltaAnswer → HubState → HubState → Copy → Type 0
 KindBounded n tries limit token base old new None before after c =
     (v : ℕ) × (pin_of new ≡ Some v) × IsPinFrom (pin_of old) before v
@@ -125,7 +128,7 @@ StaysBased old c (BaseGone held oldest) = stage_of c ≡ old
 StaysBased old c a = ⊤
 
 -- what one kind makes of a copy and a hub that agree, by so many exchanges
-pub record KindTold (token : List ℕ) (limit tries base n : ℕ) (old new : Option StageState) (result : Option DeltaAnswer) (before after : Told) (c : Copy) : Type 0 where
+pub record KindTold (token : List ℕ) (limit tries base n : ℕ) (old new : Option StageState) (result : Option DeltaAnswer) (before after : LinkState) (c : Copy) : Type 0 where
   pub fits : CopyFits c after.hub
   pub cause : DeltaToldIf token before after result
   pub gone : IfSome result (GonePin (pin_of old) before.hub)
@@ -137,17 +140,19 @@ abbrev pub GoneBehind : Option StageState → HubState → DeltaAnswer → Type 
 GoneBehind first h (Ended (answer.PinGone pin oldest)) = first_pin first h ≤ pin
 GoneBehind first h a = ⊤
 
--- where the base is gone, a stage that stands has the pin of that at the beginning, or else one not older than the newest version then
+-- where the base is gone, a stage that stands has the pin of that at the beginning, or else one not older than the
+-- newest version then
 abbrev pub BasedBehind : Option StageState → HubState → Copy → DeltaAnswer → Type 0
 BasedBehind first h c (BaseGone held oldest) = PinLaw first h (stage_of c)
 BasedBehind first h c a = ⊤
 
+-- the kinds go on, or the pin is the one that their end names, if it names one
 abbrev pub NamesPinIf : Option DeltaAnswer → ℕ → Type 0
 NamesPinIf None v = ⊤
 NamesPinIf (Some a) v = NamesPin a v
 
--- the same of all kinds
-pub record FillTold (token : List ℕ) (limit tries base n : ℕ) (first last : Option StageState) (result : Option DeltaAnswer) (before after : Told) (c : Copy) : Type 0 where
+-- what all kinds make of a copy and a hub that agree, by so many exchanges
+pub record FillTold (token : List ℕ) (limit tries base n : ℕ) (first last : Option StageState) (result : Option DeltaAnswer) (before after : LinkState) (c : Copy) : Type 0 where
   pub fits : CopyFits c after.hub
   pub pin : result ≡ None → PinLaw first before.hub last
   pub cause : DeltaToldIf token before after result

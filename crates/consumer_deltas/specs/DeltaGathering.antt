@@ -4,8 +4,8 @@ use Rattle.consumer_deltas.specs.DeltaJudging.{MayCome, Sofar, count_in, delta_j
 use Rattle.consumer_sync.specs.Judging.{agrees}
 use Rattle.consumer_deltas.specs.declared.answer.DeltaAnswer.{DeltaAnswer}
 use Rattle.consumer_deltas.specs.declared.answer.DeltaAnswer.TheVariants.{Ended, BaseGone}
-use Rattle.consumer_deltas.specs.declared.gather.Delta.{Delta}
-use Rattle.consumer_deltas.specs.declared.gather.Delta.TheVariants as delta
+use Rattle.consumer_deltas.specs.declared.gathering.Delta.{Delta}
+use Rattle.consumer_deltas.specs.declared.gathering.Delta.TheVariants as delta
 use Rattle.consumer_deltas.specs.declared.gathered.Entries.{Entries}
 use Rattle.consumer_deltas.specs.declared.judging.DeltaAct.{DeltaAct}
 use Rattle.consumer_deltas.specs.declared.judging.DeltaAct.TheVariants as act
@@ -56,8 +56,8 @@ abbrev pub IsGathered : Place → List Record → Delta → Type 0
 IsGathered place held (delta.Closed pin) = IsPinAt place pin × (place.is_fresh ≡ true)
 IsGathered place held (delta.Whole pin entries) = IsPinAt place pin × AreEntries place.kind entries × (entries.held ≡ held)
 
--- the last reply is the call's own, and gives this answer for the page that was asked for behind some entries of the kind, which fit what
--- is held of it
+-- the last reply is the call's own, and gives this answer for the page that was asked for behind some entries of the
+-- kind, which fit what is held of it
 pub record IsGiven (kept : List ℕ) (run count : ℕ) (place : Place) (held : List Record) (a : DeltaAnswer) : Type 0 where
   pub sofar : Sofar
   pub here : Place

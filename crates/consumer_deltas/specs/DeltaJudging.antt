@@ -19,17 +19,19 @@ use Rattle.consumer_deltas.specs.declared.judging.DeltaAct.TheVariants.{Take, Cl
 use Rattle.consumer_deltas.specs.declared.judging.DeltaAct.TheVariants.{TooLarge, BadReply, HubFault, HubNoMemory}
 use Rattle.consumer_deltas.specs.declared.judging.Place.{Place}
 
--- the rows that are held of a kind, and what has come of its delta: the rows that are put, the ids that are gone, and how many entries
--- there are in all
+-- the rows that are held of a kind, and what has come of its delta: the rows that are put, the ids that are gone, and
+-- how many entries there are in all
 pub record Sofar : Type 0 where
   pub held : List Record
   pub puts : List Record
   pub gone : List (List ℕ)
   pub total : Option ℕ
 
+-- what a clause sees of `Gathered`
 abbrev pub sofar_of : Inside → Sofar
 sofar_of g = record { held = g.held; puts = g.puts.items; gone = g.gone.items; total = g.total }
 
+-- nothing has come beside what is held
 abbrev pub nothing_yet : List Record → Sofar
 nothing_yet held = record { held = held; puts = []; gone = []; total = None }
 
@@ -37,10 +39,11 @@ nothing_yet held = record { held = held; puts = []; gone = []; total = None }
 abbrev pub count_in : Sofar → ℕ
 count_in sofar = length sofar.puts + length sofar.gone
 
--- with the entries of one more page
+-- what has come, with the entries of one more page
 abbrev pub with_page : Sofar → Entries → ℕ → Sofar
 with_page sofar page total = record { held = sofar.held; puts = sofar.puts ++ page.puts; gone = sofar.gone ++ page.gone; total = Some total }
 
+-- this is how many entries there are in all
 abbrev pub is_total : Option ℕ → ℕ → Bool
 is_total None n = false
 is_total (Some total) n = total == n
@@ -54,6 +57,7 @@ abbrev pub ids_ascend : Option (List ℕ) → List (List ℕ) → Bool
 ids_ascend last [] = true
 ids_ascend last (id ∷ ids) = is_after last id && ids_ascend (Some id) ids
 
+-- the last of the ids, or else the one before them
 abbrev pub last_id : Option (List ℕ) → List (List ℕ) → Option (List ℕ)
 last_id last [] = last
 last_id last (id ∷ ids) = last_id (Some id) ids
@@ -69,9 +73,9 @@ pub record MayCome (kind : Kind) (sofar : Sofar) : Type 0 where
   pub gone : ids_ascend None sofar.gone ≡ true
   pub fits : fits_held kind sofar ≡ true
 
--- the most entries that a delta may have
+-- the most entries that a delta may have: each row of a kind may be gone, and as many may be put
 abbrev pub entry_limit : ℕ
-entry_limit = 2000000
+entry_limit = 2_000_000
 
 -- the base isn't kept
 abbrev pub base_act : ℕ → ℕ → DeltaAct
@@ -83,7 +87,7 @@ lost_act base pin None = BadReply
 lost_act base None (Some oldest) = base_act base oldest
 lost_act base (Some pin) (Some oldest) = if nat_lt pin oldest then PinGone pin oldest else base_act base oldest
 
--- a kind that isn't opened; of one of which something came already it is none that a hub says
+-- a kind that isn't opened, which no hub says of one of which something came already
 abbrev pub closed_act : Option ℕ → Bool → Option ℕ → DeltaAct
 closed_act pin is_fresh None = BadReply
 closed_act pin is_fresh (Some v) = if agrees pin v && is_fresh then Close v else BadReply
@@ -103,13 +107,16 @@ entries_from (Ok puts) (Ok gone) = Some (record { puts = puts; gone = gone })
 entries_from (Ok puts) (Err fault) = None
 entries_from (Err fault) gone = None
 
+-- the same by the body
 abbrev pub entries_of : Kind → List ℕ → Option Entries
 entries_of kind body = entries_from (rows_of kind body) (gone_of body)
 
+-- what was read of a page at version `v`, of a delta with `t` entries in all
 abbrev pub read_act : Kind → Sofar → ℕ → ℕ → ℕ → Option Entries → DeltaAct
 read_act kind sofar limit v t None = BadReply
 read_act kind sofar limit v t (Some page) = part_act kind sofar limit v t page
 
+-- such a page, by its body
 abbrev pub page_act : Kind → Sofar → Option ℕ → ℕ → ℕ → ℕ → List ℕ → DeltaAct
 page_act kind sofar pin limit v t body =
     if not (agrees pin v) then BadReply
@@ -117,6 +124,7 @@ page_act kind sofar pin limit v t body =
     else if not (agrees sofar.total t) then BadReply
     else read_act kind sofar limit v t (entries_of kind body)
 
+-- a reply that tells what differs, where it tells its version and how many entries there are
 abbrev pub differing_act : Kind → Sofar → Option ℕ → ℕ → Option ℕ → Option ℕ → List ℕ → DeltaAct
 differing_act kind sofar pin limit (Some v) (Some t) body = page_act kind sofar pin limit v t body
 differing_act kind sofar pin limit (Some v) None body = BadReply

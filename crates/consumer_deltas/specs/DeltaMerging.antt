@@ -25,7 +25,8 @@ pub data StagesList (kind : Kind) (stage : Option StageState) (pin : ℕ) (token
   Staged : length rows ≤ row_limit → Stages (rest_of stage pin rows) token result before after → StagesList kind stage pin token rows result before after
   TooMany : row_limit < length rows → result ≡ Some (answer.TooLarge kind (length rows)) → after ≡ before → StagesList kind stage pin token rows result before after
 
--- the entries are merged with what is held, and the list is staged; where keeper or memory gave up before, all is as it was
+-- the entries are merged with what is held, and the list is staged; where keeper or memory gave up before, all is as it
+-- was
 pub data Merges (kind : Kind) (entries : Sofar) (stage : Option StageState) (pin : ℕ) (token : List ℕ) (result : Option SyncAnswer) (before after : Copy) : Type 0 where
   Merged : StagesList kind stage pin token (merged_with kind entries before) result before after → Merges kind entries stage pin token result before after
   Fails : IsBroken result → after ≡ before → Merges kind entries stage pin token result before after

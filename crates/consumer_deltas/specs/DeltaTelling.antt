@@ -5,11 +5,11 @@ use Rattle.consumer_deltas.specs.DeltaAnswers.{DeltaTold}
 use Rattle.consumer_deltas.specs.DeltaGathering.{IsDelta, IsShutAt}
 use Rattle.consumer_deltas.specs.declared.answer.DeltaAnswer.{DeltaAnswer}
 use Rattle.consumer_deltas.specs.declared.answer.DeltaAnswer.TheVariants.{Ended}
-use Rattle.consumer_deltas.specs.declared.gather.Delta.{Delta}
-use Rattle.consumer_deltas.specs.declared.gather.Delta.TheVariants as delta
+use Rattle.consumer_deltas.specs.declared.gathering.Delta.{Delta}
+use Rattle.consumer_deltas.specs.declared.gathering.Delta.TheVariants as delta
 use Rattle.consumer_deltas.specs.declared.judging.Place.{Place}
 use Rattle.exchange_link.specs.Bounds.{pages}
-use Rattle.exchange_link.specs.Exchanges.{Told}
+use Rattle.exchange_link.specs.Exchanges.{LinkState}
 use Rattle.exchange_link.specs.Sayings.{list_of}
 use Rattle.exchange_link.specs.declared.answer.SyncAnswer.TheVariants as answer
 use Rattle.hub_spec.specs.rules.Checks.{version_at}
@@ -24,8 +24,8 @@ abbrev pub IsPinFrom : Option ℕ → HubState → ℕ → Type 0
 IsPinFrom None h v = newest_number h ≤ v
 IsPinFrom (Some pin) h v = v ≡ pin
 
--- a delta of the kind may be asked for at this state: both versions were published, what is held is the list of the base, and where rows of
--- the kind are staged, there are some
+-- a delta of the kind may be asked for at this state: both versions were published, what is held is the list of the
+-- base, and where rows of the kind are staged, there are some
 pub record MayAsk (h : HubState) (token : List ℕ) (place : Place) (held : List Record) : Type 0 where
   pub based : place.base < length h.published
   pub shown : held ≡ list_in (version_at h place.base) token place.kind
@@ -42,6 +42,7 @@ abbrev pub NamesPin : DeltaAnswer → ℕ → Type 0
 NamesPin (Ended (answer.PinGone pin oldest)) v = v ≡ pin
 NamesPin a v = ⊤
 
+-- the pin at which a kind is gathered, or that an answer names
 abbrev pub IsAtPin : Result Delta DeltaAnswer → ℕ → Type 0
 IsAtPin (Ok (delta.Closed pin)) v = v ≡ pin
 IsAtPin (Ok (delta.Whole pin entries)) v = v ≡ pin
@@ -59,7 +60,7 @@ PagesBounded before after token place tries n result =
     × (n ≤ tries * pages place.limit (length (what_differs (version_at after place.base) (version_at after v) token place.kind))))
 
 -- what the pages of a kind tell: what is gathered is the delta, no reply is bad, and no page more is asked for
-pub record PagesTold (before after : Told) (token : List ℕ) (place : Place) (tries n : ℕ) (result : Result Delta DeltaAnswer) : Type 0 where
+pub record PagesTold (before after : LinkState) (token : List ℕ) (place : Place) (tries n : ℕ) (result : Result Delta DeltaAnswer) : Type 0 where
   pub whole : IfOk result (Tells before.hub after.hub token place)
   pub cause : IfErr result (DeltaTold token before after)
   pub gone : IfErr result (GonePin place.pin before.hub)

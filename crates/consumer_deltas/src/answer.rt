@@ -5,8 +5,8 @@ use exchange_link::SyncAnswer;
 /// How an incremental synchronisation ended.
 #[derive(Clone, Copy, Debug, PartialEq, Eq)]
 pub enum DeltaAnswer {
-    /// As a synchronisation ends. The offset of `Interrupted` and of `BadReply` is one among the entries of the kind's delta, and
-    /// `TooLarge` tells how many entries the delta has, or how many rows the kind would have.
+    /// As a synchronisation ends. The offset of `Interrupted` and of `BadReply` is one among the entries of the kind's
+    /// delta, and `TooLarge` tells how many entries the delta has, or how many rows the kind would have.
     Ended { answer: SyncAnswer },
     /// Nothing is held, or it wasn't copied under this token. Nothing was asked for, and nothing changed.
     NoBase,

@@ -17,8 +17,8 @@ pub struct Entries {
     pub gone: Items<Id>,
 }
 
-/// The rows that are held of a kind, and what has come of its delta: in the order of their ids the rows that are put and the ids that are
-/// gone, and how many entries there are in all, once a page has said it.
+/// The rows that are held of a kind, and what has come of its delta: in the order of their ids the rows that are put
+/// and the ids that are gone, and how many entries there are in all, once a page has said it.
 #[derive(Drop)]
 pub struct Gathered {
     held: Items<Row>,

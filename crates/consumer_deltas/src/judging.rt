@@ -7,9 +7,9 @@ ghost use Rattle.consumer_deltas.specs.DeltaJudging.{differing_act, entries_of, 
 ghost use Rattle.consumer_deltas.specs.DeltaJudging.{part_act};
 ghost use Rattle.roster_values.specs.declared.kind.Kind.{Kind as Kinds};
 
-use crate::fits::fits_on;
+use crate::fitting::fits_on;
 use crate::gathered::{Entries, Gathered};
-use consumer_sync::judging::{ascend, is_above, is_none_or};
+use consumer_sync::judging::{MAX_ROWS, ascend, is_above, is_none_or};
 use http_wire::WireReply;
 use roster_base::{Items, NoMemory, Refusal};
 use roster_texts::Id;
@@ -18,7 +18,7 @@ use row_json::{read_collection, read_gone};
 use std::alloc::Global;
 
 /// The most entries of a delta: each row of a kind may be gone, and as many may be put.
-pub const MAX_ENTRIES: u64 = 2_000_000;
+pub const MAX_ENTRIES: u64 = 2 * MAX_ROWS;
 
 /// What follows from a reply.
 #[derive(Drop)]
@@ -27,17 +27,24 @@ pub enum DeltaAct {
     Take { pin: u64, page: Entries, total: u64 },
     /// The kind isn't opened, and is staged as empty.
     Close { pin: u64 },
+    /// The hub keeps the pinned version no longer.
     PinGone { pin: u64, oldest: u64 },
+    /// The hub keeps the base no longer.
     BaseGone { oldest: u64 },
+    /// The hub knows no such token.
     UnknownToken,
+    /// The delta has more entries than one may have.
     TooLarge { total: u64 },
+    /// No hub gives this reply.
     BadReply,
+    /// The keeper of the hub failed.
     HubFault,
+    /// The hub wanted memory.
     HubNoMemory,
 }
 
-/// The request for a page of a kind's delta: the base that is asked from, how many entries are asked for, the pin, where there is one,
-/// and whether of the kind nothing is staged and nothing came in this call.
+/// The request for a page of a kind's delta: the base that is asked from, how many entries are asked for, the pin,
+/// where there is one, and whether of the kind nothing is staged and nothing came in this call.
 #[derive(Clone, Copy)]
 pub struct Place {
     pub kind: Kind,
@@ -47,6 +54,7 @@ pub struct Place {
     pub is_fresh: bool,
 }
 
+// Whether the ids rise, from above the last one on.
 fn are_ascending(last: Option<&Id>, ids: &[Id]) -> bool
     ensures { result ≡ ids_ascend (option_copied last.entry) ids.now }
 {
@@ -60,6 +68,7 @@ fn are_ascending(last: Option<&Id>, ids: &[Id]) -> bool
     true
 }
 
+// A version isn't kept: the base, unless the reply says that it is kept.
 fn judge_base(base: u64, oldest: u64) -> DeltaAct
     ensures act { result ≡ base_act base oldest }
     ensures kinds { (kind : Kinds) → ArePuts kind result }
@@ -89,15 +98,16 @@ fn judge_lost(base: u64, pin: Option<u64>, oldest: Option<u64>) -> DeltaAct
     }
 }
 
+// The kind isn't opened, which no hub says of one of which something came already.
 fn judge_closed(pin: Option<u64>, is_fresh: bool, version: Option<u64>) -> DeltaAct
     ensures act { result ≡ closed_act pin is_fresh version }
     ensures kinds { (kind : Kinds) → ArePuts kind result }
 {
     match version {
         None => DeltaAct::BadReply,
-        Some(v) => {
-            if is_none_or(pin, v) && is_fresh {
-                DeltaAct::Close { pin: v }
+        Some(version) => {
+            if is_none_or(pin, version) && is_fresh {
+                DeltaAct::Close { pin: version }
             } else {
                 DeltaAct::BadReply
             }
@@ -105,14 +115,15 @@ fn judge_closed(pin: Option<u64>, is_fresh: bool, version: Option<u64>) -> Delta
     }
 }
 
-fn judge_part(place: Place, sofar: &Gathered, v: u64, t: u64, page: Entries) -> DeltaAct
+// The entries of a page at a version, of so many of the delta in all.
+fn judge_part(place: Place, sofar: &Gathered, version: u64, total: u64, page: Entries) -> DeltaAct
     requires few { count_in sofar.now < 2 ^ 64 }
     requires come { MayCome place.kind sofar.now }
     requires kinds { All (λ row. row.kind ≡ place.kind) page.puts }
-    ensures act { result ≡ part_act place.kind sofar.now place.limit v t page }
+    ensures act { result ≡ part_act place.kind sofar.now place.limit version total page }
     ensures kinds { ArePuts place.kind result }
 {
-    let left = t.saturating_sub(sofar.count());
+    let left = total.saturating_sub(sofar.count());
     let count = page.puts.as_slice().len() as u64 + page.gone.as_slice().len() as u64;
     if count != place.limit.min(left) {
         DeltaAct::BadReply
@@ -124,14 +135,14 @@ fn judge_part(place: Place, sofar: &Gathered, v: u64, t: u64, page: Entries) -> 
         DeltaAct::BadReply
     } else {
         DeltaAct::Take {
-            pin: v,
+            pin: version,
             page,
-            total: t,
+            total,
         }
     }
 }
 
-// Reads the entries of a page.
+// The entries that the body of a page says; none where it can't be read.
 fn read_page(alloc: Global, kind: Kind, body: &[u8]) -> Result<Option<Entries>, NoMemory>
     ensures entries { IfOk result (λ o. o ≡ entries_of kind body.now) }
     ensures kinds { IfOk result (λ o. IfSome o (λ page. All (λ row. row.kind ≡ kind) page.puts)) }
@@ -150,35 +161,37 @@ fn read_page(alloc: Global, kind: Kind, body: &[u8]) -> Result<Option<Entries>, 
     }
 }
 
+// A page whose body is still to be read.
 fn judge_page(
     alloc: Global,
     place: Place,
     sofar: &Gathered,
-    v: u64,
-    t: u64,
+    version: u64,
+    total: u64,
     body: &[u8],
 ) -> Result<DeltaAct, NoMemory>
     requires few { count_in sofar.now < 2 ^ 64 }
     requires come { MayCome place.kind sofar.now }
-    ensures act { IfOk result (λ a. a ≡ page_act place.kind sofar.now place.pin place.limit v t body.now) }
+    ensures act { IfOk result (λ a. a ≡ page_act place.kind sofar.now place.pin place.limit version total body.now) }
     ensures kinds { IfOk result (ArePuts place.kind) }
 {
-    if !is_none_or(place.pin, v) {
+    if !is_none_or(place.pin, version) {
         return Ok(DeltaAct::BadReply);
     }
-    if MAX_ENTRIES < t {
-        return Ok(DeltaAct::TooLarge { total: t });
+    if MAX_ENTRIES < total {
+        return Ok(DeltaAct::TooLarge { total });
     }
-    if !is_none_or(sofar.total(), t) {
+    if !is_none_or(sofar.total(), total) {
         return Ok(DeltaAct::BadReply);
     }
     match read_page(alloc, place.kind, body) {
-        Ok(Some(page)) => Ok(judge_part(place, sofar, v, t, page)),
+        Ok(Some(page)) => Ok(judge_part(place, sofar, version, total, page)),
         Ok(None) => Ok(DeltaAct::BadReply),
         Err(error) => Err(error),
     }
 }
 
+// A reply that tells what differs, where it tells up to which version, and how many entries there are in all.
 fn judge_differing(
     alloc: Global,
     place: Place,
@@ -193,7 +206,7 @@ fn judge_differing(
     ensures kinds { IfOk result (ArePuts place.kind) }
 {
     match (version, total) {
-        (Some(v), Some(t)) => judge_page(alloc, place, sofar, v, t, body),
+        (Some(version), Some(total)) => judge_page(alloc, place, sofar, version, total, body),
         _ => Ok(DeltaAct::BadReply),
     }
 }

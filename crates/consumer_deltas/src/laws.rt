@@ -57,13 +57,13 @@ pub fn a_page_that_is_taken_fits_what_is_held()
         → delta_judged place sofar w ≡ act.Take pin page total → fits place.kind sofar.held (sofar.puts ++ page.puts) (sofar.gone ++ page.gone) ≡ true }
 {}
 
-/// Such parts, one behind the other, are its first entries.
+/// A part of a delta that follows its first entries makes more first entries with them.
 pub fn parts_join_to_the_first_entries()
     ensures { (sofar : Sofar) (page : Entries) (total limit : ℕ) (all : List DeltaEntry) → AreFirst sofar all
         → page.puts ≡ rows_put (slice limit (count_in sofar) all) → page.gone ≡ ids_gone (slice limit (count_in sofar) all) → AreFirst (with_page sofar page total) all }
 {}
 
-/// As many as it has, merged with the list at the base, give the list at the pin.
+/// The first entries of a delta, where they are as many as it has, make the list at the pin of the list at the base.
 pub fn a_whole_delta_leads_to_the_pin()
     ensures { (before after : BaseVersion) → IsVersion before → IsVersion after → (token : List ℕ) (kind : Kind) (sofar : Sofar)
         → AreFirst sofar (delta before after token kind) → count_in sofar ≡ length (delta before after token kind) → merged (list_in before token kind) sofar.puts sofar.gone ≡ list_in after token kind }

@@ -2,10 +2,10 @@
 #![tactic(auto)]
 
 pub mod answer;
-mod fill;
-mod fits;
-mod gather;
+mod filling;
+mod fitting;
 mod gathered;
+mod gathering;
 mod judging;
 pub mod laws;
 mod merged;

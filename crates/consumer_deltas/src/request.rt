@@ -6,7 +6,7 @@ ghost use Rattle.consumer_sync.specs.Requests.{IsUnmarked};
 ghost use Rattle.exchange_link.specs.Asked.{IsTry, SendsOn};
 ghost use Rattle.exchange_link.specs.Causes.{IsLast, IsMore, IsOwnReply, RoseBy};
 ghost use Rattle.exchange_link.specs.DeltaPages.{delta_page_request};
-ghost use Rattle.exchange_link.specs.Exchanges.{Told};
+ghost use Rattle.exchange_link.specs.Exchanges.{LinkState};
 ghost use Rattle.exchange_link.specs.Owning.{IsOwnRead};
 ghost use Rattle.exchange_link.specs.Requests.{Asks, IfOwn, IsReady, number, numbered};
 ghost use Rattle.http_wire.specs.Answers.{IsNoReply, IsReplyText};
@@ -24,8 +24,8 @@ use roster_texts::Token;
 use status_info::Request;
 use std::alloc::Global;
 
-/// What each request of a call has: whose it is, the base from which it asks, how many entries it asks for, its run, and how often it is
-/// tried.
+/// What each request of a call has: whose it is, the base from which it asks, how many entries it asks for, its run,
+/// and how often it is tried.
 #[derive(Clone, Copy)]
 pub struct Asker<'a> {
     pub token: &'a Token,
@@ -83,8 +83,8 @@ fn page_request(
     Ok(request)
 }
 
-/// Sends the request for the page of a kind's delta from `offset` on until its own reply comes, at most `by.tries` times, each time under
-/// the next count of its run; `count` is the last one. Gives that reply, or why there is none.
+/// Sends the request for the page of a kind's delta from `offset` on until its own reply comes, at most `by.tries`
+/// times, each time under the next count of its run; `count` is the last one. Gives that reply, or why there is none.
 pub fn fetch<L: Link>(
     alloc: Global,
     link: &mut L,
@@ -104,16 +104,16 @@ pub fn fetch<L: Link>(
     ensures later { L.fault_count link.old ≤ L.fault_count link.new }
     ensures link_leads { L.leads link.old link.new }
     ensures own { IfOwn result (λ w. IsOwnReply (L.kept link.new) by.entry.run count.new w) }
-    ensures none { result ≡ Outcome.NoReply → (1 ≤ count.new) × IsNoReply (L.kept link.new) × ((after : Told) → L.tells link.new after → ⊥) }
+    ensures none { result ≡ Outcome.NoReply → (1 ≤ count.new) × IsNoReply (L.kept link.new) × ((after : LinkState) → L.tells link.new after → ⊥) }
     ensures missed { result ≡ Outcome.Missed → (count.new ≡ count.old + by.entry.tries) × (by.entry.tries ≤ L.missed link.new)
         × RoseBy by.entry.tries (L.fault_count link.old) (L.fault_count link.new)
         × ((w : Reply) → IsReplyText (L.kept link.new) w → w.echo ≡ Some (number by.entry.run count.new) → ⊥) }
-    ensures told { (after : Told) → L.tells link.new after → (before : Told) × L.tells link.old before
+    ensures told { (after : LinkState) → L.tells link.new after → (before : LinkState) × L.tells link.old before
         × Asks by.entry.run count.old count.new IsUnmarked before after
         × (IsReady by.entry.run count.old before.sent → IfOwn result (λ w. IsOwnRead before after (delta_page_request (page_asked by.entry.token.now place offset) place.base (number by.entry.run count.new)) w)) }
-    ensures last { result ≢ Outcome.NoMemory → (after : Told) → L.tells link.new after
+    ensures last { result ≢ Outcome.NoMemory → (after : LinkState) → L.tells link.new after
         → IsLast (delta_page_request (page_asked by.entry.token.now place offset) place.base (number by.entry.run count.new)) after.sent }
-    ensures asks { (after : Told) → L.tells link.new after → (before : Told) × L.tells link.old before
+    ensures asks { (after : LinkState) → L.tells link.new after → (before : LinkState) × L.tells link.old before
         × SendsOn (IsTry (delta_page_request (page_asked by.entry.token.now place offset) place.base)) by.entry.run count.old count.new (result ≡ Outcome.NoMemory) before.sent after.sent }
 {
     match page_request(alloc, by.token, place, offset) {

@@ -8,7 +8,7 @@ ghost use Rattle.consumer_deltas.specs.DeltaCauses.{DeltaCaused};
 ghost use Rattle.exchange_link.specs.Agreement.{StageAgrees};
 ghost use Rattle.exchange_link.specs.Causes.{RoseBy};
 ghost use Rattle.exchange_link.specs.Completeness.{StandsAt, first_pin};
-ghost use Rattle.exchange_link.specs.Exchanges.{Told};
+ghost use Rattle.exchange_link.specs.Exchanges.{LinkState};
 ghost use Rattle.exchange_link.specs.Marks.{MarksTold};
 ghost use Rattle.exchange_link.specs.Synchronised.{own_state};
 ghost use Rattle.keeper_memory.specs.copy.Copies.{Copy};
@@ -17,7 +17,7 @@ ghost use Rattle.keeper_memory.specs.declared.copy.state.TheConstants.{LAST};
 ghost use Rattle.roster_base.specs.Faults.{Rose};
 
 use crate::answer::DeltaAnswer;
-use crate::fill::fill;
+use crate::filling::fill;
 use crate::request::Asker;
 use consumer_sync::run::{drop_other, finish, unentered};
 use consumer_sync::staging::broken;
@@ -56,8 +56,8 @@ fn base_under<C: CopyKeeper>(
     Ok(held_under(&state, token))
 }
 
-/// Brings what is held to what the token sees of the hub's newest version, or goes on with the stage that stands under the token. It asks
-/// for what differs from the held version alone.
+/// Brings what is held to what the token sees of the hub's newest version, or goes on with the stage that stands under
+/// the token. It asks for what differs from the held version alone.
 pub fn delta_sync<C: CopyKeeper, L: Link>(
     alloc: Global,
     copy: &mut C,
@@ -71,7 +71,8 @@ pub fn delta_sync<C: CopyKeeper, L: Link>(
     // Over any link.
     ensures copy { (after : Copy) → C.stands_for copy.new after → (before : Copy) × C.stands_for copy.old before × DeltaLeaves token.now result before after }
     ensures base { (after : Copy) → C.stands_for copy.new after → (before : Copy) × C.stands_for copy.old before × BaseLaw token.now result before }
-    // Where the keeper failed, a stage under this token ends at the swap alone, or where the hub's reply says that its pin isn't kept.
+    // Where the keeper failed, a stage under this token ends at the swap alone, or where the hub's reply says that its
+    // pin isn't kept.
     ensures faulted { (after : Copy) → C.stands_for copy.new after → (before : Copy) × C.stands_for copy.old before × DeltaFaultLaw token.now (L.kept link.new) result before after }
     ensures last_run { (after : Copy) → C.stands_for copy.new after → (before : Copy) × C.stands_for copy.old before × DeltaLastLaw result before after }
     ensures cause { DeltaCaused token.now limit (C.stands_for copy.old) (C.stands_for copy.new) (L.asked link.old) (L.asked link.new) (L.kept link.new)
@@ -81,29 +82,29 @@ pub fn delta_sync<C: CopyKeeper, L: Link>(
     ensures copy_leads { C.leads copy.old copy.new }
     ensures link_leads { L.leads link.old link.new }
     // Over one that tells. Each request asks from the held version on.
-    ensures asks { (after : Told) → L.tells link.new after → (before : Told) × L.tells link.old before
+    ensures asks { (after : LinkState) → L.tells link.new after → (before : LinkState) × L.tells link.old before
         × AsksDeltas token.now limit tries (C.stands_for copy.old) (C.stands_for copy.new) (L.asked link.old) (L.asked link.new) result before.sent after.sent }
     // Over one that tells, where copy and link agree.
-    ensures told { ((c : Copy) (t : Told) → C.stands_for copy.old c → L.tells link.old t → StageAgrees c t)
-        → (after : Copy) (tells : Told) → C.stands_for copy.new after → L.tells link.new tells
-        → (before : Copy) × (told : Told) × C.stands_for copy.old before × L.tells link.old told × DeltaSynchronised token.now result before told after tells }
-    ensures bound { ((c : Copy) (t : Told) → C.stands_for copy.old c → L.tells link.old t → StageAgrees c t)
-        → (after : Copy) (tells : Told) → C.stands_for copy.new after → L.tells link.new tells
-        → (before : Copy) × (told : Told) × C.stands_for copy.old before × L.tells link.old told × (n : ℕ) × (L.asked link.new ≤ L.asked link.old + n)
+    ensures told { ((c : Copy) (t : LinkState) → C.stands_for copy.old c → L.tells link.old t → StageAgrees c t)
+        → (after : Copy) (tells : LinkState) → C.stands_for copy.new after → L.tells link.new tells
+        → (before : Copy) × (told : LinkState) × C.stands_for copy.old before × L.tells link.old told × DeltaSynchronised token.now result before told after tells }
+    ensures bound { ((c : Copy) (t : LinkState) → C.stands_for copy.old c → L.tells link.old t → StageAgrees c t)
+        → (after : Copy) (tells : LinkState) → C.stands_for copy.new after → L.tells link.new tells
+        → (before : Copy) × (told : LinkState) × C.stands_for copy.old before × L.tells link.old told × (n : ℕ) × (L.asked link.new ≤ L.asked link.old + n)
         × ((n ≡ 0) ⊎ ((base : ℕ) × HasBase base token.now before
         × DeltaBounded n tries limit token.now base (own_state token.now (stage_of before)) (IsNewPin (AnswersPin result) after told.hub tells.hub) tells.hub)) }
-    ensures cause_told { ((c : Copy) (t : Told) → C.stands_for copy.old c → L.tells link.old t → StageAgrees c t)
-        → (after : Copy) (tells : Told) → C.stands_for copy.new after → L.tells link.new tells
-        → (told : Told) × L.tells link.old told × DeltaTold token.now told tells result }
-    ensures complete { ((c : Copy) (t : Told) → C.stands_for copy.old c → L.tells link.old t → StageAgrees c t)
+    ensures cause_told { ((c : Copy) (t : LinkState) → C.stands_for copy.old c → L.tells link.old t → StageAgrees c t)
+        → (after : Copy) (tells : LinkState) → C.stands_for copy.new after → L.tells link.new tells
+        → (told : LinkState) × L.tells link.old told × DeltaTold token.now told tells result }
+    ensures complete { ((c : Copy) (t : LinkState) → C.stands_for copy.old c → L.tells link.old t → StageAgrees c t)
         → ¬ Rose (L.fault_count link.old) (L.fault_count link.new) → ¬ Rose (C.fault_count copy.old) (C.fault_count copy.new)
-        → (after : Copy) (tells : Told) → C.stands_for copy.new after → L.tells link.new tells
-        → (before : Copy) × (told : Told) × C.stands_for copy.old before × L.tells link.old told
+        → (after : Copy) (tells : LinkState) → C.stands_for copy.new after → L.tells link.new tells
+        → (before : Copy) × (told : LinkState) × C.stands_for copy.old before × L.tells link.old told
         × (before.run ≢ LAST → ¬ Rose told.hub_faults tells.hub_faults → StandsAt (first_pin (own_state token.now (stage_of before)) told.hub) token.now tells.hub
         → (base : ℕ) → HasBase base token.now before → StandsAt base token.now tells.hub → IsDeltaDone result) }
-    // Where they agree on marks, they go on to.
-    ensures marks { ((c : Copy) (t : Told) → C.stands_for copy.old c → L.tells link.old t → MarksTold c t)
-        → (after : Copy) (tells : Told) → C.stands_for copy.new after → L.tells link.new tells → MarksTold after tells }
+    // Where they agreed on marks before, they still do.
+    ensures marks { ((c : Copy) (t : LinkState) → C.stands_for copy.old c → L.tells link.old t → MarksTold c t)
+        → (after : Copy) (tells : LinkState) → C.stands_for copy.new after → L.tells link.new tells → MarksTold after tells }
 {
     let base = match base_under(alloc, copy, token) {
         Ok(Some(base)) => base,
@@ -139,6 +140,7 @@ pub fn delta_sync<C: CopyKeeper, L: Link>(
         return answer;
     }
     match stage {
+        // All kinds are done, so that a stage stands.
         None => unreachable!(),
         Some(s) => DeltaAnswer::Ended {
             answer: finish(alloc, copy, s.pin),

@@ -57,7 +57,7 @@ fn first_rows<'a, 'r>(rows: &'a [&'r Row], most: u64) -> &'a [&'r Row]
     &rows[..rows.len().min(most as usize)]
 }
 
-// How many rows of a list aren't staged, by their number.
+// How many rows a list has more than are staged.
 fn missing(stage: &Option<StageState>, rows: &[&Row]) -> u64
     ensures missing { result ≡ length (map (λ row. row.now) rows.now) - staged_of stage.now }
     ensures small { staged_of stage.now + result < 2 ^ 64 }
@@ -84,6 +84,7 @@ fn page_from<'a, 'r>(rows: &'a [&'r Row], from: usize) -> &'a [&'r Row]
     first_rows(&rows[from..], PAGE as u64)
 }
 
+// Copies of the rows.
 fn copies(alloc: Global, rows: &[&Row]) -> Result<Items<Row>, NoMemory>
     ensures { IfOk result (λ copied. copied ≡ map (λ row. row.now) rows.now) }
 {
@@ -94,7 +95,7 @@ fn copies(alloc: Global, rows: &[&Row]) -> Result<Items<Row>, NoMemory>
     Ok(Items::from_vec(copied))
 }
 
-// Stages one page.
+// Stages one page of a list; `done`: it is the last one.
 fn stage_page<C: CopyKeeper>(
     alloc: Global,
     copy: &mut C,

@@ -8,7 +8,7 @@ use Rattle.keeper_memory.specs.copy.Copies.{Copy, IsCopy, first_unsettled}
 use Rattle.keeper_memory.specs.declared.copy.change.CopyChange.TheVariants.{Settle}
 use Rattle.keeper_memory.specs.declared.copy.entry.OutEntry.{OutEntry}
 use Rattle.exchange_link.specs.Causes.{IsMore, RoseBy}
-use Rattle.exchange_link.specs.Exchanges.{Told}
+use Rattle.exchange_link.specs.Exchanges.{LinkState}
 use Rattle.exchange_link.specs.SendCauses.{EndsAtEntry, IsBetween, IsSendAside, SendCauseOf, SendToldCause}
 use Rattle.exchange_link.specs.SendCompleteness.{CanSendAll, IsFine}
 use Rattle.exchange_link.specs.Sent.{AllSettled, NamesFirst, number_in, unsettled}
@@ -21,7 +21,7 @@ use Rattle.exchange_link.specs.Requests.{Moved}
 use Rattle.version_core.specs.HubStates.{HubState, newest_number}
 use Rattle.consumer_outbox.proofs.StepLemmas.{names_first}
 use Rattle.consumer_outbox.proofs.WalkLemmas.{open_by, open_is, settles_left, settles_next, settles_none, walk_settles}
-use Rattle.consumer_outbox.specs.Sends.{Goes, IsEntryEnd, Moves, Rests, SettledTo, SoFar}
+use Rattle.consumer_outbox.specs.Sends.{IsEntryEnd, SettledTo, SettlesAny, SoFar, StaysAny, TakesAny}
 
 -- ---- counts
 
@@ -56,13 +56,13 @@ so_far_next n number status version before mid after entry x first e = subst (So
 })
 
 -- where the call goes on, one entry more is settled
-pub goes_on : (n number : ℕ) (before mid after : Copy) (entry : OutEntry) → SoFar n before mid → first_unsettled mid.entries ≡ Some entry → Goes number None mid after → SoFar (n + 1) before after
-goes_on n number before mid after entry x first (Rests stops e) = absurd (stops refl)
-goes_on n number before mid after entry x first (Moves status version y e) = so_far_next n number status version before mid after entry x first e
+pub settles_on : (n number : ℕ) (before mid after : Copy) (entry : OutEntry) → SoFar n before mid → first_unsettled mid.entries ≡ Some entry → TakesAny number None mid after → SoFar (n + 1) before after
+settles_on n number before mid after entry x first (StaysAny stops e) = absurd (stops refl)
+settles_on n number before mid after entry x first (SettlesAny status version y e) = so_far_next n number status version before mid after entry x first e
 
-pub goes_to : (number : ℕ) (mid after : Copy) (entry : OutEntry) → IsCopy mid → first_unsettled mid.entries ≡ Some entry → Goes number None mid after → SettledTo entry.number after.entries
-goes_to number mid after entry is first (Rests stops e) = absurd (stops refl)
-goes_to number mid after entry is first (Moves status version y e) = subst (λ (c : Copy). SettledTo entry.number c.entries) (sym e) (walk_settles 0 (record { status = status; version = version }) mid.entries entry is.entries.rise first)
+pub settles_up_to : (number : ℕ) (mid after : Copy) (entry : OutEntry) → IsCopy mid → first_unsettled mid.entries ≡ Some entry → TakesAny number None mid after → SettledTo entry.number after.entries
+settles_up_to number mid after entry is first (StaysAny stops e) = absurd (stops refl)
+settles_up_to number mid after entry is first (SettlesAny status version y e) = subst (λ (c : Copy). SettledTo entry.number c.entries) (sym e) (walk_settles 0 (record { status = status; version = version }) mid.entries entry is.entries.rise first)
 
 entry_end_settled : (a : SendAnswer) (n : ℕ) (entries : List OutEntry) → IsEntryEnd a → AllSettled a n entries
 entry_end_settled (answer.Settled count) n entries e = absurd e
@@ -77,18 +77,18 @@ entry_end_settled (answer.MarkTaken number) n entries e = tt
 entry_end_settled (answer.HubFault number) n entries e = tt
 entry_end_settled (answer.HubNoMemory number) n entries e = tt
 
--- where it ends at an entry, as many are settled, or one more where store or memory gave up
-pub goes_end : (n number : ℕ) (a : SendAnswer) (before mid after : Copy) (entry : OutEntry) → SoFar n before mid → first_unsettled mid.entries ≡ Some entry → IsEntryEnd a → Goes number (Some a) mid after
+-- where it ends at an entry, as many are settled, or one more where the keeper or memory gave up
+pub settles_at_end : (n number : ℕ) (a : SendAnswer) (before mid after : Copy) (entry : OutEntry) → SoFar n before mid → first_unsettled mid.entries ≡ Some entry → IsEntryEnd a → TakesAny number (Some a) mid after
     → (settled : ℕ) × SoFar settled before after × AllSettled a settled after.entries
-goes_end n number a before mid after entry x first end (Rests stops e) = (n, subst (SoFar n before) (sym e) x, entry_end_settled a n after.entries end)
-goes_end n number a before mid after entry x first end (Moves status version y e) = (n + 1, so_far_next n number status version before mid after entry x first e, entry_end_settled a (n + 1) after.entries end)
+settles_at_end n number a before mid after entry x first end (StaysAny stops e) = (n, subst (SoFar n before) (sym e) x, entry_end_settled a n after.entries end)
+settles_at_end n number a before mid after entry x first end (SettlesAny status version y e) = (n + 1, so_far_next n number status version before mid after entry x first e, entry_end_settled a (n + 1) after.entries end)
 
 pub entry_left : (n : ℕ) (before mid : Copy) (entry : OutEntry) → SoFar n before mid → first_unsettled mid.entries ≡ Some entry → n + 1 ≤ unsettled before.entries
 entry_left n before mid entry x first = let left = settles_left n before.entries mid.entries entry x.entries first in omega (arith, left)
 
 -- ---- answers
 
--- store or memory gives up between two entries
+-- the keeper or memory gives up between two entries
 pub record Aside (broke : Type 0) (a : SendAnswer) : Type 0 where
   pub aside : IsSendAside a
   pub cause : a ≡ answer.KeeperFault → broke
@@ -101,7 +101,7 @@ aside_end a x = absurd x
 pub aside_settled : (a : SendAnswer) (n : ℕ) (entries : List OutEntry) → IsSendAside a → AllSettled a n entries
 aside_settled a n entries x = entry_end_settled a n entries (aside_end a x)
 
-pub aside_told : (token : List ℕ) (before after : Told) (entries : List OutEntry) (a : SendAnswer) → IsSendAside a → SendToldCause token before after entries a
+pub aside_told : (token : List ℕ) (before after : LinkState) (entries : List OutEntry) (a : SendAnswer) → IsSendAside a → SendToldCause token before after entries a
 aside_told token before after entries answer.NoMemory x = tt
 aside_told token before after entries answer.KeeperFault x = tt
 aside_told token before after entries a x = absurd x
@@ -160,10 +160,10 @@ rose_from n first before now le x = omega (arith, le, x)
 
 -- ---- over a link that tells
 
-wider : (first before after : Told) (mid : HubState) → Moved first before → IsBetween before after mid → IsBetween first after mid
+wider : (first before after : LinkState) (mid : HubState) → Moved first before → IsBetween before after mid → IsBetween first after mid
 wider first before after mid moved x = record { from = Grew-trans first.hub before.hub mid moved.grew x.from; to = x.to }
 
-pub told_on : (token : List ℕ) (first before after : Told) (entries : List OutEntry) (a : SendAnswer) → Moved first before → SendToldCause token before after entries a → SendToldCause token first after entries a
+pub told_on : (token : List ℕ) (first before after : LinkState) (entries : List OutEntry) (a : SendAnswer) → Moved first before → SendToldCause token before after entries a → SendToldCause token first after entries a
 told_on token first before after entries (answer.BadReply number) moved x = x
 told_on token first before after entries (answer.HubFault number) moved x = let low = moved.counts in omega (arith, low, x)
 told_on token first before after entries answer.UnknownToken moved x = (x.0, wider first before after x.0 moved x.1, x.2)
@@ -177,7 +177,7 @@ told_on token first before after entries (answer.Interrupted number) moved x = t
 told_on token first before after entries (answer.HubNoMemory number) moved x = tt
 
 -- what may be sent of all entries, may be of the next
-pub can_send : (token : List ℕ) (n : ℕ) (first before : Told) (state : HubState) (start mid : Copy) (entry : OutEntry) → Moved first before → SoFar n start mid → first_unsettled mid.entries ≡ Some entry
+pub can_send : (token : List ℕ) (n : ℕ) (first before : LinkState) (state : HubState) (start mid : Copy) (entry : OutEntry) → Moved first before → SoFar n start mid → first_unsettled mid.entries ≡ Some entry
     → CanSendAll token (newest_number first.hub) start.entries state → CanSendAll token (newest_number before.hub) (entry ∷ []) state
 can_send token n first before state start mid entry moved x is can = record {
   by = can.by;

@@ -5,7 +5,7 @@ use Rattle.keeper_memory.specs.copy.Changes.{Commits, copy_after}
 use Rattle.keeper_memory.specs.copy.Copies.{Copy}
 use Rattle.keeper_memory.specs.declared.copy.change.CopyChange.TheVariants.{Enter, Run}
 use Rattle.exchange_link.specs.Agreement.{CopyFits, HeldFitsIf, NoneAbove, StageFitsIf}
-use Rattle.exchange_link.specs.Exchanges.{Told}
+use Rattle.exchange_link.specs.Exchanges.{LinkState}
 use Rattle.exchange_link.specs.Marks.{Agree}
 use Rattle.hub_spec.proofs.AgreeLemmas.{entering_keeps}
 use Rattle.roster_base.specs.declared.keeper.KeeperError.{KeeperError}
@@ -22,8 +22,8 @@ use Rattle.exchange_link.proofs.FitLemmas.{copy_on}
 use Rattle.exchange_link.proofs.RunLemmas.{above_more, below_from, ready_from}
 use Rattle.exchange_link.specs.Beginning.{Enters, EntersRun}
 use Rattle.exchange_link.specs.Requests.{Moved}
-use Rattle.exchange_link.specs.declared.begin.NoRun.{NoRun}
-use Rattle.exchange_link.specs.declared.begin.NoRun.TheVariants as why
+use Rattle.exchange_link.specs.declared.beginning.NoRun.{NoRun}
+use Rattle.exchange_link.specs.declared.beginning.NoRun.TheVariants as why
 use Rattle.consumer_outbox.proofs.AllLemmas.{more_none}
 use Rattle.consumer_outbox.proofs.WalkLemmas.{settles_none}
 use Rattle.consumer_outbox.specs.Sends.{Ready, SoFar, not_begun}
@@ -39,13 +39,13 @@ fits_same before after h stage held fits = record {
 
 -- ---- entering
 
-entered_agrees : (number : ℕ) (write : Write) (before : Copy) (told : Told) → number ≡ before.last_number + 1 → Agree before told → Agree (copy_after (Enter number write) before) told
+entered_agrees : (number : ℕ) (write : Write) (before : Copy) (told : LinkState) → number ≡ before.last_number + 1 → Agree before told → Agree (copy_after (Enter number write) before) told
 entered_agrees number write before told next agree = record {
   stage = record { differ = agree.stage.differ; below = agree.stage.below; fits = fits_same before (copy_after (Enter number write) before) told.hub refl refl agree.stage.fits };
   marks = entering_keeps before.entries before.last_number number write told.hub told.sent next agree.marks;
 }
 
-pub commits_agree : (number : ℕ) (write : Write) (result : Result (Unit {0}) KeeperError) (before after : Copy) (told : Told) → number ≡ before.last_number + 1 → Commits (Enter number write) result before after → Agree before told → Agree after told
+pub commits_agree : (number : ℕ) (write : Write) (result : Result (Unit {0}) KeeperError) (before after : Copy) (told : LinkState) → number ≡ before.last_number + 1 → Commits (Enter number write) result before after → Agree before told → Agree after told
 commits_agree number write (Ok x) before after told next e agree = subst (λ c. Agree c told) (sym e) (entered_agrees number write before told next agree)
 commits_agree number write (Err fault.Failed) before after told next x agree = ⊎_elim
     (λ (e : after ≡ before). subst (λ c. Agree c told) (sym e) agree)
@@ -99,20 +99,20 @@ start_fine why.LastRun broke before after x f quiet low = absurd (low x.0)
 start_fine why.KeeperFault broke before after x f quiet low = absurd (quiet (f refl))
 start_fine why.NoMemory broke before after x f quiet low = tt
 
-pub start_caused : (cause : NoRun) (token : List ℕ) (copies : Copy → Type 0) (tells : Told → Type 0) (asked : ℕ) (kept : List ℕ) (missed : ℕ → Type 0) (broke : Type 0) → (cause ≡ why.KeeperFault → broke)
+pub start_caused : (cause : NoRun) (token : List ℕ) (copies : Copy → Type 0) (tells : LinkState → Type 0) (asked : ℕ) (kept : List ℕ) (missed : ℕ → Type 0) (broke : Type 0) → (cause ≡ why.KeeperFault → broke)
     → SendCaused token copies tells asked asked kept missed broke (not_begun cause)
 start_caused why.LastRun token copies tells asked kept missed broke f = record { run = 0; count = 0; counts = more_none asked; runs = λ p. absurd (omega (arith, p)); only = tt; exact = λ w own. absurd (omega (arith, own.from)); names = λ c stands. tt; last = λ ends. absurd ends }
 start_caused why.KeeperFault token copies tells asked kept missed broke f = record { run = 0; count = 0; counts = more_none asked; runs = λ p. absurd (omega (arith, p)); only = f refl; exact = λ w own. absurd (omega (arith, own.from)); names = λ c stands. tt; last = λ ends. absurd ends }
 start_caused why.NoMemory token copies tells asked kept missed broke f = record { run = 0; count = 0; counts = more_none asked; runs = λ p. absurd (omega (arith, p)); only = tt; exact = λ w own. absurd (omega (arith, own.from)); names = λ c stands. tt; last = λ ends. absurd ends }
 
-pub started_caused : (cause : NoRun) (a : SendAnswer) (token : List ℕ) (copies : Copy → Type 0) (tells : Told → Type 0) (asked : ℕ) (kept : List ℕ) (missed : ℕ → Type 0) (broke : Type 0) → a ≡ not_begun cause → (cause ≡ why.KeeperFault → broke)
+pub started_caused : (cause : NoRun) (a : SendAnswer) (token : List ℕ) (copies : Copy → Type 0) (tells : LinkState → Type 0) (asked : ℕ) (kept : List ℕ) (missed : ℕ → Type 0) (broke : Type 0) → a ≡ not_begun cause → (cause ≡ why.KeeperFault → broke)
     → SendCaused token copies tells asked asked kept missed broke a
 started_caused cause a token copies tells asked kept missed broke e f = subst (λ a. SendCaused token copies tells asked asked kept missed broke a) (sym e) (start_caused cause token copies tells asked kept missed broke f)
 
 -- ---- what a copy agrees on
 
 -- the agreement where only the run number changed
-pub run_agrees : (before after : Copy) (told : Told) → EntersRun before after → Agree before told → Agree after told
+pub run_agrees : (before after : Copy) (told : LinkState) → EntersRun before after → Agree before told → Agree after told
 run_agrees before after told x agree = ⊎_elim
     (λ (e : after ≡ before). subst (λ c. Agree c told) (sym e) agree)
     (λ (e : after ≡ copy_after (Run (before.run + 1)) before). subst (λ c. Agree c told) (sym e) (record {
@@ -120,14 +120,14 @@ run_agrees before after told x agree = ⊎_elim
       marks = agree.marks;
     })) x
 
-pub start_agrees : (cause : NoRun) (before after : Copy) (told : Told) → Enters (Err cause) before after → Agree before told → Agree after told
+pub start_agrees : (cause : NoRun) (before after : Copy) (told : LinkState) → Enters (Err cause) before after → Agree before told → Agree after told
 start_agrees why.LastRun before after told x agree = subst (λ c. Agree c told) (sym x.1) agree
 start_agrees why.KeeperFault before after told x agree = run_agrees before after told x agree
 start_agrees why.NoMemory before after told x agree = run_agrees before after told x agree
 
 -- ---- a run was entered
 
-pub ready_begun : (s : CopyState) (before mid : Copy) (told : Told) → Enters (Ok s) before mid → Agree before told → Ready s.run 0 mid told
+pub ready_begun : (s : CopyState) (before mid : Copy) (told : LinkState) → Enters (Ok s) before mid → Agree before told → Ready s.run 0 mid told
 ready_begun s before mid told x agree = subst (λ c. Ready s.run 0 c told) (sym x.1) (record {
   marks = agree.marks;
   numbers = ready_from before.run s.run told.sent x.0 agree.stage.differ agree.stage.below;
@@ -150,7 +150,7 @@ leaves_ended s a n before mid after x y all = record {
 pub bound_begun : (s : CopyState) (tries start asked : ℕ) (before mid : Copy) → Enters (Ok s) before mid → asked ≤ start + tries * unsettled mid.entries → asked ≤ start + tries * unsettled before.entries
 bound_begun s tries start asked before mid x few = subst (λ es. asked ≤ start + tries * unsettled es) (ap (λ (c : Copy). c.entries) x.1) few
 
-pub agree_ended : (s : CopyState) (n k : ℕ) (before mid after : Copy) (told tells : Told) → Enters (Ok s) before mid → SoFar n mid after → Moved told tells → Agree before told → Ready s.run k after tells → Agree after tells
+pub agree_ended : (s : CopyState) (n k : ℕ) (before mid after : Copy) (told tells : LinkState) → Enters (Ok s) before mid → SoFar n mid after → Moved told tells → Agree before told → Ready s.run k after tells → Agree after tells
 agree_ended s n k before mid after told tells x y moved agree ready = record {
   stage = record {
     differ = ready.numbers.differ;
@@ -166,7 +166,7 @@ last_ended s a before mid after x low other = record { only = λ e. absurd (othe
 pub can_begun : (s : CopyState) (token : List ℕ) (since : ℕ) (before mid : Copy) (state : HubState) → Enters (Ok s) before mid → CanSendAll token since before.entries state → CanSendAll token since mid.entries state
 can_begun s token since before mid state x can = subst (λ es. CanSendAll token since es state) (ap (λ (c : Copy). c.entries) (sym x.1)) can
 
-pub start_told : (cause : NoRun) (token : List ℕ) (before after : Copy) (told : Told) → Enters (Err cause) before after → Agree before told → WasSent token (not_begun cause) before told after told
+pub start_told : (cause : NoRun) (token : List ℕ) (before after : Copy) (told : LinkState) → Enters (Err cause) before after → Agree before told → WasSent token (not_begun cause) before told after told
 start_told why.LastRun token before after told x agree = record { leaves = start_leaves why.LastRun before after x; agree = start_agrees why.LastRun before after told x agree; cause = tt }
 start_told why.KeeperFault token before after told x agree = record { leaves = start_leaves why.KeeperFault before after x; agree = start_agrees why.KeeperFault before after told x agree; cause = tt }
 start_told why.NoMemory token before after told x agree = record { leaves = start_leaves why.NoMemory before after x; agree = start_agrees why.NoMemory before after told x agree; cause = tt }

@@ -8,7 +8,7 @@ use Rattle.std.specs.Prelude.{IfSome, is_none, is_some}
 use Rattle.keeper_memory.specs.copy.Copies.{Copy, IsCopy, first_unsettled}
 use Rattle.keeper_memory.specs.declared.copy.entry.OutEntry.{OutEntry}
 use Rattle.exchange_link.specs.Causes.{IsLast}
-use Rattle.exchange_link.specs.Exchanges.{Told, wanted_by}
+use Rattle.exchange_link.specs.Exchanges.{LinkState, wanted_by}
 use Rattle.exchange_link.specs.SendCauses.{IsBetween}
 use Rattle.exchange_link.specs.SendCompleteness.{CanSendAll}
 use Rattle.exchange_link.specs.declared.send_answer.SendAnswer.{SendAnswer}
@@ -23,7 +23,7 @@ use Rattle.hub_spec.proofs.AnswerLemmas.{marked_is, says_write}
 use Rattle.hub_spec.proofs.ShowLemmas.{Bad as BadStatus, Deleted, IsKeptStatus, Missing, Refused, Stored, own_shown}
 use Rattle.hub_spec.proofs.ShowLemmas.{shown_where_it_can, status_kept}
 use Rattle.hub_spec.specs.marks.Agreement.{GivesOnly, IsCaller, IsOfEntry, IsShown, MarksAgree}
-use Rattle.hub_spec.specs.marks.Answering.{SaysWrite, Shown as ShownMark, ShowsMark, Shut as ShutOut, Stranger}
+use Rattle.hub_spec.specs.marks.Answering.{IsWriteReply, Shown as ShownMark, ShowsMark, Shut as ShutOut, Stranger}
 use Rattle.hub_spec.specs.marks.Answering.{Taken as TakenMark}
 use Rattle.hub_spec.specs.marks.Marked.{Marked, mark_of, marked_by}
 use Rattle.roster_base.specs.Faults.{Rose}
@@ -45,14 +45,14 @@ use Rattle.consumer_outbox.specs.declared.verdict.Verdict.TheVariants as verdict
 
 -- ---- what came
 
--- want of memory, a fault of the hub's store, or its answer to the marked write
+-- want of memory, a fault of the hub's keeper, or its answer to the marked write
 pub data Given (mid left : HubState) (token : List ℕ) (marked : Marked) (rose : Type 0) (w : WireReply) : Type 0 where
   Lacks : w.status ≡ 503 → Given mid left token marked rose w
   Broke : w.status ≡ 500 → rose → Given mid left token marked rose w
-  Says : (reply : Reply) → seen_of reply ≡ w → SaysWrite mid (Some token) marked reply left → Given mid left token marked rose w
+  Says : (reply : Reply) → seen_of reply ≡ w → IsWriteReply mid (Some token) marked reply left → Given mid left token marked rose w
 
 -- at some state between
-pub record IsSaid (before after : Told) (token : List ℕ) (marked : Marked) (w : WireReply) : Type 0 where
+pub record IsSaid (before after : LinkState) (token : List ℕ) (marked : Marked) (w : WireReply) : Type 0 where
   pub mid : HubState
   pub left : HubState
   pub is_hub : IsHub mid
@@ -61,7 +61,7 @@ pub record IsSaid (before after : Told) (token : List ℕ) (marked : Marked) (w 
   pub on : Grew left after.hub
   pub given : Given mid left token marked (Rose before.hub_faults after.hub_faults) w
 
-pub said_of : (a b : Told) (q : Request) (token : List ℕ) (marked : Marked) (w : WireReply) → q.token ≡ Some token → marked_by q ≡ Some marked → IsOwnRead a b q w → IsSaid a b token marked w
+pub said_of : (a b : LinkState) (q : Request) (token : List ℕ) (marked : Marked) (w : WireReply) → q.token ≡ Some token → marked_by q ≡ Some marked → IsOwnRead a b q w → IsSaid a b token marked w
 said_of a b q token marked w is_token is own = record {
   mid = own.mid;
   left = own.left;
@@ -72,7 +72,7 @@ said_of a b q token marked w is_token is own = record {
   given = elim own.gives as (λ _. Given own.mid own.left token marked (Rose a.hub_faults b.hub_faults) w) [
     | GivesWant s ↦ Lacks (ap (λ (r : WireReply). r.status) (sym own.seen) ∙ s)
     | GivesFault s x ↦ Broke (ap (λ (r : WireReply). r.status) (sym own.seen) ∙ s) x
-    | GivesAnswer at s ↦ Says own.reply own.seen (subst (λ t. SaysWrite own.mid t marked own.reply own.left) is_token (says_write own.mid (wanted_by q) marked (marked_is (wanted_by q) marked is) at own.reply own.left s))
+    | GivesAnswer at s ↦ Says own.reply own.seen (subst (λ t. IsWriteReply own.mid t marked own.reply own.left) is_token (says_write own.mid (wanted_by q) marked (marked_is (wanted_by q) marked is) at own.reply own.left s))
   ];
 }
 
@@ -83,7 +83,7 @@ carried token entry Q [] good h = tt
 carried token entry Q (q ∷ more) good h =
     (subst (λ o. IfSome o Q) (sym (All-head (Carries token entry) q more h).1) good, carried token entry Q more good (All-tail (Carries token entry) q more h))
 
-pub ready_asked : (token : List ℕ) (entry : OutEntry) (run n k : ℕ) (c : Copy) (t u : Told) → Asks run n k (Carries token entry) t u → first_unsettled c.entries ≡ Some entry → IsCopy c → Ready run n c t → Ready run k c u
+pub ready_asked : (token : List ℕ) (entry : OutEntry) (run n k : ℕ) (c : Copy) (t u : LinkState) → Asks run n k (Carries token entry) t u → first_unsettled c.entries ≡ Some entry → IsCopy c → Ready run n c t → Ready run k c u
 ready_asked token entry run n k c t u asks first is ready = record {
   marks = subst (λ s. MarksAgree c.entries c.last_number u.hub s) (sym asks.adds.1)
       (traffic_keeps c.entries c.last_number t.hub u.hub asks.adds.0 t.sent asks.moved.grew
@@ -112,7 +112,7 @@ last_token q token marked caller h (p ∷ sent) last is_token is given =
     let one = subst (λ (r : Request). IfSome (marked_by r) (λ _. GivesOnly h r.token caller)) last given.0 in
     subst (λ t. GivesOnly h t caller) is_token (subst (λ o. IfSome o (λ _. GivesOnly h q.token caller)) is one)
 
-module _ (a b : Told) (token : List ℕ) (entry : OutEntry) (w : WireReply) (said : IsSaid a b token (mark_of entry) w) where
+module _ (a b : LinkState) (token : List ℕ) (entry : OutEntry) (w : WireReply) (said : IsSaid a b token (mark_of entry) w) where
   to : Grew said.mid b.hub
   to = Grew-trans said.mid said.left b.hub said.step said.on
 
@@ -168,7 +168,7 @@ shows_settles number version w (Refused e) em ev = (422, at_status 422 number w 
 unmarked_at : (k number : ℕ) (w : WireReply) → w.mark ≡ None → answered_verdict number k w.mark w.version ≡ answered_verdict number k None w.version
 unmarked_at k number w e = ap (λ (o : Option ℕ). answered_verdict number k o w.version) e
 
-module _ (a b : Told) (token : List ℕ) (entry : OutEntry) (w : WireReply) (reply : Reply) (seen : seen_of reply ≡ w) where
+module _ (a b : LinkState) (token : List ℕ) (entry : OutEntry) (w : WireReply) (reply : Reply) (seen : seen_of reply ≡ w) where
   mark_is : {o : Option ℕ} → reply.mark ≡ o → w.mark ≡ o
   mark_is e = ap (λ (r : WireReply). r.mark) (sym seen) ∙ e
 
@@ -180,7 +180,7 @@ module _ (a b : Told) (token : List ℕ) (entry : OutEntry) (w : WireReply) (rep
       (subst IsKeptStatus (sym (ap (λ (r : WireReply). r.status) (sym seen) ∙ shows.status)) (status_kept kept.kept.outcome))
       (mark_is shows.mark) (ap (λ (r : WireReply). r.version) (sym seen) ∙ shows.version)
 
-  says_told : (mid left : HubState) (entries : List OutEntry) → IsBetween a b mid → first_unsettled entries ≡ Some entry → SaysWrite mid (Some token) (mark_of entry) reply left → ToldIf token a b entries (answer_of (verdict_of entry.number w) entry.number)
+  says_told : (mid left : HubState) (entries : List OutEntry) → IsBetween a b mid → first_unsettled entries ≡ Some entry → IsWriteReply mid (Some token) (mark_of entry) reply left → ToldIf token a b entries (answer_of (verdict_of entry.number w) entry.number)
   says_told mid left entries between first (Stranger unknown why none) =
       subst (λ v. ToldIf token a b entries (answer_of v entry.number)) (sym (at_status 401 entry.number w (status_is why))) (mid, between, ap is_some unknown)
   says_told mid left entries between first (ShutOut by known shut why none) =
@@ -190,12 +190,12 @@ module _ (a b : Told) (token : List ℕ) (entry : OutEntry) (w : WireReply) (rep
   says_told mid left entries between first (ShownMark by kept known held shows) =
       subst (λ v. ToldIf token a b entries (answer_of v entry.number)) (sym (kept_is kept shows).1) tt
 
-broken_told : (token : List ℕ) (a b : Told) (entries : List OutEntry) (result : Option SendAnswer) → IsBroken result → ToldIf token a b entries result
+broken_told : (token : List ℕ) (a b : LinkState) (entries : List OutEntry) (result : Option SendAnswer) → IsBroken result → ToldIf token a b entries result
 broken_told token a b entries result x = ⊎_elim
     (λ (e : result ≡ Some answer.KeeperFault). subst (ToldIf token a b entries) (sym e) tt)
     (λ (e : result ≡ Some answer.NoMemory). subst (ToldIf token a b entries) (sym e) tt) x
 
-module _ (a b : Told) (token : List ℕ) (entry : OutEntry) (w : WireReply) (said : IsSaid a b token (mark_of entry) w) where
+module _ (a b : LinkState) (token : List ℕ) (entry : OutEntry) (w : WireReply) (said : IsSaid a b token (mark_of entry) w) where
   between : IsBetween a b said.mid
   between = record { from = said.from; to = Grew-trans said.mid said.left b.hub said.step said.on }
 

@@ -17,8 +17,8 @@ use Rattle.hub_spec.specs.marks.Marked.{mark_of, marked_by}
 use Rattle.status_info.specs.declared.request.Echo.{Echo}
 use Rattle.status_info.specs.declared.request.Request.{Request}
 use Rattle.exchange_link.specs.Requests.{numbered}
-use Rattle.consumer_outbox.specs.Sends.{EndsIf, Goes, IsBroken, Moves, Rests, Settles, Stays, Takes, broken_answer}
-use Rattle.consumer_outbox.specs.Sends.{request_of}
+use Rattle.consumer_outbox.specs.Sends.{EndsIf, IsBroken, Settles, SettlesAny, Stays, StaysAny, Takes, TakesAny}
+use Rattle.consumer_outbox.specs.Sends.{broken_answer, request_of}
 use Rattle.consumer_outbox.specs.declared.verdict.Verdict.{Verdict}
 use Rattle.consumer_outbox.specs.declared.verdict.Verdict.TheVariants as verdict
 
@@ -35,9 +35,9 @@ broken_is fault.Failed = inl refl
 broken_is fault.NoMemory = inr refl
 
 -- another verdict changes nothing
-pub takes_goes : (v : Verdict) (number : ℕ) (result : Option SendAnswer) (before after : Copy) → Takes v number result before after → Goes number result before after
-takes_goes v number result before after (Stays n e) = Rests n e
-takes_goes v number result before after (Settles status version is x e) = Moves status version x e
+pub takes_any : (v : Verdict) (number : ℕ) (result : Option SendAnswer) (before after : Copy) → Takes v number result before after → TakesAny number result before after
+takes_any v number result before after (Stays n e) = StaysAny n e
+takes_any v number result before after (Settles status version is x e) = SettlesAny status version x e
 
 -- the first entry's number
 pub first_number : (entries : List OutEntry) (entry : OutEntry) → first_unsettled entries ≡ Some entry → IsSomeAnd (first_unsettled entries) (λ e. e.number ≡ entry.number)

@@ -8,8 +8,8 @@ use Rattle.exchange_link.proofs.AskedLemmas.{sends_trans, sends_weaker}
 use Rattle.exchange_link.specs.Asked.{IsTry, IsWaiting, IsWriteUnder, SendsOn, TriedEntry}
 use Rattle.exchange_link.specs.Requests.{numbered}
 use Rattle.exchange_link.specs.SendCauses.{EndsAtEntry, IsSendAside}
-use Rattle.exchange_link.specs.declared.begin.NoRun.{NoRun}
-use Rattle.exchange_link.specs.declared.begin.NoRun.TheVariants as why
+use Rattle.exchange_link.specs.declared.beginning.NoRun.{NoRun}
+use Rattle.exchange_link.specs.declared.beginning.NoRun.TheVariants as why
 use Rattle.exchange_link.specs.declared.send_answer.SendAnswer.{SendAnswer}
 use Rattle.exchange_link.specs.declared.send_answer.SendAnswer.TheVariants as answer
 use Rattle.status_info.specs.declared.request.Request.{Request}

@@ -4,6 +4,7 @@ use Rattle.exchange_link.specs.declared.send_answer.EnterError.TheVariants as er
 use Rattle.roster_base.specs.declared.keeper.KeeperError.{KeeperError}
 use Rattle.roster_base.specs.declared.keeper.KeeperError.TheVariants as fault
 
+-- why a write isn't entered where the keeper couldn't do its work
 abbrev pub entry_error : KeeperError → EnterError
 entry_error fault.Failed = error.KeeperFault
 entry_error fault.NoMemory = error.NoMemory

@@ -1,9 +1,9 @@
-//! Writes are entered.
+//! The entering of writes.
 
 ghost use Rattle.std.specs.Prelude.{◌≡◌, ◌≤◌, Err};
 ghost use Rattle.keeper_memory.specs.copy.Copies.{Copy, IsOutWrite};
 ghost use Rattle.exchange_link.specs.Entering.{EntersWrite};
-ghost use Rattle.exchange_link.specs.Exchanges.{Told};
+ghost use Rattle.exchange_link.specs.Exchanges.{LinkState};
 ghost use Rattle.exchange_link.specs.Marks.{Agree};
 ghost use Rattle.roster_base.specs.Faults.{Rose};
 ghost use Rattle.consumer_outbox.specs.Entered.{entry_error};
@@ -14,6 +14,7 @@ use roster_base::KeeperError;
 use std::alloc::Global;
 use version_core::mark::Write;
 
+// Why a write isn't entered where the keeper couldn't do its work.
 fn entry_error(error: KeeperError) -> EnterError
     ensures { result ≡ entry_error error }
 {
@@ -23,13 +24,13 @@ fn entry_error(error: KeeperError) -> EnterError
     }
 }
 
-/// Puts a write behind the other entries of the outbox, under the next number, which it gives. After `KeeperFault` it was put there or
-/// not, after the other errors it was not.
+/// Puts a write behind the other entries of the outbox, under the next number, which it gives. After `KeeperFault` it
+/// was put there or not, after the other errors it was not.
 pub fn enter<C: CopyKeeper>(alloc: Global, copy: &mut C, write: Write) -> Result<u64, EnterError>
     requires { IsOutWrite write }
     ensures told { (after : Copy) → C.stands_for copy.new after → (before : Copy) × C.stands_for copy.old before × EntersWrite write result before after }
     // Over any link that agrees with the copy before.
-    ensures agree { (told : Told) → ((c : Copy) → C.stands_for copy.old c → Agree c told) → (c : Copy) → C.stands_for copy.new c → Agree c told }
+    ensures agree { (told : LinkState) → ((c : Copy) → C.stands_for copy.old c → Agree c told) → (c : Copy) → C.stands_for copy.new c → Agree c told }
     ensures later { C.fault_count copy.old ≤ C.fault_count copy.new }
     ensures copy_leads { C.leads copy.old copy.new }
     ensures cause { result ≡ Err EnterError.KeeperFault → Rose (C.fault_count copy.old) (C.fault_count copy.new) }

@@ -32,8 +32,8 @@ fn settled_behind<C: CopyKeeper>(
     }
 }
 
-/// A number up to which all entries are settled, from `from` on; where `last` is the number of the last entry, the greatest such number of
-/// an entry.
+/// A number up to which all entries are settled, from `from` on; where `last` is the number of the last entry, the
+/// greatest such number of an entry.
 pub fn settled_from<C: CopyKeeper>(
     alloc: Global,
     copy: &mut C,

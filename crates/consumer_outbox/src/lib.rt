@@ -1,4 +1,5 @@
-//! The consumer's outbox: its own gradebook writes, entered under their numbers and sent until the hub has judged each once.
+//! The consumer's outbox: its own gradebook writes, entered under their numbers and sent until the hub has judged each
+//! once.
 #![tactic(auto)]
 
 mod entering;

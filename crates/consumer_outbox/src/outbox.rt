@@ -1,11 +1,11 @@
-//! The entries of the outbox are sent.
+//! The sending of what waits in the outbox.
 
 ghost use Rattle.std.specs.Prelude.{◌≡◌, ◌≢◌, ◌+◌, ◌*◌, ◌<◌, ◌≤◌};
 ghost use Rattle.keeper_memory.specs.copy.Copies.{Copy};
 ghost use Rattle.keeper_memory.specs.declared.copy.state.TheConstants.{LAST};
 ghost use Rattle.exchange_link.specs.Asked.{AsksWrites};
 ghost use Rattle.exchange_link.specs.Causes.{RoseBy};
-ghost use Rattle.exchange_link.specs.Exchanges.{Told};
+ghost use Rattle.exchange_link.specs.Exchanges.{LinkState};
 ghost use Rattle.exchange_link.specs.Marks.{Agree};
 ghost use Rattle.exchange_link.specs.SendCauses.{SendCaused, SendLastLaw};
 ghost use Rattle.exchange_link.specs.SendCompleteness.{CanSendAll, IsFine};
@@ -21,6 +21,7 @@ use keeper_memory::CopyKeeper;
 use roster_texts::Token;
 use std::alloc::Global;
 
+// The answer of a call that began no run.
 fn not_begun(why: NoRun) -> SendAnswer
     ensures { result ≡ not_begun why }
 {
@@ -31,7 +32,8 @@ fn not_begun(why: NoRun) -> SendAnswer
     }
 }
 
-/// Sends the entries that aren't settled, in the order of their numbers and marked with them, until one isn't settled by its reply.
+/// Sends the entries that aren't settled, in the order of their numbers and marked with them, until one isn't settled
+/// by its reply.
 pub fn send<C: CopyKeeper, L: Link>(
     alloc: Global,
     copy: &mut C,
@@ -49,17 +51,17 @@ pub fn send<C: CopyKeeper, L: Link>(
     ensures cause { SendCaused token.now (C.stands_for copy.new) (L.tells link.new) (L.asked link.old) (L.asked link.new) (L.kept link.new)
         (λ n. (tries ≤ L.missed link.new) × (tries ≤ n) × RoseBy tries (L.fault_count link.old) (L.fault_count link.new)) (Rose (C.fault_count copy.old) (C.fault_count copy.new)) result }
     // Over one that tells.
-    ensures asks { (after : Copy) (tells : Told) → C.stands_for copy.new after → L.tells link.new tells
-        → (before : Copy) × (told : Told) × C.stands_for copy.old before × L.tells link.old told
+    ensures asks { (after : Copy) (tells : LinkState) → C.stands_for copy.new after → L.tells link.new tells
+        → (before : Copy) × (told : LinkState) × C.stands_for copy.old before × L.tells link.old told
         × AsksWrites token.now tries (L.asked link.old) (L.asked link.new) result before after told.sent tells.sent }
     // Over one that tells, where copy and link agree.
-    ensures told { ((c : Copy) (t : Told) → C.stands_for copy.old c → L.tells link.old t → Agree c t)
-        → (after : Copy) (tells : Told) → C.stands_for copy.new after → L.tells link.new tells
-        → (before : Copy) × (told : Told) × C.stands_for copy.old before × L.tells link.old told × WasSent token.now result before told after tells }
-    ensures complete { ((c : Copy) (t : Told) → C.stands_for copy.old c → L.tells link.old t → Agree c t)
+    ensures told { ((c : Copy) (t : LinkState) → C.stands_for copy.old c → L.tells link.old t → Agree c t)
+        → (after : Copy) (tells : LinkState) → C.stands_for copy.new after → L.tells link.new tells
+        → (before : Copy) × (told : LinkState) × C.stands_for copy.old before × L.tells link.old told × WasSent token.now result before told after tells }
+    ensures complete { ((c : Copy) (t : LinkState) → C.stands_for copy.old c → L.tells link.old t → Agree c t)
         → ¬ Rose (L.fault_count link.old) (L.fault_count link.new) → ¬ Rose (C.fault_count copy.old) (C.fault_count copy.new)
-        → (after : Copy) (tells : Told) → C.stands_for copy.new after → L.tells link.new tells
-        → (before : Copy) × (told : Told) × C.stands_for copy.old before × L.tells link.old told
+        → (after : Copy) (tells : LinkState) → C.stands_for copy.new after → L.tells link.new tells
+        → (before : Copy) × (told : LinkState) × C.stands_for copy.old before × L.tells link.old told
         × (before.run ≢ LAST → ¬ Rose told.hub_faults tells.hub_faults → CanSendAll token.now (newest_number told.hub) before.entries tells.hub → IsFine result) }
 {
     match begin_run(alloc, copy) {

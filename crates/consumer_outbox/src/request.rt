@@ -16,12 +16,14 @@ use roster_types::cells::href;
 use status_info::{MarkField, Request, Verb};
 use std::alloc::Global;
 
+// The verb of a write, by whether it deletes.
 fn verb(delete: bool) -> Verb
     ensures { result ≡ if delete then Verb.Delete else Verb.Put }
 {
     if delete { Verb::Delete } else { Verb::Put }
 }
 
+// The parts of an entry's request, put together.
 fn build(alloc: Global, token: &Token, entry: OutEntry) -> Result<Request, NoMemory>
     ensures { IfOk result (λ q. q ≡ request_of token.now entry) }
 {
@@ -39,8 +41,8 @@ fn build(alloc: Global, token: &Token, entry: OutEntry) -> Result<Request, NoMem
     })
 }
 
-/// The request that sends an entry, still without a number of its exchange; it may be sent under each, and a hub reads the entry's
-/// write of it, under its mark.
+/// The request that sends an entry, still without a number of its exchange; it may be sent under each, and a hub reads
+/// in it the entry's write, under its mark.
 pub fn request_for(alloc: Global, token: &Token, entry: OutEntry) -> Result<Request, NoMemory>
     requires write { IsOutWrite entry.write }
     requires number { (1 ≤ entry.number) × (entry.number ≤ LAST) }

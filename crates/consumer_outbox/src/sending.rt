@@ -7,7 +7,7 @@ ghost use Rattle.keeper_memory.specs.copy.States.{CanBeEntry};
 ghost use Rattle.keeper_memory.specs.declared.copy.state.TheConstants.{LAST};
 ghost use Rattle.exchange_link.specs.Asked.{IsTry, IsWriteUnder, SendsOn, TriedEntry};
 ghost use Rattle.exchange_link.specs.Causes.{IsLast, IsMore, IsOwnReply, RoseBy};
-ghost use Rattle.exchange_link.specs.Exchanges.{Told};
+ghost use Rattle.exchange_link.specs.Exchanges.{LinkState};
 ghost use Rattle.exchange_link.specs.SendCauses.{CarriesFirst, EndsAtEntry, IsSendAside, AnswersSend, SendCauseOf};
 ghost use Rattle.exchange_link.specs.SendCauses.{SendToldCause};
 ghost use Rattle.exchange_link.specs.SendCompleteness.{CanSendAll, IsFine};
@@ -19,8 +19,9 @@ ghost use Rattle.roster_base.specs.Faults.{Rose};
 ghost use Rattle.exchange_link.specs.Owning.{IsOwnRead};
 ghost use Rattle.exchange_link.specs.Requests.{Asks, IfOwn, IsReady, Moved, number, numbered};
 ghost use Rattle.version_core.specs.HubStates.{newest_number};
-ghost use Rattle.consumer_outbox.specs.Sends.{Carries, CauseIf, EndsIf, ExactIf, Goes, IsBroken, IsFineIf};
-ghost use Rattle.consumer_outbox.specs.Sends.{IsInterrupted, Ready, SettledTo, SoFar, Takes, ToldIf, answer_of};
+ghost use Rattle.consumer_outbox.specs.Sends.{Carries, CauseIf, EndsIf, ExactIf, IsBroken, IsFineIf};
+ghost use Rattle.consumer_outbox.specs.Sends.{IsInterrupted, Ready, SettledTo, SoFar, Takes, TakesAny, ToldIf};
+ghost use Rattle.consumer_outbox.specs.Sends.{answer_of};
 ghost use Rattle.consumer_outbox.specs.Sends.{broken_answer, request_of};
 ghost use Rattle.consumer_outbox.specs.Verdicts.{does_settle, verdict_of};
 
@@ -42,6 +43,7 @@ pub struct Sender<'a> {
     pub tries: u64,
 }
 
+// The answer of a call whose keeper couldn't do its work.
 fn broken(error: KeeperError) -> SendAnswer
     ensures { result ≡ broken_answer error }
 {
@@ -51,7 +53,7 @@ fn broken(error: KeeperError) -> SendAnswer
     }
 }
 
-// Settles the first entry that isn't.
+// Settles the first entry that isn't settled.
 fn settle<C: CopyKeeper>(
     alloc: Global,
     copy: &mut C,
@@ -104,7 +106,8 @@ fn take_reply<C: CopyKeeper>(
     }
 }
 
-// The entry's request, tried at most so often.
+// Sends the request of an entry until its own reply comes, at most `by.tries` times, each time under the next count of
+// its run; `count` is the last one. Gives that reply, or why there is none.
 fn ask_for<L: Link>(
     alloc: Global,
     link: &mut L,
@@ -122,16 +125,16 @@ fn ask_for<L: Link>(
     ensures later { L.fault_count link.old ≤ L.fault_count link.new }
     ensures link_leads { L.leads link.old link.new }
     ensures own { IfOwn result (λ w. IsOwnReply (L.kept link.new) by.entry.run count.new w) }
-    ensures none { result ≡ Outcome.NoReply → (1 ≤ count.new) × IsNoReply (L.kept link.new) × ((after : Told) → L.tells link.new after → ⊥) }
+    ensures none { result ≡ Outcome.NoReply → (1 ≤ count.new) × IsNoReply (L.kept link.new) × ((after : LinkState) → L.tells link.new after → ⊥) }
     ensures missed { result ≡ Outcome.Missed → (count.new ≡ count.old + by.entry.tries) × (by.entry.tries ≤ L.missed link.new)
         × RoseBy by.entry.tries (L.fault_count link.old) (L.fault_count link.new)
         × ((w : Reply) → IsReplyText (L.kept link.new) w → w.echo ≡ Some (number by.entry.run count.new) → ⊥) }
-    ensures told { (after : Told) → L.tells link.new after → (before : Told) × L.tells link.old before
+    ensures told { (after : LinkState) → L.tells link.new after → (before : LinkState) × L.tells link.old before
         × Asks by.entry.run count.old count.new (Carries by.entry.token.now entry) before after
         × (IsReady by.entry.run count.old before.sent → IfOwn result (λ w. IsOwnRead before after (numbered (request_of by.entry.token.now entry) (number by.entry.run count.new)) w)) }
     ensures last { result ≢ Outcome.NoMemory → (marked_by (numbered (request_of by.entry.token.now entry) (number by.entry.run count.new)) ≡ Some (mark_of entry))
-        × ((after : Told) → L.tells link.new after → IsLast (numbered (request_of by.entry.token.now entry) (number by.entry.run count.new)) after.sent) }
-    ensures asks { (after : Told) → L.tells link.new after → (before : Told) × L.tells link.old before
+        × ((after : LinkState) → L.tells link.new after → IsLast (numbered (request_of by.entry.token.now entry) (number by.entry.run count.new)) after.sent) }
+    ensures asks { (after : LinkState) → L.tells link.new after → (before : LinkState) × L.tells link.old before
         × SendsOn (IsTry (numbered (request_of by.entry.token.now entry))) by.entry.run count.old count.new (result ≡ Outcome.NoMemory) before.sent after.sent }
 {
     match request_for(alloc, by.token, entry) {
@@ -161,24 +164,24 @@ fn send_entry<C: CopyKeeper, L: Link>(
     ensures link_leads { L.leads link.old link.new }
     ensures later { C.fault_count copy.old ≤ C.fault_count copy.new }
     ensures copy_leads { C.leads copy.old copy.new }
-    ensures copy { (after : Copy) → C.stands_for copy.new after → (before : Copy) × C.stands_for copy.old before × Goes entry.number result before after }
-    ensures link { (after : Told) → L.tells link.new after → (before : Told) × L.tells link.old before × Moved before after }
-    ensures agree { ((c : Copy) (t : Told) → C.stands_for copy.old c → L.tells link.old t → Ready by.entry.run count.old c t)
-        → (c : Copy) (t : Told) → C.stands_for copy.new c → L.tells link.new t → Ready by.entry.run count.new c t }
-    ensures told { ((c : Copy) (t : Told) → C.stands_for copy.old c → L.tells link.old t → Ready by.entry.run count.old c t)
-        → (c : Copy) (t : Told) → C.stands_for copy.new c → L.tells link.new t
-        → (before : Told) × L.tells link.old before × ToldIf by.entry.token.now before t c.entries result }
-    ensures complete { ((c : Copy) (t : Told) → C.stands_for copy.old c → L.tells link.old t → Ready by.entry.run count.old c t)
+    ensures copy { (after : Copy) → C.stands_for copy.new after → (before : Copy) × C.stands_for copy.old before × TakesAny entry.number result before after }
+    ensures link { (after : LinkState) → L.tells link.new after → (before : LinkState) × L.tells link.old before × Moved before after }
+    ensures agree { ((c : Copy) (t : LinkState) → C.stands_for copy.old c → L.tells link.old t → Ready by.entry.run count.old c t)
+        → (c : Copy) (t : LinkState) → C.stands_for copy.new c → L.tells link.new t → Ready by.entry.run count.new c t }
+    ensures told { ((c : Copy) (t : LinkState) → C.stands_for copy.old c → L.tells link.old t → Ready by.entry.run count.old c t)
+        → (c : Copy) (t : LinkState) → C.stands_for copy.new c → L.tells link.new t
+        → (before : LinkState) × L.tells link.old before × ToldIf by.entry.token.now before t c.entries result }
+    ensures complete { ((c : Copy) (t : LinkState) → C.stands_for copy.old c → L.tells link.old t → Ready by.entry.run count.old c t)
         → ¬ Rose (L.fault_count link.old) (L.fault_count link.new) → ¬ Rose (C.fault_count copy.old) (C.fault_count copy.new)
-        → (c : Copy) (t : Told) → C.stands_for copy.new c → L.tells link.new t
-        → (before : Told) × L.tells link.old before
+        → (c : Copy) (t : LinkState) → C.stands_for copy.new c → L.tells link.new t
+        → (before : LinkState) × L.tells link.old before
         × (¬ Rose before.hub_faults t.hub_faults → CanSendAll by.entry.token.now (newest_number before.hub) (entry ∷ []) t.hub → IsFineIf result) }
     ensures cause { CauseIf (L.kept link.new) by.entry.run count.new ((by.entry.tries ≤ L.missed link.new) × (by.entry.tries ≤ count.new) × RoseBy by.entry.tries (L.fault_count link.old) (L.fault_count link.new)) (Rose (C.fault_count copy.old) (C.fault_count copy.new)) result }
     ensures exact { (w : Reply) → IsOwnReply (L.kept link.new) by.entry.run count.new w → ExactIf w result }
     ensures names { IfSome result (λ a. IfSome (number_in a) (λ n. n ≡ entry.number)) }
     ensures stays { (c : Copy) → C.stands_for copy.new c → EndsIf result → first_unsettled c.entries ≡ Some entry }
-    ensures last { EndsIf result → (1 ≤ count.new) × ((c : Copy) (t : Told) → C.stands_for copy.new c → L.tells link.new t → CarriesFirst by.entry.token.now (number by.entry.run count.new) c.entries t.sent) }
-    ensures asks { (after : Told) → L.tells link.new after → (before : Told) × L.tells link.old before
+    ensures last { EndsIf result → (1 ≤ count.new) × ((c : Copy) (t : LinkState) → C.stands_for copy.new c → L.tells link.new t → CarriesFirst by.entry.token.now (number by.entry.run count.new) c.entries t.sent) }
+    ensures asks { (after : LinkState) → L.tells link.new after → (before : LinkState) × L.tells link.old before
         × SendsOn (IsTry (numbered (request_of by.entry.token.now entry))) by.entry.run count.old count.new (result ≡ Some SendAnswer.NoMemory) before.sent after.sent }
     ensures full { IsInterrupted result → count.new ≡ count.old + by.entry.tries }
 {
@@ -191,7 +194,8 @@ fn send_entry<C: CopyKeeper, L: Link>(
     }
 }
 
-// The first entry that isn't settled; those up to `after` are. Settled ones behind it are passed over by halves, up to `last`.
+// The first entry that isn't settled; those up to `after` are. Settled ones behind it are passed over by halves, up to
+// `last`.
 fn next_unsettled<C: CopyKeeper>(
     alloc: Global,
     copy: &mut C,
@@ -223,7 +227,8 @@ fn next_unsettled<C: CopyKeeper>(
     Ok(None)
 }
 
-/// Sends the entries that aren't settled, in order, until one isn't settled by its reply. `last`: the number of the last entry.
+/// Sends the entries that aren't settled, in order, until one isn't settled by its reply. `last`: the number of the
+/// last entry.
 pub fn send_all<C: CopyKeeper, L: Link>(
     alloc: Global,
     copy: &mut C,
@@ -236,16 +241,16 @@ pub fn send_all<C: CopyKeeper, L: Link>(
     ensures copy { (after : Copy) → C.stands_for copy.new after → (before : Copy) × C.stands_for copy.old before
         × ((settled : ℕ) × SoFar settled before after × AllSettled result settled after.entries)
         × (L.asked link.new ≤ L.asked link.old + by.entry.tries * unsettled before.entries) }
-    ensures link { (after : Told) → L.tells link.new after → (before : Told) × L.tells link.old before × Moved before after }
-    ensures agree { ((c : Copy) (t : Told) → C.stands_for copy.old c → L.tells link.old t → Ready by.entry.run 0 c t)
-        → (c : Copy) (t : Told) → C.stands_for copy.new c → L.tells link.new t → (count : ℕ) × Ready by.entry.run count c t }
-    ensures told { ((c : Copy) (t : Told) → C.stands_for copy.old c → L.tells link.old t → Ready by.entry.run 0 c t)
-        → (c : Copy) (t : Told) → C.stands_for copy.new c → L.tells link.new t
-        → (before : Told) × L.tells link.old before × SendToldCause by.entry.token.now before t c.entries result }
-    ensures complete { ((c : Copy) (t : Told) → C.stands_for copy.old c → L.tells link.old t → Ready by.entry.run 0 c t)
+    ensures link { (after : LinkState) → L.tells link.new after → (before : LinkState) × L.tells link.old before × Moved before after }
+    ensures agree { ((c : Copy) (t : LinkState) → C.stands_for copy.old c → L.tells link.old t → Ready by.entry.run 0 c t)
+        → (c : Copy) (t : LinkState) → C.stands_for copy.new c → L.tells link.new t → (count : ℕ) × Ready by.entry.run count c t }
+    ensures told { ((c : Copy) (t : LinkState) → C.stands_for copy.old c → L.tells link.old t → Ready by.entry.run 0 c t)
+        → (c : Copy) (t : LinkState) → C.stands_for copy.new c → L.tells link.new t
+        → (before : LinkState) × L.tells link.old before × SendToldCause by.entry.token.now before t c.entries result }
+    ensures complete { ((c : Copy) (t : LinkState) → C.stands_for copy.old c → L.tells link.old t → Ready by.entry.run 0 c t)
         → ¬ Rose (L.fault_count link.old) (L.fault_count link.new) → ¬ Rose (C.fault_count copy.old) (C.fault_count copy.new)
-        → (c : Copy) (t : Told) → C.stands_for copy.new c → L.tells link.new t
-        → (b : Copy) × (before : Told) × C.stands_for copy.old b × L.tells link.old before
+        → (c : Copy) (t : LinkState) → C.stands_for copy.new c → L.tells link.new t
+        → (b : Copy) × (before : LinkState) × C.stands_for copy.old b × L.tells link.old before
         × (¬ Rose before.hub_faults t.hub_faults → CanSendAll by.entry.token.now (newest_number before.hub) b.entries t.hub → IsFine result) }
     ensures later { C.fault_count copy.old ≤ C.fault_count copy.new }
     ensures copy_leads { C.leads copy.old copy.new }
@@ -255,10 +260,10 @@ pub fn send_all<C: CopyKeeper, L: Link>(
         × SendCauseOf (L.kept link.new) by.entry.run n ((by.entry.tries ≤ L.missed link.new) × (by.entry.tries ≤ n) × RoseBy by.entry.tries (L.fault_count link.old) (L.fault_count link.new)) (Rose (C.fault_count copy.old) (C.fault_count copy.new)) result
         × ((w : Reply) → IsOwnReply (L.kept link.new) by.entry.run n w → IsSendAside result ⊎ AnswersSend w result)
         × ((c : Copy) → C.stands_for copy.new c → NamesFirst result c.entries)
-        × (EndsAtEntry result → (1 ≤ n) × ((c : Copy) (t : Told) → C.stands_for copy.new c → L.tells link.new t → CarriesFirst by.entry.token.now (number by.entry.run n) c.entries t.sent)) }
+        × (EndsAtEntry result → (1 ≤ n) × ((c : Copy) (t : LinkState) → C.stands_for copy.new c → L.tells link.new t → CarriesFirst by.entry.token.now (number by.entry.run n) c.entries t.sent)) }
     ensures asks { (n : ℕ) × IsMore (L.asked link.old) n (L.asked link.new)
-        × ((after : Copy) (tells : Told) → C.stands_for copy.new after → L.tells link.new tells
-        → (before : Copy) × (told : Told) × C.stands_for copy.old before × L.tells link.old told
+        × ((after : Copy) (tells : LinkState) → C.stands_for copy.new after → L.tells link.new tells
+        → (before : Copy) × (told : LinkState) × C.stands_for copy.old before × L.tells link.old told
         × SendsOn (IsWriteUnder by.entry.token.now before.entries) by.entry.run 0 n (result ≡ SendAnswer.NoMemory) told.sent tells.sent
         × TriedEntry result by.entry.token.now by.entry.run n by.entry.tries after.entries tells.sent) }
 {

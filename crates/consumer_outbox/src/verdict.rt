@@ -8,15 +8,23 @@ use http_wire::WireReply;
 /// What the own reply makes of the entry that was sent.
 #[derive(Clone, Copy)]
 pub enum Verdict {
+    /// The hub has judged the write, with this status and at this version.
     Settles { status: u16, version: u64 },
+    /// The hub knows no such token.
     UnknownToken,
+    /// The token's grant doesn't open the write.
     NoScope,
+    /// The hub has taken another write under the mark.
     MarkTaken,
+    /// No hub gives this reply.
     BadReply,
+    /// The keeper of the hub failed.
     HubFault,
+    /// The hub wanted memory.
     HubNoMemory,
 }
 
+// A reply that shows no mark.
 fn judge_unmarked(status: u16) -> Verdict
     ensures { result ≡ unmarked_verdict status }
 {
@@ -27,6 +35,7 @@ fn judge_unmarked(status: u16) -> Verdict
     }
 }
 
+// A reply that shows the entry's mark.
 fn judge_marked(status: u16, version: Option<u64>) -> Verdict
     ensures { result ≡ marked_verdict status version }
 {
@@ -36,6 +45,7 @@ fn judge_marked(status: u16, version: Option<u64>) -> Verdict
     }
 }
 
+// A reply that neither the token, the hub's keeper nor its memory stood in the way of.
 fn judge_answered(number: u64, status: u16, mark: Option<u64>, version: Option<u64>) -> Verdict
     ensures { result ≡ answered_verdict number status mark version }
 {
@@ -51,7 +61,7 @@ fn judge_answered(number: u64, status: u16, mark: Option<u64>, version: Option<u
     }
 }
 
-/// Only a reply that shows the entry's mark settles it.
+/// The verdict of the own reply on the entry of this number. Only a reply that shows the entry's mark settles it.
 pub fn judge(number: u64, reply: &WireReply) -> Verdict
     ensures { result ≡ verdict_of number reply.now }
 {

@@ -13,7 +13,7 @@ use Rattle.keeper_memory.specs.copy.Lists.{kind_count}
 use Rattle.keeper_memory.specs.copy.States.{stage_of, state_of}
 use Rattle.keeper_memory.specs.declared.copy.state.StageState.{StageState}
 use Rattle.exchange_link.specs.Agreement.{CopyFits, FitsVersion, HeldFitsIf, IsFrontOf, StageFits, StageFitsIf}
-use Rattle.exchange_link.specs.Exchanges.{Told}
+use Rattle.exchange_link.specs.Exchanges.{LinkState}
 use Rattle.exchange_link.specs.Owning.Gives.{Wants as GivesWant, Broke as GivesFault, Answers as GivesAnswer}
 use Rattle.exchange_link.specs.Sayings.{Gone, IsRead, Listed, Shut, Tells, Unknown, knows, list_of}
 use Rattle.hub_spec.specs.views.Cuts.{cut}
@@ -48,21 +48,21 @@ use Rattle.consumer_sync.proofs.StageLemmas.{pin-stage_after}
 
 -- ---- what the hub said
 
--- what came for a page: want of memory, a fault of the hub's store, or its answer
+-- what came for a page: want of memory, a fault of the hub's keeper, or its answer
 pub data Given (h : HubState) (p : Page) (rose : Type 0) (w : WireReply) : Type 0 where
   Wants : w.status ≡ 503 → Given h p rose w
   Broke : w.status ≡ 500 → rose → Given h p rose w
   Answers : Tells h p w → Given h p rose w
 
 -- at some state between
-pub record IsSaid (before after : Told) (p : Page) (w : WireReply) : Type 0 where
+pub record IsSaid (before after : LinkState) (p : Page) (w : WireReply) : Type 0 where
   pub mid : HubState
   pub is_hub : IsHub mid
   pub from : Grew before.hub mid
   pub to : Grew mid after.hub
   pub reply : Given mid p (Rose before.hub_faults after.hub_faults) w
 
-pub said_of : (a b : Told) (stage : Option StageState) (run count : ℕ) (token : List ℕ) (limit : ℕ) (w : WireReply) → CanAsk (asked_by (next_page token limit stage))
+pub said_of : (a b : LinkState) (stage : Option StageState) (run count : ℕ) (token : List ℕ) (limit : ℕ) (w : WireReply) → CanAsk (asked_by (next_page token limit stage))
     → IsOwnRead a b (request_of stage run count token limit) w → IsSaid a b (next_page token limit stage) w
 said_of a b stage run count token limit w can own = record {
   mid = own.mid;
@@ -125,7 +125,7 @@ page_fits s v limit k true h p e =
       total = tt;
     }
 
--- where the pin is
+-- the pin is that of the stage, or else not older than the newest version
 abbrev pub PinIs : Option StageState → HubState → ℕ → Type 0
 PinIs None h v = newest_number h ≤ v
 PinIs (Some s) h v = v ≡ s.pin
@@ -188,7 +188,7 @@ says_page a mid b stage token limit w k g h lt page from (Listed v read st ver t
     from
 
 -- the page of an own reply stands in the state after it
-pub own_page : (a b : Told) (stage : Option StageState) (token : List ℕ) (limit : ℕ) (w : WireReply) (k : Taking) → IsSaid a b (next_page token limit stage) w → kinds_of stage < kind_count
+pub own_page : (a b : LinkState) (stage : Option StageState) (token : List ℕ) (limit : ℕ) (w : WireReply) (k : Taking) → IsSaid a b (next_page token limit stage) w → kinds_of stage < kind_count
     → taking (judged stage limit w) ≡ Some k → StandsIn stage a.hub b.hub token limit k
 own_page a b stage token limit w k own lt e =
     let t = taken_page stage limit w k e in
@@ -236,7 +236,7 @@ held_taken (Some held) s rows total true h x = record { standing = x.standing; b
 held_taken (Some held) s rows total false h x = record { standing = x.standing; below = x.below; seen = x.seen }
 
 -- whatever a reply makes of the copy, it fits
-pub performs_agrees : (c after : Copy) (a b : Told) (stage : Option StageState) (token : List ℕ) (limit : ℕ) (w : WireReply) (result : Option SyncAnswer) → stage_of c ≡ stage → HasToken token stage → Grew a.hub b.hub → CopyFits c a.hub
+pub performs_agrees : (c after : Copy) (a b : LinkState) (stage : Option StageState) (token : List ℕ) (limit : ℕ) (w : WireReply) (result : Option SyncAnswer) → stage_of c ≡ stage → HasToken token stage → Grew a.hub b.hub → CopyFits c a.hub
     → IsSaid a b (next_page token limit stage) w → kinds_of stage < kind_count → Performs (judged stage limit w) token result c after → CopyFits after b.hub
 performs_agrees c after a b stage token limit w result e et grew x own lt (Kept n known h) = subst (λ (d : Copy). CopyFits d b.hub) (sym h) (copy_on c a.hub b.hub grew x)
 performs_agrees c after a b stage token limit w result e et grew x own lt (Cleared n m h) =

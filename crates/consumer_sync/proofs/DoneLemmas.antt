@@ -15,7 +15,7 @@ use Rattle.keeper_memory.specs.declared.copy.state.StageState.{StageState}
 use Rattle.exchange_link.specs.Agreement.{FitsTotal, FitsVersion, IsFrontOf, StageFitsIf}
 use Rattle.exchange_link.specs.Causes.{ToldCause}
 use Rattle.exchange_link.specs.Completeness.{StandsAt, first_pin}
-use Rattle.exchange_link.specs.Exchanges.{Told}
+use Rattle.exchange_link.specs.Exchanges.{LinkState}
 use Rattle.exchange_link.specs.Sayings.{Gone, IsRead, Listed, Shut, Unknown, list_of}
 use Rattle.version_core.specs.Grants.{grant_of}
 use Rattle.hub_spec.specs.rules.Verdicts.{newest_in}
@@ -178,7 +178,7 @@ known_not None by e f = cc
 known_not (Some x) by e f = cc
 
 -- an own reply leads on, or the hub wants memory
-own_done' : (o : Option Stage) (first : Option StageState) (a b : Told) (start : HubState) (token : List ℕ) (limit : ℕ) (w : WireReply) (kind : Kind) (offset : ℕ) → HasToken token (option_map state_of o) → StageFitsIf o a.hub → kinds_of (option_map state_of o) < kind_count
+own_done' : (o : Option Stage) (first : Option StageState) (a b : LinkState) (start : HubState) (token : List ℕ) (limit : ℕ) (w : WireReply) (kind : Kind) (offset : ℕ) → HasToken token (option_map state_of o) → StageFitsIf o a.hub → kinds_of (option_map state_of o) < kind_count
     → IsSaid a b (next_page token limit (option_map state_of o)) w
     → Grew start a.hub → IsHub a.hub → IsHub b.hub → PinLaw first start (option_map state_of o) → (Rose a.hub_faults b.hub_faults → ⊥) → StandsAt (first_pin first start) token b.hub → IsDoneIf (answer_of (judged (option_map state_of o) limit w) kind offset)
 own_done' o first a b start token limit w kind offset et x lt own g ha hb law quiet at =
@@ -203,7 +203,7 @@ own_done' o first a b start token limit w kind offset et x lt own g ha hb law qu
       ]
     ]
 
-pub own_done : (c : Copy) (stage first : Option StageState) (a b : Told) (start : HubState) (token : List ℕ) (limit : ℕ) (w : WireReply) (kind : Kind) (offset : ℕ) → stage_of c ≡ stage → HasToken token stage → StageFitsIf c.stage a.hub → kinds_of stage < kind_count → IsSaid a b (next_page token limit stage) w
+pub own_done : (c : Copy) (stage first : Option StageState) (a b : LinkState) (start : HubState) (token : List ℕ) (limit : ℕ) (w : WireReply) (kind : Kind) (offset : ℕ) → stage_of c ≡ stage → HasToken token stage → StageFitsIf c.stage a.hub → kinds_of stage < kind_count → IsSaid a b (next_page token limit stage) w
     → Grew start a.hub → IsHub a.hub → IsHub b.hub → PinLaw first start stage → (Rose a.hub_faults b.hub_faults → ⊥) → StandsAt (first_pin first start) token b.hub → IsDoneIf (answer_of (judged stage limit w) kind offset)
 own_done c stage first a b start token limit w kind offset e et x lt own g ha hb law quiet at =
     subst (λ s. IsDoneIf (answer_of (judged s limit w) kind offset)) e
@@ -214,7 +214,7 @@ gone_is : (stage : Option StageState) (o : Option ℕ) (p q : ℕ) → pin_of st
 gone_is stage o p q e f = ap (λ x. gone_act x o) e ∙ ap (gone_act (Some p)) f
 
 -- the told cause of the answer that an own reply gives
-own_told' : (o : Option Stage) (a b : Told) (token : List ℕ) (limit : ℕ) (w : WireReply) (kind : Kind) (offset : ℕ) → HasToken token (option_map state_of o) → StageFitsIf o a.hub → kinds_of (option_map state_of o) < kind_count → IsSaid a b (next_page token limit (option_map state_of o)) w
+own_told' : (o : Option Stage) (a b : LinkState) (token : List ℕ) (limit : ℕ) (w : WireReply) (kind : Kind) (offset : ℕ) → HasToken token (option_map state_of o) → StageFitsIf o a.hub → kinds_of (option_map state_of o) < kind_count → IsSaid a b (next_page token limit (option_map state_of o)) w
     → ToldIf token a b (answer_of (judged (option_map state_of o) limit w) kind offset)
 own_told' o a b token limit w kind offset et x lt own =
     let stage = option_map state_of o in
@@ -237,20 +237,20 @@ own_told' o a b token limit w kind offset et x lt own =
       ]
     ]
 
-told_if_more : (token : List ℕ) (z a b : Told) (e : Option SyncAnswer) → Moved z a → ToldIf token a b e → ToldIf token z b e
+told_if_more : (token : List ℕ) (z a b : LinkState) (e : Option SyncAnswer) → Moved z a → ToldIf token a b e → ToldIf token z b e
 told_if_more token z a b None m x = tt
 told_if_more token z a b (Some e) m x = cause_more token z a b e m x
 
-pub own_told : (c : Copy) (stage : Option StageState) (z a b : Told) (token : List ℕ) (limit : ℕ) (w : WireReply) (kind : Kind) (offset : ℕ) → Moved z a → stage_of c ≡ stage → HasToken token stage → StageFitsIf c.stage a.hub → kinds_of stage < kind_count
+pub own_told : (c : Copy) (stage : Option StageState) (z a b : LinkState) (token : List ℕ) (limit : ℕ) (w : WireReply) (kind : Kind) (offset : ℕ) → Moved z a → stage_of c ≡ stage → HasToken token stage → StageFitsIf c.stage a.hub → kinds_of stage < kind_count
     → IsSaid a b (next_page token limit stage) w → ToldIf token z b (answer_of (judged stage limit w) kind offset)
 own_told c stage z a b token limit w kind offset m e et x lt own = told_if_more token z a b _ m
     (subst (λ s. ToldIf token a b (answer_of (judged s limit w) kind offset)) e
     (own_told' c.stage a b token limit w kind offset (subst (λ s. HasToken token s) (sym e) et) x (subst (λ s. kinds_of s < kind_count) (sym e) lt) (subst (λ s. IsSaid a b (next_page token limit s) w) (sym e) own)))
 
-pub broken_told : (token : List ℕ) (z b : Told) (r : Option SyncAnswer) → IsBroken r → ToldIf token z b r
+pub broken_told : (token : List ℕ) (z b : LinkState) (r : Option SyncAnswer) → IsBroken r → ToldIf token z b r
 broken_told token z b r x = ⊎_elim (λ (e : r ≡ Some answer.KeeperFault). subst (λ x. ToldIf token z b x) (sym e) tt) (λ (e : r ≡ Some answer.NoMemory). subst (λ x. ToldIf token z b x) (sym e) tt) x
 
-pub start_told : (token : List ℕ) (z b : Told) (K : Type 0) (e : SyncAnswer) → StartCause K e → ToldCause token z b e
+pub start_told : (token : List ℕ) (z b : LinkState) (K : Type 0) (e : SyncAnswer) → StartCause K e → ToldCause token z b e
 start_told token z b K answer.LastRun k = tt
 start_told token z b K answer.KeeperFault k = tt
 start_told token z b K answer.NoMemory k = tt

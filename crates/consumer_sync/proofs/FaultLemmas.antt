@@ -11,8 +11,8 @@ use Rattle.consumer_sync.specs.Judging.{judged}
 use Rattle.consumer_sync.specs.Staging.{IsGone, answer_of}
 use Rattle.consumer_sync.specs.Starting.{Aborts, SwapsIn, unentered, without_other}
 use Rattle.exchange_link.specs.Beginning.{Enters}
-use Rattle.exchange_link.specs.declared.begin.NoRun.{NoRun}
-use Rattle.exchange_link.specs.declared.begin.NoRun.TheVariants as no_run
+use Rattle.exchange_link.specs.declared.beginning.NoRun.{NoRun}
+use Rattle.exchange_link.specs.declared.beginning.NoRun.TheVariants as no_run
 use Rattle.consumer_sync.specs.declared.judging.Act.{Act}
 use Rattle.consumer_sync.specs.declared.judging.Act.TheVariants as act
 use Rattle.keeper_memory.specs.copy.Changes.{copy_after}

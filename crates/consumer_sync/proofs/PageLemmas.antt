@@ -33,8 +33,8 @@ digits_sent (c ∷ ds) x =
 pub decimal_sent : (n : ℕ) → n < 2 ^ 64 → list_all is_sent_byte (decimal n) ≡ true
 decimal_sent n small = let (numeral, value) = decimal_is_IsNumeral n small in digits_sent (decimal n) numeral.1
 
-pub both : (xs ys : List ℕ) → list_all is_sent_byte xs ≡ true → list_all is_sent_byte ys ≡ true → list_all is_sent_byte (xs ++ ys) ≡ true
-both xs ys e f = list_all-append is_sent_byte xs ys ∙ and_from (list_all is_sent_byte xs) (list_all is_sent_byte ys) e f
+pub both_sent : (xs ys : List ℕ) → list_all is_sent_byte xs ≡ true → list_all is_sent_byte ys ≡ true → list_all is_sent_byte (xs ++ ys) ≡ true
+both_sent xs ys e f = list_all-append is_sent_byte xs ys ∙ and_from (list_all is_sent_byte xs) (list_all is_sent_byte ys) e f
 
 word_sent : (kind : Kind) → list_all is_sent_byte (plural_of kind) ≡ true
 word_sent Orgs = refl
@@ -49,7 +49,7 @@ decimal_short n small = length-decimal-le 20 n (omega arith) (omega (arith, smal
 
 pub pin_sent : (pin : Option ℕ) → IfSome pin (λ n. n < 2 ^ 64) → list_all is_sent_byte (pin_text pin) ≡ true
 pin_sent None x = refl
-pin_sent (Some n) x = both (codes "&hubVersion=") (decimal n) refl (decimal_sent n x)
+pin_sent (Some n) x = both_sent (codes "&hubVersion=") (decimal n) refl (decimal_sent n x)
 
 pub pin_short : (pin : Option ℕ) → IfSome pin (λ n. n < 2 ^ 64) → length (pin_text pin) ≤ 40
 pin_short None x = omega arith
@@ -57,7 +57,7 @@ pin_short (Some n) x = omega (arith, length-append (codes "&hubVersion=") (decim
 
 pub path_sent : (kind : Kind) → list_all is_sent_byte (page_path kind) ≡ true
 unfolding page_path
-path_sent kind = both (codes "/ims/oneroster/v1p1/") (plural_of kind) refl (word_sent kind)
+path_sent kind = both_sent (codes "/ims/oneroster/v1p1/") (plural_of kind) refl (word_sent kind)
 
 pub path_short : (kind : Kind) → (0 < length (page_path kind)) × (length (page_path kind) ≤ 40)
 unfolding page_path
@@ -66,9 +66,9 @@ path_short kind = let e = length-append (codes "/ims/oneroster/v1p1/") (plural_o
 query_sent : (limit offset : ℕ) (pin : Option ℕ) → limit < 2 ^ 64 → offset < 2 ^ 64 → IfSome pin (λ n. n < 2 ^ 64) → list_all is_sent_byte (page_query limit offset pin) ≡ true
 unfolding page_query
 query_sent limit offset pin l o p =
-    both (codes "limit=") (decimal limit ++ (codes "&offset=" ++ (decimal offset ++ pin_text pin))) refl
-    (both (decimal limit) (codes "&offset=" ++ (decimal offset ++ pin_text pin)) (decimal_sent limit l)
-    (both (codes "&offset=") (decimal offset ++ pin_text pin) refl (both (decimal offset) (pin_text pin) (decimal_sent offset o) (pin_sent pin p))))
+    both_sent (codes "limit=") (decimal limit ++ (codes "&offset=" ++ (decimal offset ++ pin_text pin))) refl
+    (both_sent (decimal limit) (codes "&offset=" ++ (decimal offset ++ pin_text pin)) (decimal_sent limit l)
+    (both_sent (codes "&offset=") (decimal offset ++ pin_text pin) refl (both_sent (decimal offset) (pin_text pin) (decimal_sent offset o) (pin_sent pin p))))
 
 query_short : (limit offset : ℕ) (pin : Option ℕ) → limit < 2 ^ 64 → offset < 2 ^ 64 → IfSome pin (λ n. n < 2 ^ 64) → length (page_query limit offset pin) ≤ 200
 unfolding page_query
@@ -84,7 +84,7 @@ pub can_page : (p : Page) → is_token p.token ≡ true → p.limit < 2 ^ 64 →
 can_page p good l o pin n echo = record {
   verb = refl;
   path = (path_short p.kind).0;
-  target = both (page_path p.kind) (page_query p.limit p.offset p.pin) (path_sent p.kind) (query_sent p.limit p.offset p.pin l o pin);
+  target = both_sent (page_path p.kind) (page_query p.limit p.offset p.pin) (path_sent p.kind) (query_sent p.limit p.offset p.pin l o pin);
   short = omega (arith, (path_short p.kind).1, query_short p.limit p.offset p.pin l o pin);
   token = good;
   mark = tt;

@@ -17,7 +17,7 @@ use Rattle.exchange_link.specs.Agreement.{CopyFits, HeldFits, HeldFitsIf, NoneAb
 use Rattle.exchange_link.specs.Agreement.{StageFitsIf}
 use Rattle.exchange_link.specs.Causes.{AsksOn, CauseOf, LastLaw, IsAside}
 use Rattle.exchange_link.specs.Completeness.{IsDone}
-use Rattle.exchange_link.specs.Exchanges.{Told}
+use Rattle.exchange_link.specs.Exchanges.{LinkState}
 use Rattle.hub_spec.specs.views.Cuts.{cut}
 use Rattle.exchange_link.specs.Sayings.{knows}
 use Rattle.hub_spec.specs.rules.Checks.{version_at}
@@ -31,9 +31,10 @@ use Rattle.exchange_link.proofs.FitLemmas.{held_alone}
 use Rattle.roster_types.specs.Records.{Record}
 use Rattle.version_core.specs.HubStates.{HubState}
 use Rattle.exchange_link.proofs.RunLemmas.{above_more, below_from, ready_from}
+use Rattle.exchange_link.proofs.StageLemmas.{on_token}
 use Rattle.exchange_link.specs.Beginning.{Enters, EntersRun}
-use Rattle.exchange_link.specs.declared.begin.NoRun.{NoRun}
-use Rattle.exchange_link.specs.declared.begin.NoRun.TheVariants as no_run
+use Rattle.exchange_link.specs.declared.beginning.NoRun.{NoRun}
+use Rattle.exchange_link.specs.declared.beginning.NoRun.TheVariants as no_run
 use Rattle.consumer_sync.specs.Filling.{CauseIf, Ends, HasToken, IsEnd, IsEndIf, PinLaw, StageEnds}
 use Rattle.exchange_link.specs.Requests.{Asks, IsReady}
 use Rattle.consumer_sync.specs.Requests.{IsUnmarked}
@@ -47,7 +48,7 @@ fail_fits token b a h f x = record {
       (⊎_elim (λ (e : a.stage ≡ b.stage). subst (λ o. HeldFitsIf b.held o h) (sym e) x.held) (λ e. subst (λ o. HeldFitsIf b.held o h) (sym e.1) (held_alone b.held b.stage h x.held)) f.stage);
 }
 
-fail_agree : (token : List ℕ) (b a : Copy) (t : Told) → Aborts token b a → StageAgrees b t → StageAgrees a t
+fail_agree : (token : List ℕ) (b a : Copy) (t : LinkState) → Aborts token b a → StageAgrees b t → StageAgrees a t
 fail_agree token b a t f h = record {
   differ = h.differ;
   below = ⊎_elim (λ (e : a.run ≡ b.run). above_more b.run a.run t.sent (omega (arith, e)) h.below) (λ (e : a.run ≡ b.run + 1). above_more b.run a.run t.sent (omega (arith, e)) h.below) f.run;
@@ -63,12 +64,12 @@ fail_leaves token answer.KeeperFault b a m f = record { run = f.run; entries = f
 fail_leaves token answer.NoMemory b a m f = record { run = f.run; entries = f.entries; last_number = f.last_number; held = f.held; stage = ⊎_elim (λ x. inl x) (λ x. inr (inr (tt, x))) (fail_stage token b a f) }
 fail_leaves token e b a m f = absurd m
 
-fail_held : (token : List ℕ) (e : SyncAnswer) (b a : Copy) (t : Told) → MayStay e → Aborts token b a → HeldTold token e b t a t
+fail_held : (token : List ℕ) (e : SyncAnswer) (b a : Copy) (t : LinkState) → MayStay e → Aborts token b a → HeldTold token e b t a t
 fail_held token answer.KeeperFault b a t m f = inl f.held
 fail_held token answer.NoMemory b a t m f = f.held
 fail_held token e b a t m f = absurd m
 
-fail_sync : (token : List ℕ) (e : SyncAnswer) (b a : Copy) (t : Told) → MayStay e → Aborts token b a → StageAgrees b t → Synchronised token e b t a t
+fail_sync : (token : List ℕ) (e : SyncAnswer) (b a : Copy) (t : LinkState) → MayStay e → Aborts token b a → StageAgrees b t → Synchronised token e b t a t
 fail_sync token e b a t m f h = record { leaves = fail_leaves token e b a m f; agree = fail_agree token b a t f h; held = fail_held token e b a t m f }
 
 pub enter_fails : (token : List ℕ) (b a : Copy) → EntersRun b a → Aborts token b a
@@ -76,12 +77,12 @@ enter_fails token b a x = ⊎_elim
     (λ (e : a ≡ b). subst (λ (d : Copy). Aborts token b d) (sym e) (record { run = inl refl; held = refl; entries = refl; last_number = refl; stage = inl refl }))
     (λ (e : a ≡ copy_after (Run (b.run + 1)) b). subst (λ (d : Copy). Aborts token b d) (sym e) (record { run = inr refl; held = refl; entries = refl; last_number = refl; stage = inl refl })) x
 
-last_sync : (token : List ℕ) (b a : Copy) (t : Told) → a ≡ b → StageAgrees b t → Synchronised token answer.LastRun b t a t
+last_sync : (token : List ℕ) (b a : Copy) (t : LinkState) → a ≡ b → StageAgrees b t → Synchronised token answer.LastRun b t a t
 last_sync token b a t e h = subst (λ (d : Copy). Synchronised token answer.LastRun b t d t) (sym e)
     (record { leaves = record { run = inl refl; entries = refl; last_number = refl; held = refl; stage = refl }; agree = h; held = refl })
 
 -- the run isn't entered
-pub enter_sync : (token : List ℕ) (e : NoRun) (b a : Copy) (t : Told) → Enters (Err e) b a → StageAgrees b t → Synchronised token (unentered e) b t a t
+pub enter_sync : (token : List ℕ) (e : NoRun) (b a : Copy) (t : LinkState) → Enters (Err e) b a → StageAgrees b t → Synchronised token (unentered e) b t a t
 enter_sync token no_run.LastRun b a t x h = last_sync token b a t x.1 h
 enter_sync token no_run.KeeperFault b a t x h = fail_sync token answer.KeeperFault b a t tt (enter_fails token b a x) h
 enter_sync token no_run.NoMemory b a t x h = fail_sync token answer.NoMemory b a t tt (enter_fails token b a x) h
@@ -97,6 +98,10 @@ enter_cause K no_run.LastRun k = tt
 enter_cause K no_run.KeeperFault k = k refl
 enter_cause K no_run.NoMemory k = tt
 
+-- the same of the answer that the code gives
+pub unentered_cause : {K : Type 0} {e : NoRun} {a : SyncAnswer} → a ≡ unentered e → (e ≡ no_run.KeeperFault → K) → StartCause K a
+unentered_cause {K} {e} {a} is cause = subst (λ (a : SyncAnswer). StartCause K a) (sym is) (enter_cause K e cause)
+
 stay_from : (K : Type 0) (e : SyncAnswer) → e ≢ answer.LastRun → StartCause K e → MayStay e
 stay_from K answer.LastRun n k = absurd (n refl)
 stay_from K answer.KeeperFault n k = tt
@@ -110,7 +115,7 @@ drop_fails token b m a e em x = ⊎_elim
     (record { run = inr refl; held = refl; entries = refl; last_number = refl; stage = inr (ap (λ (d : Copy). own_stage token d.stage) (sym em) ∙ h.0, refl) })) x
 
 -- the stage under another token isn't dropped
-pub drop_sync : (token : List ℕ) (run : ℕ) (e : SyncAnswer) (b m a : Copy) (s : CopyState) (t : Told) (K : Type 0) → (e ≢ answer.LastRun) × StartCause K e → Enters (Ok s) b m → Drops token (Err e) m a → StageAgrees b t → Synchronised token e b t a t
+pub drop_sync : (token : List ℕ) (run : ℕ) (e : SyncAnswer) (b m a : Copy) (s : CopyState) (t : LinkState) (K : Type 0) → (e ≢ answer.LastRun) × StartCause K e → Enters (Ok s) b m → Drops token (Err e) m a → StageAgrees b t → Synchronised token e b t a t
 drop_sync token run e b m a s t K k x y h = fail_sync token e b a t (stay_from K e k.0 k.1) (drop_fails token b m a e x.1 y) h
 
 own_if : (b : Bool) (s : Stage) (h : HubState) → StageFits s h → StageFitsIf (if b then Some s else None) h
@@ -134,7 +139,7 @@ pub begun_is : (token : List ℕ) (b m a : Copy) (s : CopyState) (o : Option Sta
 begun_is token b m a s o x y = y ∙ ap (without_other token) x.1
 
 -- what the loop is given
-pub entry : (token : List ℕ) (run : ℕ) (b a : Copy) (t : Told) → a ≡ without_other token (copy_after (Run (b.run + 1)) b) → run ≡ b.run + 1 → StageAgrees b t → CopyFits a t.hub × IsReady run 0 t.sent
+pub entry : (token : List ℕ) (run : ℕ) (b a : Copy) (t : LinkState) → a ≡ without_other token (copy_after (Run (b.run + 1)) b) → run ≡ b.run + 1 → StageAgrees b t → CopyFits a t.hub × IsReady run 0 t.sent
 entry token run b a t e er h = (
   subst (λ (d : Copy). CopyFits d t.hub) (sym e) (record { stage = own_agrees token b.stage t.hub h.fits.stage; held = own_held token b.held b.stage t.hub h.fits.held }),
   ready_from b.run run t.sent er h.differ h.below,
@@ -152,7 +157,7 @@ fill_held (answer.Complete v) b a c x = absurd c
 fill_held answer.KeeperFault b a c x = inl x
 fill_held e b a c x = x
 
-fill_told : (token : List ℕ) (e : SyncAnswer) (b a : Copy) (t u : Told) → IsEnd e → a.held ≡ b.held → HeldTold token e b t a u
+fill_told : (token : List ℕ) (e : SyncAnswer) (b a : Copy) (t u : LinkState) → IsEnd e → a.held ≡ b.held → HeldTold token e b t a u
 fill_told token (answer.Complete v) b a t u c x = absurd c
 fill_told token answer.KeeperFault b a t u c x = inl x
 fill_told token e b a t u c x = x
@@ -163,13 +168,13 @@ fill_leaves token e b d a ed c x =
     let y : Ends token (Some e) (without_other token (copy_after (Run (b.run + 1)) b)) a = subst (λ (d : Copy). Ends token (Some e) d a) ed x in
     record { run = inr y.run; entries = y.entries; last_number = y.last_number; held = fill_held e b a c y.held; stage = fill_stage token e b.stage a.stage c y.stage }
 
-agree_after : (token : List ℕ) (run n : ℕ) (r : Option SyncAnswer) (b a : Copy) (t u : Told) → Ends token r (without_other token (copy_after (Run (b.run + 1)) b)) a → run ≡ b.run + 1 → Asks run 0 n IsUnmarked t u → StageAgrees b t → CopyFits a u.hub → StageAgrees a u
+agree_after : (token : List ℕ) (run n : ℕ) (r : Option SyncAnswer) (b a : Copy) (t u : LinkState) → Ends token r (without_other token (copy_after (Run (b.run + 1)) b)) a → run ≡ b.run + 1 → Asks run 0 n IsUnmarked t u → StageAgrees b t → CopyFits a u.hub → StageAgrees a u
 agree_after token run n r b a t u y er asks h s =
     let ready = asks.ready (ready_from b.run run t.sent er h.differ h.below) in
     record { differ = ready.differ; below = subst (λ x. NoneAbove x u.sent) (er ∙ sym y.run) (below_from run n u.sent ready.spent); fits = s }
 
 -- and over one that tells
-pub fill_sync : (token : List ℕ) (run n : ℕ) (e : SyncAnswer) (b d a : Copy) (t u : Told) → d ≡ without_other token (copy_after (Run (b.run + 1)) b) → IsEnd e → Ends token (Some e) d a → run ≡ b.run + 1
+pub fill_sync : (token : List ℕ) (run n : ℕ) (e : SyncAnswer) (b d a : Copy) (t u : LinkState) → d ≡ without_other token (copy_after (Run (b.run + 1)) b) → IsEnd e → Ends token (Some e) d a → run ≡ b.run + 1
     → Asks run 0 n IsUnmarked t u → StageAgrees b t → CopyFits a u.hub → Synchronised token e b t a u
 fill_sync token run n e b d a t u ed c x er asks h s =
     let y : Ends token (Some e) (without_other token (copy_after (Run (b.run + 1)) b)) a = subst (λ (d : Copy). Ends token (Some e) d a) ed x in
@@ -188,14 +193,6 @@ stage_some : (o : Option Stage) (st : StageState) → option_map state_of o ≡ 
 stage_some None st e = cc
 stage_some (Some s) st e = (s, refl, same_Some _ _ e)
 
-token_if : (b : Bool) (f s : Stage) (token : List ℕ) → (b ≡ true → f.token ≡ token) → StageOn token (if b then Some f else None) (Some s) → s.token ≡ token
-token_if true f s token e x = x.token ∙ e refl
-token_if false f s token e x = x
-
-token_of : (token : List ℕ) (o : Option Stage) (s : Stage) → StageOn token (own_stage token o) (Some s) → s.token ≡ token
-token_of token None s x = x
-token_of token (Some f) s x = token_if (bytes_eq f.token token) f s token (λ h. (bytes_eq-Decides f.token token).0 h) x
-
 -- all kinds of a stage are the version's
 whole : (s : Stage) (h : HubState) → StageFits s h → length s.done ≡ kind_count → s.done ≡ cut (version_at h s.pin) s.token
 whole s h x all =
@@ -206,7 +203,7 @@ whole s h x all =
 abbrev pub swapped_in : Copy → Stage → Copy
 swapped_in c s = record c { held = Some (held_of s); stage = None }
 
-complete_at : (token : List ℕ) (b c : Copy) (s : Stage) (t u : Told) → StageFits s u.hub → length s.done ≡ kind_count → s.token ≡ token → IsPinOf (own_stage token b.stage) t.hub s.pin → CompleteAt s.pin token b t (swapped_in c s) u
+complete_at : (token : List ℕ) (b c : Copy) (s : Stage) (t u : LinkState) → StageFits s u.hub → length s.done ≡ kind_count → s.token ≡ token → IsPinOf (own_stage token b.stage) t.hub s.pin → CompleteAt s.pin token b t (swapped_in c s) u
 complete_at token b c s t u x all et p = record {
   held = ap (λ (l : List (List Record)). let h : Option Held = Some (record { version = s.pin; token = Some s.token; lists = l }) in h) (whole s u.hub x all) ∙ ap (λ (t : List ℕ). Some (held_at s.pin t u.hub)) et;
   stage = refl;
@@ -216,7 +213,7 @@ complete_at token b c s t u x all et p = record {
 }
 
 -- what is known when all kinds are staged
-pub record Ready (token : List ℕ) (run n : ℕ) (b c : Copy) (st : StageState) (t u : Told) : Type 0 where
+pub record Ready (token : List ℕ) (run n : ℕ) (b c : Copy) (st : StageState) (t u : LinkState) : Type 0 where
   pub ends : Ends token None (without_other token (copy_after (Run (b.run + 1)) b)) c
   pub state : stage_of c ≡ Some st
   pub all : st.kinds_done ≡ kind_count
@@ -226,26 +223,26 @@ pub record Ready (token : List ℕ) (run n : ℕ) (b c : Copy) (st : StageState)
   pub fits : CopyFits c u.hub
   pub law : PinLaw (own_state token (stage_of b)) t.hub (Some st)
 
-swap_complete : (token : List ℕ) (run n : ℕ) (b c : Copy) (st : StageState) (t u : Told) (s : Stage) → Ready token run n b c st t u → c.stage ≡ Some s → state_of s ≡ st → CompleteAt st.pin token b t (swapped_in c s) u
+swap_complete : (token : List ℕ) (run n : ℕ) (b c : Copy) (st : StageState) (t u : LinkState) (s : Stage) → Ready token run n b c st t u → c.stage ≡ Some s → state_of s ≡ st → CompleteAt st.pin token b t (swapped_in c s) u
 swap_complete token run n b c st t u s r e es =
     let on : StageOn token (own_stage token b.stage) (Some s) = subst (λ o. StageOn token (own_stage token b.stage) o) e (r.ends).stage in
     let ag : StageFits s u.hub = subst (λ o. StageFitsIf o u.hub) e r.fits.stage in
     let all : length s.done ≡ kind_count = ap (λ (x : StageState). x.kinds_done) es ∙ r.all in
     let p : st.pin ≡ s.pin = ap (λ (x : StageState). x.pin) (sym es) in
     subst (λ v. CompleteAt v token b t (swapped_in c s) u) (sym p)
-    (complete_at token b c s t u ag all (token_of token b.stage s on) (subst (λ v. IsPinOf (own_stage token b.stage) t.hub v) p (pin_law token b.stage t.hub st r.law)))
+    (complete_at token b c s t u ag all (on_token token b.stage s on) (subst (λ v. IsPinOf (own_stage token b.stage) t.hub v) p (pin_law token b.stage t.hub st r.law)))
 
 swapped_fits : (s : Stage) (h : HubState) → StageFits s h → length s.done ≡ kind_count → HeldFits (held_of s) None h
 swapped_fits s h x all = record { standing = x.standing; below = tt; seen = record { known = x.fits.known; same = whole s h x all } }
 
-swap_agree : (token : List ℕ) (run n : ℕ) (b c : Copy) (st : StageState) (t u : Told) (s : Stage) → Ready token run n b c st t u → c.stage ≡ Some s → state_of s ≡ st → StageAgrees (swapped_in c s) u
+swap_agree : (token : List ℕ) (run n : ℕ) (b c : Copy) (st : StageState) (t u : LinkState) (s : Stage) → Ready token run n b c st t u → c.stage ≡ Some s → state_of s ≡ st → StageAgrees (swapped_in c s) u
 swap_agree token run n b c st t u s r e es =
     let x = agree_after token run n None b c t u r.ends r.run_is r.asks r.agree r.fits in
     let fits : StageFits s u.hub = subst (λ o. StageFitsIf o u.hub) e r.fits.stage in
     record { differ = x.differ; below = x.below; fits = record { stage = tt; held = swapped_fits s u.hub fits (ap (λ (x : StageState). x.kinds_done) es ∙ r.all) } }
 
--- swapped
-swap_done : (token : List ℕ) (run n : ℕ) (b c : Copy) (st : StageState) (t u : Told) (s : Stage) → Ready token run n b c st t u → c.stage ≡ Some s → state_of s ≡ st → Synchronised token (answer.Complete st.pin) b t (swapped_in c s) u
+-- a stage that was swapped in
+swap_done : (token : List ℕ) (run n : ℕ) (b c : Copy) (st : StageState) (t u : LinkState) (s : Stage) → Ready token run n b c st t u → c.stage ≡ Some s → state_of s ≡ st → Synchronised token (answer.Complete st.pin) b t (swapped_in c s) u
 swap_done token run n b c st t u s r e es = record {
   leaves = record {
     run = inr (r.ends).run;
@@ -258,7 +255,7 @@ swap_done token run n b c st t u s r e es = record {
   held = swap_complete token run n b c st t u s r e es;
 }
 
-swap_broken : (token : List ℕ) (run n : ℕ) (b c : Copy) (st : StageState) (t u : Told) (s : Stage) → Ready token run n b c st t u → c.stage ≡ Some s → state_of s ≡ st → Synchronised token answer.KeeperFault b t (swapped_in c s) u
+swap_broken : (token : List ℕ) (run n : ℕ) (b c : Copy) (st : StageState) (t u : LinkState) (s : Stage) → Ready token run n b c st t u → c.stage ≡ Some s → state_of s ≡ st → Synchronised token answer.KeeperFault b t (swapped_in c s) u
 swap_broken token run n b c st t u s r e es = record {
   leaves = record {
     run = inr (r.ends).run;
@@ -271,7 +268,7 @@ swap_broken token run n b c st t u s r e es = record {
   held = inr (st.pin, swap_complete token run n b c st t u s r e es);
 }
 
-kept_sync : (token : List ℕ) (run n : ℕ) (b c : Copy) (st : StageState) (t u : Told) (e : SyncAnswer) → MayStay e → Ready token run n b c st t u → Synchronised token e b t c u
+kept_sync : (token : List ℕ) (run n : ℕ) (b c : Copy) (st : StageState) (t u : LinkState) (e : SyncAnswer) → MayStay e → Ready token run n b c st t u → Synchronised token e b t c u
 kept_sync token run n b c st t u answer.KeeperFault m r = record {
   leaves = record { run = inr (r.ends).run; entries = (r.ends).entries; last_number = (r.ends).last_number; held = inl (r.ends).held; stage = inl (r.ends).stage };
   agree = agree_after token run n None b c t u r.ends r.run_is r.asks r.agree r.fits;
@@ -288,7 +285,7 @@ swap_to : (c : Copy) (s : Stage) → c.stage ≡ Some s → copy_after Swap c �
 swap_to c s e = ap (swapped c) e
 
 -- the last step
-pub swap_sync : (token : List ℕ) (run n : ℕ) (b c a : Copy) (st : StageState) (t u : Told) (e : SyncAnswer) → Ready token run n b c st t u → SwapsIn e st.pin c a → Synchronised token e b t a u
+pub swap_sync : (token : List ℕ) (run n : ℕ) (b c a : Copy) (st : StageState) (t u : LinkState) (e : SyncAnswer) → Ready token run n b c st t u → SwapsIn e st.pin c a → Synchronised token e b t a u
 swap_sync token run n b c a st t u (answer.Complete v) r x =
     let s = stage_some c.stage st r.state in
     subst (λ (v : ℕ). Synchronised token (answer.Complete v) b t a u) (sym x.0)

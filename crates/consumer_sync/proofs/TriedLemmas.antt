@@ -10,8 +10,8 @@ use Rattle.exchange_link.specs.Pages.{page_request}
 use Rattle.exchange_link.specs.Places.{kind_at, kinds_of, next_page, pin_of, staged_of}
 use Rattle.exchange_link.specs.declared.answer.SyncAnswer.{SyncAnswer}
 use Rattle.exchange_link.specs.declared.answer.SyncAnswer.TheVariants as answer
-use Rattle.exchange_link.specs.declared.begin.NoRun.{NoRun}
-use Rattle.exchange_link.specs.declared.begin.NoRun.TheVariants as no_run
+use Rattle.exchange_link.specs.declared.beginning.NoRun.{NoRun}
+use Rattle.exchange_link.specs.declared.beginning.NoRun.TheVariants as no_run
 use Rattle.consumer_sync.specs.Starting.{StartCause, unentered}
 use Rattle.keeper_memory.specs.declared.copy.state.StageState.{StageState}
 use Rattle.roster_values.specs.declared.kind.Kind.{Kind}

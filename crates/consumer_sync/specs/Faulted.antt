@@ -9,7 +9,8 @@ use Rattle.http_wire.specs.declared.reply_reading.WireReply.{WireReply}
 abbrev pub SaysGone : List ℕ → Type 0
 SaysGone kept = (w : WireReply) × IsReplyText kept w × (w.status ≡ 404) × (is_some w.oldest ≡ true)
 
--- a stage under this token goes on; it ends where it was swapped in, or where the hub's reply says that its pin isn't kept
+-- where a stage stood under this token, it goes on; it ends where it was swapped in, or where the hub's reply says that
+-- its pin isn't kept
 abbrev pub FaultLaw : List ℕ → List ℕ → Copy → Copy → Type 0
 FaultLaw token kept before after =
     (own_stage token before.stage ≡ None) ⊎ (StageOn token (own_stage token before.stage) after.stage ⊎ (((s : Stage) × IsSwapped s.pin s after) ⊎ SaysGone kept))

@@ -8,7 +8,7 @@ use Rattle.exchange_link.specs.Asked.{TriedFor}
 use Rattle.exchange_link.specs.Bounds.{HasPin, IsCallPin, work}
 use Rattle.exchange_link.specs.Causes.{AnswersTo, AsksOn, CauseOf, IsAside, IsPageStatus, ToldCause}
 use Rattle.exchange_link.specs.Completeness.{IsDone}
-use Rattle.exchange_link.specs.Exchanges.{Told}
+use Rattle.exchange_link.specs.Exchanges.{LinkState}
 use Rattle.hub_spec.specs.rules.Checks.{version_at}
 use Rattle.exchange_link.specs.Pages.{page_request}
 use Rattle.exchange_link.specs.Places.{kinds_of, next_page, staged_of}
@@ -56,7 +56,7 @@ StageEnds token (Some (answer.PinGone pin oldest)) old new = new ≡ None
 StageEnds token (Some answer.KeeperFault) old new = StageOn token old new ⊎ (new ≡ None)
 StageEnds token r old new = StageOn token old new
 
--- the same at an answer
+-- what it leaves of a copy at an answer
 pub record Ends (token : List ℕ) (result : Option SyncAnswer) (before after : Copy) : Type 0 where
   pub run : after.run ≡ before.run
   pub held : after.held ≡ before.held
@@ -73,15 +73,17 @@ abbrev pub BoundSoFar : ℕ → ℕ → ℕ → List ℕ → Option StageState �
 BoundSoFar n tries limit token first None h = n ≡ 0
 BoundSoFar n tries limit token first (Some s) h = n + tries * work limit token (Some s) (version_at h s.pin) ≤ tries * work limit token first (version_at h s.pin)
 
+-- the pages go on, or their end is fine
 abbrev pub IsDoneIf : Option SyncAnswer → Type 0
 IsDoneIf None = Unit {0}
 IsDoneIf (Some a) = IsDone a
 
-abbrev pub ToldIf : List ℕ → Told → Told → Option SyncAnswer → Type 0
+-- the pages go on, or a link that tells says why they ended
+abbrev pub ToldIf : List ℕ → LinkState → LinkState → Option SyncAnswer → Type 0
 ToldIf token before after None = Unit {0}
 ToldIf token before after (Some a) = ToldCause token before after a
 
--- the answers with which the pages end
+-- the pages go on, or their end has its cause; no run has ended with them, nor was a stage swapped in
 abbrev pub CauseIf : Option StageState → ℕ → List ℕ → ℕ → ℕ → Type 0 → Type 0 → Option SyncAnswer → Type 0
 CauseIf stage limit kept run n missed broke None = Unit {0}
 CauseIf stage limit kept run n missed broke (Some (answer.Complete v)) = ⊥
@@ -104,13 +106,16 @@ abbrev pub ExactIf : Option ℕ → WireReply → Option SyncAnswer → Type 0
 ExactIf pin w None = IsPageStatus w.status
 ExactIf pin w (Some a) = IsAside a ⊎ AnswersTo pin w a
 
+-- the pages ended at an answer after which the stage stands where the last request asked on
 abbrev pub AsksOnIf : Option SyncAnswer → Type 0
 AsksOnIf None = ⊥
 AsksOnIf (Some a) = AsksOn a
 
+-- the pages go on, or ended with such an answer
 abbrev pub IsEndIf : Option SyncAnswer → Type 0
 IsEndIf None = Unit {0}
 IsEndIf (Some a) = IsEnd a
 
+-- after `Interrupted` the newest requests are the tries of the one for that place of that kind
 abbrev pub TriedIf : Option SyncAnswer → List ℕ → ℕ → ℕ → ℕ → ℕ → List Request → Type 0
 TriedIf result token limit run count tries sent = IfSome result (λ a. TriedFor a token limit run count tries sent)

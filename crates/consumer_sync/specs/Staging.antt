@@ -39,6 +39,7 @@ abbrev pub AreOf : Kind → Act → Type 0
 AreOf kind (act.Take pin rows total done) = All (λ row. row.kind ≡ kind) rows
 AreOf kind a = ⊤
 
+-- the act lets the stage go
 abbrev pub IsGone : Act → Type 0
 IsGone (act.PinGone pin oldest) = Unit {0}
 IsGone a = ⊥
@@ -52,9 +53,11 @@ abbrev pub Opens : ℕ → List ℕ → Result StageState KeeperError → Copy �
 Opens pin token (Ok s) before after = after ≡ open_copy pin token before
 Opens pin token (Err e) before after = (after ≡ before) ⊎ ((before.stage ≡ None) × (after ≡ open_copy pin token before))
 
+-- the copy with the rows of a page
 abbrev pub page_copy : Kind → List Record → ℕ → Bool → Copy → Copy
 page_copy kind rows total done c = copy_after (Page kind rows total done) c
 
+-- putting a page behind the stage; after an error it stands there or not
 abbrev pub Puts : Kind → List Record → ℕ → Bool → Result StageState KeeperError → Copy → Copy → Type 0
 Puts kind rows total done (Ok s) before after = after ≡ page_copy kind rows total done before
 Puts kind rows total done (Err e) before after = (after ≡ before) ⊎ (after ≡ page_copy kind rows total done before)
@@ -63,15 +66,17 @@ Puts kind rows total done (Err e) before after = (after ≡ before) ⊎ (after �
 abbrev pub taken : Taking → List ℕ → Copy → Copy
 taken k token c = record c { stage = Some (stage_after (unwrap_or c.stage (begun k.pin token)) k.rows k.total k.done) }
 
--- answers where the keeper or memory gave up
+-- the keeper or memory gave up
 abbrev pub IsBroken : Option SyncAnswer → Type 0
 IsBroken r = (r ≡ Some answer.KeeperFault) ⊎ (r ≡ Some answer.NoMemory)
 
+-- the answer of a call whose keeper couldn't do its work
 abbrev pub broken_answer : KeeperError → SyncAnswer
 broken_answer fault.Failed = answer.KeeperFault
 broken_answer fault.NoMemory = answer.NoMemory
 
--- staging a page: it is staged where the call goes on; where keeper or memory gave up, as before, with the stage opened, or with the page
+-- staging a page: it is staged where the call goes on; where keeper or memory gave up, as before, with the stage
+-- opened, or with the page
 pub data Adds (k : Taking) (token : List ℕ) (result : Option SyncAnswer) (before after : Copy) : Type 0 where
   Stays : IsBroken result → after ≡ before → Adds k token result before after
   Opened : IsBroken result → after ≡ open_copy k.pin token before → Adds k token result before after

@@ -7,8 +7,8 @@ use Rattle.keeper_memory.specs.declared.copy.state.StageState.{StageState}
 use Rattle.exchange_link.specs.Synchronised.{own_stage}
 use Rattle.exchange_link.specs.declared.answer.SyncAnswer.{SyncAnswer}
 use Rattle.exchange_link.specs.declared.answer.SyncAnswer.TheVariants as answer
-use Rattle.exchange_link.specs.declared.begin.NoRun.{NoRun}
-use Rattle.exchange_link.specs.declared.begin.NoRun.TheVariants as no_run
+use Rattle.exchange_link.specs.declared.beginning.NoRun.{NoRun}
+use Rattle.exchange_link.specs.declared.beginning.NoRun.TheVariants as no_run
 
 -- the answer where no run was entered
 abbrev pub unentered : NoRun → SyncAnswer
@@ -16,10 +16,11 @@ unentered no_run.LastRun = answer.LastRun
 unentered no_run.KeeperFault = answer.KeeperFault
 unentered no_run.NoMemory = answer.NoMemory
 
--- letting a stage under another token go
+-- the copy without a stage under another token
 abbrev pub without_other : List ℕ → Copy → Copy
 without_other token c = record c { stage = own_stage token c.stage }
 
+-- letting a stage under another token go; after an error it may be gone
 abbrev pub Drops : List ℕ → Result (Option StageState) SyncAnswer → Copy → Copy → Type 0
 Drops token (Ok s) before after = after ≡ without_other token before
 Drops token (Err e) before after = (after ≡ before) ⊎ ((own_stage token before.stage ≡ None) × (after ≡ copy_after Drop before))

@@ -5,7 +5,7 @@ ghost use Rattle.keeper_memory.specs.copy.Lists.{kind_count};
 ghost use Rattle.keeper_memory.specs.declared.copy.state.TheConstants.{LAST};
 ghost use Rattle.exchange_link.specs.Asked.{IsTry, SendsOn};
 ghost use Rattle.exchange_link.specs.Causes.{IsLast, IsMore, IsOwnReply, RoseBy};
-ghost use Rattle.exchange_link.specs.Exchanges.{Told};
+ghost use Rattle.exchange_link.specs.Exchanges.{LinkState};
 ghost use Rattle.exchange_link.specs.Pages.{page_request as request_under};
 ghost use Rattle.exchange_link.specs.Places.{kinds_of, next_page};
 ghost use Rattle.hub_spec.specs.requests.PageRequests.{page_path, page_query, pin_text};
@@ -58,6 +58,7 @@ pub fn pin_text(alloc: Global, pin: Option<u64>) -> Result<String, NoMemory>
     Ok(text)
 }
 
+// The query that asks for `limit` rows from `offset` on.
 #[tactic(auto, unfolding(hub_spec::specs::requests::PageRequests::page_query))]
 fn query_text(alloc: Global, limit: u64, offset: u64, pin: Option<u64>) -> Result<String, NoMemory>
     ensures { IfOk result (λ s. string_bytes s ≡ page_query limit offset pin) }
@@ -91,6 +92,7 @@ pub fn read_request(
     })
 }
 
+// The request for a page, still without a number.
 fn request_for(
     alloc: Global,
     token: &Token,
@@ -125,7 +127,8 @@ pub fn page_request(
     Ok(request)
 }
 
-/// The request for the next page of a stage, tried at most so often, each time under the next count of its run.
+/// Sends the request for the next page of a stage until its own reply comes, at most `by.tries` times, each time under
+/// the next count of its run; `count` is the last one. Gives that reply, or why there is none.
 pub fn fetch<L: Link>(
     alloc: Global,
     link: &mut L,
@@ -142,15 +145,15 @@ pub fn fetch<L: Link>(
     ensures later { L.fault_count link.old ≤ L.fault_count link.new }
     ensures link_leads { L.leads link.old link.new }
     ensures own { IfOwn result (λ w. IsOwnReply (L.kept link.new) by.entry.run count.new w) }
-    ensures none { result ≡ Outcome.NoReply → (1 ≤ count.new) × IsNoReply (L.kept link.new) × ((after : Told) → L.tells link.new after → ⊥) }
+    ensures none { result ≡ Outcome.NoReply → (1 ≤ count.new) × IsNoReply (L.kept link.new) × ((after : LinkState) → L.tells link.new after → ⊥) }
     ensures missed { result ≡ Outcome.Missed → (count.new ≡ count.old + by.entry.tries) × (by.entry.tries ≤ L.missed link.new)
         × RoseBy by.entry.tries (L.fault_count link.old) (L.fault_count link.new)
         × ((w : Reply) → IsReplyText (L.kept link.new) w → w.echo ≡ Some (number by.entry.run count.new) → ⊥) }
-    ensures told { (after : Told) → L.tells link.new after → (before : Told) × L.tells link.old before
+    ensures told { (after : LinkState) → L.tells link.new after → (before : LinkState) × L.tells link.old before
         × Asks by.entry.run count.old count.new IsUnmarked before after
         × (IsReady by.entry.run count.old before.sent → IfOwn result (λ w. IsOwnRead before after (request_of stage.now by.entry.run count.new by.entry.token.now by.entry.limit) w)) }
-    ensures last { result ≢ Outcome.NoMemory → (after : Told) → L.tells link.new after → IsLast (request_of stage.now by.entry.run count.new by.entry.token.now by.entry.limit) after.sent }
-    ensures asks { (after : Told) → L.tells link.new after → (before : Told) × L.tells link.old before
+    ensures last { result ≢ Outcome.NoMemory → (after : LinkState) → L.tells link.new after → IsLast (request_of stage.now by.entry.run count.new by.entry.token.now by.entry.limit) after.sent }
+    ensures asks { (after : LinkState) → L.tells link.new after → (before : LinkState) × L.tells link.old before
         × SendsOn (IsTry (request_under (next_page by.entry.token.now by.entry.limit stage.now))) by.entry.run count.old count.new (result ≡ Outcome.NoMemory) before.sent after.sent }
 {
     match page_request(alloc, by.token, by.limit, stage) {

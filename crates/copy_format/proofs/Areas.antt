@@ -8,9 +8,9 @@ use Rattle.std.proofs.lemmas.Bool.Decides.{Decides-eqb}
 use Rattle.keeper_memory.specs.copy.Copies.{Stage}
 use Rattle.keeper_memory.specs.copy.States.{state_of}
 use Rattle.hub_format.proofs.Acts.{puts_act}
-use Rattle.hub_format.proofs.Finds.{alike_map, filled, retained, where_label}
+use Rattle.hub_format.proofs.EntryMaps.{alike_map, filled, retained}
 use Rattle.hub_format.specs.Edits.{put_at, puts}
-use Rattle.hub_format.specs.Format.{Entry}
+use Rattle.hub_format.specs.Format.{Entry, where_label}
 use Rattle.item_maps.specs.Edits.{after}
 use Rattle.item_maps.specs.Items.{Items, bytes_cmp, is_between}
 use Rattle.roster_values.proofs.KindLaws.{place_below}

@@ -23,7 +23,7 @@ use Rattle.keeper_memory.specs.declared.copy.change.CopyChange.TheVariants.{Run,
 use Rattle.keeper_memory.specs.declared.copy.entry.OutEntry.{OutEntry}
 use Rattle.keeper_memory.specs.declared.copy.entry.Settled.{Settled}
 use Rattle.hub_format.proofs.Acts.{after-append}
-use Rattle.hub_format.proofs.Finds.{Alike, Differ, alike_map, filled, found, turned}
+use Rattle.hub_format.proofs.EntryMaps.{Alike, Differ, alike_map, filled, found, turned}
 use Rattle.hub_format.proofs.Orders.{same_number}
 use Rattle.hub_format.specs.Edits.{put_at, puts}
 use Rattle.hub_format.specs.Format.{format_entry}
@@ -48,7 +48,7 @@ use Rattle.copy_format.proofs.Areas.{clears, kinds_apart, low_not_row, by_side, 
 use Rattle.copy_format.proofs.Areas.{puts_here, row_not_low, sides_apart, stage_cleared, stage_put, token_put}
 use Rattle.copy_format.proofs.Climbing.{AreSmall, differ, filled_behind, outs_sorted, rows_sorted}
 use Rattle.copy_format.proofs.Lists.{all_at, all_push, at_last, at_other, empty_last}
-use Rattle.copy_format.proofs.Low.{rows_cleared}
+use Rattle.copy_format.proofs.IdBytes.{rows_cleared}
 
 -- ---- facts of a copy
 

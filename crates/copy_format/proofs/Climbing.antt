@@ -11,7 +11,7 @@ use Rattle.std.proofs.lemmas.Cmp.{nat_list_cmp_total}
 use Rattle.keeper_memory.specs.copy.Copies.{NumbersRise}
 use Rattle.keeper_memory.specs.copy.Lists.{ascends}
 use Rattle.keeper_memory.specs.declared.copy.entry.OutEntry.{OutEntry}
-use Rattle.hub_format.proofs.Finds.{Alike, Differ, alike_map, filled, found, missed, to_front}
+use Rattle.hub_format.proofs.EntryMaps.{Alike, Differ, alike_map, filled, found, missed, to_front}
 use Rattle.hub_format.proofs.Orders.{less_is, number_order}
 use Rattle.hub_format.specs.Format.{Entry}
 use Rattle.hub_format.specs.Pieces.{number}

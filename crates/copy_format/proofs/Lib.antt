@@ -1,11 +1,11 @@
 pub mod Areas
-pub mod Back
+pub mod Decoding
 pub mod Changing
 pub mod Climbing
 pub mod Lists
-pub mod Low
-pub mod Once
-pub mod Told
+pub mod IdBytes
+pub mod Unique
+pub mod CopyListings
 pub mod OutReading
 pub mod PageLemmas
 pub mod RowReading

@@ -11,7 +11,7 @@ use Rattle.roster_values.specs.Kinds.{place_of_kind}
 use Rattle.version_core.specs.declared.mark.Write.{Write}
 use Rattle.copy_format.specs.Bodies.{optional_settled, write_bytes}
 use Rattle.copy_format.specs.Format.{FitsSettled, IsOut, out_entry}
-use Rattle.copy_format.proofs.Back.{out_back}
+use Rattle.copy_format.proofs.Decoding.{out_back}
 
 -- the parts of an item
 module _ (entry : Entry) (n : ℕ) (delete kind : ℕ) (id text rest : List ℕ) (write : Write) (label : entry.0 ≡ number n) (body : entry.1 ≡ delete ∷ kind ∷ (sized id ++ (sized text ++ rest)))

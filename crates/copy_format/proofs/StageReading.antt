@@ -10,8 +10,8 @@ use Rattle.item_maps.specs.Edits.{entry_of}
 use Rattle.item_maps.specs.declared.item.Item.{Item}
 use Rattle.copy_format.specs.Bodies.{stage_body}
 use Rattle.copy_format.specs.Format.{FitsSmall, FitsStage, stage_entries, token_entries}
-use Rattle.copy_format.proofs.Back.{stage_back}
-use Rattle.copy_format.proofs.Told.{small_fits}
+use Rattle.copy_format.proofs.Decoding.{stage_back}
+use Rattle.copy_format.proofs.CopyListings.{small_fits}
 
 pub one_item : (items : List Item) (item : Item) → 1 ≤ length items → length items < 2 → item ≡ get_or items 0 item → map entry_of items ≡ entry_of item ∷ []
 one_item [] item some few is = absurd (omega arith)

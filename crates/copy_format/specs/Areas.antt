@@ -12,3 +12,19 @@ area_number Stage = 2
 area_number Outbox = 3
 area_number Token = 4
 area_number (Rows side kind) = row_area side kind
+
+-- the same numbers by the names of their areas
+abbrev pub format_area : ℕ
+format_area = area_number Format
+
+abbrev pub state_area : ℕ
+state_area = area_number State
+
+abbrev pub stage_area : ℕ
+stage_area = area_number Stage
+
+abbrev pub outbox_area : ℕ
+outbox_area = area_number Outbox
+
+abbrev pub token_area : ℕ
+token_area = area_number Token

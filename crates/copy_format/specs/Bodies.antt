@@ -27,7 +27,9 @@ abbrev pub state_body : ℕ → Option ℕ → ℕ → ℕ → List ℕ
 state_body run held side last = number run ++ (optional_number held ++ side ∷ number last)
 
 abbrev pub stage_body : StageState → List ℕ
-stage_body s = number s.pin ++ (sized s.token ++ s.kinds_done ∷ (number s.staged ++ (optional_number s.total ++ optional_sized s.last)))
+stage_body s =
+    number s.pin
+    ++ (sized s.token ++ s.kinds_done ∷ (number s.staged ++ (optional_number s.total ++ optional_sized s.last)))
 
 -- 1 for a write that deletes and else 0, then its kind, its id and its own body
 abbrev pub write_bytes : Write → List ℕ

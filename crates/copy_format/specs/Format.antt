@@ -55,7 +55,8 @@ row_entry row = (row.id, row_body row)
 abbrev pub rows_under : List Record → List Entry
 rows_under rows = map row_entry rows
 
--- items of this format in which a copy is kept, whose held rows stand on this side
+-- items of this format in which a copy is kept, whose held rows stand on this side; `Areas` has the numbers of the
+-- areas
 pub record AreItemsOf (form side : ℕ) (c : Copy) (items : Items) : Type 0 where
   pub low : side ≤ 1
   pub format : items 0 ≡ from_entries (format_entry form ∷ [])

@@ -8,7 +8,12 @@ use Rattle.copy_format.specs.declared.root.CopyRoot.{CopyRoot}
 
 -- of a copy whose held rows stand on this side
 abbrev pub root_in : ℕ → Copy → CopyRoot
-root_in side c = record { run = c.run; held = option_map (λ h. h.version) c.held; side = side; last_number = c.last_number }
+root_in side c = record {
+  run = c.run;
+  held = option_map (λ h. h.version) c.held;
+  side = side;
+  last_number = c.last_number;
+}
 
 abbrev pub root_entry : CopyRoot → Entry
 root_entry r = ([], state_body r.run r.held r.side r.last_number)

@@ -50,16 +50,17 @@ pub fn turn_edits(alloc: Global) -> Result<Vec<Edit>, NoMemory>
     Ok(edits)
 }
 
-/// A run begins.
+/// The edits by which a run begins.
 pub fn run_edits(alloc: Global, root: CopyRoot, run: u64) -> Result<Vec<Edit>, NoMemory>
-    ensures { (side : ℕ) (c : Copy) → root ≡ root_in side c → IfOk result (λ edits. edits.items ≡ edits_of side c (Run run)) }
+    ensures { (side : ℕ) (c : Copy) → root ≡ root_in side c
+        → IfOk result (λ edits. edits.items ≡ edits_of side c (Run run)) }
 {
     let mut edits = Vec::new(alloc);
     edits.push(put_root(alloc, CopyRoot { run, ..root })?)?;
     Ok(edits)
 }
 
-/// A stage begins.
+/// The edits by which a stage begins.
 pub fn begin_edits(alloc: Global, pin: u64, token: Token) -> Result<Vec<Edit>, NoMemory>
     ensures edits { (side : ℕ) (c : Copy) → IfOk result (λ edits. edits.items ≡ edits_of side c (Begin pin token)) }
     ensures fits { (c : Copy) → OnOk result (FitsChange (Begin pin token) c) }
@@ -69,7 +70,7 @@ pub fn begin_edits(alloc: Global, pin: u64, token: Token) -> Result<Vec<Edit>, N
     Ok(edits)
 }
 
-/// A page of the next kind. None where the stage has too many rows.
+/// The edits by which a page of the next kind goes onto the stage. None where the stage has too many rows.
 pub fn page_edits(
     side: u8,
     stage: StageState,
@@ -82,7 +83,8 @@ pub fn page_edits(
     requires kinds { stage.kinds_done ≤ kind_count }
     ensures edits { (c : Copy) (s : Stage) → c.stage ≡ Some s → stage ≡ state_of s
         → IfOk result (λ o. IfSome o (λ edits. edits.items ≡ edits_of side c (Page kind rows total done))) }
-    ensures fits { (c : Copy) (s : Stage) → c.stage ≡ Some s → stage ≡ state_of s → IfOk result (λ o. IfSome o (λ _. FitsChange (Page kind rows total done) c)) }
+    ensures fits { (c : Copy) (s : Stage) → c.stage ≡ Some s → stage ≡ state_of s
+        → IfOk result (λ o. IfSome o (λ _. FitsChange (Page kind rows total done) c)) }
 {
     let rows = rows.into_vec();
     let alloc = *rows.allocator();
@@ -101,7 +103,7 @@ pub fn page_edits(
     Ok(Some(edits))
 }
 
-/// The stage is let go.
+/// The edits by which the stage is let go, where the held rows stand on this side.
 pub fn drop_edits(alloc: Global, side: u8) -> Result<Vec<Edit>, NoMemory>
     requires { side ≤ 1 }
     ensures { (c : Copy) → IfOk result (λ edits. edits.items ≡ edits_of side c Dropped) }
@@ -111,10 +113,11 @@ pub fn drop_edits(alloc: Global, side: u8) -> Result<Vec<Edit>, NoMemory>
     Ok(edits)
 }
 
-/// The stage becomes what is held, under its token.
+/// The edits by which the stage becomes what is held, under its token.
 pub fn swap_edits(alloc: Global, root: CopyRoot, stage: &StageState) -> Result<Vec<Edit>, NoMemory>
     requires { root.side ≤ 1 }
-    ensures { (side : ℕ) (c : Copy) (s : Stage) → root ≡ root_in side c → c.stage ≡ Some s → stage.now ≡ state_of s → IfOk result (λ edits. edits.items ≡ edits_of side c Swap) }
+    ensures { (side : ℕ) (c : Copy) (s : Stage) → root ≡ root_in side c → c.stage ≡ Some s → stage.now ≡ state_of s
+        → IfOk result (λ edits. edits.items ≡ edits_of side c Swap) }
 {
     let mut edits = Vec::new(alloc);
     let held = Some(stage.pin);
@@ -125,14 +128,15 @@ pub fn swap_edits(alloc: Global, root: CopyRoot, stage: &StageState) -> Result<V
     Ok(edits)
 }
 
-/// A write to be sent.
+/// The edits by which a write that is to be sent is entered under a number.
 pub fn enter_edits(
     alloc: Global,
     root: CopyRoot,
     number: u64,
     write: Write,
 ) -> Result<Vec<Edit>, NoMemory>
-    ensures edits { (side : ℕ) (c : Copy) → root ≡ root_in side c → IfOk result (λ edits. edits.items ≡ edits_of side c (Enter number write)) }
+    ensures edits { (side : ℕ) (c : Copy) → root ≡ root_in side c
+        → IfOk result (λ edits. edits.items ≡ edits_of side c (Enter number write)) }
     ensures fits { (c : Copy) → OnOk result (FitsChange (Enter number write) c) }
 {
     let entry = OutEntry {
@@ -153,14 +157,16 @@ pub fn enter_edits(
     Ok(edits)
 }
 
-/// What the hub kept of an entry, the first one that isn't settled.
+/// The edits by which an entry, the first one that isn't settled, is settled by the status and the version that the hub
+/// kept of it.
 pub fn settle_edits(
     alloc: Global,
     entry: OutEntry,
     status: u16,
     version: u64,
 ) -> Result<Vec<Edit>, NoMemory>
-    ensures edits { (side : ℕ) (c : Copy) → first_unsettled c.entries ≡ Some entry → IfOk result (λ edits. edits.items ≡ edits_of side c (Settle entry.number status version)) }
+    ensures edits { (side : ℕ) (c : Copy) → first_unsettled c.entries ≡ Some entry
+        → IfOk result (λ edits. edits.items ≡ edits_of side c (Settle entry.number status version)) }
     ensures fits { (c : Copy) → OnOk result (FitsChange (Settle entry.number status version) c) }
 {
     let OutEntry {

@@ -1,4 +1,4 @@
-//! What items of a copy are worth.
+//! Laws on the items of a copy. Each function here does nothing; its contract is a law.
 
 ghost use Rattle.std.specs.Prelude.{◌≡◌};
 ghost use Rattle.keeper_memory.specs.copy.Changes.{CanChange, copy_after};
@@ -12,7 +12,8 @@ ghost use Rattle.copy_format.specs.Format.{Keep, KeepOne};
 
 /// Where items keep a copy, the edits of a change lead to items that keep the copy after it.
 pub fn edits_keep_the_copy_after_a_change()
-    ensures { (items : Items) (c : Copy) (change : Change) (keep : Keep items c) → CanChange change c → FitsChange change c
+    ensures { (items : Items) (c : Copy) (change : Change) (keep : Keep items c) → CanChange change c
+        → FitsChange change c
         → Keep (after (edits keep.side c change) items) (copy_after change c) }
 {}
 

@@ -1,4 +1,5 @@
-//! The items in which a consumer's copy is kept: their labels and bodies as definitions, written and read, and the edits of a change.
+//! The items in which a consumer's copy is kept: their labels and bodies as definitions, written and read, and the
+//! edits of a change.
 #![tactic(auto)]
 
 mod area;

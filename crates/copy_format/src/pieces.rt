@@ -10,7 +10,7 @@ use roster_base::NoMemory;
 use roster_texts::Id;
 use version_core::mark::Write;
 
-/// A number that may be missing.
+/// Adds a number that may be missing: 0 where it is, and else 1 in front of it.
 pub(crate) fn push_optional_number(to: &mut Vec<u8>, n: Option<u64>) -> Result<(), NoMemory>
     ensures { OnOk result (to.new.items ≡ to.old.items ++ optional_number n) }
 {
@@ -26,7 +26,7 @@ pub(crate) fn push_optional_number(to: &mut Vec<u8>, n: Option<u64>) -> Result<(
     }
 }
 
-/// An id that may be missing.
+/// Adds an id that may be missing, behind its length: 0 where it is, and else 1 in front.
 pub(crate) fn push_optional_id(to: &mut Vec<u8>, id: &Option<Id>) -> Result<(), NoMemory>
     ensures { OnOk result (to.new.items ≡ to.old.items ++ optional_sized id.now) }
 {
@@ -42,7 +42,7 @@ pub(crate) fn push_optional_id(to: &mut Vec<u8>, id: &Option<Id>) -> Result<(), 
     }
 }
 
-// The status and the version, behind a 1.
+// Adds the status and the version, behind a 1.
 fn push_settled(to: &mut Vec<u8>, settled: Settled) -> Result<(), NoMemory>
     ensures { OnOk result (to.new.items ≡ to.old.items ++ 1 ∷ (number settled.status ++ number settled.version)) }
 {
@@ -51,7 +51,7 @@ fn push_settled(to: &mut Vec<u8>, settled: Settled) -> Result<(), NoMemory>
     push_number(to, settled.version)
 }
 
-/// What a hub kept, where it is known.
+/// Adds what a hub kept of an entry: 0 where it isn't known, and else 1 in front of it.
 pub(crate) fn push_optional_settled(
     to: &mut Vec<u8>,
     settled: Option<Settled>,
@@ -67,7 +67,7 @@ pub(crate) fn push_optional_settled(
     }
 }
 
-/// A write: 1 where it deletes and else 0, its kind, its id and its own body.
+/// Adds a write: 1 where it deletes and else 0, its kind, its id and its own body.
 pub(crate) fn push_write(to: &mut Vec<u8>, write: &Write) -> Result<(), NoMemory>
     ensures bytes { OnOk result (to.new.items ≡ to.old.items ++ write_bytes write.now) }
     ensures id { OnOk result (IsSized write.now.id) }

@@ -18,34 +18,52 @@ use roster_values::Kind;
 use std::alloc::Global;
 use version_core::mark::Write;
 
-// The most bytes of a body.
-const MOST: usize = 131_072;
+// The most bytes of a write's own body, as `IsOutWrite` has it.
+const LARGEST_BODY: usize = 131_072;
 
-// The parts of a body: whether the write deletes, its kind, its id, its own body, and what stands behind them.
-fn parts_of(body: &[u8]) -> Option<(u8, u8, &[u8], &[u8], &[u8])>
-    ensures parts { IfSome result (λ p. body.now ≡ p.0 ∷ p.1 ∷ (sized p.2.now ++ (sized p.3.now ++ p.4.now))) }
-    ensures id { IfSome result (λ p. IsSized p.2.now) }
-    ensures text { IfSome result (λ p. IsSized p.3.now) }
+// The parts of a body: whether the write deletes, its kind, its id, its own body, and how it was settled.
+#[derive(Clone, Copy)]
+struct BodyParts<'a> {
+    delete: u8,
+    kind: u8,
+    id: &'a [u8],
+    text: &'a [u8],
+    settled: &'a [u8],
+}
+
+// The parts of a body, if it is that of an entry.
+fn parts_of(body: &[u8]) -> Option<BodyParts<'_>>
+    ensures parts { IfSome result
+        (λ p. body.now ≡ p.delete ∷ p.kind ∷ (sized p.id.now ++ (sized p.text.now ++ p.settled.now))) }
+    ensures id { IfSome result (λ p. IsSized p.id.now) }
+    ensures text { IfSome result (λ p. IsSized p.text.now) }
 {
     let (delete, rest) = body.split_first()?;
     let (kind, rest) = rest.split_first()?;
     let (id, rest) = sized_at(rest)?;
-    let (text, rest) = sized_at(rest)?;
-    Some((*delete, *kind, id, text, rest))
+    let (text, settled) = sized_at(rest)?;
+    Some(BodyParts {
+        delete: *delete,
+        kind: *kind,
+        id,
+        text,
+        settled,
+    })
 }
 
+// Whether a row of this kind is one of the gradebook, which consumers write.
 fn is_gradebook(kind: Kind) -> bool
     ensures { result ≡ true → IsGradebook kind }
 {
     matches!(kind, Kind::Categories | Kind::LineItems | Kind::Results)
 }
 
-// Whether a write may be entered.
+// Whether a write may stand among a copy's entries.
 fn is_out_write(write: &Write) -> bool
     ensures { result ≡ true → IsOutWrite write.now }
 {
     let len = write.body.as_slice().len();
-    is_gradebook(write.kind) && len <= MOST && (!write.delete || len == 0)
+    is_gradebook(write.kind) && len <= LARGEST_BODY && (!write.delete || len == 0)
 }
 
 // The entry of these parts, if a copy can have it.
@@ -70,7 +88,8 @@ fn tested(number: u64, write: Write, settled: &[u8]) -> Option<OutEntry>
 
 /// The entry of an item. None where it is no entry's item.
 pub fn out_of(alloc: Global, item: &Item) -> Result<Option<OutEntry>, NoMemory>
-    ensures found { (entry : EntryValue) → IsOut entry → entry_of item.now ≡ out_entry entry → IfOk result (λ o. IfSome o (λ found. found ≡ entry)) }
+    ensures found { (entry : EntryValue) → IsOut entry → entry_of item.now ≡ out_entry entry
+        → IfOk result (λ o. IfSome o (λ found. found ≡ entry)) }
     ensures whole { IfOk result (λ o. IfSome o (λ found. entry_of item.now ≡ out_entry found)) }
     ensures low { IfOk result (λ o. IfSome o (λ found. found.number ≤ last_number)) }
     ensures can { IfOk result (λ o. IfSome o (λ found. IsOutWrite found.write)) }
@@ -78,11 +97,11 @@ pub fn out_of(alloc: Global, item: &Item) -> Result<Option<OutEntry>, NoMemory>
     let Some(number) = only_number(item.label.as_slice()) else {
         return Ok(None);
     };
-    let Some((delete, kind, id, text, settled)) = parts_of(item.body.as_slice()) else {
+    let Some(parts) = parts_of(item.body.as_slice()) else {
         return Ok(None);
     };
-    match write_of(alloc, delete, kind, id, text)? {
-        Some(write) => Ok(tested(number, write, settled)),
+    match write_of(alloc, parts.delete, parts.kind, parts.id, parts.text)? {
+        Some(write) => Ok(tested(number, write, parts.settled)),
         None => Ok(None),
     }
 }

@@ -21,7 +21,7 @@ use roster_values::Kind;
 use row_json::read_row;
 use std::alloc::Global;
 
-// The only text.
+// The text of a body, if it is all that stands there behind its length.
 fn only_text(body: &[u8]) -> Option<&[u8]>
     ensures text { IfSome result (λ text. body.now ≡ sized text.now) }
     ensures small { IfSome result (λ text. IsSized text.now) }
@@ -32,7 +32,8 @@ fn only_text(body: &[u8]) -> Option<&[u8]>
 
 // The row of a body, if it is one of this kind.
 fn row_of_body(alloc: Global, kind: Kind, body: &[u8]) -> Result<Option<Row>, NoMemory>
-    ensures found { (row : Record) → IsRowOf kind row → body.now ≡ row_body row → IfOk result (λ o. IfSome o (λ found. found ≡ row)) }
+    ensures found { (row : Record) → IsRowOf kind row → body.now ≡ row_body row
+        → IfOk result (λ o. IfSome o (λ found. found ≡ row)) }
     ensures kind { IfOk result (λ o. IfSome o (λ found. found.kind ≡ kind)) }
 {
     let Some(text) = only_text(body) else {
@@ -59,7 +60,8 @@ fn with_id(row: Row, id: &[u8]) -> Option<Row>
 
 // The row of an item. None where it is no row's item, or another row's.
 fn row_of(alloc: Global, kind: Kind, item: &Item) -> Result<Option<Row>, NoMemory>
-    ensures found { (row : Record) → IsRowOf kind row → entry_of item.now ≡ row_entry row → IfOk result (λ o. IfSome o (λ found. found ≡ row)) }
+    ensures found { (row : Record) → IsRowOf kind row → entry_of item.now ≡ row_entry row
+        → IfOk result (λ o. IfSome o (λ found. found ≡ row)) }
     ensures kind { IfOk result (λ o. IfSome o (λ found. found.kind ≡ kind)) }
     ensures id { IfOk result (λ o. IfSome o (λ found. found.id ≡ item.now.label)) }
 {
@@ -69,6 +71,7 @@ fn row_of(alloc: Global, kind: Kind, item: &Item) -> Result<Option<Row>, NoMemor
     }
 }
 
+// Whether an id stands before another.
 fn is_below(low: &Id, high: &Id) -> bool
     ensures { result ≡ is_lt (slice_cmp nat_cmp low.now high.now) }
 {
@@ -85,9 +88,10 @@ fn is_behind(rows: &[Row], row: &Row) -> bool
     }
 }
 
-// The row of an item that stands behind others.
+// The row of an item, if it stands behind these.
 fn next_row(alloc: Global, kind: Kind, rows: &[Row], item: &Item) -> Result<Option<Row>, NoMemory>
-    ensures found { (row : Record) → IsRowOf kind row → entry_of item.now ≡ row_entry row → IfOk result (λ o. IfSome o (λ found. found ≡ row)) }
+    ensures found { (row : Record) → IsRowOf kind row → entry_of item.now ≡ row_entry row
+        → IfOk result (λ o. IfSome o (λ found. found ≡ row)) }
     ensures kind { IfOk result (λ o. IfSome o (λ found. found.kind ≡ kind)) }
     ensures behind { IfOk result (λ o. IfSome o (λ found. is_after (last_from None rows.now) found.id ≡ true)) }
 {
@@ -97,10 +101,11 @@ fn next_row(alloc: Global, kind: Kind, rows: &[Row], item: &Item) -> Result<Opti
     }
 }
 
-/// The rows of a kind, from their items. None where one is no row's item, or another row's, or where they don't stand in the order of
-/// their ids.
+/// The rows of a kind, from their items. None where one is no row's item, or another row's, or where they don't stand
+/// in the order of their ids.
 pub fn rows_of(alloc: Global, kind: Kind, items: &[Item]) -> Result<Option<Vec<Row>>, NoMemory>
-    ensures found { (rows : List Record) → AllByRecursion (IsRowOf kind) rows → map entry_of items.now ≡ rows_under rows → IfOk result (λ o. IfSome o (λ found. found.items ≡ rows)) }
+    ensures found { (rows : List Record) → AllByRecursion (IsRowOf kind) rows → map entry_of items.now ≡ rows_under rows
+        → IfOk result (λ o. IfSome o (λ found. found.items ≡ rows)) }
     ensures list { IfOk result (λ o. IfSome o (λ found. IsList kind found.items)) }
 {
     let mut found = Vec::new(alloc);

@@ -17,19 +17,38 @@ use roster_texts::Token;
 use roster_values::Kind;
 use std::alloc::Global;
 
-// The parts of a body: the version, the token, how many kinds are whole, how many rows of the next kind are there, how many it has in
-// all, and what stands behind them.
-fn parts_of(body: &[u8]) -> Option<(u64, &[u8], u8, u64, Option<u64>, &[u8])>
-    ensures parts { IfSome result (λ p. body.now ≡ number p.0 ++ (sized p.1.now ++ p.2 ∷ (number p.3 ++ (optional_number p.4 ++ p.5.now)))) }
-    ensures token { IfSome result (λ p. IsSized p.1.now) }
-    ensures total { IfSome result (λ p. IfSome p.4 IsSmall) }
+// The parts of a body: the version, the token, how many kinds are whole, how many rows of the next kind are there, how
+// many it has in all, and the id of the last row.
+#[derive(Clone, Copy)]
+struct BodyParts<'a> {
+    pin: u64,
+    token: &'a [u8],
+    kinds_done: u8,
+    staged: u64,
+    total: Option<u64>,
+    last: &'a [u8],
+}
+
+// The parts of a body, if it is that of a stage.
+fn parts_of(body: &[u8]) -> Option<BodyParts<'_>>
+    ensures parts { IfSome result
+        (λ p. body.now ≡ number p.pin ++ (sized p.token.now ++ p.kinds_done ∷ (number p.staged ++ (optional_number p.total ++ p.last.now)))) }
+    ensures token { IfSome result (λ p. IsSized p.token.now) }
+    ensures total { IfSome result (λ p. IfSome p.total IsSmall) }
 {
     let (pin, rest) = number_at(body)?;
     let (token, rest) = sized_at(rest)?;
     let (kinds_done, rest) = rest.split_first()?;
     let (staged, rest) = number_at(rest)?;
-    let (total, rest) = optional_number_at(rest)?;
-    Some((pin, token, *kinds_done, staged, total, rest))
+    let (total, last) = optional_number_at(rest)?;
+    Some(BodyParts {
+        pin,
+        token,
+        kinds_done: *kinds_done,
+        staged,
+        total,
+        last,
+    })
 }
 
 // The small part of the stage of a body.
@@ -37,13 +56,23 @@ fn stage_of_body(alloc: Global, body: &[u8]) -> Result<Option<StageState>, NoMem
     ensures body { IfOk result (λ o. IfSome o (λ s. body.now ≡ stage_body s)) }
     ensures fits { IfOk result (λ o. IfSome o FitsSmall) }
 {
-    let Some((pin, token, kinds_done, staged, total, rest)) = parts_of(body) else {
+    let Some(
+        BodyParts {
+            pin,
+            token,
+            kinds_done,
+            staged,
+            total,
+            last,
+        },
+    ) = parts_of(body)
+    else {
         return Ok(None);
     };
     let Some(token) = Token::from_bytes(alloc, token)? else {
         return Ok(None);
     };
-    match only_optional_id(alloc, rest)? {
+    match only_optional_id(alloc, last)? {
         Some(last) => Ok(Some(StageState {
             pin,
             token,
@@ -86,7 +115,8 @@ fn stage_of_item(alloc: Global, item: &Item) -> Result<Option<StageState>, NoMem
 
 /// The small part of the stage, where there is one, from its items. None where they are no stage's.
 pub fn stage_of(alloc: Global, items: &[Item]) -> Result<Option<Option<StageState>>, NoMemory>
-    ensures found { (o : Option Stage) → IfSome o IsStage → IfSome o FitsStage → map entry_of items.now ≡ stage_entries o
+    ensures found { (o : Option Stage) → IfSome o IsStage → IfSome o FitsStage
+        → map entry_of items.now ≡ stage_entries o
         → IfOk result (λ r. IfSome r (λ found. found ≡ option_map state_of o)) }
     ensures can { IfOk result (λ r. IfSome r (λ found. IfSome found CanBeStage)) }
 {

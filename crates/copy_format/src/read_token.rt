@@ -22,7 +22,8 @@ fn token_of_item(alloc: Global, item: &Item) -> Result<Option<Token>, NoMemory>
 
 /// The token, where there is one, from its items. None where they are no token's.
 pub fn token_of(alloc: Global, items: &[Item]) -> Result<Option<Option<Token>>, NoMemory>
-    ensures { (o : Option (List ℕ)) → map entry_of items.now ≡ token_entries o → IfOk result (λ r. IfSome r (λ found. found ≡ o)) }
+    ensures { (o : Option (List ℕ)) → map entry_of items.now ≡ token_entries o
+        → IfOk result (λ r. IfSome r (λ found. found ≡ o)) }
 {
     match items {
         [] => Ok(Some(None)),

@@ -13,7 +13,7 @@ use roster_base::NoMemory;
 use roster_texts::Id;
 use std::alloc::Global;
 
-/// The body of an item without a label.
+/// The body of an item, if it has an empty label.
 pub(crate) fn bare_body(item: &Item) -> Option<&[u8]>
     ensures body { IfSome result (λ body. entry_of item.now ≡ ([], body.now)) }
 {
@@ -24,7 +24,7 @@ pub(crate) fn bare_body(item: &Item) -> Option<&[u8]>
     }
 }
 
-/// The number in front that may be missing, and what stands behind it.
+/// The number in front, which may be missing, and what stands behind it. The outer None says that neither stands there.
 pub(crate) fn optional_number_at(bytes: &[u8]) -> Option<(Option<u64>, &[u8])>
     ensures number { IfSome result (λ p. bytes.now ≡ optional_number p.0 ++ p.1.now) }
     ensures small { IfSome result (λ p. IfSome p.0 IsSmall) }
@@ -39,7 +39,7 @@ pub(crate) fn optional_number_at(bytes: &[u8]) -> Option<(Option<u64>, &[u8])>
     }
 }
 
-/// The only id, which may be missing.
+/// The only id, which may be missing. The outer None says that the bytes are neither.
 pub(crate) fn only_optional_id(alloc: Global, bytes: &[u8]) -> Result<Option<Option<Id>>, NoMemory>
     ensures id { IfOk result (λ o. IfSome o (λ id. bytes.now ≡ optional_sized id)) }
     ensures small { IfOk result (λ o. IfSome o (λ id. IfSome id IsSized)) }
@@ -65,7 +65,8 @@ fn settled_of(bytes: &[u8]) -> Option<Settled>
     Some(Settled { status, version })
 }
 
-/// The only settlement, which may be missing.
+/// What a hub kept of an entry, if it is all that the bytes say: it may be missing. The outer None says that they say
+/// neither.
 pub(crate) fn only_optional_settled(bytes: &[u8]) -> Option<Option<Settled>>
     ensures settled { IfSome result (λ s. bytes.now ≡ optional_settled s) }
     ensures fits { IfSome result (λ s. IfSome s FitsSettled) }

@@ -42,6 +42,7 @@ fn root_of_body(body: &[u8]) -> Option<CopyRoot>
     })
 }
 
+// Whether a version that is held, if any is, is at most the last.
 fn is_version(held: Option<u64>) -> bool
     ensures { result ≡ true → IfSome held (λ version. version ≤ last_number) }
 {
@@ -65,7 +66,8 @@ fn tested(root: CopyRoot) -> Option<CopyRoot>
 
 /// The state, from its items. None where they are no state's.
 pub fn root_of(items: &[Item]) -> Option<CopyRoot>
-    ensures found { (side : ℕ) (c : Copy) → IsCopy c → map entry_of items.now ≡ state_entry side c ∷ [] → IfSome result (λ r. r ≡ root_in side c) }
+    ensures found { (side : ℕ) (c : Copy) → IsCopy c → map entry_of items.now ≡ state_entry side c ∷ []
+        → IfSome result (λ r. r ≡ root_in side c) }
     ensures whole { IfSome result (λ r. map entry_of items.now ≡ root_entry r ∷ []) }
     ensures can { IfSome result CanBeRoot }
 {

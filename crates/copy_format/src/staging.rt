@@ -27,7 +27,7 @@ pub(crate) fn new_stage(pin: u64, token: Token) -> StageState
     }
 }
 
-// The id of the last row, or the one that was the last.
+// The id of the last of these rows; where there are none, the one that was the last.
 fn last_id(alloc: Global, last: Option<Id>, rows: &[Row]) -> Result<Option<Id>, NoMemory>
     ensures { IfOk result (λ id. id ≡ last_from last rows.now) }
 {
@@ -46,7 +46,8 @@ pub(crate) fn staged_more(
     done: bool,
 ) -> Result<Option<StageState>, NoMemory>
     requires { stage.kinds_done ≤ kind_count }
-    ensures stage { (s : Stage) → stage ≡ state_of s → IfOk result (λ o. IfSome o (λ found. found ≡ state_of (stage_after s rows.now total done))) }
+    ensures stage { (s : Stage) → stage ≡ state_of s
+        → IfOk result (λ o. IfSome o (λ found. found ≡ state_of (stage_after s rows.now total done))) }
     ensures few { IfOk result (λ o. IfSome o (λ found. IsSmall (stage.staged + length rows.now))) }
 {
     let StageState {

@@ -2,8 +2,8 @@
 
 ghost use Rattle.std.specs.Prelude.{◌≡◌, ◌++◌, [], IfOk, None, Ok, OnOk, map};
 ghost use Rattle.hub_format.specs.Edits.{put_at, puts};
-ghost use Rattle.hub_format.specs.Pieces.{IsSized, number as number_bytes};
-ghost use Rattle.copy_format.specs.Areas.{area_number};
+ghost use Rattle.hub_format.specs.Pieces.{IsSized};
+ghost use Rattle.copy_format.specs.Areas.{area_number, outbox_area, stage_area, state_area, token_area};
 ghost use Rattle.copy_format.specs.Bodies.{out_body, row_body, stage_body};
 ghost use Rattle.copy_format.specs.Edits.{clear_rows as cleared_rows, clear_side, clear_stage};
 ghost use Rattle.copy_format.specs.Format.{FitRows, FitsRow, out_entry, row_entry, rows_under};
@@ -14,7 +14,7 @@ ghost use Rattle.copy_format.specs.Roots.{root_entry};
 use crate::area::CopyArea;
 use crate::pieces::{push_optional_id, push_optional_number, push_optional_settled, push_write};
 use crate::root::CopyRoot;
-use hub_format::{push_number, push_sized};
+use hub_format::{number_bytes, push_number, push_sized};
 use item_maps::Edit;
 use keeper_memory::{OutEntry, StageState};
 use roster_base::{Bytes, NoMemory};
@@ -24,9 +24,9 @@ use roster_values::Kind;
 use row_json::single_text;
 use std::alloc::Global;
 
-/// The edit that stores the state.
+/// The edit that stores the state of a copy.
 pub(crate) fn put_root(alloc: Global, root: CopyRoot) -> Result<Edit, NoMemory>
-    ensures { IfOk result (λ edit. edit ≡ put_at 1 (root_entry root)) }
+    ensures { IfOk result (λ edit. edit ≡ put_at state_area (root_entry root)) }
 {
     let mut body = Vec::new(alloc);
     push_number(&mut body, root.run)?;
@@ -56,7 +56,7 @@ fn stage_body(alloc: Global, stage: &StageState) -> Result<Bytes, NoMemory>
 
 /// The edit that stores the small part of a stage.
 pub(crate) fn put_stage(alloc: Global, stage: &StageState) -> Result<Edit, NoMemory>
-    ensures edit { IfOk result (λ edit. edit ≡ put_at 2 ([], stage_body stage.now)) }
+    ensures edit { IfOk result (λ edit. edit ≡ put_at stage_area ([], stage_body stage.now)) }
     ensures token { OnOk result (IsSized stage.now.token) }
 {
     Ok(Edit::Put {
@@ -68,7 +68,7 @@ pub(crate) fn put_stage(alloc: Global, stage: &StageState) -> Result<Edit, NoMem
 
 /// The edit that stores the token under which what is held was copied.
 pub(crate) fn put_token(alloc: Global, token: &Token) -> Result<Edit, NoMemory>
-    ensures { IfOk result (λ edit. edit ≡ put_at 4 ([], token.now)) }
+    ensures { IfOk result (λ edit. edit ≡ put_at token_area ([], token.now)) }
 {
     let mut body = Vec::new(alloc);
     body.extend_from_slice(token.as_str().as_bytes())?;
@@ -89,22 +89,14 @@ fn out_body(alloc: Global, entry: &OutEntry) -> Result<Bytes, NoMemory>
     Ok(Bytes::from_vec(body))
 }
 
-fn number_label(alloc: Global, number: u64) -> Result<Bytes, NoMemory>
-    ensures { IfOk result (λ label. label ≡ number_bytes number) }
-{
-    let mut label = Vec::new(alloc);
-    push_number(&mut label, number)?;
-    Ok(Bytes::from_vec(label))
-}
-
 /// The edit that stores an entry.
 pub(crate) fn put_out(alloc: Global, entry: &OutEntry) -> Result<Edit, NoMemory>
-    ensures edit { IfOk result (λ edit. edit ≡ put_at 3 (out_entry entry.now)) }
+    ensures edit { IfOk result (λ edit. edit ≡ put_at outbox_area (out_entry entry.now)) }
     ensures id { OnOk result (IsSized entry.now.write.id) }
 {
     Ok(Edit::Put {
         area: CopyArea::Outbox.number(),
-        label: number_label(alloc, entry.number)?,
+        label: Bytes::from_vec(number_bytes(alloc, entry.number)?),
         body: out_body(alloc, entry)?,
     })
 }

@@ -133,14 +133,14 @@ pub given_dates : (kind : Kind) (mode : Mode) (records : List (List (List ℕ)))
 given_dates kind mode records (Ok v) g = (rows_of_kind kind mode records v.items g).dates
 given_dates kind mode records (Err e) g = tt
 
-pub small : (bytes : List ℕ) → length bytes ≤ largest → nat_lt largest (length bytes) ≡ false
-small bytes h = grind (arith, nat_tests)
+pub not_too_large : (bytes : List ℕ) → length bytes ≤ largest → nat_lt largest (length bytes) ≡ false
+not_too_large bytes h = grind (arith, nat_tests)
 
 -- a file of text that isn't too large has the rows of its records
 pub text_file : (kind : Kind) (mode : Mode) (bytes text : List ℕ) (r : Result (Vec SetRow Global) (Refusal SetFault)) → length bytes ≤ largest → text ≡ bytes → IsUtf8 bytes
     → Gives (λ v. v.items) r (rows_of kind mode (records default_config (strip_bom text))) → Gives (λ v. v.items) r (file_of kind mode bytes)
 unfolding file_of
-text_file kind mode bytes text r short same u g = rw (small bytes short, is_utf8-from_IsUtf8 bytes u) (rw same at g)
+text_file kind mode bytes text r short same u g = rw (not_too_large bytes short, is_utf8-from_IsUtf8 bytes u) (rw same at g)
 
 -- a file that is no text
 pub other_file : (kind : Kind) (mode : Mode) (bytes : List ℕ) → length bytes ≤ largest → ¬ IsUtf8 bytes → file_of kind mode bytes ≡ Err (NotUtf8 (RowsOf kind))
@@ -149,7 +149,7 @@ other_file kind mode bytes short h = by (is_utf8 bytes) refl
   where
     by : (b : Bool) → is_utf8 bytes ≡ b → file_of kind mode bytes ≡ Err (NotUtf8 (RowsOf kind))
     by true e = absurd (h (IsUtf8-from_is_utf8 bytes e))
-    by false e = rw (small bytes short, e) refl
+    by false e = rw (not_too_large bytes short, e) refl
 
 places_below : (kind : Kind) (whole : Result Bool SetFault) (columns : List (List ℕ)) (h : Header) → (whole >>= (λ w. Ok (header_from kind columns))) ≡ Ok h → length h.places ≡ length (table kind)
 unfolding header_from

@@ -5,7 +5,6 @@ mod HeaderBack
 mod HeaderSteps
 mod KeyLaws
 mod LineSteps
-mod ListLaws
 mod ManifestSteps
 mod MetadataSteps
 mod PlaceSteps

@@ -3,10 +3,7 @@ use Rattle.std.proofs.Common.{◌≡◌, ◌≤◌, ◌+◌, ◌==◌, ℕ, List
 use Rattle.std.proofs.Common.{sym, ◌∙◌, append_assoc}
 use Rattle.std.proofs.lemmas.Bool.{and_from}
 use Rattle.std.proofs.lemmas.List.{append-nil, drop_all, map-append}
-use Rattle.std.specs.Cmp.Lexicographic.{slice_cmp}
-use Rattle.std.specs.List.Sorted.{IsStrictlySortedBy}
-use Rattle.std.specs.Ordering.{nat_cmp}
-use Rattle.roster_base.proofs.Rising.{rise_front, rise_without}
+use Rattle.roster_base.proofs.Rising.{Rise, rise_front, rise_without}
 use Rattle.roster_base.specs.Order.{RiseBy}
 use Rattle.roster_texts.specs.Trim.{trimmed}
 use Rattle.roster_types.specs.declared.metadata.Entry.{Entry}
@@ -18,9 +15,6 @@ use Rattle.csv_sets.specs.declared.header.MetadataColumn.{MetadataColumn}
 use Rattle.csv_sets.specs.Cells.{cell_at}
 use Rattle.csv_sets.specs.Headers.{metadata_key}
 use Rattle.csv_sets.specs.Rows.{metadata_at}
-
-abbrev Rise : List (List ℕ) → Type 0
-Rise keys = IsStrictlySortedBy (slice_cmp nat_cmp) keys
 
 -- how far the metadata of a record is read
 pub record Gathers (columns : List MetadataColumn) (cells : List (List ℕ)) (entries : List Entry) (index : ℕ) : Type 0 where

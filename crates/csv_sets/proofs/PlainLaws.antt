@@ -19,7 +19,7 @@ use Rattle.csv_sets.specs.declared.fault.SetFile.TheVariants.{RowsOf}
 use Rattle.csv_sets.specs.Files.{AreRowsIn, AreRowsOf, file_of, has_id, in_record, largest, rows_after, rows_of}
 use Rattle.csv_sets.specs.Headers.{Header, header_of}
 use Rattle.csv_sets.specs.Rows.{row_at}
-use Rattle.csv_sets.proofs.FileSteps.{rows_of_kind, small}
+use Rattle.csv_sets.proofs.FileSteps.{rows_of_kind, not_too_large}
 
 module _ (kind : Kind) (mode : Mode) (header : Header) where
   abbrev Spells : List (List ℕ) → SetRow → Type 0
@@ -110,7 +110,7 @@ plain_file kind mode bytes rows e = plain_text kind mode bytes rows (nat_lt larg
 
 pub file_plain : (kind : Kind) (mode : Mode) (bytes : List ℕ) (rows : List SetRow) → AreRowsIn kind mode bytes rows → file_of kind mode bytes ≡ Ok rows
 unfolding file_of
-file_plain kind mode bytes rows h = rw (small bytes h.size, h.text) (records_plain kind mode (records default_config (strip_bom bytes)) rows h.spelled)
+file_plain kind mode bytes rows h = rw (not_too_large bytes h.size, h.text) (records_plain kind mode (records default_config (strip_bom bytes)) rows h.spelled)
 
 pub given_plain : (kind : Kind) (mode : Mode) (bytes : List ℕ) (r : Result (Vec SetRow Global) (Refusal SetFault)) → Gives (λ v. v.items) r (file_of kind mode bytes) → IfOk r (λ v. AreRowsIn kind mode bytes v.items)
 given_plain kind mode bytes (Ok v) g = plain_file kind mode bytes v.items g

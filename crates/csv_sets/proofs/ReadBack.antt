@@ -132,8 +132,8 @@ starts kind ks = (_, ap (λ (is : List Info). map (λ i. i.column) is ++ map (λ
 records_back : (header xs : List (List ℕ)) (rest : List (List (List ℕ))) → header ≡ codes "sourcedId" ∷ xs → AllFilled rest → records default_config (strip_bom (lines_text (header ∷ rest))) ≡ header ∷ rest
 records_back header xs rest e filled = rw e (ap (λ t. records default_config t) (no_mark xs rest) ∙ lines_read ((codes "sourcedId" ∷ xs) ∷ rest) filled)
 
-small : (n : ℕ) → n ≤ largest → nat_lt largest n ≡ false
-small n h = grind (arith, nat_tests)
+within_largest : (n : ℕ) → n ≤ largest → nat_lt largest n ≡ false
+within_largest n h = grind (arith, nat_tests)
 
 -- the rows of a file that was written, in both modes
 pub read_back : (kind : Kind) (mode : Mode) (rows : List Record) → AllRowsText (written_records kind rows) → All (λ (k : MetadataKey). is_id k.key ≡ true) (keys_of rows) → RiseBy (λ (k : MetadataKey). k.key) (keys_of rows) → All IsRow rows
@@ -145,7 +145,7 @@ read_back kind mode rows plain good rise are kinds differ short =
     let utf8 = is_utf8-from_IsUtf8 (lines_text (written_records kind rows)) (lines_utf8 (written_records kind rows) plain) in
     let recs = records_back (written_header kind ks) first.0 (map (written_cells ks) rows) first.1 (filled_rows ks rows) in
     let whole = rows_back kind mode ks [] rows 2 rise (recursion_from_All _ rows kinds) (recursion_from_All _ rows are) (rows_have rows) differ (none_before rows) in
-    rw (small (length (lines_text (written_records kind rows))) short, utf8, recs, header_back kind mode ks (recursion_from_All _ ks good) rise) whole
+    rw (within_largest (length (lines_text (written_records kind rows))) short, utf8, recs, header_back kind mode ks (recursion_from_All _ ks good) rise) whole
 
 pub given_back : (kind : Kind) (rows : List Record) (t : List ℕ) (r : Result (Vec ℕ Global) NoMemory) → IfOk r (λ v. v.items ≡ t) → ((mode : Mode) → length t ≤ largest → file_of kind mode t ≡ Ok (map dated rows))
     → IfOk r (λ v. (mode : Mode) → length v.items ≤ largest → file_of kind mode v.items ≡ Ok (map dated rows))

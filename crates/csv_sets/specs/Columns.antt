@@ -20,7 +20,8 @@ noted kind stood column = if is_read kind column && stood then Err (in_file kind
 
 -- one more column stands in the set of those before; of columns that aren't read nothing is said
 abbrev pub Notes : Kind → BTreeSet (String Global) → BTreeSet (String Global) → List ℕ → Type 0
-Notes kind old new column = (q : List ℕ) → is_read kind q ≡ true → contains_text new q ≡ (bytes_eq column q || contains_text old q)
+Notes kind old new column = (q : List ℕ) → is_read kind q ≡ true
+    → contains_text new q ≡ (bytes_eq column q || contains_text old q)
 
 -- the metadata column of that name at a place, if the name is one of metadata
 unfoldable pub metadata_column : Kind → ℕ → List ℕ → Result (Option MetadataColumn) SetFault

@@ -26,11 +26,13 @@ abbrev pub in_record : Kind → ℕ → Result SetRow RowFault → Result SetRow
 in_record kind number (Ok row) = Ok row
 in_record kind number (Err f) = Err (Row (RowsOf kind) number f.field f.fault)
 
+-- one of the rows has this id
 abbrev pub has_id : List ℕ → List SetRow → Bool
 has_id id rows = list_any (λ r. bytes_eq r.row.id id) rows
 
 -- the rows of the records from a number on, behind the rows of the records before
-unfoldable pub rows_after : Kind → Mode → Header → List SetRow → ℕ → List (List (List ℕ)) → Result (List SetRow) SetFault
+unfoldable pub rows_after : Kind → Mode → Header → List SetRow → ℕ → List (List (List ℕ))
+    → Result (List SetRow) SetFault
 rows_after kind mode header front number [] = Ok front
 rows_after kind mode header front number (cells ∷ rest) = do
   row ← in_record kind number (row_at kind mode header cells)
@@ -53,13 +55,15 @@ file_of kind mode bytes =
     else if not (is_utf8 bytes) then Err (NotUtf8 (RowsOf kind))
     else rows_of kind mode (records default_config (strip_bom bytes))
 
+-- the id of a row of a set
 abbrev pub id_in : SetRow → List ℕ
 id_in listed = listed.row.id
 
 -- the place of the first row whose id is among those before it, behind the rows in front
 abbrev pub first_repeat : List SetRow → List SetRow → Option ℕ
 first_repeat front [] = None
-first_repeat front (row ∷ rows) = if has_id row.row.id front then Some (length front) else first_repeat (front ++ row ∷ []) rows
+first_repeat front (row ∷ rows) =
+    if has_id row.row.id front then Some (length front) else first_repeat (front ++ row ∷ []) rows
 
 -- what was found, unless a row repeats an id: the first record below the header has the number 2
 abbrev pub repeat_first : Kind → Option ℕ → Result (List SetRow) SetFault → Result (List SetRow) SetFault

@@ -10,11 +10,13 @@ use Rattle.csv_sets.specs.declared.fault.SetFault.TheVariants.{Folder}
 -- a fault is that of the folder, whose count of faults rose; or it is the first one of what its files mean
 abbrev pub FaultOf : {Y : Type 0} → Option (List Stored) → ℕ → ℕ → SetFault → (List Stored → Result Y SetFault) → Type 0
 FaultOf files before now fault meaning =
-    ((fault ≡ Folder) × Rose before now) ⊎ ((fault ≢ Folder) × (now ≡ before) × IfSome files (λ fs. meaning fs ≡ Err fault))
+    ((fault ≡ Folder) × Rose before now)
+    ⊎ ((fault ≢ Folder) × (now ≡ before) × IfSome files (λ fs. meaning fs ≡ Err fault))
 
--- what a call read, seen by `view`, is what the folder's files mean, where they are told; the count of faults stands still
--- but where the folder failed
-abbrev pub ReadsFolder : {X Y : Type 0} → (X → Y) → Option (List Stored) → ℕ → ℕ → Result X (Refusal SetFault) → (List Stored → Result Y SetFault) → Type 0
+-- what a call read, seen by `view`, is what the folder's files mean, where they are told; the count of faults stands
+-- still but where the folder failed
+abbrev pub ReadsFolder : {X Y : Type 0} → (X → Y) → Option (List Stored) → ℕ → ℕ → Result X (Refusal SetFault)
+    → (List Stored → Result Y SetFault) → Type 0
 ReadsFolder view files before now (Ok x) meaning = (now ≡ before) × IfSome files (λ fs. meaning fs ≡ Ok (view x))
 ReadsFolder view files before now (Err (refusal.Fault f)) meaning = FaultOf files before now f meaning
 ReadsFolder view files before now (Err refusal.NoMemory) meaning = now ≡ before

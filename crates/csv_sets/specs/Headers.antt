@@ -21,6 +21,7 @@ use Rattle.csv_sets.specs.declared.header.MetadataColumn.{MetadataColumn}
 abbrev pub columns_of : List (List ℕ) → List (List ℕ)
 columns_of cells = map trimmed cells
 
+-- one of the columns has this name
 abbrev pub has_column : List (List ℕ) → List ℕ → Bool
 has_column columns name = list_any (λ c. bytes_eq c name) columns
 
@@ -32,6 +33,7 @@ place_of columns name = position (λ c. bytes_eq c name) columns
 abbrev pub is_metadata : List ℕ → Bool
 is_metadata column = starts_with nat_eq column (codes "metadata.")
 
+-- what stands behind `metadata.`, which has nine bytes
 abbrev pub key_in : List ℕ → List ℕ
 key_in column = drop 9 column
 
@@ -39,10 +41,11 @@ key_in column = drop 9 column
 abbrev pub is_known : Kind → List ℕ → Bool
 is_known kind column = list_any (λ i. bytes_eq i.column column) (table kind)
 
--- whatever else a column is called, it is passed over
+-- a column is read where it is of a field or of metadata; any other is passed over
 abbrev pub is_read : Kind → List ℕ → Bool
 is_read kind column = is_known kind column || is_metadata column
 
+-- the fault of a column of a kind's file
 abbrev pub in_file : Kind → List ℕ → ColumnFault → SetFault
 in_file kind column fault = Column (RowsOf kind) column fault
 
@@ -65,7 +68,8 @@ required_checked kind mode columns place (i ∷ is) =
 unfoldable pub metadata_from : ℕ → List (List ℕ) → List MetadataColumn
 metadata_from place [] = []
 metadata_from place (c ∷ cs) =
-    if is_metadata c then record { key = key_in c; place = place } ∷ metadata_from (place + 1) cs else metadata_from (place + 1) cs
+    if is_metadata c then record { key = key_in c; place = place } ∷ metadata_from (place + 1) cs
+    else metadata_from (place + 1) cs
 
 -- what a header says of the records below it
 pub record Header : Type 0 where
@@ -76,9 +80,11 @@ pub record Header : Type 0 where
   -- how many columns there are
   pub width : ℕ
 
+-- the key of a metadata column
 abbrev pub metadata_key : MetadataColumn → List ℕ
 metadata_key c = c.key
 
+-- the header of these columns, whose faults are looked for elsewhere
 unfoldable pub header_from : Kind → List (List ℕ) → Header
 header_from kind columns = record {
   places = map (λ i. place_of columns i.column) (table kind);

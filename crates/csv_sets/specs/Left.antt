@@ -12,6 +12,7 @@ abbrev pub records_of_text : State → Option (List ℕ) → List (List (List �
 records_of_text s None = []
 records_of_text s (Some xs) = records_from default_config (length xs + 1) s xs
 
+-- the records that a reader has left, where `rem` tells the text that its source has left
 abbrev pub records_left : {R : Type 0} → (R → Option (List ℕ)) → Reader R → List (List (List ℕ))
 records_left rem s = records_of_text (reader_state s) (source_of rem s)
 
@@ -22,6 +23,7 @@ pub record Reads {R : Type 0} (s : Reader R) : Type 0 where
   pub flexible : is_flexible s ≡ true
   pub ready : Ready s
 
+-- a reader that has failed reads no more
 abbrev pub CanRead : {R : Type 0} → Reader R → Type 0
 CanRead s = has_failed s ≡ false → Reads s
 

@@ -19,8 +19,12 @@ use Rattle.csv_sets.specs.declared.property.Property.TheVariants.{FileOf, Manife
 use Rattle.csv_sets.specs.Cells.{text_at}
 use Rattle.csv_sets.specs.Properties.{property_name, property_of}
 
+-- the header `propertyName,value`
 abbrev pub is_header : List (List ℕ) → Bool
-is_header cells = (length cells == 2) && bytes_eq (text_at cells 0) (codes "propertyName") && bytes_eq (text_at cells 1) (codes "value")
+is_header cells =
+    (length cells == 2)
+    && bytes_eq (text_at cells 0) (codes "propertyName")
+    && bytes_eq (text_at cells 1) (codes "value")
 
 -- what a file's property says: a file that isn't absent is to be read in a mode
 unfoldable pub mode_of_word : Property → List ℕ → Result (Option Mode) ManifestFault
@@ -34,14 +38,17 @@ mode_of_word property word =
 abbrev pub version_checked : Property → List ℕ → List ℕ → Result (Option Mode) ManifestFault
 version_checked property version value = if bytes_eq value version then Ok None else Err (Version property)
 
+-- what a property says by its value
 unfoldable pub mode_said : Property → List ℕ → Result (Option Mode) ManifestFault
 mode_said ManifestVersion value = version_checked ManifestVersion (codes "1.0") value
 mode_said OneRosterVersion value = version_checked OneRosterVersion (codes "1.1") value
 mode_said property value = mode_of_word property value
 
+-- what is said is said of this property
 abbrev pub is_of : Property → Said → Bool
 is_of property s = bytes_eq (property_name s.property) (property_name property)
 
+-- something is said of this property
 abbrev pub is_said : Property → List Said → Bool
 is_said property said = list_any (is_of property) said
 
@@ -76,6 +83,7 @@ versions_checked said =
 unfoldable pub mode_of : List Said → Kind → Option Mode
 mode_of said kind = option_and_then (λ s. s.mode) (find (is_of (FileOf kind)) said)
 
+-- the file of a kind, if there is to be one
 abbrev pub listed : Kind → Option Mode → List ListedFile
 listed kind None = []
 listed kind (Some mode) = record { kind = kind; mode = mode } ∷ []

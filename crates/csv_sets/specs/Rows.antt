@@ -29,7 +29,8 @@ abbrev pub in_record_itself : ValueFault → RowFault
 in_record_itself fault = record { field = codes "*"; fault = fault }
 
 -- the values of the fields in their order, or the first bad one
-unfoldable pub values_at : Mode → ℕ → List Info → List (Option ℕ) → List (List ℕ) → Result (List (Option Value)) RowFault
+unfoldable pub values_at : Mode → ℕ → List Info → List (Option ℕ) → List (List ℕ)
+    → Result (List (Option Value)) RowFault
 values_at mode place [] places cells = Ok []
 values_at mode place (i ∷ is) [] cells = Ok []
 values_at mode place (i ∷ is) (p ∷ ps) cells = do
@@ -49,6 +50,7 @@ abbrev pub set_row : Bool → Option Record → Result SetRow RowFault
 set_row dated None = Err (in_record_itself TooLong)
 set_row dated (Some row) = Ok (record { row = row; dated = dated })
 
+-- the row that a record spells under a header of its kind, or what is wrong with it first
 unfoldable pub row_at : Kind → Mode → Header → List (List ℕ) → Result SetRow RowFault
 row_at kind mode header cells = if not (length cells == header.width) then Err (in_record_itself Width) else do
   values ← values_at mode 0 (table kind) header.places cells

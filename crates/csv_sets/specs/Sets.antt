@@ -29,6 +29,7 @@ unfoldable pub bytes_of : SetFile → Option (List ℕ) → Result (List ℕ) Se
 bytes_of file None = Err (fault.MissingFile file)
 bytes_of file (Some bytes) = if nat_lt largest (length bytes) then Err (fault.TooLarge file) else Ok bytes
 
+-- a fault of the manifest as one of the set
 abbrev pub in_manifest : {A : Type 0} → Result A ManifestFault → Result A SetFault
 in_manifest (Ok x) = Ok x
 in_manifest (Err f) = Err (fault.Manifest f)
@@ -39,11 +40,13 @@ listed_in bytes =
     if not (is_utf8 bytes) then Err (fault.NotUtf8 Manifest)
     else in_manifest (manifest_of (records default_config (strip_bom bytes)))
 
+-- the files that the manifest of a folder lists
 unfoldable pub manifest_at : List ℕ → List Stored → Result (List ListedFile) SetFault
 manifest_at dir files = do
   bytes ← bytes_of Manifest (bytes_at files dir Manifest)
   listed_in bytes
 
+-- the manifest lists a file of the kind
 abbrev pub is_listed : Kind → List ListedFile → Bool
 is_listed kind listed = list_any (λ f. place_of_kind f.kind == place_of_kind kind) listed
 
@@ -54,6 +57,7 @@ stands kind true false = Err (fault.MissingFile (RowsOf kind))
 stands kind false true = Err (fault.UnexpectedFile (RowsOf kind))
 stands kind false false = Ok true
 
+-- a kind's file in a folder ought to be there exactly where the manifest lists it
 abbrev pub stands_at : List ℕ → List ListedFile → Kind → List Stored → Result Bool SetFault
 stands_at dir listed kind files = stands kind (is_listed kind listed) (is_some (bytes_at files dir (RowsOf kind)))
 
@@ -87,6 +91,7 @@ set_among kinds dir feed files = do
   parts ← parts_at dir listed files
   Ok (record { feed = feed; parts = parts })
 
+-- the set of a feed in a folder, where each kind's file is looked for
 unfoldable pub set_of : List ℕ → List ℕ → List Stored → Result SetRecord SetFault
 set_of dir feed files = set_among all_kinds dir feed files
 

@@ -11,9 +11,11 @@ use Rattle.roster_values.specs.declared.value.Value.{Value}
 use Rattle.roster_values.specs.Table.{table}
 use Rattle.csv_sets.specs.declared.keys.MetadataKey.{MetadataKey}
 
+-- the bytes of a key
 abbrev pub key_in : MetadataKey → List ℕ
 key_in k = k.key
 
+-- the key of an entry of metadata
 abbrev pub entry_key : Entry → MetadataKey
 entry_key e = record { key = e.key }
 
@@ -40,6 +42,7 @@ abbrev pub metadata_cell : List Entry → List ℕ → List ℕ
 metadata_cell [] key = []
 metadata_cell (e ∷ es) key = if bytes_eq e.key key then e.text else metadata_cell es key
 
+-- the cells of a row's line
 abbrev pub written_cells : List MetadataKey → Record → List (List ℕ)
 written_cells keys row = map field_cell (all_values row) ++ map (λ k. metadata_cell row.metadata k.key) keys
 

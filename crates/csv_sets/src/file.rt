@@ -78,8 +78,8 @@ fn add(rows: &mut Vec<SetRow>, rise: &mut bool, row: SetRow) -> Result<(), NoMem
     Ok(())
 }
 
-// Reads the rows of the records below the header up to the first at fault, and minds whether their ids all rise, but not
-// whether one repeats.
+// Reads the rows of the records below the header up to the first at fault, and minds whether their ids all rise, but
+// not whether one repeats.
 fn read_rows(
     kind: Kind,
     mode: Mode,
@@ -179,7 +179,8 @@ fn first_fault(
     Err(Refusal::Fault(fault))
 }
 
-// The rows of the records below the header. A repeated id is looked for once the rows are read, by a set of ids that they lend.
+// The rows of the records below the header. A repeated id is looked for once the rows are read, by a set of ids that
+// they lend.
 fn rows_under(
     alloc: Global,
     kind: Kind,
@@ -217,9 +218,9 @@ fn rows_of(alloc: Global, kind: Kind, mode: Mode, text: &str) -> Result<Vec<SetR
     rows_under(alloc, kind, mode, &header, &mut reader)
 }
 
-/// The rows of a file of one kind in their order, or its first fault: of its size, its bytes, its header, and then of its
-/// records in turn. The first record is the header, and a fault numbers the records from it on, beginning with 1; blank
-/// lines are no records. A byte order mark at the start is passed over.
+/// The rows of a file of one kind in their order, or its first fault: of its size, its bytes, its header, and then of
+/// its records in turn. The first record is the header, and a fault numbers the records from it on, beginning with 1;
+/// blank lines are no records. A byte order mark at the start is passed over.
 #[tactic(auto, unfolding(crate::specs::Files::file_of))]
 pub fn read_file(
     alloc: Global,

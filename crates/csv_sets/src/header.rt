@@ -207,8 +207,9 @@ impl Header {
     ghost use Rattle.roster_base.specs.Order.{RiseBy};
     ghost use Rattle.csv_sets.specs.Headers.{metadata_key};
 
-    /// The header that the first record of a file spells, or its first fault. The spaces at the ends of a name don't count.
-    /// By OneRoster a file is extended by columns `metadata.` and a key; other columns that it doesn't name are passed over.
+    /// The header that the first record of a file spells, or its first fault. The spaces at the ends of a name don't
+    /// count. By OneRoster a file is extended by columns `metadata.` and a key; other columns that it doesn't name are
+    /// passed over.
     #[tactic(auto, unfolding(crate::specs::Headers::header_of, crate::specs::Headers::header_from))]
     pub fn read(
         alloc: Global,

@@ -1,5 +1,5 @@
-//! Files of comma-separated values: the rows of one kind that a file's records spell, the set that the files of a folder mean
-//! together under their manifest, or the first fault; and the text of a file that is written.
+//! Files of comma-separated values: the rows of one kind that a file's records spell, the set that the files of a
+//! folder mean together under their manifest, or the first fault; and the text of a file that is written.
 #![tactic(auto)]
 
 pub mod cells;
@@ -12,7 +12,7 @@ pub mod property;
 pub mod records;
 mod row;
 pub mod set;
-mod write;
+mod writing;
 
 pub use fault::{
     ColumnFault, ManifestError, ManifestFault, RowError, RowFault, SetError, SetFault, SetFile,
@@ -21,4 +21,4 @@ pub use file::read_file;
 pub use manifest::{ListedFile, Manifest, read_manifest};
 pub use property::Property;
 pub use set::read_set;
-pub use write::write_file;
+pub use writing::write_file;

@@ -144,7 +144,7 @@ fn read_said(alloc: Global, reader: &mut RecordReader<'_>) -> Result<Vec<Said>, 
     Ok(said)
 }
 
-// Both versions must be said.
+// Whether both versions are said, as they must be.
 #[tactic(auto, unfolding(crate::specs::Manifests::versions_checked))]
 fn check_versions(said: &[Said]) -> Result<(), ManifestError>
     ensures { Gives (λ _. true) result (spec.versions_checked said.now) }
@@ -213,8 +213,8 @@ fn read_below(alloc: Global, reader: &mut RecordReader<'_>) -> Result<Manifest, 
     })
 }
 
-/// What a manifest says, or its first fault. The first record is the header `propertyName,value`. By OneRoster 1.1 both versions
-/// must stand in it; a file that it doesn't name is absent, and other properties are passed over.
+/// What a manifest says, or its first fault. The first record is the header `propertyName,value`. By OneRoster 1.1 both
+/// versions must stand in it; a file that it doesn't name is absent, and other properties are passed over.
 #[tactic(auto, unfolding(crate::specs::Manifests::manifest_of))]
 pub fn read_manifest(alloc: Global, text: &str) -> Result<Manifest, ManifestError>
     ensures files { Gives (λ m. m.files) result (spec.manifest_of (records default_config (strip_bom text.now))) }

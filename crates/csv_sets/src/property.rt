@@ -64,7 +64,8 @@ fn file_property(kind: Kind) -> &'static str
 
 // The property of a kind's file that has that name.
 fn file_named(name: &str) -> Option<Property>
-    ensures { result ≡ option_map (λ kind. Property.FileOf kind) (find (λ kind. bytes_eq (property_name (Property.FileOf kind)) name.now) all_kinds) }
+    ensures { result ≡ option_map (λ kind. Property.FileOf kind)
+        (find (λ kind. bytes_eq (property_name (Property.FileOf kind)) name.now) all_kinds) }
 {
     first_named(&Kind::ALL, name).map(Property::FileOf)
 }

@@ -28,7 +28,8 @@ impl<'a> Model for RecordReader<'a> {
 }
 
 impl<'a> RecordReader<'a> {
-    /// All records of a text, the header among them. One byte order mark at its start is passed over, and so are blank lines.
+    /// All records of a text, the header among them. One byte order mark at its start is passed over, and so are blank
+    /// lines.
     pub fn new(alloc: Global, text: &'a str) -> RecordReader<'a>
         ensures records { result ≡ records default_config (strip_bom text.now) }
         ensures text { AllRowsText result }

@@ -36,7 +36,8 @@ fn read_field(
     info: &FieldInfo,
     cell: &str,
 ) -> Result<Option<Value>, RowError>
-    ensures { Gives (λ v. v) result (in_field info.now.column.now (value_of (info_in mode field (info_of info.now)) cell.now)) }
+    ensures { Gives (λ v. v) result (in_field info.now.column.now
+        (value_of (info_in mode field (info_of info.now)) cell.now)) }
 {
     match read_value(alloc, &info_in(mode, field, info), cell) {
         Ok(value) => Ok(value),
@@ -59,7 +60,8 @@ fn read_values(
 ) -> Result<(), RowError>
     requires places { length places.now ≡ length (table kind) }
     requires text { AllText (fields_of cells.now) }
-    ensures values { Gives (λ _. values.new.items) result (values_at mode 0 (table kind) places.now (fields_of cells.now)) }
+    ensures values { Gives (λ _. values.new.items) result
+        (values_at mode 0 (table kind) places.now (fields_of cells.now)) }
     ensures fit { OnOk result (fits_all (table kind) values.new.items ≡ true) }
 {
     let infos = fields(kind);
@@ -111,8 +113,8 @@ fn is_dated(values: &[Option<Value>]) -> bool
     matches!(values.get(DATE), Some(Some(_)))
 }
 
-/// The row that a record spells under a header of its kind, or what is wrong with it first. The vector is for the values
-/// on their way.
+/// The row that a record spells under a header of its kind, or what is wrong with it first. The vector holds the
+/// values until the row takes them.
 #[tactic(auto, unfolding(crate::specs::Rows::row_at))]
 pub fn read_row(
     alloc: Global,

@@ -28,7 +28,8 @@ fn read_bytes<F: Folder>(
     dir: &str,
     file: SetFile,
 ) -> Result<Bytes, SetError>
-    ensures bytes { ReadsFolder (λ b. b) (F.files folder.old) (F.faults folder.old) (F.faults folder.new) result (λ fs. spec.bytes_of file (spec.bytes_at fs dir.now file)) }
+    ensures bytes { ReadsFolder (λ b. b) (F.files folder.old) (F.faults folder.old) (F.faults folder.new) result
+        (λ fs. spec.bytes_of file (spec.bytes_at fs dir.now file)) }
     ensures files { F.files folder.new ≡ F.files folder.old }
 {
     match folder.read(alloc, dir, file.name(), LARGEST as u64) {
@@ -42,7 +43,8 @@ fn read_bytes<F: Folder>(
 
 // The files that a manifest's text lists.
 fn listed_by(alloc: Global, text: &str) -> Result<Manifest, SetError>
-    ensures listed { Gives (λ m. m.files) result (spec.in_manifest (manifest_of (records default_config (strip_bom text.now)))) }
+    ensures listed { Gives (λ m. m.files) result (spec.in_manifest
+        (manifest_of (records default_config (strip_bom text.now)))) }
     ensures rise { IfOk result (λ m. RisingFiles m.files) }
 {
     match read_manifest(alloc, text) {
@@ -68,7 +70,8 @@ fn listed_in(alloc: Global, bytes: &[u8]) -> Result<Manifest, SetError>
 // What the manifest of a folder says.
 #[tactic(auto, unfolding(crate::specs::Sets::manifest_at))]
 fn manifest_at<F: Folder>(alloc: Global, folder: &mut F, dir: &str) -> Result<Manifest, SetError>
-    ensures listed { ReadsFolder (λ m. m.files) (F.files folder.old) (F.faults folder.old) (F.faults folder.new) result (spec.manifest_at dir.now) }
+    ensures listed { ReadsFolder (λ m. m.files) (F.files folder.old) (F.faults folder.old) (F.faults folder.new) result
+        (spec.manifest_at dir.now) }
     ensures files { F.files folder.new ≡ F.files folder.old }
     ensures rise { IfOk result (λ m. RisingFiles m.files) }
     ensures some { IfOk result (λ m. spec.AreListed m.files) }
@@ -102,7 +105,8 @@ fn is_there<F: Folder>(
     dir: &str,
     kind: Kind,
 ) -> Result<bool, SetError>
-    ensures there { ReadsFolder (λ b. b) (F.files folder.old) (F.faults folder.old) (F.faults folder.new) result (λ fs. Ok (is_some (spec.bytes_at fs dir.now (RowsOf kind)))) }
+    ensures there { ReadsFolder (λ b. b) (F.files folder.old) (F.faults folder.old) (F.faults folder.new) result
+        (λ fs. Ok (is_some (spec.bytes_at fs dir.now (RowsOf kind)))) }
     ensures files { F.files folder.new ≡ F.files folder.old }
 {
     match folder.read(alloc, dir, kind.file_name(), 0) {
@@ -121,7 +125,8 @@ fn check_file<F: Folder>(
     listed: &[ListedFile],
     kind: Kind,
 ) -> Result<(), SetError>
-    ensures stands { ReadsFolder (λ _. true) (F.files folder.old) (F.faults folder.old) (F.faults folder.new) result (spec.stands_at dir.now listed.now kind) }
+    ensures stands { ReadsFolder (λ _. true) (F.files folder.old) (F.faults folder.old) (F.faults folder.new) result
+        (spec.stands_at dir.now listed.now kind) }
     ensures files { F.files folder.new ≡ F.files folder.old }
 {
     let there = is_there(alloc, folder, dir, kind)?;
@@ -136,7 +141,8 @@ fn check_files<F: Folder>(
     listed: &[ListedFile],
     kinds: &[Kind],
 ) -> Result<(), SetError>
-    ensures stand { ReadsFolder (λ _. true) (F.files folder.old) (F.faults folder.old) (F.faults folder.new) result (spec.all_stand dir.now listed.now kinds.now) }
+    ensures stand { ReadsFolder (λ _. true) (F.files folder.old) (F.faults folder.old) (F.faults folder.new) result
+        (spec.all_stand dir.now listed.now kinds.now) }
     ensures files { F.files folder.new ≡ F.files folder.old }
 {
     for kind in kinds {
@@ -153,7 +159,8 @@ fn read_part<F: Folder>(
     dir: &str,
     listed: &ListedFile,
 ) -> Result<SetPart, SetError>
-    ensures part { ReadsFolder (λ p. p) (F.files folder.old) (F.faults folder.old) (F.faults folder.new) result (spec.part_at dir.now listed.now) }
+    ensures part { ReadsFolder (λ p. p) (F.files folder.old) (F.faults folder.old) (F.faults folder.new) result
+        (spec.part_at dir.now listed.now) }
     ensures files { F.files folder.new ≡ F.files folder.old }
     ensures listed { IfOk result (λ p. spec.listed_as p ≡ listed.now) }
     ensures good { IfOk result IsPart }
@@ -177,7 +184,8 @@ fn read_parts<F: Folder>(
     dir: &str,
     listed: &[ListedFile],
 ) -> Result<Vec<SetPart>, SetError>
-    ensures parts { ReadsFolder (λ v. v.items) (F.files folder.old) (F.faults folder.old) (F.faults folder.new) result (spec.parts_at dir.now listed.now) }
+    ensures parts { ReadsFolder (λ v. v.items) (F.files folder.old) (F.faults folder.old) (F.faults folder.new) result
+        (spec.parts_at dir.now listed.now) }
     ensures files { F.files folder.new ≡ F.files folder.old }
     ensures listed { IfOk result (λ v. map spec.listed_as v.items ≡ listed.now) }
     ensures good { IfOk result (λ v. All IsPart v.items) }
@@ -199,7 +207,8 @@ fn set_among<F: Folder>(
     feed: &Name,
     kinds: &[Kind],
 ) -> Result<RosterSet, SetError>
-    ensures set { ReadsFolder (λ s. s) (F.files folder.old) (F.faults folder.old) (F.faults folder.new) result (spec.set_among kinds.now dir.now feed.now) }
+    ensures set { ReadsFolder (λ s. s) (F.files folder.old) (F.faults folder.old) (F.faults folder.new) result
+        (spec.set_among kinds.now dir.now feed.now) }
     ensures files { F.files folder.new ≡ F.files folder.old }
     ensures feed { IfOk result (λ s. s.feed ≡ feed.now) }
     ensures some { IfOk result (λ s. spec.AreSpelled s.parts) }
@@ -212,9 +221,9 @@ fn set_among<F: Folder>(
     Ok(RosterSet::new(feed, Items::from_vec(parts)))
 }
 
-/// The set that the files of a folder mean together, or the first fault: of the manifest; then of the first kind whose file is
-/// missing, or there though the manifest says that it is absent; then of the files in the kinds' order. Where the folder fails,
-/// the fault is `Folder`.
+/// The set that the files of a folder mean together, or the first fault: of the manifest; then of the first kind whose
+/// file is missing, or there though the manifest says that it is absent; then of the files in the kinds' order. Where
+/// the folder fails, the fault is `Folder`.
 #[tactic(auto, unfolding(crate::specs::Sets::set_of))]
 pub fn read_set<F: Folder>(
     alloc: Global,
@@ -222,9 +231,10 @@ pub fn read_set<F: Folder>(
     dir: &str,
     feed: &Name,
 ) -> Result<RosterSet, SetError>
-    ensures set { ReadsFolder (λ s. s) (F.files folder.old) (F.faults folder.old) (F.faults folder.new) result (spec.set_of dir.now feed.now) }
+    ensures set { ReadsFolder (λ s. s) (F.files folder.old) (F.faults folder.old) (F.faults folder.new) result
+        (spec.set_of dir.now feed.now) }
     ensures files { F.files folder.new ≡ F.files folder.old }
-    // Whatever the folder tells.
+    // The two clauses below hold whether or not the folder tells its files.
     ensures feed { IfOk result (λ s. s.feed ≡ feed.now) }
     ensures some { IfOk result (λ s. spec.AreSpelled s.parts) }
 {

@@ -6,13 +6,13 @@ use Rattle.std.specs.FinMap.Entries as entries
 use Rattle.std.specs.Option.{option_to_list}
 use Rattle.std.specs.Ordering.{is_lt}
 use Rattle.std.specs.declared.cmp.Ordering.TheVariants.{Equal, Greater, Less}
-use Rattle.delta_parts.specs.Turns.{TurnParts, passed, turn_of, turn_of_both}
-use Rattle.reference_rules.proofs.KeyOrder.{and_first, and_second, key_exact}
+use Rattle.delta_parts.specs.Turns.{TurnParts, turn_of, turn_of_both}
+use Rattle.reference_rules.proofs.KeyOrder.{and_first, key_exact}
 use Rattle.roster_types.specs.Keys.{Ascends, key_cmp, keyed, row_key}
 use Rattle.roster_types.specs.Records.{Record}
 use Rattle.roster_values.specs.declared.kind.Kind.{Kind}
 use Rattle.row_deltas.proofs.StepLemmas.{delta-both, delta-gone, delta-none, delta-put}
-use Rattle.row_deltas.specs.Deltas.{AreOf, delta_of}
+use Rattle.row_deltas.specs.Deltas.{AreOf, delta_of, passed}
 use Rattle.version_core.proofs.LookUps.{below_trans}
 use Rattle.version_core.proofs.Places.{less_from_greater}
 use Rattle.version_core.specs.Order.{by_order}
@@ -75,8 +75,3 @@ module _ (kind : Kind) where
 
   pub step_fewer : (olds news : List Record) (turn : TurnParts) → Steps kind olds news turn → length (passed turn.is_old olds) + length (passed turn.is_new news) < length olds + length news
   step_fewer olds news turn (Step delta fewer) = fewer
-
-pub passed_up : (is_passed : Bool) (rows : List Record) → Ascends row_key rows → Ascends row_key (passed is_passed rows)
-passed_up true [] up = refl
-passed_up true (row ∷ rows) up = and_second _ _ up
-passed_up false rows up = up

@@ -4,10 +4,10 @@ use Rattle.std.proofs.lemmas.List.Sums.{length-filter}
 use Rattle.delta_parts.proofs.Optional.{count_turn, part_turn}
 use Rattle.row_walks.proofs.Parting.{Parts, part_end, part_start}
 use Rattle.delta_parts.proofs.Resting.{kind_rows}
-use Rattle.delta_parts.proofs.Turning.{passed_of, passed_up, step_delta, step_fewer, turn_ends, turn_steps}
+use Rattle.delta_parts.proofs.Turning.{passed_of, step_delta, step_fewer, turn_ends, turn_steps}
 use Rattle.delta_parts.specs.Parts.{count_on, part_of_delta, with_option}
 use Rattle.row_walks.specs.Below.Pages.{slice}
-use Rattle.delta_parts.specs.Turns.{TurnParts, passed, turn_of}
+use Rattle.delta_parts.specs.Turns.{TurnParts, turn_of}
 use Rattle.delta_parts.specs.declared.part.DeltaPart.{DeltaPart}
 use Rattle.reference_rules.proofs.Rest.{rest_start}
 use Rattle.roster_types.specs.Keys.{Ascends, count_of, is_of_kind, row_key}
@@ -15,7 +15,8 @@ use Rattle.roster_types.specs.Records.{Record}
 use Rattle.roster_values.specs.declared.kind.Kind.{Kind}
 use Rattle.version_core.proofs.LookUps.{Ascends-filter}
 use Rattle.row_deltas.proofs.EntryLemmas.{length-delta}
-use Rattle.row_deltas.specs.Deltas.{AreOf, delta_of, ids_gone, rows_put}
+use Rattle.row_deltas.proofs.StepLemmas.{passed_up}
+use Rattle.row_deltas.specs.Deltas.{AreOf, delta_of, ids_gone, passed, rows_put}
 use Rattle.row_deltas.specs.declared.entry.DeltaEntry.{DeltaEntry}
 
 -- what is found so far, with what differs of the rows that are left, is the part of the whole

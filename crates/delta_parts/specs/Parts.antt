@@ -6,7 +6,8 @@ use Rattle.row_deltas.specs.Deltas.{ids_gone, rows_put}
 use Rattle.row_deltas.specs.declared.entry.DeltaEntry.{DeltaEntry}
 use Rattle.row_walks.specs.Parts.{with_row}
 
--- the entries at the places from an offset on, at most `limit` of them, as rows and as ids, and how many entries there are in all
+-- the entries at the places from an offset on, at most `limit` of them, as rows and as ids, and how many entries there
+-- are in all
 abbrev pub part_of_delta : ℕ → ℕ → List DeltaEntry → DeltaPart
 part_of_delta limit offset entries =
     record { rows = rows_put (slice limit offset entries); gone = ids_gone (slice limit offset entries); total = length entries }

@@ -1,5 +1,5 @@
 -- What differs of the first rows of two lists.
-use Rattle.std.specs.Prelude.{Bool, true, false, List, Option, None, Some, if◌then◌else◌, drop, option_map}
+use Rattle.std.specs.Prelude.{Bool, true, false, Option, None, Some, if◌then◌else◌, option_map}
 use Rattle.delta_parts.specs.declared.turn.EntryRef.{EntryRef}
 use Rattle.delta_parts.specs.declared.turn.EntryRef.TheVariants as lent
 use Rattle.delta_parts.specs.declared.turn.Turn.{Turn}
@@ -21,21 +21,20 @@ pub record TurnParts : Type 0 where
   pub is_old : Bool
   pub is_new : Bool
 
+-- the turn that the code's value stands for
 abbrev pub turn_shown : Turn → TurnParts
 turn_shown turn = record { entry = option_map entry_shown turn.entry; is_old = turn.is_old; is_new = turn.is_new }
 
+-- what differs of the first of two rows, or of both where they have one id
 abbrev pub turn_of_both : Record → Record → TurnParts
 turn_of_both old new = by_order (key_cmp (row_key old) (row_key new))
     (record { entry = Some (Gone old.id); is_old = true; is_new = false })
     (record { entry = if same_row new old then None else Some (Put new); is_old = true; is_new = true })
     (record { entry = Some (Put new); is_old = false; is_new = true })
 
+-- what differs of the rows in front of both lists, where there are any
 abbrev pub turn_of : Option Record → Option Record → Option TurnParts
 turn_of None None = None
 turn_of (Some old) None = Some (record { entry = Some (Gone old.id); is_old = true; is_new = false })
 turn_of None (Some new) = Some (record { entry = Some (Put new); is_old = false; is_new = true })
 turn_of (Some old) (Some new) = Some (turn_of_both old new)
-
--- the rows that are left behind a turn
-abbrev pub passed : Bool → List Record → List Record
-passed is_passed rows = if is_passed then drop 1 rows else rows

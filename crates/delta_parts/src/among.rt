@@ -27,8 +27,8 @@ fn difference<'r>(old: Option<&'r Row>, new: Option<&'r Row>) -> Option<EntryRef
     }
 }
 
-/// The part that is asked for of what differs between the rows of a kind before and after, where all rows that differ have one of these
-/// ids. Only the rows with these ids are looked at.
+/// The part that is asked for of what differs between the rows of a kind before and after, where all rows that differ
+/// have one of these ids. Only the rows with these ids are looked at.
 pub fn delta_part_among<A: Refs, B: Refs>(
     alloc: Global,
     before: &A,
@@ -42,7 +42,7 @@ pub fn delta_part_among<A: Refs, B: Refs>(
     requires cover { Cover kind (filter (is_of_kind kind) (A.rows before.now)) (filter (is_of_kind kind) (B.rows after.now)) (map (λ id. id.now) ids.now) }
     ensures { IfOk result (λ p. p ≡ part_of_delta paging.limit paging.offset (delta_of kind (filter (is_of_kind kind) (A.rows before.now)) (filter (is_of_kind kind) (B.rows after.now)))) }
 {
-    // For the order of the rows.
+    // Read for the order of the rows.
     before.ascend();
     after.ascend();
     let mut found = Vec::new(alloc);

@@ -38,7 +38,7 @@ impl<'a, R: Steps> Cursor<'a, R> {
         ensures rows { result ≡ filter (is_of_kind kind) (R.rows rows.now) }
         ensures order { Ascends row_key (R.rows rows.now) }
     {
-        // For the order of the rows.
+        // Read for the order of the rows.
         rows.ascend();
         let mut near = 0;
         let head = rows.next_near(kind, None, &mut near);
@@ -58,7 +58,7 @@ impl<'a, R: Steps> Cursor<'a, R> {
         self.head
     }
 
-    // This place.
+    // The same place, as a value of its own.
     fn same(&self) -> Cursor<'a, R>
         ensures { result ≡ self.now }
     {
@@ -71,7 +71,7 @@ impl<'a, R: Steps> Cursor<'a, R> {
         }
     }
 
-    // The next place.
+    // The place behind the head, or this one where no rows are left.
     fn passed(&self) -> Cursor<'a, R>
         ensures { result ≡ drop 1 self.now }
     {
@@ -94,7 +94,7 @@ impl<'a, R: Steps> Cursor<'a, R> {
         }
     }
 
-    /// The next place, or this one.
+    /// The next place where the head is passed, and else this one.
     pub fn advanced(&self, is_passed: bool) -> Cursor<'a, R>
         ensures { result ≡ (if is_passed then drop 1 self.now else self.now) }
     {

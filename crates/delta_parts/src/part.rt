@@ -16,8 +16,8 @@ use row_deltas::DeltaEntry;
 use row_walks::Steps;
 use std::alloc::Global;
 
-/// The entries of a delta from an offset on, up to a limit: the rows that are put and the ids that are gone; and how many entries the
-/// whole delta has.
+/// The entries of a delta from an offset on, up to a limit: the rows that are put and the ids that are gone; and how
+/// many entries the whole delta has.
 #[derive(Drop)]
 pub struct DeltaPart {
     pub rows: Items<Row>,
@@ -32,6 +32,7 @@ pub struct Paging {
     pub offset: u64,
 }
 
+// The entry with a copy of the row that is put, or of the id that is gone.
 fn owned(alloc: Global, entry: EntryRef<'_>) -> Result<DeltaEntry, NoMemory>
     ensures { IfOk result (λ e. e ≡ entry_shown entry.entry) }
 {
@@ -80,7 +81,8 @@ pub fn parted(alloc: Global, entries: Vec<DeltaEntry>, total: u64) -> Result<Del
     })
 }
 
-/// The part of what differs between the rows of a kind before and after, from an offset on. Only the rows of the part are copied.
+/// The part of what differs between the rows of a kind before and after, from an offset on. Only the rows of the part
+/// are copied.
 pub fn delta_part<A: Steps, B: Steps>(
     alloc: Global,
     before: &A,

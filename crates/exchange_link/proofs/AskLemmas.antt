@@ -5,8 +5,8 @@ use Rattle.std.specs.Prelude.{Result}
 use Rattle.std.proofs.lemmas.List.Elements.{All-append, All-cons, All-nil, All-weaker}
 use Rattle.std.proofs.lemmas.Option.{same_Some}
 use Rattle.exchange_link.specs.Agreement.{NotSent}
-use Rattle.exchange_link.specs.Exchanges.{AnswersRequest, Exchanged, IsLate, IsOwn, SentAs, Told, wanted_by}
-use Rattle.hub_spec.proofs.Growing.{Grew-refl, Grew-trans, step_goes}
+use Rattle.exchange_link.specs.Exchanges.{AnswersRequest, Exchanged, IsLate, IsOwn, SentAs, LinkState, wanted_by}
+use Rattle.hub_spec.proofs.Growing.{Grew-refl, Grew-trans, step_grows}
 use Rattle.hub_spec.specs.rules.Answers.{sent}
 use Rattle.hub_spec.specs.rules.Growth.{Grew}
 use Rattle.hub_spec.specs.rules.Runs.{Acts, Fails, Replied, Steps, Take, WantsMemory}
@@ -33,14 +33,14 @@ use Rattle.exchange_link.proofs.TextLemmas.{text_read, text_seen}
 pub grew_on : {a b c : HubState} → Grew a b → Grew b c → Grew a c
 grew_on {a} {b} {c} x y = Grew-trans a b c x y
 
-pub moved_refl : (t : Told) → Moved t t
+pub moved_refl : (t : LinkState) → Moved t t
 moved_refl t = record { grew = Grew-refl t.hub; counts = omega arith }
 
-pub moved_on : {a b c : Told} → Moved a b → Moved b c → Moved a c
+pub moved_on : {a b c : LinkState} → Moved a b → Moved b c → Moved a c
 moved_on {a} {b} {c} x y = record { grew = grew_on x.grew y.grew; counts = omega (arith, x.counts, y.counts) }
 
 -- what an answer tells, from an earlier state on
-pub cause_more : (token : List ℕ) (z a b : Told) (s : SyncAnswer) → Moved z a → ToldCause token a b s → ToldCause token z b s
+pub cause_more : (token : List ℕ) (z a b : LinkState) (s : SyncAnswer) → Moved z a → ToldCause token a b s → ToldCause token z b s
 cause_more token z a b (answer.TooLarge kind total) m x = x
 cause_more token z a b (answer.BadReply kind offset) m x = x
 cause_more token z a b answer.HubFault m x = omega (arith, x, m.counts)
@@ -61,7 +61,7 @@ step_gives q at mid left r failed rose step broke = elim step as (λ _. Gives mi
   | WantsMemory wants told none ↦ Wants (ap (λ (x : Reply). status_of x.cause) (same_reply told))
 ]
 
-own_read : (before after : Told) (q : Request) (text : List ℕ) (w : WireReply) → IsOwn before after q text → IsReplyText text w → IsOwnRead before after q w
+own_read : (before after : LinkState) (q : Request) (text : List ℕ) (w : WireReply) → IsOwn before after q text → IsReplyText text w → IsOwnRead before after q w
 own_read before after q text w x is = record {
   reply = x.reply;
   seen = text_seen text x.reply w x.text_is x.read is;
@@ -70,7 +70,7 @@ own_read before after q text w x is = record {
   left = x.left;
   is_hub = x.is_hub;
   from = x.from;
-  step = (step_goes (Take (wanted_by q) x.at) x.taken_at (Replied x.reply) x.left x.failed x.step).grew;
+  step = (step_grows (Take (wanted_by q) x.at) x.taken_at (Replied x.reply) x.left x.failed x.step).grew;
   to = x.to;
   gives = step_gives q x.at x.taken_at x.left x.reply x.failed (Rose before.hub_faults after.hub_faults) x.step x.broke;
 }
@@ -78,13 +78,13 @@ own_read before after q text w x is = record {
 late_read : (sent : List Request) (text : List ℕ) (w : WireReply) → IsLate sent text → IsReplyText text w → IsLateRead sent w
 late_read sent text w x is = record { to = x.to; was_sent = x.was_sent; echo = ap (λ (r : WireReply). r.echo) (sym (text_seen text x.reply w x.text_is x.read is)) ∙ x.echo }
 
-read_of : (before after : Told) (q : Request) (rose : Type 0) (text : List ℕ) (w : WireReply) → IsOwn before after q text ⊎ (rose × IsLate before.sent text) → IsReplyText text w → IsOwnRead before after q w ⊎ IsLateRead before.sent w
+read_of : (before after : LinkState) (q : Request) (rose : Type 0) (text : List ℕ) (w : WireReply) → IsOwn before after q text ⊎ (rose × IsLate before.sent text) → IsReplyText text w → IsOwnRead before after q w ⊎ IsLateRead before.sent w
 read_of before after q rose text w x is = ⊎_elim
     (λ (own : IsOwn before after q text). inl (own_read before after q text w own is))
     (λ (late : rose × IsLate before.sent text). inr (late_read before.sent text w late.1 is)) x
 
 -- what comes over a link that tells is a reply
-pub is_reply : (before after : Told) (q : Request) (rose : Type 0) (text : List ℕ) → IsOwn before after q text ⊎ (rose × IsLate before.sent text) → IsNoReply text → ⊥
+pub is_reply : (before after : LinkState) (q : Request) (rose : Type 0) (text : List ℕ) → IsOwn before after q text ⊎ (rose × IsLate before.sent text) → IsNoReply text → ⊥
 is_reply before after q rose text x none = ⊎_elim
     (λ (own : IsOwn before after q text). none (seen_of own.reply) (text_read text own.reply own.text_is own.read))
     (λ (late : rose × IsLate before.sent text). none (seen_of (late.1).reply) (text_read text (late.1).reply (late.1).text_is (late.1).read)) x
@@ -92,7 +92,7 @@ is_reply before after q rose text x none = ⊎_elim
 abbrev IfText : Outcome → List ℕ → Type 0
 IfText result text = IfOwn result (λ w. IsReplyText text w)
 
-own_by : (result : Outcome) (before after : Told) (q : Request) (rose : Type 0) (text : List ℕ) → IsOwn before after q text ⊎ (rose × IsLate before.sent text) → IfText result text
+own_by : (result : Outcome) (before after : LinkState) (q : Request) (rose : Type 0) (text : List ℕ) → IsOwn before after q text ⊎ (rose × IsLate before.sent text) → IfText result text
     → IfOwn result (λ w. IsOwnRead before after q w ⊎ IsLateRead before.sent w)
 own_by (outcome.Own w) before after q rose text x is = read_of before after q rose text w x is
 own_by outcome.NoReply before after q rose text x is = tt
@@ -100,7 +100,7 @@ own_by outcome.Missed before after q rose text x is = tt
 own_by outcome.NoMemory before after q rose text x is = tt
 
 -- an exchange that answered
-pub tries_ok : (q : Request) (result : Outcome) (rose : Type 0) (text : List ℕ) (before after : Told) → Exchanged q (Ok tt) rose text before after → IfText result text → Tries q result before after
+pub tries_ok : (q : Request) (result : Outcome) (rose : Type 0) (text : List ℕ) (before after : LinkState) → Exchanged q (Ok tt) rose text before after → IfText result text → Tries q result before after
 tries_ok q result rose text before after x is = record {
   grew = x.grew;
   counts = x.counts;
@@ -146,24 +146,24 @@ adds_refl may sent = ([], refl, All-nil may)
 pub adds_trans : (may : Request → Type 0) (a b c : List Request) → Adds may a b → Adds may b c → Adds may a c
 adds_trans may a b c x y = (y.0 ++ x.0, y.1 ∙ ap (λ s. y.0 ++ s) x.1 ∙ sym (append_assoc y.0 x.0 a), All-append may y.0 x.0 y.2 x.2)
 
-adds_next : (may : Request → Type 0) (q : Request) (result : Outcome) (b c : Told) → may q → Tries q result b c → Adds may b.sent c.sent
+adds_next : (may : Request → Type 0) (q : Request) (result : Outcome) (b c : LinkState) → may q → Tries q result b c → Adds may b.sent c.sent
 adds_next may q result b c m y = ⊎_elim
     (λ (e : c.sent ≡ q ∷ b.sent). (q ∷ [], e, All-cons may q [] m (All-nil may)))
     (λ (e : (result ≡ outcome.NoMemory) × (c.sent ≡ b.sent)). ([], e.1, All-nil may)) y.sent
 
 -- ---- exchanges of a run
 
-pub asks_refl : (run n : ℕ) (may : Request → Type 0) (t : Told) → Asks run n n may t t
+pub asks_refl : (run n : ℕ) (may : Request → Type 0) (t : LinkState) → Asks run n n may t t
 asks_refl run n may t = record { moved = moved_refl t; ready = λ r. r; adds = adds_refl may t.sent }
 
-pub asks_trans : (run from mid to : ℕ) (may : Request → Type 0) (a b c : Told) → Asks run from mid may a b → Asks run mid to may b c → Asks run from to may a c
+pub asks_trans : (run from mid to : ℕ) (may : Request → Type 0) (a b c : LinkState) → Asks run from mid may a b → Asks run mid to may b c → Asks run from to may a c
 asks_trans run from mid to may a b c x y = record { moved = moved_on x.moved y.moved; ready = λ r. y.ready (x.ready r); adds = adds_trans may a.sent b.sent c.sent x.adds y.adds }
 
 -- of these requests, so of those
-pub asks_weaker : (run from to : ℕ) (may other : Request → Type 0) (a b : Told) → ((q : Request) → may q → other q) → Asks run from to may a b → Asks run from to other a b
+pub asks_weaker : (run from to : ℕ) (may other : Request → Type 0) (a b : LinkState) → ((q : Request) → may q → other q) → Asks run from to may a b → Asks run from to other a b
 asks_weaker run from to may other a b f x = let y = x.adds in record { moved = x.moved; ready = x.ready; adds = (y.0, y.1, All-weaker may other f y.0 y.2) }
 
-pub asks_on : (run from n m : ℕ) (may : Request → Type 0) (q : Request) (result : Outcome) (a b c : Told) → q.echo ≡ Some (record { run = run; count = m }) → n < m → may q
+pub asks_on : (run from n m : ℕ) (may : Request → Type 0) (q : Request) (result : Outcome) (a b c : LinkState) → q.echo ≡ Some (record { run = run; count = m }) → n < m → may q
     → Asks run from n may a b → Tries q result b c → Asks run from m may a c
 asks_on run from n m may q result a b c eq lt is x y = record {
   moved = record { grew = grew_on x.moved.grew y.grew; counts = omega (arith, x.moved.counts, y.counts) };
@@ -174,7 +174,7 @@ asks_on run from n m may q result a b c eq lt is x y = record {
 gives_more : {h left : HubState} {q : Request} {r : Reply} {a b : Type 0} → (a → b) → Gives h left q a r → Gives h left q b r
 gives_more f g = elim g [ Wants s ↦ Wants s | Broke s x ↦ Broke s (f x) | Answers at s ↦ Answers at s ]
 
-own_step : (run from n m : ℕ) (may : Request → Type 0) (q : Request) (a b c : Told) (w : WireReply) → q.echo ≡ Some (record { run = run; count = m }) → n < m
+own_step : (run from n m : ℕ) (may : Request → Type 0) (q : Request) (a b c : LinkState) (w : WireReply) → q.echo ≡ Some (record { run = run; count = m }) → n < m
     → Asks run from n may a b → IsReady run from a.sent → w.echo ≡ Some (record { run = run; count = m }) → IsOwnRead b c q w ⊎ IsLateRead b.sent w → IsOwnRead a c q w
 own_step run from n m may q a b c w eq lt x ready echo y = ⊎_elim
     (λ (own : IsOwnRead b c q w). record {
@@ -193,7 +193,7 @@ own_step run from n m may q a b c w eq lt x ready echo y = ⊎_elim
     (subst (λ k. SentAs k b.sent) (same_Some _ _ (sym late.echo ∙ echo)) late.was_sent)))
     y
 
-pub own_on : (run from n m : ℕ) (may : Request → Type 0) (q : Request) (result : Outcome) (a b c : Told) → q.echo ≡ Some (record { run = run; count = m }) → n < m
+pub own_on : (run from n m : ℕ) (may : Request → Type 0) (q : Request) (result : Outcome) (a b c : LinkState) → q.echo ≡ Some (record { run = run; count = m }) → n < m
     → Asks run from n may a b → Tries q result b c → IsReady run from a.sent → IfOwn result (λ w. w.echo ≡ Some (record { run = run; count = m })) → IfOwn result (λ w. IsOwnRead a c q w)
 own_on run from n m may q (outcome.Own w) a b c eq lt x y ready echo = own_step run from n m may q a b c w eq lt x ready echo y.own
 own_on run from n m may q outcome.NoReply a b c eq lt x y ready echo = tt
@@ -207,7 +207,7 @@ own_map outcome.Missed P Q f x = tt
 own_map outcome.NoMemory P Q f x = tt
 
 -- the request stands at the head of what was sent
-pub sent_last : (q : Request) (result : Outcome) (before after : Told) → Tries q result before after → result ≢ outcome.NoMemory → IsLast q after.sent
+pub sent_last : (q : Request) (result : Outcome) (before after : LinkState) → Tries q result before after → result ≢ outcome.NoMemory → IsLast q after.sent
 sent_last q result before after x ne = ⊎_elim
     (λ (e : after.sent ≡ q ∷ before.sent). subst (λ s. IsLast q s) (sym e) refl)
     (λ (no : (result ≡ outcome.NoMemory) × (after.sent ≡ before.sent)). absurd (ne no.0)) x.sent

@@ -2,7 +2,7 @@
 use Rattle.std.proofs.Common.{◌≡◌, inl, inr, ⊎_elim, ℕ, ◌+◌, List, [], ◌∷◌, ◌++◌, length, refl, sym, ◌∙◌, ap, subst}
 use Rattle.std.proofs.Common.{arith, append_assoc, length-append}
 use Rattle.exchange_link.specs.Asked.{AreNumbered, SendsOn}
-use Rattle.exchange_link.specs.Exchanges.{Told}
+use Rattle.exchange_link.specs.Exchanges.{LinkState}
 use Rattle.exchange_link.specs.Owning.{Tries}
 use Rattle.exchange_link.specs.Requests.{number}
 use Rattle.exchange_link.specs.declared.asking.Outcome.{Outcome}
@@ -44,7 +44,7 @@ sends_weaker may other run from to wants given x y f w s = record {
 }
 
 -- one exchange
-pub sends_once : (may : Echo → Request → Type 0) (run n m : ℕ) (q : Request) (result : Outcome) (b c : Told) → m ≡ n + 1 → may (number run m) q → Tries q result b c → SendsOn may run n m (result ≡ outcome.NoMemory) b.sent c.sent
+pub sends_once : (may : Echo → Request → Type 0) (run n m : ℕ) (q : Request) (result : Outcome) (b c : LinkState) → m ≡ n + 1 → may (number run m) q → Tries q result b c → SendsOn may run n m (result ≡ outcome.NoMemory) b.sent c.sent
 sends_once may run n m q result b c e is y =
     let same : m ≡ n + 0 + 1 = omega (arith, e) in
     ⊎_elim

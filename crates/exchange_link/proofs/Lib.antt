@@ -1,8 +1,9 @@
 pub mod CutLemmas
 pub mod TellLemmas
-pub mod OwnLemmas
+pub mod ReadingLemmas
 pub mod AskLemmas
 pub mod AskedLemmas
 pub mod RunLemmas
+pub mod StageLemmas
 pub mod TextLemmas
 pub mod FitLemmas

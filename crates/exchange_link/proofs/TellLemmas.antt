@@ -136,7 +136,7 @@ module _ (state : HubState) (hub : IsHub state) (page : Page) where
     pinned = read.pinned;
   }
 
-  tells : (reply : Reply) → is_utf8 (body_text reply) ≡ true → asking.Says state page.token (asked_by page) reply → Tells state page (seen_of reply)
+  tells : (reply : Reply) → is_utf8 (body_text reply) ≡ true → asking.IsPageReply state page.token (asked_by page) reply → Tells state page (seen_of reply)
   tells reply utf8 (asking.Unknown none is) = Unknown (ap status_of is) (ap is_some none)
   tells reply utf8 (asking.Gone by pin found asks out is oldest version) =
       Gone pin by asks found (ap status_of is) oldest (outside pin (oldest_number state) by.grant.since (newest_number state) out)

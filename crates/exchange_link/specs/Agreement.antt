@@ -8,9 +8,10 @@ use Rattle.status_info.specs.declared.request.Echo.{Echo}
 use Rattle.status_info.specs.declared.request.Request.{Request}
 use Rattle.version_core.specs.HubStates.{HubState}
 use Rattle.version_core.specs.declared.change.BaseVersion.{BaseVersion}
-use Rattle.exchange_link.specs.Exchanges.{SentAs, Told}
+use Rattle.exchange_link.specs.Exchanges.{SentAs, LinkState}
 use Rattle.exchange_link.specs.Sayings.{knows, list_of}
 
+-- the first rows are a front of the others
 abbrev pub IsFrontOf : List Record → List Record → Type 0
 IsFrontOf xs ys = (rest : List Record) × (xs ++ rest ≡ ys)
 
@@ -31,6 +32,7 @@ pub record StageFits (s : Stage) (h : HubState) : Type 0 where
   pub standing : s.pin < length h.published
   pub fits : FitsVersion s (version_at h s.pin)
 
+-- there is no stage, or it fits
 abbrev pub StageFitsIf : Option Stage → HubState → Type 0
 StageFitsIf None h = Unit {0}
 StageFitsIf (Some s) h = StageFits s h
@@ -40,17 +42,19 @@ pub record AreSeen (lists : List (List Record)) (version : BaseVersion) (token :
   pub known : knows version token ≡ true
   pub same : lists ≡ cut version token
 
--- what is held is of a published version that isn't newer than the stage's; under a token it is what that token sees of it
+-- what is held is of a published version that isn't newer than the stage's; under a token it is what that token sees of
+-- it
 pub record HeldFits (held : Held) (stage : Option Stage) (h : HubState) : Type 0 where
   pub standing : held.version < length h.published
   pub below : IfSome stage (λ s. held.version ≤ s.pin)
   pub seen : IfSome held.token (AreSeen held.lists (version_at h held.version))
 
+-- nothing is held, or it fits
 abbrev pub HeldFitsIf : Option Held → Option Stage → HubState → Type 0
 HeldFitsIf None stage h = Unit {0}
 HeldFitsIf (Some held) stage h = HeldFits held stage h
 
--- both
+-- the stage of a copy and what it holds fit a state of the hub
 pub record CopyFits (c : Copy) (h : HubState) : Type 0 where
   pub stage : StageFitsIf c.stage h
   pub held : HeldFitsIf c.held c.stage h
@@ -70,7 +74,7 @@ NoneAbove run [] = Unit {0}
 NoneAbove run (q ∷ qs) = ((n : Echo) → q.echo ≡ Some n → n.run ≤ run) × NoneAbove run qs
 
 -- no number is used twice, and the stage and what is held are what they say
-pub record StageAgrees (c : Copy) (told : Told) : Type 0 where
+pub record StageAgrees (c : Copy) (told : LinkState) : Type 0 where
   pub differ : Differ told.sent
   pub below : NoneAbove c.run told.sent
   pub fits : CopyFits c told.hub

@@ -14,7 +14,8 @@ use Rattle.exchange_link.specs.declared.send_answer.SendAnswer.TheVariants as se
 use Rattle.status_info.specs.declared.request.Echo.{Echo}
 use Rattle.status_info.specs.declared.request.Request.{Request}
 
--- numbered in the order in which they were sent, behind the count `from` of a run; each is one that may be sent under its number
+-- numbered in the order in which they were sent, behind the count `from` of a run; each is one that may be sent under
+-- its number
 abbrev pub AreNumbered : (Echo → Request → Type 0) → ℕ → ℕ → List Request → Type 0
 AreNumbered may run from [] = ⊤
 AreNumbered may run from (q ∷ earlier) = may (number run (from + length earlier + 1)) q × AreNumbered may run from earlier

@@ -7,9 +7,10 @@ use Rattle.keeper_memory.specs.declared.copy.state.CopyState.{CopyState}
 use Rattle.keeper_memory.specs.declared.copy.state.TheConstants.{LAST}
 use Rattle.roster_base.specs.declared.keeper.KeeperError.{KeeperError}
 use Rattle.roster_base.specs.declared.keeper.KeeperError.TheVariants as fault
-use Rattle.exchange_link.specs.declared.begin.NoRun.{NoRun}
-use Rattle.exchange_link.specs.declared.begin.NoRun.TheVariants as cause
+use Rattle.exchange_link.specs.declared.beginning.NoRun.{NoRun}
+use Rattle.exchange_link.specs.declared.beginning.NoRun.TheVariants as cause
 
+-- why no run was entered where the keeper couldn't do its work
 abbrev pub no_run : KeeperError → NoRun
 no_run fault.Failed = cause.KeeperFault
 no_run fault.NoMemory = cause.NoMemory

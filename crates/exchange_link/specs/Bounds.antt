@@ -25,10 +25,11 @@ abbrev pub rounds : ℕ → ℕ → List (List Record) → ℕ
 rounds limit staged [] = 0
 rounds limit staged (l ∷ ls) = pages limit (length l - staged) + 1 + rounds limit 0 ls
 
--- of a stage, at the version that its call is pinned to
+-- the pages missing and the kinds left of a stage, at the version that its call is pinned to
 abbrev pub work : ℕ → List ℕ → Option StageState → BaseVersion → ℕ
 work limit token stage version = rounds limit (staged_of stage) (drop (kinds_of stage) (cut version token))
 
+-- there is a stage, and this is its pin
 abbrev pub HasPin : ℕ → Option Stage → Type 0
 HasPin v None = ⊥
 HasPin v (Some s) = s.pin ≡ v
@@ -46,8 +47,8 @@ HoldsVersion v c = IsSomeAnd c.held (λ held. held.version ≡ v)
 abbrev pub AskedAt : ℕ → List Request → Type 0
 AskedAt v sent = (page : Page) × (n : Echo) × (page.pin ≡ Some v) × IsLast (page_request page n) sent
 
--- the pin of a call that answered so, and left this copy and these requests; after a fault that took the stage away it is the version
--- that was swapped in, or the one that the last request asked for
+-- the pin of a call that answered so, and left this copy and these requests; after a fault that took the stage away it
+-- is the version that was swapped in, or the one that the last request asked for
 abbrev pub IsCallPin : SyncAnswer → Copy → List Request → ℕ → Type 0
 IsCallPin (answer.Complete p) c sent v = v ≡ p
 IsCallPin (answer.PinGone p oldest) c sent v = v ≡ p

@@ -17,7 +17,7 @@ use Rattle.version_core.specs.Version.{row_limit}
 use Rattle.version_core.specs.declared.grant_row.GrantRow.{GrantRow}
 use Rattle.exchange_link.specs.declared.answer.SyncAnswer.{SyncAnswer}
 use Rattle.exchange_link.specs.declared.answer.SyncAnswer.TheVariants as answer
-use Rattle.exchange_link.specs.Exchanges.{Told}
+use Rattle.exchange_link.specs.Exchanges.{LinkState}
 use Rattle.exchange_link.specs.Sayings.{knows}
 use Rattle.exchange_link.specs.Places.{kind_at, kinds_of, last_of, next_page, pin_of, staged_of, total_of}
 use Rattle.exchange_link.specs.Pages.{page_request}
@@ -39,6 +39,7 @@ pub record IsOwnReply (kept : List ℕ) (run count : ℕ) (w : WireReply) : Type
 
 -- ---- replies that no hub gives
 
+-- the status of a reply that lists rows, or says that the kind isn't opened
 abbrev pub IsPageStatus : ℕ → Type 0
 IsPageStatus status = (status ≡ 200) ⊎ (status ≡ 403)
 
@@ -108,9 +109,9 @@ AsksOn answer.LastRun = ⊥
 AsksOn answer.NoMemory = ⊥
 AsksOn a = Unit {0}
 
--- the cause of an answer, where the keeper then stands for `copies` and the link tells `tells`: the run, the number of exchanges
--- of the call, and where the stage stood when the last request was sent
-pub record Caused (token : List ℕ) (limit : ℕ) (copies : Copy → Type 0) (tells : Told → Type 0) (asked_before asked_after : ℕ) (kept : List ℕ) (missed : ℕ → Type 0) (broke : Type 0) (a : SyncAnswer) : Type 0 where
+-- the cause of an answer, where the keeper then stands for `copies` and the link tells `tells`: the run, the number of
+-- exchanges of the call, and where the stage stood when the last request was sent
+pub record Caused (token : List ℕ) (limit : ℕ) (copies : Copy → Type 0) (tells : LinkState → Type 0) (asked_before asked_after : ℕ) (kept : List ℕ) (missed : ℕ → Type 0) (broke : Type 0) (a : SyncAnswer) : Type 0 where
   pub run : ℕ
   pub count : ℕ
   pub asked : Option StageState
@@ -118,7 +119,7 @@ pub record Caused (token : List ℕ) (limit : ℕ) (copies : Copy → Type 0) (t
   pub runs : 1 ≤ count → (c : Copy) → copies c → c.run ≡ run
   pub only : CauseOf asked limit kept run count (missed count) broke a
   pub exact : (w : WireReply) → IsOwnReply kept run count w → IsAside a ⊎ AnswersTo (pin_of asked) w a
-  pub last : 1 ≤ count → a ≢ answer.NoMemory → (t : Told) → tells t → IsLast (page_request (next_page token limit asked) (record { run = run; count = count })) t.sent
+  pub last : 1 ≤ count → a ≢ answer.NoMemory → (t : LinkState) → tells t → IsLast (page_request (next_page token limit asked) (record { run = run; count = count })) t.sent
   pub on : AsksOn a → (1 ≤ count) × ((c : Copy) → copies c → stage_of c ≡ asked)
 
 -- `LastRun` comes exactly where the run number is the last one, and changes nothing
@@ -129,7 +130,7 @@ pub record LastLaw (a : SyncAnswer) (before after : Copy) : Type 0 where
 -- ---- what a link that tells adds
 
 -- the state at which the hub gave the reply
-abbrev pub ToldCause : List ℕ → Told → Told → SyncAnswer → Type 0
+abbrev pub ToldCause : List ℕ → LinkState → LinkState → SyncAnswer → Type 0
 ToldCause token before after (answer.TooLarge kind total) = ⊥
 ToldCause token before after (answer.BadReply kind offset) = ⊥
 ToldCause token before after answer.HubFault = Rose before.hub_faults after.hub_faults

@@ -29,9 +29,9 @@ delta_at state page base version = delta (version_at state base) (version_at sta
 abbrev pub opens_kind : BaseVersion → List ℕ → Kind → Bool
 opens_kind version token kind = option_map_or (λ (by : GrantRow). opens by.grant.scopes kind Read) (grant_of token version.grants) false
 
--- what the consumer sees of the answer. One of these holds: no caller has the token; the pin isn't kept any more, is older than the grant,
--- or isn't published yet; the grant doesn't open the kind; the base isn't kept any more, is older than the grant, or is newer than the
--- version that is read; or the answer is a page of what differs
+-- what the consumer sees of the answer. One of these holds: no caller has the token; the pin isn't kept any more, is
+-- older than the grant, or isn't published yet; the grant doesn't open the kind; the base isn't kept any more, is older
+-- than the grant, or is newer than the version that is read; or the answer is a page of what differs
 pub data TellsFrom (state : HubState) (page : Page) (base : ℕ) (seen : WireReply) : Type 0 where
   NotKnown : seen.status ≡ 401 → knows (newest_in state) page.token ≡ false → TellsFrom state page base seen
   PinGone : (pin : ℕ) (by : GrantRow) → page.pin ≡ Some pin → grant_of page.token (newest_in state).grants ≡ Some by

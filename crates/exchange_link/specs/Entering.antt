@@ -12,6 +12,7 @@ use Rattle.exchange_link.specs.declared.send_answer.EnterError.TheVariants as er
 abbrev pub with_write : Write → Copy → Copy
 with_write write c = copy_after (Enter (c.last_number + 1) write) c
 
+-- what entering a write leaves, by its answer
 abbrev pub EntersWrite : Write → Result ℕ EnterError → Copy → Copy → Type 0
 EntersWrite write (Ok number) before after = (number ≡ before.last_number + 1) × (number ≤ LAST) × (after ≡ with_write write before)
 EntersWrite write (Err error.LastNumber) before after = (before.last_number ≡ LAST) × (after ≡ before)

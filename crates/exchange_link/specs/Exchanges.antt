@@ -19,9 +19,9 @@ use Rattle.status_info.specs.declared.request.Echo.{Echo}
 use Rattle.status_info.specs.declared.request.Request.{Request}
 use Rattle.version_core.specs.HubStates.{HubState}
 
--- what a link tells: the state of its hub, the requests that were handed to it, the newest first, and the count of faults of
--- the hub's keeper
-pub record Told : Type 0 where
+-- what a link tells: the state of its hub, the requests that were handed to it, the newest first, and the count of
+-- faults of the hub's keeper
+pub record LinkState : Type 0 where
   pub hub : HubState
   pub sent : List Request
   pub hub_faults : ℕ
@@ -33,6 +33,7 @@ pub record IsTextOf (q : Request) (text : List ℕ) : Type 0 where
   pub can : CanSend q
   pub text_is : text ≡ request_text q
 
+-- the text is that of some request that may be sent
 abbrev pub IsSentText : List ℕ → Type 0
 IsSentText text = (q : Request) × IsTextOf q text
 
@@ -42,9 +43,9 @@ Carries text echo = (w : WireReply) × IsReplyText text w × (w.echo ≡ echo)
 
 -- ---- replies
 
--- the text of the hub's own reply to this request: that of a step of the hub which takes it, at a state on the way, and which fails
--- only where the count of the hub's keeper rose. Its body is a text
-pub record IsOwn (before after : Told) (q : Request) (text : List ℕ) : Type 0 where
+-- the text of the hub's own reply to this request: that of a step of the hub which takes it, at a state on the way, and
+-- which fails only where the count of the hub's keeper rose. Its body is a text
+pub record IsOwn (before after : LinkState) (q : Request) (text : List ℕ) : Type 0 where
   pub reply : Reply
   pub text_is : text ≡ reply_text reply
   pub read : CanRead reply
@@ -80,9 +81,9 @@ pub record IsLate (sent : List Request) (text : List ℕ) : Type 0 where
 abbrev pub Sends : Request → Result (Unit {0}) IoError → List Request → List Request → Type 0
 Sends q result before after = (after ≡ q ∷ before) ⊎ ((result ≡ Err io_error.NoMemory) × (after ≡ before))
 
--- what an exchange makes of what a link tells; `rose` says that the count of faults rose. An answer that comes is the own reply, or,
--- where the count rose, one to an earlier request
-pub record Exchanged (q : Request) (result : Result (Unit {0}) IoError) (rose : Type 0) (kept : List ℕ) (before after : Told) : Type 0 where
+-- what an exchange makes of what a link tells; `rose` says that the count of faults rose. An answer that comes is the
+-- own reply, or, where the count rose, one to an earlier request
+pub record Exchanged (q : Request) (result : Result (Unit {0}) IoError) (rose : Type 0) (kept : List ℕ) (before after : LinkState) : Type 0 where
   pub grew : Grew before.hub after.hub
   pub sent : Sends q result before.sent after.sent
   pub counts : before.hub_faults ≤ after.hub_faults

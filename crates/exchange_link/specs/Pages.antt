@@ -6,7 +6,8 @@ use Rattle.roster_values.specs.declared.kind.Kind.{Kind}
 use Rattle.status_info.specs.declared.request.Echo.{Echo}
 use Rattle.status_info.specs.declared.request.Request.{Request}
 
--- what is asked for, under a token: of a kind at most `limit` rows from the place `offset` on, at the pinned version or the newest
+-- what is asked for, under a token: of a kind at most `limit` rows from the place `offset` on, at the pinned version or
+-- the newest
 pub record Page : Type 0 where
   pub token : List ℕ
   pub kind : Kind
@@ -14,6 +15,7 @@ pub record Page : Type 0 where
   pub offset : ℕ
   pub pin : Option ℕ
 
+-- what is asked for, apart from the token
 abbrev pub asked_by : Page → Asking
 asked_by page = record { kind = page.kind; limit = page.limit; offset = page.offset; pin = page.pin }
 

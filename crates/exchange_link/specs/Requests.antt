@@ -3,7 +3,7 @@ use Rattle.std.specs.Prelude.{◌≡◌, ◌⊎◌, ◌<◌, ◌≤◌, ◌==◌
 use Rattle.std.specs.Prelude.{⊤}
 use Rattle.std.specs.List.{All}
 use Rattle.exchange_link.specs.Agreement.{Differ}
-use Rattle.exchange_link.specs.Exchanges.{Told}
+use Rattle.exchange_link.specs.Exchanges.{LinkState}
 use Rattle.hub_spec.specs.rules.Growth.{Grew}
 use Rattle.http_wire.specs.declared.reply_reading.WireReply.{WireReply}
 use Rattle.status_info.specs.declared.request.Echo.{Echo}
@@ -15,9 +15,11 @@ use Rattle.exchange_link.specs.declared.asking.Outcome.TheVariants as outcome
 abbrev pub numbered : Request → Echo → Request
 numbered q n = record q { echo = Some n }
 
+-- the request under some number
 abbrev pub IsNumbered : Request → Request → Type 0
 IsNumbered request q = (n : Echo) × (q ≡ numbered request n)
 
+-- the number of an exchange of a run
 abbrev pub number : ℕ → ℕ → Echo
 number run count = record { run = run; count = count }
 
@@ -25,6 +27,7 @@ number run count = record { run = run; count = count }
 abbrev pub IsSpent : ℕ → ℕ → Echo → Type 0
 IsSpent run count n = (n.run < run) ⊎ ((n.run ≡ run) × (n.count ≤ count))
 
+-- the numbers of all these requests are
 abbrev pub AllSpent : ℕ → ℕ → List Request → Type 0
 AllSpent run count [] = Unit {0}
 AllSpent run count (q ∷ qs) = ((n : Echo) → q.echo ≡ Some n → IsSpent run count n) × AllSpent run count qs
@@ -35,7 +38,7 @@ pub record IsReady (run count : ℕ) (sent : List Request) : Type 0 where
   pub spent : AllSpent run count sent
 
 -- what exchanges do to a hub
-pub record Moved (before after : Told) : Type 0 where
+pub record Moved (before after : LinkState) : Type 0 where
   pub grew : Grew before.hub after.hub
   pub counts : before.hub_faults ≤ after.hub_faults
 
@@ -44,7 +47,7 @@ abbrev pub Adds : (Request → Type 0) → List Request → List Request → Typ
 Adds may before after = (more : List Request) × (after ≡ more ++ before) × All may more
 
 -- exchanges of one run, from one count to another, of requests that may be
-pub record Asks (run from to : ℕ) (may : Request → Type 0) (before after : Told) : Type 0 where
+pub record Asks (run from to : ℕ) (may : Request → Type 0) (before after : LinkState) : Type 0 where
   pub moved : Moved before after
   pub ready : IsReady run from before.sent → IsReady run to after.sent
   pub adds : Adds may before.sent after.sent
@@ -54,7 +57,7 @@ abbrev pub is_number : Option Echo → Echo → Bool
 is_number None n = false
 is_number (Some m) n = (m.run == n.run) && (m.count == n.count)
 
--- what an outcome brings
+-- what holds of the own reply, where it came
 abbrev pub IfOwn : Outcome → (WireReply → Type 0) → Type 0
 IfOwn (outcome.Own w) P = P w
 IfOwn outcome.NoReply P = ⊤

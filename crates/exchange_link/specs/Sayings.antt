@@ -28,8 +28,8 @@ pub record IsRead (state : HubState) (page : Page) (version : ℕ) : Type 0 wher
   pub known : knows (version_at state version) page.token ≡ true
   pub pinned : version ≡ unwrap_or page.pin (newest_number state)
 
--- the answer as the consumer sees it: no caller has the token; the pin is kept no longer or is older than the grant, or none such was
--- published yet; the kind isn't opened; or the page
+-- the answer as the consumer sees it: no caller has the token; the pin is kept no longer or is older than the grant, or
+-- none such was published yet; the kind isn't opened; or the page
 pub data Tells (state : HubState) (page : Page) (seen : WireReply) : Type 0 where
   Unknown : (seen.status ≡ 401) → knows (newest_in state) page.token ≡ false → Tells state page seen
   Gone : (pin : ℕ) (by : GrantRow) → page.pin ≡ Some pin → grant_of page.token (newest_in state).grants ≡ Some by

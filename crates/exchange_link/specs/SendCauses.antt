@@ -20,7 +20,7 @@ use Rattle.version_core.specs.Marks.{mark_at}
 use Rattle.version_core.specs.declared.grant_row.GrantRow.{GrantRow}
 use Rattle.version_core.specs.declared.mark.MarkRow.{MarkRow}
 use Rattle.exchange_link.specs.Causes.{IsLast, IsMore, IsOwnReply}
-use Rattle.exchange_link.specs.Exchanges.{Told}
+use Rattle.exchange_link.specs.Exchanges.{LinkState}
 use Rattle.exchange_link.specs.Sayings.{knows}
 use Rattle.exchange_link.specs.Sent.{NamesFirst}
 use Rattle.exchange_link.specs.declared.send_answer.SendAnswer.{SendAnswer}
@@ -32,6 +32,7 @@ use Rattle.exchange_link.specs.declared.send_answer.SendAnswer.TheVariants as an
 abbrev pub IsOther : ℕ → Type 0
 IsOther status = (status ≢ 401) × (status ≢ 500) × (status ≢ 503)
 
+-- a reply that settles no entry, and is no answer of its own
 pub data IsBadAnswer (number : ℕ) (w : WireReply) : Type 0 where
   Unmarked : IsOther w.status → w.status ≢ 403 → w.status ≢ 422 → w.mark ≡ None → IsBadAnswer number w
   OtherMark : (mark : ℕ) → IsOther w.status → w.mark ≡ Some mark → mark ≢ number → IsBadAnswer number w
@@ -78,7 +79,7 @@ pub record CarriesFirst (token : List ℕ) (echo : Echo) (entries : List OutEntr
   pub request : IsLast (write_request token (mark_of entry) (Some echo)) sent
   pub read : marked_by (write_request token (mark_of entry) (Some echo)) ≡ Some (mark_of entry)
 
--- the answers after which it does
+-- the answers after which it is sent so
 abbrev pub EndsAtEntry : SendAnswer → Type 0
 EndsAtEntry (answer.Settled count) = ⊥
 EndsAtEntry answer.KeeperFault = ⊥
@@ -88,9 +89,9 @@ EndsAtEntry a = ⊤
 
 -- ---- all of it
 
--- the cause of an answer, where the keeper then stands for `copies` and the link tells `tells`: the run, and the number of exchanges
--- of the call
-pub record SendCaused (token : List ℕ) (copies : Copy → Type 0) (tells : Told → Type 0) (asked_before asked_after : ℕ) (kept : List ℕ) (missed : ℕ → Type 0) (broke : Type 0) (a : SendAnswer) : Type 0 where
+-- the cause of an answer, where the keeper then stands for `copies` and the link tells `tells`: the run, and the number
+-- of exchanges of the call
+pub record SendCaused (token : List ℕ) (copies : Copy → Type 0) (tells : LinkState → Type 0) (asked_before asked_after : ℕ) (kept : List ℕ) (missed : ℕ → Type 0) (broke : Type 0) (a : SendAnswer) : Type 0 where
   pub run : ℕ
   pub count : ℕ
   pub counts : IsMore asked_before count asked_after
@@ -98,7 +99,7 @@ pub record SendCaused (token : List ℕ) (copies : Copy → Type 0) (tells : Tol
   pub only : SendCauseOf kept run count (missed count) broke a
   pub exact : (w : WireReply) → IsOwnReply kept run count w → IsSendAside a ⊎ AnswersSend w a
   pub names : (c : Copy) → copies c → NamesFirst a c.entries
-  pub last : EndsAtEntry a → (1 ≤ count) × ((c : Copy) (t : Told) → copies c → tells t → CarriesFirst token (record { run = run; count = count }) c.entries t.sent)
+  pub last : EndsAtEntry a → (1 ≤ count) × ((c : Copy) (t : LinkState) → copies c → tells t → CarriesFirst token (record { run = run; count = count }) c.entries t.sent)
 
 -- `LastRun` comes exactly where the run number is the last one, and changes nothing
 pub record SendLastLaw (a : SendAnswer) (before after : Copy) : Type 0 where
@@ -111,17 +112,18 @@ pub record SendLastLaw (a : SendAnswer) (before after : Copy) : Type 0 where
 abbrev pub IsShut : GrantRow → List OutEntry → Type 0
 IsShut by entries = (entry : OutEntry) × (first_unsettled entries ≡ Some entry) × (opens by.grant.scopes entry.write.kind (access_to entry.write) ≡ false)
 
--- its mark is held with another write
+-- the mark of the first entry that isn't settled is held with another write
 abbrev pub IsTaken : HubState → GrantRow → List OutEntry → Type 0
 IsTaken state by entries = (entry : OutEntry) × (kept : MarkRow) × (first_unsettled entries ≡ Some entry)
     × (mark_at (by.caller, entry.number) state.marks ≡ Some kept) × (kept.write ≢ entry.write)
 
 -- a state at which the hub took a request of the call
-pub record IsBetween (before after : Told) (mid : HubState) : Type 0 where
+pub record IsBetween (before after : LinkState) (mid : HubState) : Type 0 where
   pub from : Grew before.hub mid
   pub to : Grew mid after.hub
 
-abbrev pub SendToldCause : List ℕ → Told → Told → List OutEntry → SendAnswer → Type 0
+-- the state at which the hub gave the reply
+abbrev pub SendToldCause : List ℕ → LinkState → LinkState → List OutEntry → SendAnswer → Type 0
 SendToldCause token before after entries (answer.BadReply number) = ⊥
 SendToldCause token before after entries (answer.HubFault number) = Rose before.hub_faults after.hub_faults
 SendToldCause token before after entries answer.UnknownToken = (mid : HubState) × IsBetween before after mid × (knows (newest_in mid) token ≡ false)

@@ -18,8 +18,8 @@ IsFine answer.NoMemory = ⊤
 IsFine (answer.HubNoMemory number) = ⊤
 IsFine a = ⊥
 
--- at this state the token is known, with the grant that it had at an earlier version, which opens the accesses of the entries that
--- aren't settled, and none of their marks is held with another write
+-- at this state the token is known, with the grant that it had at an earlier version, which opens the accesses of the
+-- entries that aren't settled, and none of their marks is held with another write
 pub record CanSendAll (token : List ℕ) (since : ℕ) (entries : List OutEntry) (state : HubState) : Type 0 where
   pub by : GrantRow
   pub known : grant_of token (newest_in state).grants ≡ Some by

@@ -29,6 +29,7 @@ abbrev pub AllSettled : SendAnswer → ℕ → List OutEntry → Type 0
 AllSettled (answer.Settled count) settled entries = (count ≡ settled) × (first_unsettled entries ≡ None)
 AllSettled a settled entries = ⊤
 
+-- what sending leaves of a copy, by its answer
 pub record SendLeaves (a : SendAnswer) (before after : Copy) : Type 0 where
   pub run : (after.run ≡ before.run) ⊎ (after.run ≡ before.run + 1)
   pub held : after.held ≡ before.held
@@ -48,6 +49,6 @@ number_in (answer.HubFault number) = Some number
 number_in (answer.HubNoMemory number) = Some number
 number_in a = None
 
--- it is that of the first entry that isn't settled
+-- an answer that names a number names that of the first entry that isn't settled
 abbrev pub NamesFirst : SendAnswer → List OutEntry → Type 0
 NamesFirst a entries = IfSome (number_in a) (λ number. IsSomeAnd (first_unsettled entries) (λ entry. entry.number ≡ number))

@@ -12,7 +12,7 @@ use Rattle.version_core.specs.HubStates.{HubState, newest_number}
 use Rattle.exchange_link.specs.declared.answer.SyncAnswer.{SyncAnswer}
 use Rattle.exchange_link.specs.declared.answer.SyncAnswer.TheVariants as answer
 use Rattle.exchange_link.specs.Agreement.{IsFrontOf, StageAgrees}
-use Rattle.exchange_link.specs.Exchanges.{Told}
+use Rattle.exchange_link.specs.Exchanges.{LinkState}
 use Rattle.exchange_link.specs.Sayings.{knows}
 
 -- ---- the stage
@@ -22,6 +22,7 @@ abbrev pub own_stage : List ℕ → Option Stage → Option Stage
 own_stage token None = None
 own_stage token (Some s) = if bytes_eq s.token token then Some s else None
 
+-- the same of where a stage stands
 abbrev pub own_state : List ℕ → Option StageState → Option StageState
 own_state token None = None
 own_state token (Some s) = if bytes_eq s.token token then Some s else None
@@ -36,6 +37,7 @@ pub record Grows (old new : Stage) : Type 0 where
   pub token : new.token ≡ old.token
   pub lists : (place : ℕ) → IsFrontOf (staged_list old place) (staged_list new place)
 
+-- a stage goes on; where none stood, one under this token may have begun
 abbrev pub StageOn : List ℕ → Option Stage → Option Stage → Type 0
 StageOn token None None = Unit {0}
 StageOn token None (Some s) = s.token ≡ token
@@ -77,6 +79,7 @@ HeldLaw a before after = after.held ≡ before.held
 
 -- ---- over any link
 
+-- what a synchronisation leaves of a copy, by its answer
 pub record Leaves (token : List ℕ) (a : SyncAnswer) (before after : Copy) : Type 0 where
   pub run : (after.run ≡ before.run) ⊎ (after.run ≡ before.run + 1)
   pub entries : after.entries ≡ before.entries
@@ -96,19 +99,21 @@ IsPinOf None h v = newest_number h ≤ v
 IsPinOf (Some s) h v = v ≡ s.pin
 
 -- the copy is exactly what the token sees of the pinned version
-pub record CompleteAt (v : ℕ) (token : List ℕ) (before : Copy) (told : Told) (after : Copy) (tells : Told) : Type 0 where
+pub record CompleteAt (v : ℕ) (token : List ℕ) (before : Copy) (told : LinkState) (after : Copy) (tells : LinkState) : Type 0 where
   pub held : after.held ≡ Some (held_at v token tells.hub)
   pub stage : after.stage ≡ None
   pub standing : v < length tells.hub.published
   pub known : knows (version_at tells.hub v) token ≡ true
   pub pin : IsPinOf (own_stage token before.stage) told.hub v
 
-abbrev pub HeldTold : List ℕ → SyncAnswer → Copy → Told → Copy → Told → Type 0
+-- what is held is as before, or exactly what the token sees of the pinned version
+abbrev pub HeldTold : List ℕ → SyncAnswer → Copy → LinkState → Copy → LinkState → Type 0
 HeldTold token (answer.Complete v) before told after tells = CompleteAt v token before told after tells
 HeldTold token answer.KeeperFault before told after tells = (after.held ≡ before.held) ⊎ ((v : ℕ) × CompleteAt v token before told after tells)
 HeldTold token a before told after tells = after.held ≡ before.held
 
-pub record Synchronised (token : List ℕ) (a : SyncAnswer) (before : Copy) (told : Told) (after : Copy) (tells : Told) : Type 0 where
+-- all that is promised of a call over a link that tells, where copy and link agreed
+pub record Synchronised (token : List ℕ) (a : SyncAnswer) (before : Copy) (told : LinkState) (after : Copy) (tells : LinkState) : Type 0 where
   pub leaves : Leaves token a before after
   pub agree : StageAgrees after tells
   pub held : HeldTold token a before told after tells

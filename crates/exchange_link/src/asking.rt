@@ -1,7 +1,7 @@
 //! One request, tried until its own reply comes.
 
 ghost use Rattle.std.specs.Prelude.{◌≡◌, ◌≢◌, ◌+◌, ◌-◌, ◌*◌, ◌<◌, ◌≤◌, Some};
-ghost use Rattle.exchange_link.specs.Exchanges.{IsTextOf, Misses, Told};
+ghost use Rattle.exchange_link.specs.Exchanges.{IsTextOf, Misses, LinkState};
 ghost use Rattle.http_wire.specs.Answers.{IsNoReply, IsReplyText};
 ghost use Rattle.http_wire.specs.Sending.{CanSend, IsSentEcho};
 ghost use Rattle.http_wire.specs.declared.reply_reading.WireReply.{WireReply as Reply};
@@ -30,9 +30,11 @@ pub enum Outcome {
     NoReply,
     /// Nothing came, or a reply with another number.
     Missed,
+    /// Memory ran out.
     NoMemory,
 }
 
+// Whether a reply carries this number.
 fn carries(reply: &WireReply, number: Echo) -> bool
     ensures { result ≡ is_number reply.now.echo number }
 {
@@ -42,7 +44,7 @@ fn carries(reply: &WireReply, number: Echo) -> bool
     }
 }
 
-// What a reply is to the request with this number.
+// What a reply is to the request with this number: its own, or that to another.
 fn judge(reply: WireReply, number: Echo) -> Outcome
     ensures own { IfOwn result (λ w. (w ≡ reply) × (w.echo ≡ Some number)) }
     ensures some { result ≢ Outcome.NoReply }
@@ -70,7 +72,7 @@ fn read_own(alloc: Global, bytes: &[u8], number: Echo) -> Outcome
     }
 }
 
-// What the answer is that a link has kept. Where the link has read it, it isn't read again.
+// What the answer is that a link keeps. One that the link has read isn't read again.
 fn read_kept<L: Link>(alloc: Global, link: &mut L, number: Echo) -> Outcome
     ensures same { link.new ≡ link.old }
     ensures own { IfOwn result (λ w. IsReplyText (L.kept link.old) w × (w.echo ≡ Some number)) }
@@ -87,15 +89,15 @@ fn read_kept<L: Link>(alloc: Global, link: &mut L, number: Echo) -> Outcome
 fn once<L: Link>(alloc: Global, link: &mut L, text: &[u8], number: Echo) -> Outcome
     requires { (q : Asked) × IsTextOf q text.now × (q.echo ≡ Some number) }
     ensures own { IfOwn result (λ w. IsReplyText (L.kept link.new) w × (w.echo ≡ Some number)) }
-    ensures none { result ≡ Outcome.NoReply → IsNoReply (L.kept link.new) × ((after : Told) → L.tells link.new after → ⊥) }
+    ensures none { result ≡ Outcome.NoReply → IsNoReply (L.kept link.new) × ((after : LinkState) → L.tells link.new after → ⊥) }
     ensures missed { result ≡ Outcome.Missed → Rose (L.fault_count link.old) (L.fault_count link.new)
         × ((w : Reply) → IsReplyText (L.kept link.new) w → w.echo ≡ Some number → ⊥) }
     ensures misses { Misses (Rose (L.fault_count link.old) (L.fault_count link.new)) (L.missed link.old) (L.missed link.new) }
     ensures asked { IsMore (L.asked link.old) 1 (L.asked link.new) }
     ensures later { L.fault_count link.old ≤ L.fault_count link.new }
     ensures link_leads { L.leads link.old link.new }
-    ensures told { (q : Asked) → IsTextOf q text.now → (after : Told) → L.tells link.new after
-        → (before : Told) × L.tells link.old before × Tries q result before after }
+    ensures told { (q : Asked) → IsTextOf q text.now → (after : LinkState) → L.tells link.new after
+        → (before : LinkState) × L.tells link.old before × Tries q result before after }
 {
     match link.exchange(alloc, text) {
         Ok(()) => read_kept(alloc, link, number),
@@ -104,7 +106,8 @@ fn once<L: Link>(alloc: Global, link: &mut L, text: &[u8], number: Echo) -> Outc
     }
 }
 
-/// Tries a request at most so often, each time under the next count of its run; `request` has no number of its own.
+/// Sends a request until its own reply comes, at most `tries` times, each time under the next count of its run; `count`
+/// is the last one, and `request` has no number of its own. Gives that reply, or why there is none.
 pub fn ask<L: Link>(
     alloc: Global,
     link: &mut L,
@@ -122,16 +125,16 @@ pub fn ask<L: Link>(
     ensures later { L.fault_count link.old ≤ L.fault_count link.new }
     ensures link_leads { L.leads link.old link.new }
     ensures own { IfOwn result (λ w. IsOwnReply (L.kept link.new) run count.new w) }
-    ensures none { result ≡ Outcome.NoReply → (1 ≤ count.new) × IsNoReply (L.kept link.new) × ((after : Told) → L.tells link.new after → ⊥) }
+    ensures none { result ≡ Outcome.NoReply → (1 ≤ count.new) × IsNoReply (L.kept link.new) × ((after : LinkState) → L.tells link.new after → ⊥) }
     ensures missed { result ≡ Outcome.Missed → (count.new ≡ count.old + tries) × (tries ≤ L.missed link.new)
         × RoseBy tries (L.fault_count link.old) (L.fault_count link.new)
         × ((w : Reply) → IsReplyText (L.kept link.new) w → w.echo ≡ Some (number run count.new) → ⊥) }
-    ensures told { (after : Told) → L.tells link.new after → (before : Told) × L.tells link.old before
+    ensures told { (after : LinkState) → L.tells link.new after → (before : LinkState) × L.tells link.old before
         × Asks run count.old count.new (IsNumbered request) before after
         × (IsReady run count.old before.sent → IfOwn result (λ w. IsOwnRead before after (numbered request (number run count.new)) w)) }
-    ensures last { result ≢ Outcome.NoMemory → (after : Told) → L.tells link.new after → IsLast (numbered request (number run count.new)) after.sent }
+    ensures last { result ≢ Outcome.NoMemory → (after : LinkState) → L.tells link.new after → IsLast (numbered request (number run count.new)) after.sent }
     // Each exchange sent this request, under the next count.
-    ensures asks { (after : Told) → L.tells link.new after → (before : Told) × L.tells link.old before
+    ensures asks { (after : LinkState) → L.tells link.new after → (before : LinkState) × L.tells link.old before
         × SendsOn (IsTry (numbered request)) run count.old count.new (result ≡ Outcome.NoMemory) before.sent after.sent }
 {
     for i in 0..tries {

@@ -7,7 +7,7 @@ ghost use Rattle.outside_ports.specs.declared.failed.IoError.TheVariants as io_e
 ghost use Rattle.roster_base.specs.Faults.{Rose};
 ghost use Rattle.status_info.specs.declared.request.Request.{Request};
 
-use crate::came::Came;
+use crate::arrival::Arrival;
 use crate::own::is_own;
 use crate::tally::Tally;
 use http_wire::WireReply;
@@ -18,7 +18,7 @@ use std::alloc::Global;
 /// The answer of the last exchange, empty where it failed, and the counts.
 #[derive(Drop)]
 pub(crate) struct Inbox {
-    pub(crate) kept: Came,
+    pub(crate) kept: Arrival,
     pub(crate) tally: Tally,
 }
 
@@ -26,7 +26,7 @@ impl Inbox {
     /// Nothing was exchanged yet.
     pub(crate) fn new(alloc: Global) -> Inbox {
         Inbox {
-            kept: Came::nothing(alloc),
+            kept: Arrival::nothing(alloc),
             tally: Tally::new(),
         }
     }
@@ -45,7 +45,7 @@ impl Inbox {
     }
 
     // Keeps what came of an exchange, and counts a fault where it isn't the own reply.
-    fn keep(&mut self, alloc: Global, request: &[u8], came: Came) -> Result<(), IoError>
+    fn keep(&mut self, alloc: Global, request: &[u8], came: Arrival) -> Result<(), IoError>
         requires sent { IsSentText request.now }
         requires empty { self.old.kept ≡ [] }
         ensures asked { self.new.tally.asked ≡ min (self.old.tally.asked + 1) (2 ^ 64 - 1) }
@@ -70,7 +70,7 @@ impl Inbox {
         &mut self,
         alloc: Global,
         request: &[u8],
-        came: Result<Came, IoError>,
+        came: Result<Arrival, IoError>,
     ) -> Result<(), IoError>
         requires { IsSentText request.now }
         ensures asked { self.new.tally.asked ≡ min (self.old.tally.asked + 1) (2 ^ 64 - 1) }
@@ -80,14 +80,15 @@ impl Inbox {
         ensures kept { OnErr result (self.new.kept ≡ []) }
         ensures own { (q : Request) → IsTextOf q request.now → OnOk result (Carries self.new.kept q.echo ⊎ Rose self.old.tally.faults self.new.tally.faults) }
     {
-        self.kept = Came::nothing(alloc);
+        self.kept = Arrival::nothing(alloc);
         match came {
             Ok(came) => self.keep(alloc, request, came),
             Err(error) => self.miss(error),
         }
     }
 
-    /// Takes the reply that was read from the kept bytes, where they are one and it wasn't taken yet. A clause sees no change.
+    /// Takes the reply that was read from the kept bytes, where they are one and it wasn't taken yet. A clause sees no
+    /// change.
     pub(crate) fn take_reply(&mut self) -> Option<WireReply>
         ensures same { self.new ≡ self.old }
         ensures reads { IfSome result (λ w. IsReplyText self.old.kept w) }

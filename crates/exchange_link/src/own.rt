@@ -1,16 +1,16 @@
 //! Whether what came is the own reply to a request.
 
-ghost use Rattle.std.specs.Prelude.{◌≡◌, [], IfOk, None, Ok, true};
+ghost use Rattle.std.specs.Prelude.{◌≡◌, IfOk, Ok, true};
 ghost use Rattle.exchange_link.specs.Exchanges.{Carries, IsSentText, IsTextOf};
 ghost use Rattle.status_info.specs.declared.request.Request.{Request as Asked};
 
-use crate::came::Came;
-use http_wire::{WireFault, WireReader};
-use outside_ports::HeldSource;
+use crate::arrival::Arrival;
+use crate::reading::request_of;
 use roster_base::NoMemory;
 use status_info::{Echo, Request};
 use std::alloc::Global;
 
+// The number of a request, which is let go.
 fn taken_number(request: Request) -> Option<Echo>
     ensures { result ≡ request.echo }
 {
@@ -19,35 +19,16 @@ fn taken_number(request: Request) -> Option<Echo>
     number
 }
 
-// The number that the text of a request says.
-fn number_in(
-    alloc: Global,
-    reader: &mut WireReader,
-    source: &mut HeldSource,
-) -> Result<Option<Echo>, NoMemory>
-    requires fresh { reader.old ≡ record { kept = []; fault = None } }
-    requires sent { IsSentText source.old }
-    ensures { IfOk result (λ number. (q : Asked) → IsTextOf q source.old → number ≡ q.echo) }
-{
-    match reader.next(alloc, source) {
-        Ok(request) => Ok(taken_number(request)),
-        Err(fault) => match fault {
-            WireFault::NoMemory => Err(NoMemory),
-            _ => unreachable!(),
-        },
-    }
-}
-
 // The number of the request whose text this is.
 fn number_of(alloc: Global, text: &[u8]) -> Result<Option<Echo>, NoMemory>
     requires { IsSentText text.now }
     ensures { IfOk result (λ number. (q : Asked) → IsTextOf q text.now → number ≡ q.echo) }
 {
-    let mut source = HeldSource::new(alloc, text.to_vec(alloc)?);
-    let mut reader = WireReader::new(alloc)?;
-    number_in(alloc, &mut reader, &mut source)
+    let request = request_of(alloc, text)?;
+    Ok(taken_number(request))
 }
 
+// Whether both are the same number, or both are none.
 fn is_same(one: Option<Echo>, other: Option<Echo>) -> bool
     ensures { result ≡ true → one ≡ other }
 {
@@ -59,7 +40,7 @@ fn is_same(one: Option<Echo>, other: Option<Echo>) -> bool
 }
 
 /// Whether what came is a reply with the number of the request whose text this is.
-pub(crate) fn is_own(alloc: Global, request: &[u8], came: &Came) -> Result<bool, NoMemory>
+pub(crate) fn is_own(alloc: Global, request: &[u8], came: &Arrival) -> Result<bool, NoMemory>
     requires { IsSentText request.now }
     ensures { result ≡ Ok true → (q : Asked) → IsTextOf q request.now → Carries came.now q.echo }
 {

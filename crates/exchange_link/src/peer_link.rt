@@ -1,13 +1,13 @@
 //! A link whose replies are given beforehand.
 
-use crate::came::Came;
+use crate::arrival::Arrival;
 use crate::inbox::Inbox;
 use crate::link::Link;
 use outside_ports::IoError;
 use std::alloc::Global;
 
-/// A link whose replies are given beforehand, one for each exchange in turn. An exchange fails where it has none, and each reply without
-/// the number of the exchange's request is counted as a fault. It tells nothing of a hub.
+/// A link whose replies are given beforehand, one for each exchange in turn. An exchange fails where it has none, and
+/// each reply without the number of the exchange's request is counted as a fault. It tells nothing of a hub.
 #[derive(Drop)]
 pub struct PeerLink {
     replies: Vec<Option<Vec<u8>>>,
@@ -26,7 +26,7 @@ impl PeerLink {
     }
 }
 
-// The reply at a place, which is taken out, and the next place.
+// The reply at a place, which is taken out; the place goes on to the next one.
 fn taken(replies: &mut [Option<Vec<u8>>], place: &mut usize) -> Option<Vec<u8>> {
     if *place >= replies.len() {
         return None;
@@ -37,9 +37,9 @@ fn taken(replies: &mut [Option<Vec<u8>>], place: &mut usize) -> Option<Vec<u8>> 
 }
 
 // What comes of an exchange to which this is the reply.
-fn came_of(alloc: Global, reply: Option<Vec<u8>>) -> Result<Came, IoError> {
+fn came_of(alloc: Global, reply: Option<Vec<u8>>) -> Result<Arrival, IoError> {
     match reply {
-        Some(bytes) => Ok(Came::read(alloc, bytes)?),
+        Some(bytes) => Ok(Arrival::read(alloc, bytes)?),
         None => Err(IoError::Failed),
     }
 }

@@ -40,8 +40,8 @@ impl ReplyBytes {
         }
     }
 
-    /// How many bytes are wanted next, at most a chunk: none once the reply is whole, and else one more than it lacks, so that a byte behind
-    /// it is seen where it comes with it.
+    /// How many bytes are wanted next, at most a chunk: none once the reply is whole, and else one more than it lacks,
+    /// so that a byte behind it is seen where it comes with it.
     pub(crate) fn wanted(&self) -> usize
         ensures most { result ≤ CHUNK }
         ensures whole { result ≡ 0 → IsSomeAnd self.now.length (λ n. n ≤ vec_len self.now.bytes) }

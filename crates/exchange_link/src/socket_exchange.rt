@@ -20,6 +20,7 @@ struct Watch<'r, R> {
 }
 
 impl<'r, R: Clock> Watch<'r, R> {
+    // A watch that starts now.
     fn start(rt: &'r R) -> io::Result<Watch<'r, R>> {
         Ok(Watch {
             rt,
@@ -73,8 +74,8 @@ fn read_reply<R: Clock, S: Read>(
     Ok(reply.into_bytes())
 }
 
-// Sends a request over a connection, and reads the reply. The writing side stays open: some proxies drop the request of a client that
-// shuts it.
+// Sends a request over a connection, and reads the reply. The writing side stays open: some proxies drop the request of
+// a client that shuts it.
 fn answer_over<R: Clock, S: Read + Write + OpenStream>(
     alloc: Global,
     watch: &Watch<R>,

@@ -1,6 +1,6 @@
 //! A link over sockets.
 
-use crate::came::Came;
+use crate::arrival::Arrival;
 use crate::inbox::Inbox;
 use crate::link::Link;
 use crate::socket_exchange::bytes_from;
@@ -13,8 +13,9 @@ use std::io::{self, ErrorKind};
 use std::net::Net;
 use std::time::Clock;
 
-/// A link to a hub at an address, a host and a port, over a connection of its own for each exchange. It tells nothing of the hub. An exchange
-/// fails where the connection does, where the peer lets it wait for a minute or takes ten for all, and where what comes is no reply.
+/// A link to a hub at an address, a host and a port, over a connection of its own for each exchange. It tells nothing
+/// of the hub. An exchange fails where the connection does, where the peer lets it wait for a minute or takes ten for
+/// all, and where what comes is no reply.
 #[derive(Drop)]
 pub struct SocketLink<R> {
     rt: R,
@@ -72,8 +73,8 @@ fn reply_from<R: Net + Clock>(
     rt: &R,
     address: &str,
     request: &[u8],
-) -> Result<Came, Missed> {
-    let came = Came::read(alloc, bytes_from(alloc, rt, address, request)?)?;
+) -> Result<Arrival, Missed> {
+    let came = Arrival::read(alloc, bytes_from(alloc, rt, address, request)?)?;
     if came.reply().is_none() {
         return Err(Missed::Unreached(Unreached::NoHttp));
     }
@@ -81,7 +82,7 @@ fn reply_from<R: Net + Clock>(
 }
 
 // Keeps why an exchange brought no reply.
-fn noted(why: &mut Option<Unreached>, came: Result<Came, Missed>) -> Result<Came, IoError> {
+fn noted(why: &mut Option<Unreached>, came: Result<Arrival, Missed>) -> Result<Arrival, IoError> {
     match came {
         Ok(came) => Ok(came),
         Err(Missed::NoMemory) => Err(IoError::NoMemory),

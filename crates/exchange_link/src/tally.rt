@@ -4,8 +4,8 @@ ghost use Rattle.std.specs.Prelude.{◌≡◌, ◌≤◌, ◌+◌, ◌-◌, ◌^
 ghost use Rattle.exchange_link.specs.Exchanges.{Misses};
 ghost use Rattle.roster_base.specs.Faults.{Rose};
 
-/// How many exchanges were made, how many in a row up to the last one raised the count of faults, and how many failed or brought
-/// another reply. The counts stay at the end of `u64`.
+/// How many exchanges were made, how many in a row up to the last one raised the count of faults, and how many failed
+/// or brought another reply. The counts stay at the end of `u64`.
 #[derive(Drop)]
 pub struct Tally {
     pub asked: u64,
@@ -25,7 +25,8 @@ impl Tally {
         }
     }
 
-    /// Counts an exchange, and a fault where it has one. Where the count of faults stands at its end, each exchange counts as one that missed.
+    /// Counts an exchange, and a fault where it has one. Where the count of faults stands at its end, each exchange
+    /// counts as one that missed.
     pub fn count(&mut self, has_fault: bool)
         ensures asked { self.new.asked ≡ min (self.old.asked + 1) (2 ^ 64 - 1) }
         ensures missed { Misses (Rose self.old.faults self.new.faults) self.old.missed self.new.missed }

@@ -46,7 +46,8 @@ impl<'a> Decoded<'a> {
         true
     }
 
-    // Whether a first byte and the bytes up to where it says make a character, which is taken.
+    // Whether a first byte and those behind it that belong to its character make one in UTF-8. They are taken. The
+    // first byte says how many there are: below 128 none, below 224 one, below 240 two, and else three.
     fn takes_character(&mut self, first: u8) -> bool
         ensures text { is_utf8 (first ∷ decoded_left self.old) ≡ (result && is_utf8 (decoded_left self.new)) }
         ensures shorter { length (decoded_left self.new) ≤ length (decoded_left self.old) }
@@ -73,6 +74,7 @@ impl<'a> Decoded<'a> {
     }
 }
 
+// Whether bytes are UTF-8.
 fn is_character(bytes: &[u8]) -> bool
     ensures { result ≡ is_utf8 bytes.now }
 {

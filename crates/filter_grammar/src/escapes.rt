@@ -19,6 +19,7 @@ pub fn has_whole_escapes(text: &[u8]) -> bool
     true
 }
 
+// Whether two hexadecimal digits come first.
 fn begins_with_code(text: &[u8]) -> bool
     ensures { result ≡ spec.begins_with_code text.now }
 {
@@ -28,6 +29,7 @@ fn begins_with_code(text: &[u8]) -> bool
     }
 }
 
+// Whether a byte is a hexadecimal digit.
 fn is_hexadecimal(byte: u8) -> bool
     ensures { result ≡ spec.is_hexadecimal byte }
 {

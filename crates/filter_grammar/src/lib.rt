@@ -1,5 +1,5 @@
-//! The query of a read: what its text asks for, or its first fault; the escapes in it and what they stand for; whether its filter
-//! lets a row through, and what a row is sorted by.
+//! The query of a read: what its text asks for, or its first fault; the escapes in it and what they stand for; whether
+//! its filter lets a row through, and what a row is sorted by.
 #![tactic(auto)]
 
 pub mod decoded;

@@ -7,7 +7,7 @@ use Rattle.std.specs.Option.{ForSome}
 use Rattle.gradebook_core.specs.Judging.{MayLead, RepeatsOneOf, verdict_of}
 use Rattle.gradebook_core.specs.Outcomes.{check_number}
 use Rattle.gradebook_core.specs.Writing.{MayCommit, LedBy, Writes, change_in, commit_of, number_after, refused_as}
-use Rattle.gradebook_core.specs.Writing.{told_of, written_as, written_of}
+use Rattle.gradebook_core.specs.Writing.{written_by, written_as, written_of}
 use Rattle.gradebook_core.specs.declared.judgement.Judgement.{Judgement}
 use Rattle.gradebook_core.specs.declared.judgement.Judgement.TheVariants as judgement
 use Rattle.gradebook_core.specs.declared.outcome.Check.{Check}
@@ -47,7 +47,7 @@ marks_are marks (Some mark) = refl
 
 -- what is kept of a judgement doesn't turn on the version that a repeat tells
 pub same_commit : (newest : BaseVersion) (caller : List ℕ) (mark : Option ℕ) (write : Write) (made : Judgement)
-    → commit_of newest caller mark write made (told_of newest mark write made).version ≡ commit_of newest caller mark write made (number_after newest made)
+    → commit_of newest caller mark write made (written_by newest mark write made).version ≡ commit_of newest caller mark write made (number_after newest made)
 same_commit newest caller mark write (judgement.New change) = refl
 same_commit newest caller mark write judgement.Same = refl
 same_commit newest caller None write (judgement.Repeat kept) = refl
@@ -79,7 +79,7 @@ module _ (state : HubState) (is : IsHubState state) (kept : KeptState) (part : I
 
   module _ (mark : Option ℕ) (write : Write) where
     -- what is told is what the verdict says
-    pub written_is : (made : Judgement) → MayLead newest made → told_of newest mark write made ≡ written_of state mark write (verdict_of newest made)
+    pub written_is : (made : Judgement) → MayLead newest made → written_by newest mark write made ≡ written_of state mark write (verdict_of newest made)
     written_is (judgement.New change) leads = ap (written_as mark (done_of write)) (number_is (judgement.New change) leads)
     written_is judgement.Same leads = ap (written_as mark (done_of write)) number
     written_is (judgement.Repeat held) leads = refl
@@ -159,7 +159,7 @@ module _ (by : GrantRow) (mark : Option ℕ) (write : Write) (at : ℤ) (kept : 
   led_by : (state : HubState) → IsHubState state → IsPartOf kept state → LedBy by mark write at state (with_commit kept handed) (verdict_of (newest_kept kept.versions) made)
   led_by state is part = record { judged = judged state (newest_same state is kept part) (sym part.marks); led = led state is kept part mark write by.caller made leads }
 
-  pub writes_done : (after : KeptState) → after ≡ with_commit kept handed → Writes by mark write at (Ok (told_of (newest_kept kept.versions) mark write made)) kept after
+  pub writes_done : (after : KeptState) → after ≡ with_commit kept handed → Writes by mark write at (Ok (written_by (newest_kept kept.versions) mark write made)) kept after
   writes_done after same state is part =
       let verdict = verdict_of (newest_kept kept.versions) made in
       (verdict, subst (λ k. LedBy by mark write at state k verdict) (sym same) (led_by state is part), written_is state is kept part mark write made leads)
@@ -178,7 +178,7 @@ module _ (kept : KeptState) (table : Versions) (marks : List MarkRow) (same : ta
     (by : GrantRow) (mark : Option ℕ) (write : Write) (at : ℤ) (made : Judgement)
     (judged : (state : HubState) → newest_in state ≡ newest_of table → state.marks ≡ marks → Judges state by mark write at (verdict_of (newest_of table) made))
     (leads : MayLead (newest_of table) made)
-    (told : Written) (is_told : told ≡ told_of (newest_of table) mark write made)
+    (told : Written) (is_told : told ≡ written_by (newest_of table) mark write made)
     (due : HubCommit) (is_due : (newest : BaseVersion) → due ≡ commit_of newest by.caller mark write made told.version) where
   same_newest : newest_of table ≡ newest_kept kept.versions
   same_newest = ap (λ versions. last_or empty_version versions) same
@@ -190,8 +190,8 @@ module _ (kept : KeptState) (table : Versions) (marks : List MarkRow) (same : ta
   leads_here : MayLead (newest_kept kept.versions) made
   leads_here = subst (λ newest. MayLead newest made) same_newest leads
 
-  told_here : told ≡ told_of (newest_kept kept.versions) mark write made
-  told_here = is_told ∙ ap (λ newest. told_of newest mark write made) same_newest
+  told_here : told ≡ written_by (newest_kept kept.versions) mark write made
+  told_here = is_told ∙ ap (λ newest. written_by newest mark write made) same_newest
 
   due_here : due ≡ commit_of (newest_kept kept.versions) by.caller mark write made (number_after (newest_kept kept.versions) made)
   due_here = is_due (newest_kept kept.versions) ∙ ap (λ (w : Written). commit_of (newest_kept kept.versions) by.caller mark write made w.version) told_here
@@ -240,7 +240,7 @@ check_low check.LastVersion = omega arith
 
 -- what is told of a judgement is the number of an outcome
 pub told_low : (top : ℕ) (marks : List MarkRow) → AreMarks top marks → (newest : BaseVersion) (mark : Option ℕ) (write : Write) (made : Judgement)
-    → RepeatsOneOf marks made → (told_of newest mark write made).outcome ≤ 9
+    → RepeatsOneOf marks made → (written_by newest mark write made).outcome ≤ 9
 told_low top marks are newest mark write (judgement.New change) repeats = done_low write
 told_low top marks are newest mark write judgement.Same repeats = done_low write
 told_low top marks are newest mark write (judgement.Repeat kept) repeats =

@@ -37,6 +37,7 @@ pub record IsKeptAmong (marks : List MarkRow) (kept : Kept) : Type 0 where
   pub found : mark_at key marks ≡ Some held
   pub is : kept ≡ held.kept
 
+-- where the judgement repeats something, that is kept under one of these marks
 abbrev pub RepeatsOneOf : List MarkRow → Judgement → Type 0
 RepeatsOneOf marks (judgement.Repeat kept) = IsKeptAmong marks kept
 RepeatsOneOf marks _ = ⊤

@@ -49,7 +49,7 @@ WritesAt by mark write at state (Err error.Keeper) after = IsPartOf after state 
 WritesAt by mark write at state (Err error.NoMemory) after = IsPartOf after state
 WritesAt by mark write at state (Err (error.Refused fault)) after = ⊥
 
--- at each state of which this is kept
+-- what a write answers and where it leads, at each state of which this is kept
 abbrev pub Writes : GrantRow → Option ℕ → Write → ℤ → Result Written HubError → KeptState → KeptState → Type 0
 Writes by mark write at result before after = (state : HubState) → IsHubState state → IsPartOf before state → WritesAt by mark write at state result after
 
@@ -61,12 +61,13 @@ number_after newest (judgement.New change) = change.version
 number_after newest _ = newest.number
 
 -- what a write is told of a judgement
-abbrev pub told_of : BaseVersion → Option ℕ → Write → Judgement → Written
-told_of newest mark write (judgement.New change) = written_as mark (done_of write) change.version
-told_of newest mark write judgement.Same = written_as mark (done_of write) newest.number
-told_of newest mark write (judgement.Repeat kept) = written_as mark kept.outcome kept.version
-told_of newest mark write (judgement.Refused failed) = refused_as mark (check_number failed) newest.number
+abbrev pub written_by : BaseVersion → Option ℕ → Write → Judgement → Written
+written_by newest mark write (judgement.New change) = written_as mark (done_of write) change.version
+written_by newest mark write judgement.Same = written_as mark (done_of write) newest.number
+written_by newest mark write (judgement.Repeat kept) = written_as mark kept.outcome kept.version
+written_by newest mark write (judgement.Refused failed) = refused_as mark (check_number failed) newest.number
 
+-- the change of a new version
 abbrev pub change_in : Judgement → Option Change
 change_in (judgement.New change) = Some change
 change_in _ = None

@@ -14,6 +14,7 @@ use version_changes::limits::ROW_LIMIT;
 use version_core::row_change::RowChange;
 use version_core::view::VersionView;
 
+// Whether the caller owns the row.
 fn is_of(caller: &Name, owner: &Owner) -> bool
     ensures { result ≡ spec.is_of caller.now owner.now }
 {
@@ -23,7 +24,7 @@ fn is_of(caller: &Name, owner: &Owner) -> bool
     }
 }
 
-/// Whether the row that stands is another's.
+/// Whether a row stands already, and belongs to another than the caller.
 pub fn is_of_other(caller: &Name, stored: Option<&RowChange>) -> bool
     ensures { result ≡ spec.is_of_other caller.now (option_copied stored.entry) }
 {
@@ -33,6 +34,7 @@ pub fn is_of_other(caller: &Name, stored: Option<&RowChange>) -> bool
     }
 }
 
+// Whether the session has the type of a grading period.
 fn is_grading_period(session: &Row) -> bool
     ensures { result ≡ spec.is_grading_period session.now }
 {

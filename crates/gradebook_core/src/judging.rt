@@ -117,9 +117,9 @@ pub struct Asking<'a> {
     pub at: Moment,
 }
 
-/// What becomes of the write of a caller with a grant, under a mark if it has one, by the newest version of the table and the
-/// marks that are held: its verdict, by checks in order. The verdict is that at each state of a hub for which the table and
-/// the marks stand. A refusal is a verdict too; the error is want of memory alone.
+/// What becomes of the write of a caller with a grant, under a mark if it has one, by the newest version of the table
+/// and the marks that are held: its verdict, by checks in order. The verdict is that at each state of a hub for which
+/// the table and the marks stand. A refusal is a verdict too; the error is want of memory alone.
 pub fn judge(
     alloc: Global,
     table: &Table,

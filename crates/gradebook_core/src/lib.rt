@@ -15,6 +15,7 @@ mod written;
 pub use judgement::Judgement;
 pub use judging::{Asking, judge};
 pub use outcome::{Check, Outcome};
+// What crates above call of `query_pages`, which they then needn't list.
 pub use query_pages as pages;
 pub use writing::write;
 pub use written::Written;

@@ -41,7 +41,8 @@ impl Check {
         }
     }
 
-    /// Whether a write that fails this check is kept under its mark: where the mark is another write's, it keeps that one.
+    /// Whether a write that fails this check is kept under its mark: where the mark is another write's, it keeps that
+    /// one.
     pub fn is_kept(self) -> bool
         ensures above { result ≡ nat_lt 1 (check_number self) }
         ensures other { result ≡ not (check_number self == 1) }

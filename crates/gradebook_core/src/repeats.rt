@@ -10,6 +10,7 @@ use crate::judgement::Judgement;
 use crate::outcome::Check;
 use version_core::mark::{MarkRow, Write};
 
+// Whether both are set, or neither is.
 fn same_flag(one: bool, other: bool) -> bool
     ensures { result ≡ spec.same_flag one other }
 {

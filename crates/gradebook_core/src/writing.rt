@@ -8,7 +8,7 @@ ghost use Rattle.hub_core.specs.Works.{Works};
 ghost use Rattle.keeper_memory.specs.Kept.{KeptState};
 
 use crate::judging::{Asking, judge};
-use crate::written::{Written, commit_of, told_of};
+use crate::written::{Written, commit_of, written_by};
 use hub_core::{Hub, HubError};
 use keeper_memory::{HubCommit, HubKeeper};
 use std::alloc::Global;
@@ -22,12 +22,12 @@ fn commit<H: HubKeeper>(
     commit: HubCommit,
 ) -> Result<(), HubError>
     requires fits { KeeperFits (H.stands_for keeper.old) hub.old }
-    requires settled { hub.old.is_open ≡ false }
+    requires settled { hub.old.commit_open ≡ false }
     requires may { MayCommit hub.old.kept commit }
     ensures fits { KeeperFits (H.stands_for keeper.new) hub.new }
     ensures told { (after : KeptState) → IsStanding hub.new after → (H.stands_for keeper.new after → H.stands_for keeper.old hub.old.kept) × Installs commit result hub.old.kept after }
     ensures works { Works result hub.old hub.new }
-    ensures settled { LeavesOpen result hub.new.is_open }
+    ensures settled { LeavesOpen result hub.new.commit_open }
     ensures cause { CountsFault (H.fault_count keeper.old) (H.fault_count keeper.new) result }
     ensures leads { H.leads keeper.old keeper.new }
     ensures refused { RefusesNothing result }
@@ -39,9 +39,9 @@ fn commit<H: HubKeeper>(
     hub.install(alloc, keeper, commit)
 }
 
-/// Does what the write of a caller with a grant asks for, under a mark if it has one, at a moment: as it is judged by the newest
-/// version and the marks. Where it has a mark, its verdict is kept under it for good, in the same commit as its change; only that
-/// the mark is another write's is kept nowhere. All memory is taken before the commit.
+/// Does what the write of a caller with a grant asks for, under a mark if it has one, at a moment: as it is judged by
+/// the newest version and the marks. Where it has a mark, its verdict is kept under it for good, in the same commit as
+/// its change; only that the mark is another write's is kept nowhere. All memory is taken before the commit.
 pub fn write<H: HubKeeper>(
     alloc: Global,
     hub: &mut Hub,
@@ -50,14 +50,14 @@ pub fn write<H: HubKeeper>(
     write: Write,
 ) -> Result<Written, HubError>
     requires fits { KeeperFits (H.stands_for keeper.old) hub.old }
-    requires settled { hub.old.is_open ≡ false }
+    requires settled { hub.old.commit_open ≡ false }
     ensures fits { KeeperFits (H.stands_for keeper.new) hub.new }
     ensures told { (after : KeptState) → IsStanding hub.new after → (H.stands_for keeper.new after → H.stands_for keeper.old hub.old.kept) × Writes asking.now.by.now asking.now.mark write asking.now.at result hub.old.kept after }
     // What is told is the number of an outcome.
     ensures outcome { IfOk result (λ written. written.outcome ≤ 9) }
     // What it made is the last commit, if anything.
     ensures works { Works result hub.old hub.new }
-    ensures settled { LeavesOpen result hub.new.is_open }
+    ensures settled { LeavesOpen result hub.new.commit_open }
     ensures cause { CountsFault (H.fault_count keeper.old) (H.fault_count keeper.new) result }
     ensures leads { H.leads keeper.old keeper.new }
     ensures refused { RefusesNothing result }
@@ -65,7 +65,7 @@ pub fn write<H: HubKeeper>(
     let table = hub.table();
     let judgement = judge(alloc, table, hub.marks(), asking, &write)?;
     let (caller, mark) = (&asking.by.caller, asking.mark);
-    let written = told_of(table, mark, &write, &judgement);
+    let written = written_by(table, mark, &write, &judgement);
     let due = commit_of(alloc, caller, mark, write, judgement, written.version)?;
     match commit(alloc, hub, keeper, due) {
         Ok(()) => Ok(written),

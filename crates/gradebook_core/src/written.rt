@@ -3,7 +3,7 @@
 ghost use Rattle.std.specs.Prelude.{◌≡◌, IfOk, option_map};
 ghost use Rattle.gradebook_core.specs.Judging.{verdict_of};
 ghost use Rattle.gradebook_core.specs.Outcomes.{outcome_number};
-ghost use Rattle.gradebook_core.specs.Writing.{change_in, commit_of, told_of};
+ghost use Rattle.gradebook_core.specs.Writing.{change_in, commit_of, written_by};
 ghost use Rattle.hub_spec.specs.rules.Written as spec;
 ghost use Rattle.version_core.specs.Version.{newest_of};
 ghost use Rattle.version_core.specs.declared.change.BaseVersion.{BaseVersion};
@@ -18,8 +18,9 @@ use version_core::change::Change;
 use version_core::mark::{Kept, MarkRow, Write};
 use version_core::table::Table;
 
-/// What became of a write: its outcome, the number of the newest version after it, and whether both are kept under its mark. The
-/// outcome is the number of an `Outcome`. For a write that its mark tells of already, outcome and version are those that were kept.
+/// What became of a write: its outcome, the number of the newest version after it, and whether both are kept under its
+/// mark. The outcome is the number of an `Outcome`. For a write that its mark tells of already, outcome and version are
+/// those that were kept.
 #[derive(Clone, Copy, Debug, PartialEq, Eq)]
 pub struct Written {
     pub outcome: u8,
@@ -39,8 +40,8 @@ fn done_of(write: &Write) -> Outcome
 }
 
 /// What a write is told of its judgement.
-pub fn told_of(table: &Table, mark: Option<u64>, write: &Write, judgement: &Judgement) -> Written
-    ensures { result ≡ told_of (newest_of table.now) mark write.now judgement.now }
+pub fn written_by(table: &Table, mark: Option<u64>, write: &Write, judgement: &Judgement) -> Written
+    ensures { result ≡ written_by (newest_of table.now) mark write.now judgement.now }
 {
     match judgement {
         Judgement::New(change) => Written {

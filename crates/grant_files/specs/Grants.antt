@@ -17,6 +17,7 @@ use Rattle.roster_base.specs.Reading.{◌>>=◌}
 use Rattle.roster_texts.specs.Results.{found_or}
 use Rattle.roster_texts.specs.Texts.{is_name, is_token}
 
+-- the header `caller,token,scopes,schools`
 abbrev pub is_header : List (List ℕ) → Bool
 is_header cells =
     (length cells == 4)
@@ -25,9 +26,11 @@ is_header cells =
     && bytes_eq (text_at cells 2) (codes "scopes")
     && bytes_eq (text_at cells 3) (codes "schools")
 
+-- the caller that a cell names
 abbrev pub caller_of : ℕ → List ℕ → Result (List ℕ) GrantFault
 caller_of number text = if is_name text then Ok text else Err (BadName number)
 
+-- the token that a cell has
 abbrev pub token_of : ℕ → List ℕ → Result (List ℕ) GrantFault
 token_of number text = if is_token text then Ok text else Err (BadToken number)
 
@@ -40,6 +43,7 @@ entry_of number cells = if not (length cells == 4) then Err (Width number) else 
   schools ← found_or (BadSchools number) (schools_of (text_at cells 3))
   Ok (record { caller = caller; token = token; scopes = scopes; schools = schools })
 
+-- a text is one of these
 abbrev pub stands_in : List ℕ → List (List ℕ) → Bool
 stands_in text texts = list_any (bytes_eq text) texts
 
@@ -63,6 +67,7 @@ entries_after front number (cells ∷ rest) = do
   entries ← entries_with front number cells
   entries_after entries (number + 1) rest
 
+-- grants that aren't too many
 abbrev pub few : List GrantEntry → Result (List GrantEntry) GrantFault
 few entries = if nat_lt grant_limit (length entries) then Err TooMany else Ok entries
 

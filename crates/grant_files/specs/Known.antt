@@ -28,7 +28,8 @@ pub record Stands (known : Known) (kept front : List GrantEntry) : Type 0 where
   pub knows : Knows known front
   pub taken : kept ≡ take grant_limit front
 
--- so it stands behind one more record, unless that is refused
-abbrev pub Adds : {X : Type 0} → Result X (Refusal GrantFault) → Result (List GrantEntry) GrantFault → Known → List GrantEntry → Type 0
+-- `Stands` holds again behind one more record, unless that record is refused
+abbrev pub Adds : {X : Type 0} → Result X (Refusal GrantFault) → Result (List GrantEntry) GrantFault → Known
+    → List GrantEntry → Type 0
 Adds (Ok x) meaning known kept = (more : List GrantEntry) × (meaning ≡ Ok more) × Stands known kept more
 Adds (Err e) meaning known kept = Fails e meaning

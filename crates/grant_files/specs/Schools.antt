@@ -8,9 +8,11 @@ use Rattle.roster_base.specs.Order.{in_order}
 use Rattle.roster_texts.specs.declared.fault.ValueFault.{ValueFault}
 use Rattle.roster_values.specs.Lists.{ids_of}
 
+-- the school of an id
 abbrev pub school_of : List ℕ → School
 school_of id = record { id = id }
 
+-- the id of a school
 abbrev pub id_in : School → List ℕ
 id_in school = school.id
 
@@ -18,7 +20,7 @@ id_in school = school.id
 abbrev pub listed : List (List ℕ) → Option Schools
 listed ids = if length ids == 0 then None else Some (Listed (in_order (λ id. id) ids))
 
--- no fault of an id is told
+-- the same of a list that was read: of one with a bad id there are no schools, and its fault is not told
 abbrev pub listed_if_good : Result (List (List ℕ)) ValueFault → Option Schools
 listed_if_good (Ok ids) = listed ids
 listed_if_good (Err fault) = None

@@ -111,10 +111,11 @@ fn grants_in(alloc: Global, text: &str) -> Result<GrantList, GrantError>
     Ok(GrantList::new(Items::from_vec(entries)))
 }
 
-/// The grants that a file asks for, in the order of its records, or its first fault: that it is no UTF-8; its header; then record
-/// by record the number of its cells, the caller, the token, the scopes, the schools, a caller and a token that stood before; and
-/// behind the last record that they are over 10,000. Scopes stand between spaces, each as its last word or its whole URI; schools
-/// are `*` or ids between commas. Spaces at the ends of a cell, blank lines and a byte order mark at the start are passed over.
+/// The grants that a file asks for, in the order of its records, or its first fault: that it is no UTF-8; its header;
+/// then record by record the number of its cells, the caller, the token, the scopes, the schools, a caller and a token
+/// that stood before; and behind the last record that they are over 10,000. Scopes stand between spaces, each as its
+/// last word or its whole URI; schools are `*` or ids between commas. Spaces at the ends of a cell, blank lines and a
+/// byte order mark at the start are passed over.
 #[tactic(auto, unfolding(crate::specs::Grants::grants_of))]
 pub fn read_grants(alloc: Global, bytes: &[u8]) -> Result<GrantList, GrantError>
     ensures { Gives (λ list. list) result (grants_of bytes.now) }

@@ -21,10 +21,6 @@ behind_front front text (Some x) strips =
     let starts : starts_with nat_eq text front ≡ true = sym (starts_text true front text (n, found, subst (IsCharBoundary text) (sym found.0) found.2)) in
     sym (cond-true (starts_with nat_eq text front) (Some (drop (length front) text)) None starts ∙ ap (λ k. Some (drop k text)) (sym found.0) ∙ ap Some (sym strips.2))
 
-pub list_any-map : {A B : Type 0} (test : B → Bool) (f : A → B) (xs : List A) → list_any test (map f xs) ≡ list_any (λ x. test (f x)) xs
-list_any-map test f [] = refl
-list_any-map test f (x ∷ xs) = ap (λ b. test (f x) || b) (list_any-map test f xs)
-
 kept_all : (word : List ℕ) (words : List (List ℕ)) (filled : Bool) (rest : Bool) → rest ≡ list_all is_scope (map last_word words)
     → ((not filled || is_scope (last_word word)) && rest) ≡ list_all is_scope (map last_word (if filled then word ∷ words else words))
 kept_all word words true rest e = ap (λ b. is_scope (last_word word) && b) e

@@ -3,9 +3,11 @@ use Rattle.std.specs.Prelude.{ℕ, ◌≤◌, List, bytes_eq, length, map}
 use Rattle.std.specs.List.{IsDistinct}
 use Rattle.grant_scopes.specs.declared.entry.GrantEntry.{GrantEntry}
 
+-- the caller of a grant that is asked for
 abbrev pub entry_caller : GrantEntry → List ℕ
 entry_caller entry = entry.caller
 
+-- its token
 abbrev pub entry_token : GrantEntry → List ℕ
 entry_token entry = entry.token
 

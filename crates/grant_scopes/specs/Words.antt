@@ -22,9 +22,11 @@ last_word text = unwrap_or (behind scope_base text) text
 unfoldable pub words_of : List ℕ → List (List ℕ)
 words_of text = map last_word (filter is_filled (slice_split is_space text))
 
+-- the word of a scope stands among words
 abbrev pub is_named : List (List ℕ) → Scope → Bool
 is_named words s = list_any (bytes_eq s.word) words
 
+-- a word is that of a scope
 unfoldable pub is_scope : List ℕ → Bool
 is_scope word = list_any (λ s. bytes_eq s.word word) scopes
 

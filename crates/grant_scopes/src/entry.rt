@@ -6,7 +6,7 @@ use roster_base::{Keyed, NoMemory, TryCopy};
 use roster_texts::{Name, Token};
 use std::alloc::Global;
 
-/// A caller and what it is to be granted. Since when it has it, the hub says.
+/// A caller and what it is to be granted. The hub adds since which version the caller has it.
 #[derive(Drop)]
 pub struct GrantEntry {
     pub caller: Name,

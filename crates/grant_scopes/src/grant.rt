@@ -6,7 +6,8 @@ use roster_base::{NoMemory, Same, TryCopy};
 use roster_texts::Token;
 use std::alloc::Global;
 
-/// What a caller may see and do: by which token it is known, with which scopes, at which schools, and since which version.
+/// What a caller may see and do: by which token it is known, with which scopes, at which schools, and since which
+/// version.
 #[derive(Drop)]
 pub struct Grant {
     pub token: Token,

@@ -7,7 +7,8 @@ use crate::entry::GrantEntry;
 use roster_base::Items;
 use std::marker::Model;
 
-/// All grants that a hub is to give: at most 10,000, of which no two are of one caller and no two have one token. A clause sees the list.
+/// All grants that a hub is to give: at most 10,000, of which no two are of one caller and no two have one token. A
+/// clause sees the list.
 #[derive(Drop)]
 pub struct GrantList {
     entries: Items<GrantEntry>,

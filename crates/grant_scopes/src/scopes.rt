@@ -11,8 +11,8 @@ use std::alloc::Global;
 use std::marker::Model;
 
 /// A set of the seven scope words of OneRoster 1.1, one bit each. From bit 0 they are `roster.readonly`,
-/// `roster-core.readonly`, `roster-demographics.readonly`, `gradebook.readonly`, `gradebook.createput`, `gradebook.delete`
-/// and `resource.readonly`. A clause sees the bits as a number.
+/// `roster-core.readonly`, `roster-demographics.readonly`, `gradebook.readonly`, `gradebook.createput`,
+/// `gradebook.delete` and `resource.readonly`. A clause sees the bits as a number.
 #[derive(Clone, Copy)]
 pub struct Scopes {
     bits: u8,
@@ -40,8 +40,8 @@ impl Scopes {
         }
     }
 
-    /// The set that a text names: its words stand between spaces, and each is a scope's last word or its whole URI. Nothing
-    /// where one is no scope; a text without words names no scope.
+    /// The set that a text names: its words stand between spaces, and each is a scope's last word or its whole URI.
+    /// Nothing where one is no scope; a text without words names no scope.
     #[tactic(auto, unfolding(crate::specs::Words::scopes_in))]
     pub fn read(text: &str) -> Option<Scopes>
         ensures { result ≡ scopes_in text.now }

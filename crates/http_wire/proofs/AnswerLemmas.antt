@@ -22,8 +22,8 @@ use Rattle.http_wire.specs.declared.reply_reading.WireReply.{WireReply}
 use Rattle.http_wire.specs.Heads.{length_of, max_fields}
 use Rattle.http_wire.specs.Reading.{end_fault, refusal_of}
 use Rattle.http_wire.specs.Answers.{BeginsReply, FindsAnswer, HasAnswerHead, IsNoReply, IsReplyText, NeverReply}
-use Rattle.http_wire.specs.Answers.{Refuses, StatesFault, Told, answered, max_reply_body, max_reply_head}
-use Rattle.http_wire.specs.Answers.{missing_length, part_fault, told_at, told_by, told_length}
+use Rattle.http_wire.specs.Answers.{Refuses, StatesFault, HeadParts, answered, max_reply_body, max_reply_head}
+use Rattle.http_wire.specs.Answers.{missing_length, part_fault, parts_in, parts_of_head, body_length}
 use Rattle.http_wire.proofs.FrontLemmas.{IsLengthFault, front_whole, length_fault, length_in_limit}
 
 -- ---- the head
@@ -35,7 +35,7 @@ only_head h k x y = response_unique _ h k _ _ x.reads y.reads
 pub one_answer : (bytes : List ℕ) (x y : WireReply) → IsReplyText bytes x → IsReplyText bytes y → x ≡ y
 one_answer bytes x y (h, a) (k, b) =
     let (heads, bodies) = only_head h k a.head b.head in
-    a.says ∙ ap (λ (h : ResponseHead). answered (told_by h) x.body) heads ∙ ap (answered (told_by k)) bodies ∙ sym b.says
+    a.says ∙ ap (λ (h : ResponseHead). answered (parts_of_head h) x.body) heads ∙ ap (answered (parts_of_head k)) bodies ∙ sym b.says
 
 pub answer_found : (m : ℕ) (bytes : List ℕ) (headers : List HeaderSpan) (spans : ResponseSpans)
     → m ≤ max_reply_head → length headers ≡ max_fields
@@ -68,8 +68,8 @@ pub other_length : {bytes front : List ℕ} {spans : ResponseSpans} {fields : Li
 other_length {bytes} {front} {spans} {fields} n found is differs reply (k, answer) =
     let (h, head, same) = found.some in
     let (heads, rest) = only_head h k head answer.head in
-    let lengths : told_length (told_by h) ≡ Ok (length reply.body) = ap (λ (h : ResponseHead). told_length (told_by h)) heads ∙ answer.length_is in
-    let states : told_length (told_by h) ≡ Ok n = ap told_length same ∙ is in
+    let lengths : body_length (parts_of_head h) ≡ Ok (length reply.body) = ap (λ (h : ResponseHead). body_length (parts_of_head h)) heads ∙ answer.length_is in
+    let states : body_length (parts_of_head h) ≡ Ok n = ap body_length same ∙ is in
     let count : n ≡ length reply.body = cc in differs (ap length rest ∙ sym count)
 
 -- fewer bytes than the head states
@@ -78,7 +78,7 @@ pub fewer_bytes : {bytes front : List ℕ} {spans : ResponseSpans} {fields : Lis
 fewer_bytes {bytes} {front} {spans} {fields} n found is less =
     let (h, head, same) = found.some in (
       other_length n found is (λ (same : length (drop spans.len bytes) ≡ n). absurd (omega arith)),
-      inr (h, drop spans.len bytes, n, head, ap told_length same ∙ is, less),
+      inr (h, drop spans.len bytes, n, head, ap body_length same ∙ is, less),
     )
 
 -- more bytes than the head states
@@ -87,7 +87,7 @@ pub more_bytes : {bytes front : List ℕ} {spans : ResponseSpans} {fields : List
 more_bytes {bytes} {front} {spans} {fields} n found is more =
     let (h, head, same) = found.some in (
       other_length n found is (λ (same : length (drop spans.len bytes) ≡ n). absurd (omega arith)),
-      inr (h, drop spans.len bytes, n, head, ap told_length same ∙ is, more),
+      inr (h, drop spans.len bytes, n, head, ap body_length same ∙ is, more),
     )
 
 refuses_length : (e : WireFault) (bytes : List ℕ) → IsLengthFault e → IsNoReply bytes → StatesFault e bytes → Refuses e bytes
@@ -106,27 +106,27 @@ pub faulty : {bytes front : List ℕ} {spans : ResponseSpans} {fields : List Hea
     → length_of max_reply_body (missing_length spans.code) (map (header_bytes front) fields) ≡ Err e → Refuses e bytes
 faulty {bytes} {front} {spans} {fields} e found is =
     let (h, head, same) = found.some in
-    let states : told_length (told_by h) ≡ Err e = ap told_length same ∙ is in
+    let states : body_length (parts_of_head h) ≡ Err e = ap body_length same ∙ is in
     let none : IsNoReply bytes = λ reply (k, answer).
     let (heads, rest) = only_head h k head answer.head in
-    let lengths : told_length (told_by h) ≡ Ok (length reply.body) = ap (λ (h : ResponseHead). told_length (told_by h)) heads ∙ answer.length_is in cc in
+    let lengths : body_length (parts_of_head h) ≡ Ok (length reply.body) = ap (λ (h : ResponseHead). body_length (parts_of_head h)) heads ∙ answer.length_is in cc in
     refuses_length e bytes (length_fault max_reply_body (missing_length spans.code) _ e is) none (h, drop spans.len bytes, head, states)
 
-body_of_answered : (told : Told) (body : List ℕ) → (answered told body).body ≡ body
+body_of_answered : (told : HeadParts) (body : List ℕ) → (answered told body).body ≡ body
 unfolding answered
 body_of_answered told body = refl
 
 pub whole_answer : {bytes front : List ℕ} {spans : ResponseSpans} {fields : List HeaderSpan} (n : ℕ) (reply : WireReply) → FindsAnswer bytes front spans fields
     → length_of max_reply_body (missing_length spans.code) (map (header_bytes front) fields) ≡ Ok n → length (drop spans.len bytes) ≡ n
-    → reply ≡ answered (told_at front spans.code fields) (drop spans.len bytes) → IsReplyText bytes reply
+    → reply ≡ answered (parts_in front spans.code fields) (drop spans.len bytes) → IsReplyText bytes reply
 whole_answer {bytes} {front} {spans} {fields} n reply found is count says =
     let (h, head, same) = found.some in
     let body : reply.body ≡ drop spans.len bytes = ap (λ (r : WireReply). r.body) says ∙ body_of_answered _ _ in (
       h,
       record {
         head = subst (λ (xs : List ℕ). HasAnswerHead bytes h xs) (sym body) head;
-        length_is = ap told_length same ∙ is ∙ ap (λ (k : ℕ). Ok k) (sym (ap length body ∙ count));
-        says = says ∙ ap (λ (t : Told). answered t (drop spans.len bytes)) (sym same) ∙ ap (answered (told_by h)) (sym body);
+        length_is = ap body_length same ∙ is ∙ ap (λ (k : ℕ). Ok k) (sym (ap length body ∙ count));
+        says = says ∙ ap (λ (t : HeadParts). answered t (drop spans.len bytes)) (sym same) ∙ ap (answered (parts_of_head h)) (sym body);
       },
     )
 
@@ -186,21 +186,21 @@ head_refused m bytes Version never over = never_in_front m bytes (never (λ (sam
 
 -- the head states it
 pub length_stated : {bytes front : List ℕ} {spans : ResponseSpans} {fields : List HeaderSpan} (n : ℕ) → FindsAnswer bytes front spans fields
-    → told_length (told_at front spans.code fields) ≡ Ok n → BeginsReply bytes (spans.len + n)
+    → body_length (parts_in front spans.code fields) ≡ Ok n → BeginsReply bytes (spans.len + n)
 length_stated {bytes} {front} {spans} {fields} n found is =
     let (h, head, same) = found.some in
     let whole : length bytes ≡ length (print_response h) + length (drop spans.len bytes) = ap length head.reads.1 ∙ length-append (print_response h) (drop spans.len bytes) in
     let len : spans.len + n ≡ length (print_response h) + n = omega (arith, whole, length-drop spans.len bytes, found.len) in
-    (h, drop spans.len bytes, n, head, ap told_length same ∙ is, len)
+    (h, drop spans.len bytes, n, head, ap body_length same ∙ is, len)
 
 -- the head states none that a reply may have
 pub never_stated : {bytes front : List ℕ} {spans : ResponseSpans} {fields : List HeaderSpan} (e : WireFault) → FindsAnswer bytes front spans fields
-    → told_length (told_at front spans.code fields) ≡ Err e → NeverReply bytes
+    → body_length (parts_in front spans.code fields) ≡ Err e → NeverReply bytes
 never_stated {bytes} {front} {spans} {fields} e found is more reply (k, answer) =
     let (h, head, same) = found.some in
     let heads : h ≡ k = (response_prefix_free bytes more h k _ _ head.reads answer.head.reads).0 in
-    let states : told_length (told_by h) ≡ Err e = ap told_length same ∙ is in
-    let lengths : told_length (told_by h) ≡ Ok (length reply.body) = ap (λ (h : ResponseHead). told_length (told_by h)) heads ∙ answer.length_is in cc
+    let states : body_length (parts_of_head h) ≡ Err e = ap body_length same ∙ is in
+    let lengths : body_length (parts_of_head h) ≡ Ok (length reply.body) = ap (λ (h : ResponseHead). body_length (parts_of_head h)) heads ∙ answer.length_is in cc
 
 -- a head needs more bytes than it may have
 pub never_short : (m : ℕ) (bytes : List ℕ) → m ≡ max_reply_head → max_reply_head ≤ length bytes → HasNoResponse (take m bytes) → NeverReply bytes
@@ -219,4 +219,4 @@ never_room m bytes over more reply (h, answer) =
 
 -- a reply in its limits isn't longer than both
 pub reply_fits : (bytes : List ℕ) (n : ℕ) → BeginsReply bytes n → n ≤ max_reply_head + max_reply_body
-reply_fits bytes n (h, body, m, head, states, is) = omega (arith, is, head.short, length_in_limit max_reply_body (missing_length (told_by h).status) (told_by h).fields m states)
+reply_fits bytes n (h, body, m, head, states, is) = omega (arith, is, head.short, length_in_limit max_reply_body (missing_length (parts_of_head h).status) (parts_of_head h).fields m states)

@@ -19,7 +19,8 @@ use Rattle.httparse.proofs.GrammarLemmas.{request_unique}
 use Rattle.status_info.specs.declared.request.Request.{Request}
 use Rattle.http_wire.specs.declared.fault.WireFault.{WireFault}
 use Rattle.http_wire.specs.declared.fault.WireFault.TheVariants as fault
-use Rattle.http_wire.specs.Heads.{Said, said_by, said_at, asked, body_length, length_of, allowed_length, stated_length}
+use Rattle.http_wire.specs.Heads.{RequestParts, request_parts, request_parts_in, asked, body_length, length_of}
+use Rattle.http_wire.specs.Heads.{allowed_length, stated_length}
 use Rattle.http_wire.specs.Heads.{value_of, max_head, max_body, max_fields}
 use Rattle.http_wire.specs.Reading.{BeginsWith, BeginsWithNone, HasHead, HasFaultyLength, Explains, FindsHead}
 use Rattle.http_wire.specs.Reading.{refusal_of, IsHeadTooLong}
@@ -84,7 +85,7 @@ pub head_fault : {bytes front : List ℕ} {spans : RequestSpans} {fields : List 
 head_fault {bytes} {front} {spans} {fields} e found is =
     let (h, at) = found.some in
     explained e bytes (length_fault max_body (Some 0) _ e is)
-    (h, drop spans.len bytes, at.head, ap (λ (s : Said). body_length s.fields) at.said ∙ is)
+    (h, drop spans.len bytes, at.head, ap (λ (s : RequestParts). body_length s.fields) at.parts ∙ is)
 
 -- ---- bytes that end inside a body
 
@@ -97,11 +98,11 @@ pub body_missing : {bytes front : List ℕ} {spans : RequestSpans} {fields : Lis
     → BeginsWithNone bytes × (length bytes < max_head + max_body)
 body_missing {bytes} {front} {spans} {fields} n found is less =
     let (h, at) = found.some in
-    let states : body_length (said_by h).fields ≡ Ok n = ap (λ (s : Said). body_length s.fields) at.said ∙ is in (
+    let states : body_length (request_parts h).fields ≡ Ok n = ap (λ (s : RequestParts). body_length s.fields) at.parts ∙ is in (
       (λ request rest (k, after, head, body).
           let (same, left) = head_unique h k at.head head in
-          let lengths : body_length (said_by h).fields ≡ Ok (length request.body) =
-          ap (λ (k : RequestHead). body_length (said_by k).fields) same ∙ body.length_is in
+          let lengths : body_length (request_parts h).fields ≡ Ok (length request.body) =
+          ap (λ (k : RequestHead). body_length (request_parts k).fields) same ∙ body.length_is in
           let count : n ≡ length request.body = cc in
           let whole : length (drop spans.len bytes) ≡ length request.body + length rest =
           ap length (left ∙ body.body) ∙ length-append request.body rest in
@@ -111,17 +112,17 @@ body_missing {bytes} {front} {spans} {fields} n found is less =
 
 -- ---- a whole request
 
-pub body_of_asked : (said : Said) (body : List ℕ) → (asked said body).body ≡ body
+pub body_of_asked : (parts : RequestParts) (body : List ℕ) → (asked parts body).body ≡ body
 unfolding asked
-body_of_asked said body = refl
+body_of_asked parts body = refl
 
 pub whole_request : {bytes front : List ℕ} {spans : RequestSpans} {fields : List HeaderSpan} (n : ℕ) (request : Request) → FindsHead bytes front spans fields
     → body_length (map (header_bytes front) fields) ≡ Ok n → n ≤ length (drop spans.len bytes)
-    → request ≡ asked (said_at front spans fields) (take n (drop spans.len bytes))
+    → request ≡ asked (request_parts_in front spans fields) (take n (drop spans.len bytes))
     → (0 < spans.len + n) × (spans.len + n ≤ length bytes) × BeginsWith bytes request (drop (spans.len + n) bytes)
 whole_request {bytes} {front} {spans} {fields} n request found is enough same =
     let (h, at) = found.some in
-    let states : body_length (said_by h).fields ≡ Ok n = ap (λ (s : Said). body_length s.fields) at.said ∙ is in
+    let states : body_length (request_parts h).fields ≡ Ok n = ap (λ (s : RequestParts). body_length s.fields) at.parts ∙ is in
     let body : request.body ≡ take n (drop spans.len bytes) = ap (λ (r : Request). r.body) same ∙ body_of_asked _ _ in
     let count : length request.body ≡ n = ap length body ∙ grind (arith, common_steps) in (
       omega (arith, found.some_bytes),
@@ -134,7 +135,7 @@ whole_request {bytes} {front} {spans} {fields} n request found is enough same =
           length_is = states ∙ ap (λ (k : ℕ). Ok k) (sym count);
           body = sym (take-append-drop n (drop spans.len bytes)) ∙ ap (λ (xs : List ℕ). xs ++ drop n (drop spans.len bytes)) (sym body)
               ∙ ap (λ (xs : List ℕ). request.body ++ xs) (drop-drop n spans.len bytes);
-          asks = same ∙ ap (λ (s : Said). asked s (take n (drop spans.len bytes))) (sym at.said) ∙ ap (asked (said_by h)) (sym body);
+          asks = same ∙ ap (λ (s : RequestParts). asked s (take n (drop spans.len bytes))) (sym at.parts) ∙ ap (asked (request_parts h)) (sym body);
         },
       ),
     )
@@ -180,7 +181,7 @@ head_found m bytes headers spans small room within (h, at) =
         h,
         record {
           head = record { reads = (at.reads.0, whole ∙ ap (λ (xs : List ℕ). print_request h ++ xs) (sym rest)); short = omega (arith, at.len, length-take m bytes); few = count };
-          said = cc (at.method, at.path, at.version, at.fields);
+          parts = cc (at.method, at.path, at.version, at.fields);
         },
       );
     }

@@ -19,7 +19,7 @@ use Rattle.roster_texts.proofs.TokenLemmas.{AllPlain, IsPlain, plain_is_text, to
 use Rattle.http_wire.proofs.NumberLemmas.{digits_of_decimal, echo_again, not_zero, number_again, token_again}
 use Rattle.httparse.specs.Spans.{name_and_value}
 use Rattle.http_wire.specs.Heads.{asked, body_length, is_close, is_number, length_of, lengths_are, max_body, max_fields}
-use Rattle.http_wire.specs.Heads.{max_head, said_by, value_of}
+use Rattle.http_wire.specs.Heads.{max_head, request_parts, value_of}
 use Rattle.http_wire.specs.Texts.{digits_of, echo_at, echo_of, is_question_mark, last_number, mark_of, mark_or_bad}
 use Rattle.http_wire.specs.Texts.{number_of, path_of, query_of, token_at, token_of, verb_of}
 use Rattle.http_wire.specs.Reading.{BeginsWith}
@@ -232,16 +232,16 @@ fields_ok v t m run count body plain marked small few stated =
 
 -- ---- what the head says
 
-abbrev told : Verb → List ℕ → MarkField → ℕ → ℕ → List ℕ → List (List ℕ × List ℕ)
-told v t m run count body = map name_and_value (sent_fields v t m run count body)
+abbrev sent_values : Verb → List ℕ → MarkField → ℕ → ℕ → List ℕ → List (List ℕ × List ℕ)
+sent_values v t m run count body = map name_and_value (sent_fields v t m run count body)
 
 record Looks (v : Verb) (t : List ℕ) (m : MarkField) (run count : ℕ) (body : List ℕ) : Type 0 where
-  token : value_of (codes "authorization") (told v t m run count body) ≡ Some (trim_ows (32 ∷ codes "Bearer " ++ t))
-  mark : value_of (codes "x-hub-mark") (told v t m run count body) ≡ option_map (λ n. trim_ows (32 ∷ decimal n)) (mark_number m)
-  echo : value_of (codes "x-hub-exchange") (told v t m run count body) ≡ Some (trim_ows (32 ∷ (decimal run ++ 46 ∷ decimal count)))
-  stated : value_of (codes "content-length") (told v t m run count body) ≡ option_map (λ n. trim_ows (32 ∷ decimal n)) (put_length v body)
-  chunked : value_of (codes "transfer-encoding") (told v t m run count body) ≡ None
-  connection : value_of (codes "connection") (told v t m run count body) ≡ None
+  token : value_of (codes "authorization") (sent_values v t m run count body) ≡ Some (trim_ows (32 ∷ codes "Bearer " ++ t))
+  mark : value_of (codes "x-hub-mark") (sent_values v t m run count body) ≡ option_map (λ n. trim_ows (32 ∷ decimal n)) (mark_number m)
+  echo : value_of (codes "x-hub-exchange") (sent_values v t m run count body) ≡ Some (trim_ows (32 ∷ (decimal run ++ 46 ∷ decimal count)))
+  stated : value_of (codes "content-length") (sent_values v t m run count body) ≡ option_map (λ n. trim_ows (32 ∷ decimal n)) (put_length v body)
+  chunked : value_of (codes "transfer-encoding") (sent_values v t m run count body) ≡ None
+  connection : value_of (codes "connection") (sent_values v t m run count body) ≡ None
 
 looks : (v : Verb) (t : List ℕ) (m : MarkField) (run count : ℕ) (body : List ℕ) → Looks v t m run count body
 looks verb.Get t mark.Nothing run count body = record { token = refl; mark = refl; echo = refl; stated = refl; chunked = refl; connection = refl }
@@ -338,23 +338,23 @@ mark_plain (q ∷ query) x = rw (mark_some q query) ((omega arith, omega arith),
 -- ---- the body
 
 agree : (t : List ℕ) (m : MarkField) (run count : ℕ) (body : List ℕ)
-    → lengths_are (length body) (told verb.Put t m run count body)
+    → lengths_are (length body) (sent_values verb.Put t m run count body)
     ≡ (if is_number (length body) (digits_of (trim_ows (32 ∷ decimal (length body)))) then true else false)
 agree t mark.Nothing run count body = refl
 agree t (mark.Number n) run count body = refl
 agree t mark.Bad run count body = refl
 
-length_told : (v : Verb) (t : List ℕ) (m : MarkField) (run count : ℕ) (body : List ℕ) → IsSentVerb v body → body_length (told v t m run count body) ≡ Ok (length body)
+stated_body_length : (v : Verb) (t : List ℕ) (m : MarkField) (run count : ℕ) (body : List ℕ) → IsSentVerb v body → body_length (sent_values v t m run count body) ≡ Ok (length body)
 unfolding length_of
-length_told verb.Get t m run count body can = let l = looks verb.Get t m run count body in rw (l.stated, l.chunked, can) refl
-length_told verb.Put t m run count body can =
+stated_body_length verb.Get t m run count body can = let l = looks verb.Get t m run count body in rw (l.stated, l.chunked, can) refl
+stated_body_length verb.Put t m run count body can =
     let l = looks verb.Put t m run count body in
     let digits : digits_of (trim_ows (32 ∷ decimal (length body))) ≡ Some (length body) =
     ap digits_of (decimal_trim (length body) (omega (arith, can))) ∙ digits_of_decimal (length body) (omega (arith, can)) in
     rw (l.stated, l.chunked, digits, agree t m run count body, digits, eq-eqb (length body) (length body) refl, le-ltb max_body (length body) can) refl
-length_told verb.Delete t m run count body can = let l = looks verb.Delete t m run count body in rw (l.stated, l.chunked, can) refl
-length_told verb.Head t m run count body can = absurd can
-length_told verb.Other t m run count body can = absurd can
+stated_body_length verb.Delete t m run count body can = let l = looks verb.Delete t m run count body in rw (l.stated, l.chunked, can) refl
+stated_body_length verb.Head t m run count body can = absurd can
+stated_body_length verb.Other t m run count body can = absurd can
 
 -- ---- the limits
 
@@ -446,15 +446,15 @@ verb_token verb.Other = name_is (codes "OTHER") (omega arith) refl
 
 says : (v : Verb) (path query t : List ℕ) (m : MarkField) (run count : ℕ) (body : List ℕ)
     → list_all is_sent_byte path ≡ true → is_token t ≡ true → IsSentMark m → IsSentEcho (record { run = run; count = count })
-    → sent v path query t m run count body ≡ asked (said_by (head v path query t m run count body)) body
+    → sent v path query t m run count body ≡ asked (request_parts (head v path query t m run count body)) body
 unfolding asked
 says v path query t m run count body plain good marked echoed =
     let l = looks v t m run count body in
     let target = target_told path query plain in
-    let token : token_at (value_of (codes "authorization") (told v t m run count body)) ≡ Some t = ap token_at l.token ∙ token_told t good in
-    let mark : mark_of (value_of (codes "x-hub-mark") (told v t m run count body)) ≡ m = ap mark_of l.mark ∙ mark_told m marked in
-    let echo : echo_at (value_of (codes "x-hub-exchange") (told v t m run count body)) ≡ Some (record { run = run; count = count }) = ap echo_at l.echo ∙ echo_told run count echoed in
-    let close : is_close (value_of (codes "connection") (told v t m run count body)) ≡ false = ap is_close l.connection in
+    let token : token_at (value_of (codes "authorization") (sent_values v t m run count body)) ≡ Some t = ap token_at l.token ∙ token_told t good in
+    let mark : mark_of (value_of (codes "x-hub-mark") (sent_values v t m run count body)) ≡ m = ap mark_of l.mark ∙ mark_told m marked in
+    let echo : echo_at (value_of (codes "x-hub-exchange") (sent_values v t m run count body)) ≡ Some (record { run = run; count = count }) = ap echo_at l.echo ∙ echo_told run count echoed in
+    let close : is_close (value_of (codes "connection") (sent_values v t m run count body)) ≡ false = ap is_close l.connection in
     rw (verb_told v, target.0, target.1, token, mark, echo, close) refl
 
 whole : (v : Verb) (path query : List ℕ) (t : Option (List ℕ)) (m : MarkField) (e : Option Echo) (close : Bool) (body more : List ℕ)
@@ -487,7 +487,7 @@ whole v path query (Some t) m (Some e) false body more can =
         few = fields_few v t m e.run e.count body;
       },
       record {
-        length_is = length_told v t m e.run e.count body can.verb;
+        length_is = stated_body_length v t m e.run e.count body can.verb;
         body = refl;
         asks = says v path query t m e.run e.count body good can.token can.mark can.echo;
       },

@@ -11,7 +11,7 @@ use Rattle.status_info.specs.declared.request.Request.{Request}
 use Rattle.http_wire.specs.declared.fault.WireFault.{WireFault}
 use Rattle.http_wire.specs.declared.fault.WireFault.TheVariants as fault
 use Rattle.http_wire.specs.Lasting.{lasting}
-use Rattle.http_wire.specs.Heads.{said_by, asked, body_length, max_head}
+use Rattle.http_wire.specs.Heads.{request_parts, asked, body_length, max_head}
 use Rattle.http_wire.specs.Reading.{AreRequests, BeginsWith, BeginsWithNone, Causes, Explains, Fails, FailsAgain}
 use Rattle.http_wire.specs.Reading.{HasFaultyLength, HasHead, Held, NextGives, OnStream}
 use Rattle.http_wire.proofs.FrontLemmas.{head_unique}
@@ -47,10 +47,10 @@ same_front (p ∷ a) (q ∷ b) x y n h =
 pub begins_unique : (bytes : List ℕ) (a b : Request) (x y : List ℕ) → BeginsWith bytes a x → BeginsWith bytes b y → (a ≡ b) × (x ≡ y)
 begins_unique bytes a b x y (h, after, head, body) (k, others, other_head, other) =
     let (same, left) = head_unique h k head other_head in
-    let lengths : body_length (said_by k).fields ≡ Ok (length a.body) = ap (λ (h : RequestHead). body_length (said_by h).fields) (sym same) ∙ body.length_is in
+    let lengths : body_length (request_parts k).fields ≡ Ok (length a.body) = ap (λ (h : RequestHead). body_length (request_parts h).fields) (sym same) ∙ body.length_is in
     let count : length a.body ≡ length b.body = let e = other.length_is in cc in
     let (bodies, rests) = same_front a.body b.body x y count (sym body.body ∙ left ∙ other.body) in (
-      body.asks ∙ ap (λ (h : RequestHead). asked (said_by h) a.body) same ∙ ap (asked (said_by k)) bodies ∙ sym other.asks,
+      body.asks ∙ ap (λ (h : RequestHead). asked (request_parts h) a.body) same ∙ ap (asked (request_parts k)) bodies ∙ sym other.asks,
       rests,
     )
 
@@ -66,7 +66,7 @@ long_none bytes more h after long none head =
 faulty_none : (e : WireFault) (bytes more : List ℕ) → HasFaultyLength e bytes → BeginsWithNone (bytes ++ more)
 faulty_none e bytes more (h, after, head, is) request rest (k, others, other_head, other) =
     let (same, left) = head_unique h k (head_append more head) other_head in
-    let fails : body_length (said_by k).fields ≡ Err e = ap (λ (h : RequestHead). body_length (said_by h).fields) (sym same) ∙ is in
+    let fails : body_length (request_parts k).fields ≡ Err e = ap (λ (h : RequestHead). body_length (request_parts h).fields) (sym same) ∙ is in
     let e = other.length_is in cc
 
 -- what is refused stays refused, whatever follows

@@ -30,7 +30,7 @@ use Rattle.http_wire.specs.declared.reply_reading.WireReply.{WireReply}
 use Rattle.http_wire.specs.declared.fault.WireFault.{WireFault}
 use Rattle.http_wire.specs.declared.fault.WireFault.TheVariants as fault
 use Rattle.http_wire.specs.Answers.{HasAnswerHead, IsReplyText, ReadsReply, answered, count_at, max_reply_body}
-use Rattle.http_wire.specs.Answers.{missing_length, number_at, told_by, told_length}
+use Rattle.http_wire.specs.Answers.{body_length, missing_length, number_at, parts_of_head}
 use Rattle.http_wire.specs.Heads.{is_number, length_of, lengths_are, value_of}
 use Rattle.http_wire.specs.Replies.{allow_line, body_text, challenge_line, close_line, echo_line, end_text, front_text}
 use Rattle.http_wire.specs.Replies.{further_link, joined, length_line, length_of_body, link_text, links_line}
@@ -95,8 +95,8 @@ few_fields (p ∷ parts) = omega (arith, length-append (lines p.0 p.1) (fields_o
 
 -- ---- what such a head says
 
-abbrev told : List (List ℕ × Option (List ℕ)) → List (List ℕ × List ℕ)
-told parts = map name_and_value (fields_of parts)
+abbrev written_values : List (List ℕ × Option (List ℕ)) → List (List ℕ × List ℕ)
+written_values parts = map name_and_value (fields_of parts)
 
 abbrev or_else : Option (List ℕ) → Option (List ℕ) → Option (List ℕ)
 or_else None other = other
@@ -110,11 +110,11 @@ first name (p ∷ parts) = if str_eq_ignore_ascii_case p.0 name then or_else p.1
 abbrev trimmed : Option (List ℕ) → Option (List ℕ)
 trimmed value = option_map (λ v. trim_ows (32 ∷ v)) value
 
-value_told : (name : List ℕ) (parts : List (List ℕ × Option (List ℕ))) → value_of name (told parts) ≡ trimmed (first name parts)
+value_told : (name : List ℕ) (parts : List (List ℕ × Option (List ℕ))) → value_of name (written_values parts) ≡ trimmed (first name parts)
 value_told name [] = refl
 value_told name (p ∷ parts) = by (str_eq_ignore_ascii_case p.0 name) p.1 refl (value_told name parts)
   where
-    by : (same : Bool) (value : Option (List ℕ)) → str_eq_ignore_ascii_case p.0 name ≡ same → value_of name (told parts) ≡ trimmed (first name parts)
+    by : (same : Bool) (value : Option (List ℕ)) → str_eq_ignore_ascii_case p.0 name ≡ same → value_of name (written_values parts) ≡ trimmed (first name parts)
         → value_of name (map name_and_value (lines p.0 value ++ fields_of parts)) ≡ trimmed (if same then or_else value (first name parts) else first name parts)
     by true None e rest = rest
     by false None e rest = rest
@@ -130,11 +130,11 @@ abbrev agree : ℕ → List (List ℕ × Option (List ℕ)) → Bool
 agree n [] = true
 agree n (p ∷ parts) = if str_eq_ignore_ascii_case p.0 (codes "content-length") then (if fits n p.1 then agree n parts else false) else agree n parts
 
-lengths_agree : (n : ℕ) (parts : List (List ℕ × Option (List ℕ))) → lengths_are n (told parts) ≡ agree n parts
+lengths_agree : (n : ℕ) (parts : List (List ℕ × Option (List ℕ))) → lengths_are n (written_values parts) ≡ agree n parts
 lengths_agree n [] = refl
 lengths_agree n (p ∷ parts) = by (str_eq_ignore_ascii_case p.0 (codes "content-length")) p.1 refl (lengths_agree n parts)
   where
-    by : (same : Bool) (value : Option (List ℕ)) → str_eq_ignore_ascii_case p.0 (codes "content-length") ≡ same → lengths_are n (told parts) ≡ agree n parts
+    by : (same : Bool) (value : Option (List ℕ)) → str_eq_ignore_ascii_case p.0 (codes "content-length") ≡ same → lengths_are n (written_values parts) ≡ agree n parts
         → lengths_are n (map name_and_value (lines p.0 value ++ fields_of parts)) ≡ (if same then (if fits n value then agree n parts else false) else agree n parts)
     by true None e rest = rest
     by false None e rest = rest
@@ -365,14 +365,14 @@ reply_echo_told : (o : Option Echo) → IfSome o IsSentEcho → echo_at (trimmed
 reply_echo_told None x = refl
 reply_echo_told (Some e) x = echo_told e.run e.count x
 
-says : (r : Reply) → CanRead r → seen_of r ≡ answered (told_by (head_of r)) (body_text r)
+says : (r : Reply) → CanRead r → seen_of r ≡ answered (parts_of_head (head_of r)) (body_text r)
 unfolding answered
 says r can =
-    let total : count_at (value_of (codes "x-total-count") (told (parts_of r))) ≡ r.total = ap count_at (value_told (codes "x-total-count") (parts_of r)) ∙ count_told r.total can.total in
-    let version : count_at (value_of (codes "x-hub-version") (told (parts_of r))) ≡ r.version = ap count_at (value_told (codes "x-hub-version") (parts_of r)) ∙ count_told r.version can.version in
-    let oldest : count_at (value_of (codes "x-hub-oldest") (told (parts_of r))) ≡ r.oldest = ap count_at (value_told (codes "x-hub-oldest") (parts_of r)) ∙ count_told r.oldest can.oldest in
-    let mark : number_at (value_of (codes "x-hub-mark") (told (parts_of r))) ≡ r.mark = ap number_at (value_told (codes "x-hub-mark") (parts_of r)) ∙ mark_told r.mark can.mark in
-    let echo : echo_at (value_of (codes "x-hub-exchange") (told (parts_of r))) ≡ r.echo = ap echo_at (value_told (codes "x-hub-exchange") (parts_of r)) ∙ reply_echo_told r.echo can.echo in
+    let total : count_at (value_of (codes "x-total-count") (written_values (parts_of r))) ≡ r.total = ap count_at (value_told (codes "x-total-count") (parts_of r)) ∙ count_told r.total can.total in
+    let version : count_at (value_of (codes "x-hub-version") (written_values (parts_of r))) ≡ r.version = ap count_at (value_told (codes "x-hub-version") (parts_of r)) ∙ count_told r.version can.version in
+    let oldest : count_at (value_of (codes "x-hub-oldest") (written_values (parts_of r))) ≡ r.oldest = ap count_at (value_told (codes "x-hub-oldest") (parts_of r)) ∙ count_told r.oldest can.oldest in
+    let mark : number_at (value_of (codes "x-hub-mark") (written_values (parts_of r))) ≡ r.mark = ap number_at (value_told (codes "x-hub-mark") (parts_of r)) ∙ mark_told r.mark can.mark in
+    let echo : echo_at (value_of (codes "x-hub-exchange") (written_values (parts_of r))) ≡ r.echo = ap echo_at (value_told (codes "x-hub-exchange") (parts_of r)) ∙ reply_echo_told r.echo can.echo in
     rw ((status_line r.cause).value, total, version, oldest, mark, echo) refl
 
 -- ---- the length of the body
@@ -400,31 +400,31 @@ one_stated : (missing : Option ℕ) (fields : List (List ℕ × List ℕ)) (v : 
 unfolding length_of
 one_stated missing fields v n one whole digits same short = rw (one, whole, digits, same, le-ltb max_reply_body n short) refl
 
-length_told : (r : Reply) → CanRead r → told_length (told_by (head_of r)) ≡ Ok (length (body_text r))
+stated_body_length : (r : Reply) → CanRead r → body_length (parts_of_head (head_of r)) ≡ Ok (length (body_text r))
 unfolding length_of_body
-length_told r can = by (status_of r.cause == 204) refl
+stated_body_length r can = by (status_of r.cause == 204) refl
   where
-    by : (none : Bool) → (status_of r.cause == 204) ≡ none → told_length (told_by (head_of r)) ≡ Ok (length (body_text r))
+    by : (none : Bool) → (status_of r.cause == 204) ≡ none → body_length (parts_of_head (head_of r)) ≡ Ok (length (body_text r))
     by true e =
         let said : length_of_body r ≡ None = rw e refl in
         let missing : missing_length (status_code (head_of r)) ≡ Some 0 = rw ((status_line r.cause).value, e) refl in
-        let none : value_of (codes "content-length") (told (parts_of r)) ≡ None =
+        let none : value_of (codes "content-length") (written_values (parts_of r)) ≡ None =
         value_told (codes "content-length") (parts_of r) ∙ ap (λ (o : Option ℕ). trimmed (or_else (option_map decimal o) None)) said in
-        ap (λ (o : Option ℕ). length_of max_reply_body o (told (parts_of r))) missing ∙ none_stated (told (parts_of r)) none (value_told (codes "transfer-encoding") (parts_of r))
+        ap (λ (o : Option ℕ). length_of max_reply_body o (written_values (parts_of r))) missing ∙ none_stated (written_values (parts_of r)) none (value_told (codes "transfer-encoding") (parts_of r))
         ∙ ap (λ (xs : List ℕ). Ok (length xs)) (sym (no_body r e))
     by false e =
         let n = length (body_text r) in
         let said : length_of_body r ≡ Some n = rw e refl in
-        let one : value_of (codes "content-length") (told (parts_of r)) ≡ Some (trim_ows (32 ∷ decimal n)) =
+        let one : value_of (codes "content-length") (written_values (parts_of r)) ≡ Some (trim_ows (32 ∷ decimal n)) =
         value_told (codes "content-length") (parts_of r) ∙ ap (λ (o : Option ℕ). trimmed (or_else (option_map decimal o) None)) said in
         let digits : digits_of (trim_ows (32 ∷ decimal n)) ≡ Some n = ap digits_of (decimal_trim n (omega (arith, can.body))) ∙ digits_of_decimal n (omega (arith, can.body)) in
         let fit : fits n (Some (decimal n)) ≡ true = rw (digits, eq-eqb n n refl) refl in
-        let same : lengths_are n (told (parts_of r)) ≡ true =
+        let same : lengths_are n (written_values (parts_of r)) ≡ true =
         lengths_agree n (parts_of r) ∙ ap (λ (o : Option ℕ). if fits n (option_map decimal o) then true else false) said ∙ ap (λ (b : Bool). if b then true else false) fit in
-        one_stated (missing_length (status_code (head_of r))) (told (parts_of r)) (trim_ows (32 ∷ decimal n)) n one (value_told (codes "transfer-encoding") (parts_of r)) digits same can.body
+        one_stated (missing_length (status_code (head_of r))) (written_values (parts_of r)) (trim_ows (32 ∷ decimal n)) n one (value_told (codes "transfer-encoding") (parts_of r)) digits same can.body
 
 pub written_is_read : (r : Reply) → CanRead r → IsReplyText (reply_text r) (seen_of r)
-written_is_read r can = (head_of r, record { head = has_head r can; length_is = length_told r can; says = says r can })
+written_is_read r can = (head_of r, record { head = has_head r can; length_is = stated_body_length r can; says = says r can })
 
 -- ---- what the parser answers of it
 

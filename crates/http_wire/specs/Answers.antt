@@ -22,25 +22,25 @@ abbrev pub max_reply_body : ℕ
 max_reply_body = 83_886_080
 
 -- the parts of a head that count
-pub record Told : Type 0 where
+pub record HeadParts : Type 0 where
   pub status : ℕ
   pub fields : List (List ℕ × List ℕ)
 
--- what a head of the grammar tells
-abbrev pub told_by : ResponseHead → Told
-told_by h = record { status = status_code h; fields = map name_and_value h.fields }
+-- the parts of a head of the grammar
+abbrev pub parts_of_head : ResponseHead → HeadParts
+parts_of_head h = record { status = status_code h; fields = map name_and_value h.fields }
 
--- what spans of a buffer tell
-abbrev pub told_at : List ℕ → ℕ → List HeaderSpan → Told
-told_at bytes status fields = record { status = status; fields = map (header_bytes bytes) fields }
+-- the parts that spans of a buffer have
+abbrev pub parts_in : List ℕ → ℕ → List HeaderSpan → HeadParts
+parts_in bytes status fields = record { status = status; fields = map (header_bytes bytes) fields }
 
 -- the length where none is stated
 abbrev pub missing_length : ℕ → Option ℕ
 missing_length status = if status == 204 then Some 0 else None
 
 -- the length of the body, or its first fault
-abbrev pub told_length : Told → Result ℕ WireFault
-told_length told = length_of max_reply_body (missing_length told.status) told.fields
+abbrev pub body_length : HeadParts → Result ℕ WireFault
+body_length parts = length_of max_reply_body (missing_length parts.status) parts.fields
 
 -- the number of a value, where it is one
 abbrev pub count_at : Option (List ℕ) → Option ℕ
@@ -50,14 +50,14 @@ abbrev pub number_at : Option (List ℕ) → Option ℕ
 number_at value = value >>= number_of last_number
 
 -- the reply with this head and this body
-unfoldable pub answered : Told → List ℕ → WireReply
-answered told body = record {
-  status = told.status;
-  total = count_at (value_of (codes "x-total-count") told.fields);
-  version = count_at (value_of (codes "x-hub-version") told.fields);
-  oldest = count_at (value_of (codes "x-hub-oldest") told.fields);
-  mark = number_at (value_of (codes "x-hub-mark") told.fields);
-  echo = echo_at (value_of (codes "x-hub-exchange") told.fields);
+unfoldable pub answered : HeadParts → List ℕ → WireReply
+answered parts body = record {
+  status = parts.status;
+  total = count_at (value_of (codes "x-total-count") parts.fields);
+  version = count_at (value_of (codes "x-hub-version") parts.fields);
+  oldest = count_at (value_of (codes "x-hub-oldest") parts.fields);
+  mark = number_at (value_of (codes "x-hub-mark") parts.fields);
+  echo = echo_at (value_of (codes "x-hub-exchange") parts.fields);
   body = body;
 }
 
@@ -70,8 +70,8 @@ pub record HasAnswerHead (bytes : List ℕ) (h : ResponseHead) (body : List ℕ)
 -- the bytes are the text of this reply: its head, and as many bytes as that states
 pub record IsAnswer (bytes : List ℕ) (h : ResponseHead) (reply : WireReply) : Type 0 where
   pub head : HasAnswerHead bytes h reply.body
-  pub length_is : told_length (told_by h) ≡ Ok (length reply.body)
-  pub says : reply ≡ answered (told_by h) reply.body
+  pub length_is : body_length (parts_of_head h) ≡ Ok (length reply.body)
+  pub says : reply ≡ answered (parts_of_head h) reply.body
 
 abbrev pub IsReplyText : List ℕ → WireReply → Type 0
 IsReplyText bytes reply = (h : ResponseHead) × IsAnswer bytes h reply
@@ -88,16 +88,16 @@ pub record IsUnfinished (bytes : List ℕ) : Type 0 where
 
 -- a head stands at the front, and the length that it states has this fault
 abbrev pub StatesFault : WireFault → List ℕ → Type 0
-StatesFault e bytes = (h : ResponseHead) × (body : List ℕ) × HasAnswerHead bytes h body × (told_length (told_by h) ≡ Err e)
+StatesFault e bytes = (h : ResponseHead) × (body : List ℕ) × HasAnswerHead bytes h body × (body_length (parts_of_head h) ≡ Err e)
 
 -- a head stands at the front and states a length, and fewer bytes stand behind it, or more
 abbrev pub LacksBytes : List ℕ → Type 0
 LacksBytes bytes =
-    (h : ResponseHead) × (body : List ℕ) × (n : ℕ) × HasAnswerHead bytes h body × (told_length (told_by h) ≡ Ok n) × (length body < n)
+    (h : ResponseHead) × (body : List ℕ) × (n : ℕ) × HasAnswerHead bytes h body × (body_length (parts_of_head h) ≡ Ok n) × (length body < n)
 
 abbrev pub HasBytesBehind : List ℕ → Type 0
 HasBytesBehind bytes =
-    (h : ResponseHead) × (body : List ℕ) × (n : ℕ) × HasAnswerHead bytes h body × (told_length (told_by h) ≡ Ok n) × (n < length body)
+    (h : ResponseHead) × (body : List ℕ) × (n : ℕ) × HasAnswerHead bytes h body × (body_length (parts_of_head h) ≡ Ok n) × (n < length body)
 
 -- no continuation of the bytes makes a head in its limits
 abbrev pub IsAnswerHeadTooLong : List ℕ → Type 0
@@ -130,7 +130,7 @@ ReadsReply bytes (Err e) = Refuses e bytes
 -- a head stands at the front of the bytes, and it and the body that it states have n bytes
 abbrev pub BeginsReply : List ℕ → ℕ → Type 0
 BeginsReply bytes n =
-    (h : ResponseHead) × (body : List ℕ) × (m : ℕ) × HasAnswerHead bytes h body × (told_length (told_by h) ≡ Ok m) × (n ≡ length (print_response h) + m)
+    (h : ResponseHead) × (body : List ℕ) × (m : ℕ) × HasAnswerHead bytes h body × (body_length (parts_of_head h) ≡ Ok m) × (n ≡ length (print_response h) + m)
 
 -- no head in its limits stands there yet
 abbrev pub LacksHead : List ℕ → Type 0
@@ -150,7 +150,7 @@ TellsLength bytes (Err e) = NeverReply bytes × Refuses e bytes
 pub record FindsAnswer (bytes front : List ℕ) (spans : ResponseSpans) (fields : List HeaderSpan) : Type 0 where
   pub len : spans.len ≤ length bytes
   pub within : All (IsHeaderWithin (length front)) fields
-  pub some : (h : ResponseHead) × (_ : HasAnswerHead bytes h (drop spans.len bytes)) × (told_by h ≡ told_at front spans.code fields)
+  pub some : (h : ResponseHead) × (_ : HasAnswerHead bytes h (drop spans.len bytes)) × (parts_of_head h ≡ parts_in front spans.code fields)
 
 -- the fault of bytes in which a head has begun and doesn't end
 abbrev pub part_fault : List ℕ → WireFault

@@ -23,19 +23,19 @@ abbrev pub max_body : ℕ
 max_body = 131_072
 
 -- the parts of a head: each field is a name and a value without the white space around it
-pub record Said : Type 0 where
+pub record RequestParts : Type 0 where
   pub method : List ℕ
   pub target : List ℕ
   pub minor : ℕ
   pub fields : List (List ℕ × List ℕ)
 
--- what a head of the grammar says
-abbrev pub said_by : RequestHead → Said
-said_by h = record { method = h.method; target = h.target; minor = h.minor; fields = map name_and_value h.fields }
+-- the parts of a head of the grammar
+abbrev pub request_parts : RequestHead → RequestParts
+request_parts h = record { method = h.method; target = h.target; minor = h.minor; fields = map name_and_value h.fields }
 
--- what spans of a buffer say
-abbrev pub said_at : List ℕ → RequestSpans → List HeaderSpan → Said
-said_at bytes spans fields = record {
+-- the parts that spans of a buffer have
+abbrev pub request_parts_in : List ℕ → RequestSpans → List HeaderSpan → RequestParts
+request_parts_in bytes spans fields = record {
   method = span_bytes bytes spans.method;
   target = span_bytes bytes spans.path;
   minor = spans.version;
@@ -51,11 +51,12 @@ abbrev pub value_of : List ℕ → List (List ℕ × List ℕ) → Option (List 
 value_of name [] = None
 value_of name (f ∷ fields) = if has_name name f then Some f.1 else value_of name fields
 
+-- there is a number, and it is this one
 abbrev pub is_number : ℕ → Option ℕ → Bool
 is_number n None = false
 is_number n (Some m) = m == n
 
--- a field that is Content-Length has this number
+-- a field has this number, where it is Content-Length
 abbrev pub allows_length : ℕ → List ℕ × List ℕ → Bool
 allows_length n f = if has_name (codes "content-length") f then is_number n (digits_of f.1) else true
 
@@ -86,23 +87,24 @@ length_of most missing fields =
     allowed_length most (stated_length missing (value_of (codes "content-length") fields) fields)
     (is_some (value_of (codes "transfer-encoding") fields))
 
--- the same of a request, which has no body where it states no length
+-- the length of a request's body, which it lacks where it states no length
 abbrev pub body_length : List (List ℕ × List ℕ) → Result ℕ WireFault
 body_length fields = length_of max_body (Some 0) fields
 
+-- a value of Connection closes the stream
 abbrev pub is_close : Option (List ℕ) → Bool
 is_close None = false
 is_close (Some value) = str_eq_ignore_ascii_case value (codes "close")
 
 -- what a request with this head and this body asks
-unfoldable pub asked : Said → List ℕ → Request
-asked said body = record {
-  verb = verb_of said.method;
-  path = path_of said.target;
-  query = query_of said.target;
-  token = token_at (value_of (codes "authorization") said.fields);
-  mark = mark_of (value_of (codes "x-hub-mark") said.fields);
-  echo = echo_at (value_of (codes "x-hub-exchange") said.fields);
-  close = said.minor == 0 || is_close (value_of (codes "connection") said.fields);
+unfoldable pub asked : RequestParts → List ℕ → Request
+asked parts body = record {
+  verb = verb_of parts.method;
+  path = path_of parts.target;
+  query = query_of parts.target;
+  token = token_at (value_of (codes "authorization") parts.fields);
+  mark = mark_of (value_of (codes "x-hub-mark") parts.fields);
+  echo = echo_at (value_of (codes "x-hub-exchange") parts.fields);
+  close = parts.minor == 0 || is_close (value_of (codes "connection") parts.fields);
   body = body;
 }

@@ -12,7 +12,7 @@ use Rattle.httparse.specs.declared.spans.RequestSpans.{RequestSpans}
 use Rattle.roster_base.specs.Faults.{Rose}
 use Rattle.status_info.specs.declared.request.Request.{Request}
 use Rattle.http_wire.specs.Lasting.{lasting}
-use Rattle.http_wire.specs.Heads.{said_at, said_by, asked, body_length, max_head, max_fields, max_body}
+use Rattle.http_wire.specs.Heads.{request_parts_in, request_parts, asked, body_length, max_head, max_fields, max_body}
 use Rattle.http_wire.specs.declared.fault.WireFault.{WireFault}
 use Rattle.http_wire.specs.declared.fault.WireFault.TheVariants as fault
 
@@ -24,9 +24,9 @@ pub record HasHead (bytes : List ℕ) (h : RequestHead) (rest : List ℕ) : Type
 
 -- behind the head stand the body, as long as the head says, and then the rest
 pub record HasBody (h : RequestHead) (after : List ℕ) (request : Request) (rest : List ℕ) : Type 0 where
-  pub length_is : body_length (said_by h).fields ≡ Ok (length request.body)
+  pub length_is : body_length (request_parts h).fields ≡ Ok (length request.body)
   pub body : after ≡ request.body ++ rest
-  pub asks : request ≡ asked (said_by h) request.body
+  pub asks : request ≡ asked (request_parts h) request.body
 
 -- the text of this request stands at the front of the bytes, and the rest follows it
 abbrev pub BeginsWith : List ℕ → Request → List ℕ → Type 0
@@ -46,7 +46,7 @@ AreRequests bytes (request ∷ requests) rest =
 
 -- a head stands there, and the length that it states has this fault
 abbrev pub HasFaultyLength : WireFault → List ℕ → Type 0
-HasFaultyLength e bytes = (h : RequestHead) × (after : List ℕ) × HasHead bytes h after × (body_length (said_by h).fields ≡ Err e)
+HasFaultyLength e bytes = (h : RequestHead) × (after : List ℕ) × HasHead bytes h after × (body_length (request_parts h).fields ≡ Err e)
 
 -- no continuation of the bytes makes a head in its limits
 abbrev pub IsHeadTooLong : List ℕ → Type 0
@@ -133,7 +133,7 @@ OnStream known (Some stream) (Some rest) (Err e) = (rest ≡ stream) × (known �
 -- spans of the front of the bytes cover the head h
 pub record IsHeadAt (bytes front : List ℕ) (spans : RequestSpans) (fields : List HeaderSpan) (h : RequestHead) : Type 0 where
   pub head : HasHead bytes h (drop spans.len bytes)
-  pub said : said_by h ≡ said_at front spans fields
+  pub parts : request_parts h ≡ request_parts_in front spans fields
 
 -- a head that fits its limits was found, and its spans lie in the front of the bytes
 pub record FindsHead (bytes front : List ℕ) (spans : RequestSpans) (fields : List HeaderSpan) : Type 0 where
@@ -166,7 +166,8 @@ AreFirst bytes [] rest = rest ≡ bytes
 AreFirst bytes (request ∷ requests) rest =
     (after : List ℕ) × BeginsWith bytes request after × (request.close ≡ false) × AreFirst after requests rest
 
--- what was read of a known stream: its requests up to the one that closes it; or up to a fault, which are all where it lasts
+-- what was read of a known stream: its requests up to the one that closes it, or up to a fault; where the fault lasts,
+-- these are all
 abbrev pub HasRead : Option (List ℕ) → Option (List ℕ) → List Request → Option WireFault → Type 0
 HasRead None after requests e = ⊤
 HasRead (Some stream) None requests e = ⊥

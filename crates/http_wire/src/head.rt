@@ -4,7 +4,7 @@ ghost use Rattle.std.specs.Prelude.{◌≡◌, ◌==◌, ◌||◌, All, IfOk, Is
 ghost use Rattle.httparse.specs.Spans.{IsHeaderWithin, IsWithin, header_bytes, span_bytes};
 ghost use Rattle.http_wire.specs.Texts.{echo_at, token_at};
 ghost use Rattle.http_wire.specs.Heads.{allows_length, asked, has_name, is_close, length_of, lengths_are, one_length};
-ghost use Rattle.http_wire.specs.Heads.{said_at, value_of};
+ghost use Rattle.http_wire.specs.Heads.{request_parts_in, value_of};
 
 use crate::fault::WireFault;
 use crate::text::{digits, echo, mark, split_target, token, verb};
@@ -22,7 +22,7 @@ fn is_named(bytes: &[u8], header: HeaderSpan, name: &[u8]) -> bool
     header.name.of(bytes).eq_ignore_ascii_case(name)
 }
 
-// Whether a field that is Content-Length has this number.
+// Whether a field has this number, where it is Content-Length; any other field is let through.
 fn allows(bytes: &[u8], header: HeaderSpan, number: u64) -> bool
     requires { IsHeaderWithin (length bytes.now) header }
     ensures { result ≡ allows_length number (header_bytes bytes.now header) }
@@ -155,7 +155,7 @@ pub(crate) fn request_of(
     requires path { IsWithin (length bytes.now) spans.path }
     requires fields { All (IsHeaderWithin (length bytes.now)) fields.now }
     requires text { IsUtf8 (span_bytes bytes.now spans.path) }
-    ensures { IfOk result (λ r. r ≡ asked (said_at bytes.now spans fields.now) body.now) }
+    ensures { IfOk result (λ r. r ≡ asked (request_parts_in bytes.now spans fields.now) body.now) }
 {
     let Ok(target) = str::from_utf8(spans.path.of(bytes)) else {
         unreachable!();

@@ -37,6 +37,7 @@ pub(crate) fn write_number_line<W: Sink>(
     write_pieces(sink, &[name, digits.format(number), "\r\n"])
 }
 
+// The field with the number of an exchange: that of its run, and its own in the run.
 #[tactic(auto, unfolding(crate::specs::Replies::echo_text))]
 fn write_echo<W: Sink>(sink: &mut W, run: u64, count: u64) -> Result<(), Failed>
     ensures bytes { Writes (W.written sink.old) (W.written sink.new) (echo_text run count) result }
@@ -56,7 +57,7 @@ fn write_echo<W: Sink>(sink: &mut W, run: u64, count: u64) -> Result<(), Failed>
     )
 }
 
-/// The field with the number of the exchange, where the request had one.
+/// The field with the number of the exchange, where there is one.
 pub(crate) fn write_echo_line<W: Sink>(sink: &mut W, echo: Option<Echo>) -> Result<(), Failed>
     ensures bytes { Writes (W.written sink.old) (W.written sink.new) (echo_line echo) result }
     ensures cause { HasCause (W.faults sink.old) (W.faults sink.new) result }

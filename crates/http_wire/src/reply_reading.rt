@@ -9,7 +9,7 @@ ghost use Rattle.http_wire.specs.declared.reply_reading.WireReply.{WireReply};
 ghost use Rattle.http_wire.specs.declared.fault.WireFault.{WireFault};
 ghost use Rattle.http_wire.specs.declared.fault.WireFault.TheVariants as fault;
 ghost use Rattle.http_wire.specs.Answers.{FindsAnswer, IsReplyText, ReadsReply, TellsLength, answered, count_at};
-ghost use Rattle.http_wire.specs.Answers.{missing_length, number_at, part_fault, told_at, told_length};
+ghost use Rattle.http_wire.specs.Answers.{missing_length, number_at, part_fault, parts_in, body_length};
 
 use crate::fault::WireFault;
 use crate::front::{MAX_FIELDS, head_fault};
@@ -43,15 +43,18 @@ pub struct WireReply {
     pub mark: Option<u64>,
     /// `X-Hub-Exchange`, the number of the exchange.
     pub echo: Option<Echo>,
+    /// The bytes behind the head.
     pub body: Bytes,
 }
 
+// The number of a value, from 0 on.
 fn count_in(value: Option<&[u8]>) -> Option<u64>
     ensures { result ≡ count_at (option_map (λ v. v.now) value.entry) }
 {
     count(value?, LAST_NUMBER)
 }
 
+// The number of a value, from 1 on.
 fn number_in(value: Option<&[u8]>) -> Option<u64>
     ensures { result ≡ number_at (option_map (λ v. v.now) value.entry) }
 {
@@ -69,7 +72,7 @@ fn length_if_missing(status: u16) -> Option<u64>
 #[tactic(auto, unfolding(crate::specs::Answers::answered))]
 fn reply_of(bytes: &[u8], status: u16, fields: &[HeaderSpan], body: Bytes) -> WireReply
     requires { All (IsHeaderWithin (length bytes.now)) fields.now }
-    ensures { result ≡ answered (told_at bytes.now status fields.now) body }
+    ensures { result ≡ answered (parts_in bytes.now status fields.now) body }
 {
     WireReply {
         status,
@@ -83,9 +86,9 @@ fn reply_of(bytes: &[u8], status: u16, fields: &[HeaderSpan], body: Bytes) -> Wi
 }
 
 // The length of the body, as a head states it.
-fn length_told(front: &[u8], status: u16, fields: &[HeaderSpan]) -> Result<u64, WireFault>
+fn stated_body_length(front: &[u8], status: u16, fields: &[HeaderSpan]) -> Result<u64, WireFault>
     requires { All (IsHeaderWithin (length front.now)) fields.now }
-    ensures { result ≡ told_length (told_at front.now status fields.now) }
+    ensures { result ≡ body_length (parts_in front.now status fields.now) }
 {
     length_of_body(front, fields, MAX_REPLY_BODY, length_if_missing(status))
 }
@@ -101,7 +104,7 @@ fn behind_head(
     requires { FindsAnswer bytes.now front.now spans fields.now }
     ensures { ReadsReply bytes.now result }
 {
-    let length = length_told(front, spans.code, fields)? as usize;
+    let length = stated_body_length(front, spans.code, fields)? as usize;
     let after = &bytes[spans.len..];
     if after.len() < length {
         return Err(WireFault::Cut);
@@ -126,8 +129,9 @@ fn fault_of_part(bytes: &[u8]) -> WireFault
 
 /// The one reply that the bytes are, with nothing behind it.
 ///
-/// `End`: there are no bytes. `Cut`: they end inside a reply. `Length`: the length can't be read, is missing for another
-/// status than 204, or more bytes stand behind the body. The other faults are those of a request, with limits of their own.
+/// `End`: there are no bytes. `Cut`: they end inside a reply. `Length`: the length can't be read, is missing for
+/// another status than 204, or more bytes stand behind the body. The other faults are those of a request, with limits
+/// of their own.
 pub fn parse_reply(alloc: Global, bytes: &[u8]) -> Result<WireReply, WireFault>
     ensures { ReadsReply bytes.now result }
 {
@@ -142,8 +146,8 @@ pub fn parse_reply(alloc: Global, bytes: &[u8]) -> Result<WireReply, WireFault>
     }
 }
 
-/// How many bytes the reply has that begins with these. `None`: its head isn't all there. A fault: whatever follows, they begin no reply,
-/// for the reason that `parse_reply` gives too.
+/// How many bytes the reply has that begins with these. `None`: its head isn't all there. A fault: whatever follows,
+/// they begin no reply, for the reason that `parse_reply` gives too.
 pub fn reply_length(bytes: &[u8]) -> Result<Option<u64>, WireFault>
     ensures { TellsLength bytes.now result }
 {
@@ -151,7 +155,7 @@ pub fn reply_length(bytes: &[u8]) -> Result<Option<u64>, WireFault>
     let mut headers = [EMPTY_HEADER_SPAN; MAX_FIELDS];
     match parse_response(front, &mut headers) {
         Ok(Status::Complete(spans)) => {
-            let length = length_told(front, spans.code, &headers[..spans.headers])?;
+            let length = stated_body_length(front, spans.code, &headers[..spans.headers])?;
             Ok(Some(spans.len as u64 + length))
         }
         Ok(Status::Partial) => {
@@ -165,7 +169,8 @@ pub fn reply_length(bytes: &[u8]) -> Result<Option<u64>, WireFault>
     }
 }
 
-/// A reply in its limits is read back from its text, and a text is of one reply: `parse_reply` answers it, where memory is left.
+/// A reply in its limits is read back from its text, and a text is of one reply: `parse_reply` answers it, where memory
+/// is left.
 pub fn written_is_read()
     ensures read { (r : Reply) → CanRead r → IsReplyText (reply_text r) (seen_of r) }
     ensures one { (bytes : List ℕ) (x y : WireReply) → IsReplyText bytes x → IsReplyText bytes y → x ≡ y }

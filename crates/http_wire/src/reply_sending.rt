@@ -47,8 +47,8 @@ fn send_head_and_body<W: Sink>(sink: &mut W, head: &[u8], reply: &Reply) -> Resu
     write_body(sink, reply)
 }
 
-/// Writes the text of a reply in one piece, or where its body has more than 64 KB in two: a peer on a socket waits less for few pieces than
-/// for many. Where memory runs out it is written as `write_reply` writes it.
+/// Writes the text of a reply in one piece, or where its body has more than 64 KB in two: a peer on a socket waits less
+/// for few pieces than for many. Where memory runs out it is written as `write_reply` writes it.
 pub fn send_reply<W: Sink>(alloc: Global, sink: &mut W, reply: &Reply) -> Result<(), Failed>
     ensures bytes { Writes (W.written sink.old) (W.written sink.new) (reply_text reply.now) result }
     ensures cause { HasCause (W.faults sink.old) (W.faults sink.new) result }

@@ -25,6 +25,7 @@ fn phrase(status: u16) -> &'static str
     }
 }
 
+// The field with the type of the body, which a 204 lacks.
 #[tactic(auto, unfolding(crate::specs::Replies::type_line))]
 fn type_field(cause: Cause) -> &'static str
     ensures { result.now ≡ spec.type_line cause }
@@ -36,6 +37,7 @@ fn type_field(cause: Cause) -> &'static str
     }
 }
 
+// The field that asks for a token, which a 401 alone has.
 #[tactic(auto, unfolding(crate::specs::Replies::challenge_line))]
 fn challenge_field(cause: Cause) -> &'static str
     ensures { result.now ≡ spec.challenge_line cause }
@@ -47,6 +49,7 @@ fn challenge_field(cause: Cause) -> &'static str
     }
 }
 
+// The field with the methods that are allowed, which a 405 alone has.
 #[tactic(auto, unfolding(crate::specs::Replies::allow_line))]
 fn allow_field(cause: Cause, allow_write: bool) -> &'static str
     ensures { result.now ≡ spec.allow_line cause allow_write }
@@ -60,6 +63,7 @@ fn allow_field(cause: Cause, allow_write: bool) -> &'static str
     }
 }
 
+// The field with what was passed over, or no text where nothing was.
 #[tactic(auto, unfolding(crate::specs::Replies::warning_line))]
 fn warning_field(warnings: Warnings) -> &'static str
     ensures { result.now ≡ spec.warning_line warnings }
@@ -72,6 +76,7 @@ fn warning_field(warnings: Warnings) -> &'static str
     }
 }
 
+// The field that closes the stream, or no text where it stays open.
 #[tactic(auto, unfolding(crate::specs::Replies::close_line))]
 fn close_field(close: bool) -> &'static str
     ensures { result.now ≡ spec.close_line close }
@@ -79,6 +84,7 @@ fn close_field(close: bool) -> &'static str
     if close { "Connection: close\r\n" } else { "" }
 }
 
+// The word for a page in a link.
 fn word_of_rel<'a>(rel: Rel) -> &'a str
     ensures { result.now ≡ spec.rel_word rel }
 {
@@ -90,7 +96,8 @@ fn word_of_rel<'a>(rel: Rel) -> &'a str
     }
 }
 
-// The status line, and the fields that follow from the cause: the type of the body, the challenge and the allowed methods.
+// The status line, and the fields that follow from the cause: the type of the body, the challenge and the allowed
+// methods.
 #[tactic(auto, unfolding(crate::specs::Replies::start_text))]
 fn write_start<W: Sink>(sink: &mut W, cause: Cause, allow_write: bool) -> Result<(), Failed>
     ensures bytes { Writes (W.written sink.old) (W.written sink.new) (spec.start_text cause allow_write) result }
@@ -122,6 +129,7 @@ fn write_target<W: Sink>(sink: &mut W, target: &str, rel: Rel) -> Result<(), Fai
     write_pieces(sink, &[target, ">; rel=\"", word_of_rel(rel), "\""])
 }
 
+// A link behind its opening bracket.
 fn write_link<W: Sink>(sink: &mut W, link: &LinkItem) -> Result<(), Failed>
     ensures bytes { Writes (W.written sink.old) (W.written sink.new) (spec.link_text link.now) result }
     ensures cause { HasCause (W.faults sink.old) (W.faults sink.new) result }
@@ -138,6 +146,7 @@ fn write_next_link<W: Sink>(sink: &mut W, link: &LinkItem) -> Result<(), Failed>
     write_link(sink, link)
 }
 
+// The links behind the first.
 fn write_more_links<W: Sink>(sink: &mut W, links: &[LinkItem]) -> Result<(), Failed>
     ensures bytes { Writes (W.written sink.old) (W.written sink.new) (spec.more_links links.now) result }
     ensures cause { HasCause (W.faults sink.old) (W.faults sink.new) result }
@@ -163,6 +172,7 @@ fn write_some_links<W: Sink>(
     sink.write_all(b"\r\n")
 }
 
+// The field `Link`, where there are links.
 fn write_links<W: Sink>(sink: &mut W, links: &[LinkItem]) -> Result<(), Failed>
     ensures bytes { Writes (W.written sink.old) (W.written sink.new) (spec.links_line links.now) result }
     ensures cause { HasCause (W.faults sink.old) (W.faults sink.new) result }
@@ -194,6 +204,7 @@ fn write_versions<W: Sink>(sink: &mut W, reply: &Reply) -> Result<(), Failed>
     write_number_line(sink, "X-Hub-Mark: ", reply.mark)
 }
 
+// The field that closes the stream, where it does.
 fn write_close_line<W: Sink>(sink: &mut W, close: bool) -> Result<(), Failed>
     ensures bytes { Writes (W.written sink.old) (W.written sink.new) (spec.close_line close) result }
     ensures cause { HasCause (W.faults sink.old) (W.faults sink.new) result }
@@ -201,6 +212,7 @@ fn write_close_line<W: Sink>(sink: &mut W, close: bool) -> Result<(), Failed>
     sink.write_all(close_field(close).as_bytes())
 }
 
+// The field with what was passed over, where anything was.
 fn write_warning_line<W: Sink>(sink: &mut W, warnings: Warnings) -> Result<(), Failed>
     ensures bytes { Writes (W.written sink.old) (W.written sink.new) (spec.warning_line warnings) result }
     ensures cause { HasCause (W.faults sink.old) (W.faults sink.new) result }
@@ -208,6 +220,7 @@ fn write_warning_line<W: Sink>(sink: &mut W, warnings: Warnings) -> Result<(), F
     sink.write_all(warning_field(warnings).as_bytes())
 }
 
+// The field with the length of the body.
 fn write_length_line<W: Sink>(sink: &mut W, reply: &Reply) -> Result<(), Failed>
     ensures bytes { Writes (W.written sink.old) (W.written sink.new) (spec.length_line reply.now) result }
     ensures cause { HasCause (W.faults sink.old) (W.faults sink.new) result }
@@ -239,6 +252,7 @@ fn stated_length(reply: &Reply) -> Option<u64>
     }
 }
 
+// How many bytes the body has.
 #[tactic(auto, unfolding(crate::specs::Replies::body_text))]
 fn body_length(reply: &Reply) -> usize
     ensures { result ≡ length (spec.body_text reply.now) }
@@ -253,6 +267,7 @@ fn body_length(reply: &Reply) -> usize
     }
 }
 
+// The text that tells the cause.
 fn write_status_body<W: Sink>(sink: &mut W, cause: Cause) -> Result<(), Failed>
     ensures bytes { Writes (W.written sink.old) (W.written sink.new) (status_body cause) result }
     ensures cause { HasCause (W.faults sink.old) (W.faults sink.new) result }

@@ -17,6 +17,7 @@ use roster_texts::Token;
 use status_info::{MarkField, Request, Verb};
 use std::alloc::Global;
 
+// The word of a verb in the request line.
 fn word_of_verb(verb: Verb) -> &'static str
     ensures { result.now ≡ verb_word verb }
 {
@@ -29,6 +30,7 @@ fn word_of_verb(verb: Verb) -> &'static str
     }
 }
 
+// The number of a mark, where it has one.
 fn number_of_mark(mark: MarkField) -> Option<u64>
     ensures { result ≡ mark_number mark }
 {
@@ -38,6 +40,7 @@ fn number_of_mark(mark: MarkField) -> Option<u64>
     }
 }
 
+// The length of a body, which a PUT alone states.
 fn length_of_put(verb: Verb, body: &[u8]) -> Option<u64>
     ensures { result ≡ put_length verb body.now }
 {
@@ -54,6 +57,7 @@ fn mark_of_query<'a>(query: &str) -> &'a str
     if query.is_empty() { "" } else { "?" }
 }
 
+// The verb, and the space behind it.
 #[tactic(auto, unfolding(crate::specs::Sending::verb_text))]
 fn write_verb<W: Sink>(sink: &mut W, verb: Verb) -> Result<(), Failed>
     ensures bytes { Writes (W.written sink.old) (W.written sink.new) (verb_text verb) result }
@@ -62,6 +66,7 @@ fn write_verb<W: Sink>(sink: &mut W, verb: Verb) -> Result<(), Failed>
     write_pieces(sink, &[word_of_verb(verb), " "])
 }
 
+// The path, and what stands in front of the query.
 #[tactic(auto, unfolding(crate::specs::Sending::path_text))]
 fn write_path<W: Sink>(sink: &mut W, path: &str, query: &str) -> Result<(), Failed>
     ensures bytes { Writes (W.written sink.old) (W.written sink.new) (path_text path.now query.now) result }
@@ -70,6 +75,7 @@ fn write_path<W: Sink>(sink: &mut W, path: &str, query: &str) -> Result<(), Fail
     write_pieces(sink, &[path, mark_of_query(query)])
 }
 
+// The query, the rest of its line, and the field of the host.
 #[tactic(auto, unfolding(crate::specs::Sending::query_text))]
 fn write_query<W: Sink>(sink: &mut W, query: &str) -> Result<(), Failed>
     ensures bytes { Writes (W.written sink.old) (W.written sink.new) (query_text query.now) result }
@@ -78,6 +84,7 @@ fn write_query<W: Sink>(sink: &mut W, query: &str) -> Result<(), Failed>
     write_pieces(sink, &[query, " HTTP/1.1\r\nHost: hub\r\n"])
 }
 
+// The field with a token.
 #[tactic(auto, unfolding(crate::specs::Sending::token_text))]
 fn write_token<W: Sink>(sink: &mut W, token: &str) -> Result<(), Failed>
     ensures bytes { Writes (W.written sink.old) (W.written sink.new) (token_text token.now) result }
@@ -86,6 +93,7 @@ fn write_token<W: Sink>(sink: &mut W, token: &str) -> Result<(), Failed>
     write_pieces(sink, &["Authorization: Bearer ", token, "\r\n"])
 }
 
+// The field with the token, where there is one.
 fn write_token_line<W: Sink>(sink: &mut W, token: &Option<Token>) -> Result<(), Failed>
     ensures bytes { Writes (W.written sink.old) (W.written sink.new) (token_line token.now) result }
     ensures cause { HasCause (W.faults sink.old) (W.faults sink.new) result }
@@ -96,6 +104,7 @@ fn write_token_line<W: Sink>(sink: &mut W, token: &Option<Token>) -> Result<(), 
     }
 }
 
+// The field with the mark, where there is one.
 fn write_mark<W: Sink>(sink: &mut W, mark: MarkField) -> Result<(), Failed>
     ensures bytes { Writes (W.written sink.old) (W.written sink.new) (number_line (codes "X-Hub-Mark: ") (mark_number mark)) result }
     ensures cause { HasCause (W.faults sink.old) (W.faults sink.new) result }
@@ -103,6 +112,7 @@ fn write_mark<W: Sink>(sink: &mut W, mark: MarkField) -> Result<(), Failed>
     write_number_line(sink, "X-Hub-Mark: ", number_of_mark(mark))
 }
 
+// The field with the length of the body, which a PUT alone has.
 fn write_put_length<W: Sink>(sink: &mut W, verb: Verb, body: &[u8]) -> Result<(), Failed>
     ensures bytes { Writes (W.written sink.old) (W.written sink.new) (number_line (codes "Content-Length: ") (put_length verb body.now)) result }
     ensures cause { HasCause (W.faults sink.old) (W.faults sink.new) result }

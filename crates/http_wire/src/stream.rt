@@ -21,8 +21,9 @@ fn push_in_room(requests: &mut Vec<Request>, request: Request)
     }
 }
 
-/// Reads requests up to one that closes the stream, or up to the fault that stands beside them. Of what was read before a fault
-/// nothing is lost: after `Source` or `NoMemory` the reader stands behind the last request, and may be asked again.
+/// Reads requests up to one that closes the stream, or up to the fault that stands beside them. Of what was read before
+/// a fault nothing is lost: after `Source` or `NoMemory` the reader stands behind the last request, and may be asked
+/// again.
 pub fn read_requests<S: Source>(
     alloc: Global,
     reader: &mut WireReader,

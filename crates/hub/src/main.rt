@@ -2,7 +2,7 @@
 #![tactic(auto)]
 
 use outside_ports::{IoSink, Sink};
-use real_run::{NO_MEMORY, bad_place, names_serve, print, run_real, serve_real};
+use real_run::{bad_place, lines, names_serve, print, run_real, serve_real, statuses};
 use std::env;
 use std::io::{self, ErrorKind};
 use std::process::ExitCode;
@@ -195,8 +195,8 @@ fn words_of<R: Env + AllocGlobal>(rt: &R) -> io::Result<Vec<String>> {
 // The answer where the words could not be read: one of them is no text, or memory ran out.
 fn answer_unread(error: &io::Error, out: &mut impl Sink) -> u8 {
     match error.kind() {
-        ErrorKind::InvalidData => print(out, 2, "bad word 0\n"),
-        _ => print(out, 17, NO_MEMORY),
+        ErrorKind::InvalidData => print(out, statuses::BAD_WORDS, "bad word 0\n"),
+        _ => print(out, statuses::NO_MEMORY, lines::NO_MEMORY),
     }
 }
 
@@ -208,19 +208,19 @@ fn run<R: Threads + Wait + Sync>(
     out: &mut impl Sink,
 ) -> u8 {
     if let Some(help) = help_for(words) {
-        return print(out, 0, help);
+        return print(out, statuses::DONE, help);
     }
     match words {
-        [word] if word.as_str() == "--version" => print(out, 0, VERSION),
+        [word] if word.as_str() == "--version" => print(out, statuses::DONE, VERSION),
         _ if names_serve(rt.alloc(), words) => serve_real(threads, rt, rt.alloc(), words, out),
         _ => run_real(rt, rt.alloc(), words, out),
     }
 }
 
-// Says which word is bad, and what was wanted. Standard output has the line that names the place, and what can't be written here
-// changes nothing.
+// Says which word is bad, and what was wanted. Standard output has the line that names the place, and what can't be
+// written here changes nothing.
 fn hint(rt: HostRuntime, status: u8, words: &[String]) {
-    if status != 2 {
+    if status != statuses::BAD_WORDS {
         return;
     }
     if let Some(place) = bad_place(rt.alloc(), words) {

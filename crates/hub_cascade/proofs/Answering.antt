@@ -36,12 +36,12 @@ copy_tells copies before now error.NothingHeld reads = reads.0
 copy_tells copies before now error.HubKeeper reads = absurd reads
 copy_tells copies before now (error.Refused fault) reads = absurd reads
 
-pub copy_leaves : (copies : Copy → Type 0) (before now : ℕ) (e : CascadeError) (is_open : Bool) → ReadsHeld copies before now (Err e) → LeavesOpen (Err e) is_open
-copy_leaves copies before now error.CopyKeeper is_open reads = tt
-copy_leaves copies before now error.NoMemory is_open reads = tt
-copy_leaves copies before now error.NothingHeld is_open reads = tt
-copy_leaves copies before now error.HubKeeper is_open reads = absurd reads
-copy_leaves copies before now (error.Refused fault) is_open reads = absurd reads
+pub copy_leaves : (copies : Copy → Type 0) (before now : ℕ) (e : CascadeError) (commit_open : Bool) → ReadsHeld copies before now (Err e) → LeavesOpen (Err e) commit_open
+copy_leaves copies before now error.CopyKeeper commit_open reads = tt
+copy_leaves copies before now error.NoMemory commit_open reads = tt
+copy_leaves copies before now error.NothingHeld commit_open reads = tt
+copy_leaves copies before now error.HubKeeper commit_open reads = absurd reads
+copy_leaves copies before now (error.Refused fault) commit_open reads = absurd reads
 
 pub copy_counts : (copies : Copy → Type 0) (before now : ℕ) (e : CascadeError) → ReadsHeld copies before now (Err e) → CountsCopy before now (Err e)
 copy_counts copies before now error.CopyKeeper reads = reads
@@ -85,11 +85,11 @@ answer_tells copies (Err hub_error.Keeper) some = some
 answer_tells copies (Err hub_error.NoMemory) some = tt
 answer_tells copies (Err (hub_error.Refused fault)) some = some
 
-pub answer_leaves : (made : Result Published HubError) (is_open : Bool) → steps.LeavesOpen made is_open → LeavesOpen (answer_of made) is_open
-answer_leaves (Ok published) is_open leaves = leaves
-answer_leaves (Err hub_error.Keeper) is_open leaves = leaves
-answer_leaves (Err hub_error.NoMemory) is_open leaves = tt
-answer_leaves (Err (hub_error.Refused fault)) is_open leaves = leaves
+pub answer_leaves : (made : Result Published HubError) (commit_open : Bool) → steps.LeavesOpen made commit_open → LeavesOpen (answer_of made) commit_open
+answer_leaves (Ok published) commit_open leaves = leaves
+answer_leaves (Err hub_error.Keeper) commit_open leaves = leaves
+answer_leaves (Err hub_error.NoMemory) commit_open leaves = tt
+answer_leaves (Err (hub_error.Refused fault)) commit_open leaves = leaves
 
 pub answer_counts : (made : Result Published HubError) (before now : ℕ) → CountsFault before now made → CountsHub before now (answer_of made)
 answer_counts (Ok published) before now counts = counts

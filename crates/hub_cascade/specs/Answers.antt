@@ -59,7 +59,7 @@ CountsCopy before now result = now ≡ before
 
 -- a commit of the hub is left open exactly by a failure of its keeper, where it was asked
 abbrev pub LeavesOpen : Result Published CascadeError → Bool → Type 0
-LeavesOpen (Ok x) is_open = is_open ≡ false
-LeavesOpen (Err (error.Refused fault)) is_open = is_open ≡ false
-LeavesOpen (Err error.HubKeeper) is_open = is_open ≡ true
-LeavesOpen result is_open = ⊤
+LeavesOpen (Ok x) commit_open = commit_open ≡ false
+LeavesOpen (Err (error.Refused fault)) commit_open = commit_open ≡ false
+LeavesOpen (Err error.HubKeeper) commit_open = commit_open ≡ true
+LeavesOpen result commit_open = ⊤

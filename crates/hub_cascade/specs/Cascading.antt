@@ -20,7 +20,8 @@ is_current feed stored = is_own feed stored.owner && is_active stored.row.status
 abbrev pub unheld : List ℕ → ℤ → RowChange → RowChange
 unheld feed at stored = if is_current feed stored then marked at stored else stored
 
--- what stands under a kind and id anew: the row that is held there, with its own date, as the feed's; else what stood there
+-- what stands under a kind and id anew: the row that is held there, with its own date, as the feed's; else what stood
+-- there
 abbrev pub cascaded : List ℕ → ℤ → Option Record → Option RowChange → Option RowChange
 cascaded feed at (Some held) stored = Some (owned_by feed held)
 cascaded feed at None stored = option_map (unheld feed at) stored
@@ -40,7 +41,8 @@ abbrev pub owned_by_other : List ℕ → List RowChange → List Record → Opti
 owned_by_other feed rows [] = None
 owned_by_other feed rows (held ∷ later) = option_or (fault_of_owner feed held (look_up change_key (row_key held) rows)) (owned_by_other feed rows later)
 
--- the first refusal of held rows that lead from rows to new ones; broken references are none, since a copy may name rows that it lacks
+-- the first refusal of held rows that lead from rows to new ones; broken references are none, since a copy may name
+-- rows that it lacks
 abbrev pub refusal_of : List ℕ → List Record → List RowChange → List RowChange → Option PublishFault
 refusal_of feed held rows new = option_or (owned_by_other feed rows held) (too_many (rows_of new) all_kinds)
 

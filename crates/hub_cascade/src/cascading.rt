@@ -31,7 +31,7 @@ fn publish_held<H: HubKeeper>(
     ensures fits { KeeperFits (H.stands_for keeper.new) hub.new }
     ensures told { (after : KeptState) → IsStanding hub.new after → (before : KeptState) × IsStanding hub.old before × (H.stands_for keeper.new after → H.stands_for keeper.old before) × MakesListed set at result before after }
     ensures keeps { hub.new.keeps ≡ hub.old.keeps }
-    ensures settled { LeavesHubOpen result hub.new.is_open }
+    ensures settled { LeavesHubOpen result hub.new.commit_open }
     ensures cause { CountsFault (H.fault_count keeper.old) (H.fault_count keeper.new) result }
     ensures leads { H.leads keeper.old keeper.new }
 {
@@ -51,22 +51,20 @@ fn publish_held<H: HubKeeper>(
 fn answer_of(made: Result<Published, HubError>) -> Result<Published, CascadeError>
     ensures { result ≡ answer_of made }
 {
-    match made {
-        Ok(published) => Ok(published),
-        Err(error) => Err(CascadeError::from(error)),
-    }
+    Ok(made?)
 }
 
-/// Makes the rows that a copy holds those of a feed, at a moment: the next version, where a row of the newest changes. Each held row
-/// stands with its own date, an active row of the feed that isn't held is marked as deleted, and all else stays. Rows that are named
-/// and lacking are no fault, since a copy may lack them. The copy stays as it is.
+/// Makes the rows that a copy holds those of a feed, at a moment: the next version, where a row of the newest changes.
+/// Each held row stands with its own date, an active row of the feed that isn't held is marked as deleted, and all else
+/// stays. Rows that are named and lacking are no fault, since a copy may lack them. The copy stays as it is.
 ///
 /// # Errors
 ///
-/// `CopyKeeper` and `HubKeeper` where that keeper failed: after `HubKeeper` the version was added or not, after all others it was not.
-/// `NothingHeld` exactly where the copy holds nothing, unless its keeper failed or memory ran out. `Refused` exactly where the rows are
-/// refused, unless a keeper failed or memory ran out: for the first held row whose id stands with another owner, for the first kind that
-/// would have too many rows, or where a version is due and the newest has the last number. `NoMemory`.
+/// `CopyKeeper` and `HubKeeper` where that keeper failed: after `HubKeeper` the version was added or not, after all
+/// others it was not. `NothingHeld` exactly where the copy holds nothing, unless its keeper failed or memory ran out.
+/// `Refused` exactly where the rows are refused, unless a keeper failed or memory ran out: for the first held row whose
+/// id stands with another owner, for the first kind that would have too many rows, or where a version is due and the
+/// newest has the last number. `NoMemory`.
 pub fn cascade<H: HubKeeper, C: CopyKeeper>(
     alloc: Global,
     hub: &mut Hub,
@@ -81,7 +79,7 @@ pub fn cascade<H: HubKeeper, C: CopyKeeper>(
     ensures held { TellsHeld (C.stands_for copy.new) result }
     ensures served { IfOk result (λ _. (c : Copy) → C.stands_for copy.new c → current_rows feed.now (newest_kept hub.new.kept.versions).rows ≡ active_rows (held_rows c)) }
     ensures same { (c : Copy) → C.stands_for copy.new c → C.stands_for copy.old c }
-    ensures settled { LeavesOpen result hub.new.is_open }
+    ensures settled { LeavesOpen result hub.new.commit_open }
     ensures keeps { hub.new.keeps ≡ hub.old.keeps }
     ensures hub_cause { CountsHub (H.fault_count keeper.old) (H.fault_count keeper.new) result }
     ensures copy_cause { CountsCopy (C.fault_count copy.old) (C.fault_count copy.new) result }

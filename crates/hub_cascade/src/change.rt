@@ -21,8 +21,8 @@ use version_changes::sets::refusals::{owned_by_other, too_many};
 use version_core::change::Change;
 use version_core::table::Table;
 
-/// What held rows, listed by a set, make of the newest version of a table, at a moment: the change to the next version, or nothing
-/// where no row changes. References are not checked: a copy may name rows that it lacks.
+/// What held rows, listed by a set, make of the newest version of a table, at a moment: the change to the next version,
+/// or nothing where no row changes. References are not checked: a copy may name rows that it lacks.
 pub fn held_change(
     alloc: Global,
     table: &Table,

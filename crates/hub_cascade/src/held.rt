@@ -96,7 +96,8 @@ fn read_set<C: CopyKeeper>(
 ///
 /// # Errors
 ///
-/// `NothingHeld` exactly where the copy holds nothing, unless its keeper failed or memory ran out; `CopyKeeper`; `NoMemory`.
+/// `NothingHeld` exactly where the copy holds nothing, unless its keeper failed or memory ran out; `CopyKeeper`;
+/// `NoMemory`.
 #[tactic(auto, using(crate::proofs::Answering::keeper_reads, crate::proofs::Answering::hold_nothing, crate::proofs::Answering::hold_something))]
 pub fn held_set<C: CopyKeeper>(
     alloc: Global,
@@ -109,13 +110,8 @@ pub fn held_set<C: CopyKeeper>(
     ensures leads { C.leads copy.old copy.new }
     ensures later { C.fault_count copy.old ≤ C.fault_count copy.new }
 {
-    match holds(alloc, copy) {
-        Ok(true) => (),
-        Ok(false) => return Err(CascadeError::NothingHeld),
-        Err(error) => return Err(CascadeError::from(error)),
+    if !holds(alloc, copy)? {
+        return Err(CascadeError::NothingHeld);
     }
-    match read_set(alloc, copy, feed) {
-        Ok(set) => Ok(set),
-        Err(error) => Err(CascadeError::from(error)),
-    }
+    Ok(read_set(alloc, copy, feed)?)
 }

@@ -25,7 +25,8 @@ use Rattle.script_runs.specs.Rehearsals.{IsRehearseAnswer}
 abbrev pub ConsumerRests : CopyRun → LinkRun → Type 0
 ConsumerRests copy link = copy.same × link.same
 
--- the answer of a command, what it does to the consumer's copy and its link, and the states of the hub before it and after it
+-- the answer of a command, what it does to the consumer's copy and its link, and the states of the hub before it and
+-- after it
 abbrev pub IsCommandAnswer : Command → Outside → CopyRun → LinkRun → Answer → KeptState → KeptState → Type 0
 IsCommandAnswer (Show kind) outside copy link answer before after = ConsumerRests copy link × (after ≡ before) × IsShowAnswer kind outside answer
 IsCommandAnswer (Publish feeds) outside copy link answer before after = ConsumerRests copy link × IsPublishAnswer outside feeds answer before after

@@ -1,5 +1,5 @@
-//! The program's top calls: words in, a line or an output and a status out, over whatever folder, keepers, link, clock and
-//! sink are handed in.
+//! The program's top calls: words in, a line or an output and a status out, over whatever folder, keepers, link, clock
+//! and sink are handed in.
 #![tactic(auto)]
 
 pub mod run;

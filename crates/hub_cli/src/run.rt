@@ -161,8 +161,8 @@ fn run_words<F: Folder, H: HubKeeper, C: CopyKeeper, L: Link, K: Clock, O: Sink>
     }
 }
 
-/// Runs the command that the words spell, over the hub that a keeper keeps or over a consumer's copy and the link to its hub, and gives the
-/// status of the process:
+/// Runs the command that the words spell, over the hub that a keeper keeps or over a consumer's copy and the link to
+/// its hub, and gives the status of the process:
 ///
 /// - 0: done; the command's output is written;
 /// - 1: the sink failed, which goes before every other status;
@@ -171,8 +171,8 @@ fn run_words<F: Folder, H: HubKeeper, C: CopyKeeper, L: Link, K: Clock, O: Sink>
 /// - 4: the input is refused; the line names its first fault;
 /// - 5: the hub's keeper failed;
 /// - 6: the copy's keeper failed;
-/// - 7 to 16: the synchronisation ended before the copy was whole, or the outbox before its writes were settled, or no write was entered;
-///   the line tells the answer;
+/// - 7 to 16: the synchronisation ended before the copy was whole, or the outbox before its writes were settled, or no
+///   write was entered; the line tells the answer;
 /// - 13: the file of an export would be too large, too; the line tells its kind and size;
 /// - 17: memory ran out, which says nothing of the input;
 /// - 19: nothing is held under the token, so nothing can differ from it;
@@ -188,8 +188,8 @@ pub fn run_hub<F: Folder, H: HubKeeper, C: CopyKeeper, L: Link, K: Clock, O: Sin
     clock: &K,
     out: &mut O,
 ) -> u8
-    // What is written is the text of an answer to the words, and nothing else. The answer leads from a state of the hub to another; where
-    // the keeper tells, from one for which it stood to the one for which it stands.
+    // What is written is the text of an answer to the words, and nothing else. The answer leads from a state of the hub
+    // to another; where the keeper tells, from one for which it stood to the one for which it stands.
     ensures done { result ≢ 1 → (a : AnswerValue) × LeadsBetween H.stands_for keeper.old keeper.new (IsAnswer (split (map string_bytes words.now))
         (outside_between F.files F.faults folder.old folder.new (K.moment clock.now) (faults_between H.fault_count keeper.old keeper.new))
         (copy_between C.stands_for C.fault_count copy.old copy.new)
@@ -201,18 +201,19 @@ pub fn run_hub<F: Folder, H: HubKeeper, C: CopyKeeper, L: Link, K: Clock, O: Sin
         (copy_between C.stands_for C.fault_count copy.old copy.new)
         (link_between L.tells L.asked L.missed L.kept L.fault_count link.old link.new)
         a) × AppendsPart (O.written out.old) (O.written out.new) (text_of a) }
-    // Where the words spell `sync`, and neither the sink failed nor memory ran out, line and status are those of a synchronisation, of which
-    // all holds that is promised of one.
+    // Where the words spell `sync`, and neither the sink failed nor memory ran out, line and status are those of a
+    // synchronisation, of which all holds that is promised of one.
     ensures synchronised { (task : Task) → command_in (split (map string_bytes words.now)) ≡ Some (Sync task) → result ≢ 1 → result ≢ 17 → (a : SyncAnswerValue) × IsSyncOf task a
         (copy_between C.stands_for C.fault_count copy.old copy.new)
         (link_between L.tells L.asked L.missed L.kept L.fault_count link.old link.new)
         × (result ≡ sync_status a) × Appends (O.written out.old) (O.written out.new) (sync_text a) }
-    // Where the words spell `rehearse` and the status is 0, the file is a script, and what is written is what a run of a world over all its
-    // lines prints, which begins with an empty hub and an empty copy.
+    // Where the words spell `rehearse` and the status is 0, the file is a script, and what is written is what a run of
+    // a world over all its lines prints, which begins with an empty hub and an empty copy.
     ensures rehearsed { (file : List ℕ) → command_in (split (map string_bytes words.now)) ≡ Some (Rehearse file) → result ≡ 0
         → (lines : List Line) × IsScriptOf (F.files folder.old) file lines × (run : RunsFirst (F.files folder.old) lines (length lines))
         × Appends (O.written out.old) (O.written out.new) (printed run.stages) }
-    // Where they spell `make` and the status is 0, what is written sums up a district that was made, published, granted and copied whole.
+    // Where they spell `make` and the status is 0, what is written sums up a district that was made, published, granted
+    // and copied whole.
     ensures made { (count : ℕ) → command_in (split (map string_bytes words.now)) ≡ Some (Make count) → result ≡ 0
         → (version : ℕ) × (done : List ℕ) × MakesDistrict count (Complete version) done
         × Appends (O.written out.old) (O.written out.new) (done ++ sync_text (Complete version)) }
@@ -224,5 +225,6 @@ pub fn run_hub<F: Folder, H: HubKeeper, C: CopyKeeper, L: Link, K: Clock, O: Sin
     ensures sink_failed { result ≡ 1 → Rose (O.faults out.old) (O.faults out.new) }
     ensures sink_stood { result ≢ 1 → O.faults out.new ≡ O.faults out.old }
 {
+    // What is said here follows from the one clause of `run_words`.
     run_words(alloc, words, folder, keeper, copy, link, clock, out)
 }

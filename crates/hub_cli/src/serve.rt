@@ -10,7 +10,7 @@ ghost use Rattle.hub_words.specs.declared.words.ServeWords.{ServeWords as ServeW
 
 use hub_server::shared::FeedEnd;
 use hub_server::{Doors, Ending, Notices, Ports, Served, serve_task};
-use hub_words::{ServeWords, split_serve};
+use hub_words::{ServeWords, split_serve, statuses};
 use keeper_memory::HubKeeper;
 use outside_ports::{Acceptor, Clock, Folder, Gate};
 use roster_base::{NoMemory, Refusal};
@@ -21,7 +21,7 @@ use std::alloc::Global;
 use std::sync::Wait;
 use std::thread::Threads;
 
-/// The status, and what was handed in, in its order. Where the status is 17 both lists may be empty.
+/// The status, and what was handed in, in its order. Where memory ran out both lists may be empty.
 pub struct ServeEnd<H, A: Drop, F: Drop> {
     pub status: u8,
     pub hub: H,
@@ -34,12 +34,12 @@ fn status_of(ending: Ending) -> u8
     ensures other { result ≢ 1 }
 {
     match ending {
-        Ending::Done => 0,
-        Ending::FolderFailed => 3,
-        Ending::Refused => 4,
-        Ending::KeeperFailed => 5,
-        Ending::NoMemory => 17,
-        Ending::AcceptorFailed => 18,
+        Ending::Done => statuses::DONE,
+        Ending::FolderFailed => statuses::FOLDER_FAILED,
+        Ending::Refused => statuses::REFUSED,
+        Ending::KeeperFailed => statuses::HUB_FAILED,
+        Ending::NoMemory => statuses::NO_MEMORY,
+        Ending::AcceptorFailed => statuses::ACCEPTOR_FAILED,
     }
 }
 
@@ -60,8 +60,9 @@ pub fn feed_lines(alloc: Global, feed: &Name, end: FeedEnd) -> Result<String, No
     Ok(told)
 }
 
-/// Serves the hub that a keeper keeps, as the words of `serve` say: for each acceptor the stated number of connections, one after another,
-/// and beside them the set of each feed, published once. The status is the first of a job that isn't 0, feeds before acceptors:
+/// Serves the hub that a keeper keeps, as the words of `serve` say: for each acceptor the stated number of connections,
+/// one after another, and beside them the set of each feed, published once. The status is the first of a job that isn't
+/// 0, feeds before acceptors:
 ///
 /// - 0: each connection was served, and each set was published;
 /// - 2: the words are no `serve` command;
@@ -106,8 +107,8 @@ where
         Err(error) => {
             return ServeEnd {
                 status: match error {
-                    Refusal::Fault(_) => 2,
-                    Refusal::NoMemory => 17,
+                    Refusal::Fault(_) => statuses::BAD_WORDS,
+                    Refusal::NoMemory => statuses::NO_MEMORY,
                 },
                 hub,
                 doors,

@@ -191,7 +191,7 @@ module _ (bytes left : List ℕ) (written written' : Option (List ℕ)) (sink si
     failed = broken.failed;
   }
 
-  module _ (moment : Option ℤ) (result : StreamEnd) (serves : Serves before now moment result) (is : IsKept first.kept) (shut : first.is_open ≡ false) (fits : KeeperFits stands' hub) where
+  module _ (moment : Option ℤ) (result : StreamEnd) (serves : Serves before now moment result) (is : IsKept first.kept) (shut : first.commit_open ≡ false) (fits : KeeperFits stands' hub) where
     abbrev Asks : Answer → KeptState → KeptState → Type 0
     Asks a = AsksBytes moment (faults_of keeper keeper') bytes a.done a.end
 
@@ -301,7 +301,7 @@ module _ (o : Outside) (file : List ℕ) where
 -- ---- the whole command
 
 -- no request was taken for want of memory
-pub asks_none : (bytes : List ℕ) (moment : Option ℤ) (stands : KeptState → Type 0) (keeper : ℕ) (hub : HeldHub) → IsKept hub.kept → hub.is_open ≡ false → KeeperFits stands hub
+pub asks_none : (bytes : List ℕ) (moment : Option ℤ) (stands : KeptState → Type 0) (keeper : ℕ) (hub : HeldHub) → IsKept hub.kept → hub.commit_open ≡ false → KeeperFits stands hub
     → (a : Answer) → IsPrinted (record { done = []; end = NoMemory }) a → LeadsFrom stands stands (AsksBytes moment (faults_of keeper keeper) bytes a.done a.end)
 asks_none bytes moment stands keeper hub is shut fits a printed =
     let wants : StreamEnds bytes [] [] NoMemory = ([], bytes, [], refl, inl refl, refl) in

@@ -75,7 +75,7 @@ module _ (feed : List ℕ) (moment : Option ℤ) (faults : Faults) (copies : Cop
     rises made counts e = rose copies.faults_before copies.faults_now (subst (CountsCopy copies.faults_before copies.faults_now) e counts)
 
     -- a copy cascaded into a hub that was opened
-    pub cascaded : CopyStays copies → (old new : KeptState → Type 0) (first hub : HeldHub) (made : Result Published CascadeError) (answer : Answer) → IsKept first.kept → first.is_open ≡ false → KeeperFits new hub
+    pub cascaded : CopyStays copies → (old new : KeptState → Type 0) (first hub : HeldHub) (made : Result Published CascadeError) (answer : Answer) → IsKept first.kept → first.commit_open ≡ false → KeeperFits new hub
         → ((after : KeptState) → IsStanding hub after → (before : KeptState) × IsStanding first before × (new after → old before) × Makes made before after)
         → TellsHeld copies.stands made → CountsHub faults.before faults.now made → CountsCopy copies.faults_before copies.faults_now made → IsTold feed (or_ended made) answer
         → LeadsFrom old new (IsCascadeAnswer feed moment faults copies answer)

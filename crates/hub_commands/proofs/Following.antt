@@ -14,7 +14,7 @@ use Rattle.consumer_commands.specs.Below.DeltaGathering.Stops.{Given, NoReply, N
 use Rattle.consumer_commands.specs.Below.Place.{Place}
 use Rattle.consumer_commands.specs.Below.DeltaAnswer.{DeltaAnswer}
 use Rattle.consumer_commands.specs.Below.DeltaAnswer.TheVariants as delta
-use Rattle.exchange_link.specs.Exchanges.{Told}
+use Rattle.exchange_link.specs.Exchanges.{LinkState}
 use Rattle.exchange_link.specs.declared.answer.SyncAnswer.{SyncAnswer}
 use Rattle.exchange_link.specs.declared.answer.SyncAnswer.TheVariants as sync
 use Rattle.hub_cascade.specs.Answers.{CountsCopy, CountsHub, MakesCascade, TellsHeld}
@@ -99,7 +99,7 @@ miss_cause copies links task old new before after (Err (missed.Sync a)) (between
 )
 
 -- what a link that tells adds
-pub miss_told : {N : Type 0} (links : LinkView N) (task : Task) (before after : N) (tells : Told) (s : Result ℕ Missed) → MissedTold links task.token before tells s
+pub miss_told : {N : Type 0} (links : LinkView N) (task : Task) (before after : N) (tells : LinkState) (s : Result ℕ Missed) → MissedTold links task.token before tells s
     → MissTold task (link_between links.tells links.asked links.missed links.kept links.faults before after) tells s
 miss_told links task before after tells (Ok version) is = tt
 miss_told links task before after tells (Err (missed.Delta a)) is = is
@@ -158,7 +158,7 @@ module _ (task : Task) (feed : List ℕ) (moment : Option ℤ) (faults : Faults)
     tells_follow (follow.Cascade version e) answer before after told makes held hub_counts counts stood = tells_version version (Err e) answer before after told makes held hub_counts counts
 
     -- another hub followed into one that was opened
-    pub followed : (old new : KeptState → Type 0) (first hub : HeldHub) (r : FollowAnswer) (answer : Answer) → IsKept first.kept → first.is_open ≡ false → KeeperFits new hub
+    pub followed : (old new : KeptState → Type 0) (first hub : HeldHub) (r : FollowAnswer) (answer : Answer) → IsKept first.kept → first.commit_open ≡ false → KeeperFits new hub
         → ((after : KeptState) → IsStanding hub after → (before : KeptState) × IsStanding first before × (new after → old before) × IfCascaded r (λ made. Makes made before after) (after ≡ before))
         → IfCascaded r (TellsHeld copies.stands) ⊤ → IfCascaded r (CountsHub faults.before faults.now) ⊤ → IfCascaded r CountsFrom ⊤ → IfCascaded r (λ made. ⊤) (HaveStood faults)
         → IsCaughtUp task (synced r) copies link → TellsEnd feed r answer → LeadsFrom old new (IsFollowAnswer task feed moment faults copies link answer)

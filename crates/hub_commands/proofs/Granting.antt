@@ -157,7 +157,7 @@ module _ (o : Outside) (file : List ℕ) where
   answered (Err end) answer before after is stops = subst (λ (a : Answer). IsGrantAnswer o file a.done a.end before after) (sym is) (stopped end before after stops)
 
   -- a file set in a hub that was opened
-  pub granted : (old new : KeptState → Type 0) (first hub : HeldHub) (result : Result Published End) (answer : Answer) → IsKept first.kept → first.is_open ≡ false → KeeperFits new hub
+  pub granted : (old new : KeptState → Type 0) (first hub : HeldHub) (result : Result Published End) (answer : Answer) → IsKept first.kept → first.commit_open ≡ false → KeeperFits new hub
       → ((after : KeptState) → IsStanding hub after → (before : KeptState) × IsStanding first before × (new after → old before) × GrantsFile o file result before after) → IsTold (codes "grants") result answer
       → LeadsFrom old new (IsGrantAnswer o file answer.done answer.end)
   granted old new first hub result answer is shut fits led told =

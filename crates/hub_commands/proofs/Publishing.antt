@@ -120,7 +120,8 @@ module _ (o : Outside) where
 
 -- ---- how far the feeds are published
 
--- from what stood at the start: the folder's files, the clock's moment, both counts of faults, what the keeper stood for, and the hub
+-- from what stood at the start: the folder's files, the clock's moment, both counts of faults, what the keeper stood
+-- for, and the hub
 module _ (told : Option (List Stored)) (moment : Option ℤ) (folder keeper : ℕ) (stood : KeptState → Type 0) (first : HeldHub) (feeds : List Feed) (start : List ℕ) where
   abbrev pub since : ℕ → ℕ → Outside
   since folder_now keeper_now = outside_of told moment (faults_of folder folder_now) (faults_of keeper keeper_now)
@@ -230,7 +231,7 @@ module _ (files : Option (List Stored)) (moment : Option ℤ) (folder folder_now
   outside = outside_of files moment (faults_of folder folder_now) (faults_of keeper keeper_now)
 
   -- a run over a hub that was opened
-  pub ran : (first hub : HeldHub) (done : List ℕ) (end : End) → IsKept first.kept → first.is_open ≡ false → Ended files moment folder keeper old first feeds [] folder_now keeper_now new hub done end → KeeperFits new hub
+  pub ran : (first hub : HeldHub) (done : List ℕ) (end : End) → IsKept first.kept → first.commit_open ≡ false → Ended files moment folder keeper old first feeds [] folder_now keeper_now new hub done end → KeeperFits new hub
       → LeadsFrom old new (IsRunOf outside feeds done end)
   ran first hub done end is shut ended fits =
       leads-standing old new first hub (IsRunOf outside feeds done end) is shut fits (λ after standing.

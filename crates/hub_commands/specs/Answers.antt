@@ -13,29 +13,32 @@ use Rattle.hub_commands.specs.declared.answer.End.TheVariants.{RequestRefused, S
 use Rattle.hub_commands.specs.Lines.{bad_word_text, copy_failed, fault_text, folder_failed, grants_fault_text}
 use Rattle.hub_commands.specs.Lines.{hub_failed, named_file_text, no_memory, nothing_held, publish_fault_text}
 use Rattle.hub_commands.specs.Lines.{request_text, script_text}
+use Rattle.hub_words.specs.Statuses.{bad_words_status, copy_failed_status, done_status, folder_failed_status}
+use Rattle.hub_words.specs.Statuses.{hub_failed_status, no_memory_status, nothing_held_status, refused_status}
+use Rattle.hub_words.specs.Statuses.{too_large_status}
 
 abbrev pub status_of : End → ℕ
-status_of Done = 0
-status_of (BadWord place) = 2
-status_of FolderFailed = 3
-status_of (Refused fault) = 4
-status_of (MissingFile name) = 4
-status_of (FileTooLarge name) = 4
-status_of (FileNotUtf8 name) = 4
-status_of (BadRow name) = 4
-status_of (GrantsRefused fault) = 4
-status_of (RequestRefused number fault) = 4
-status_of (ScriptRefused line) = 4
-status_of (NotPublished fault) = 4
-status_of HubFailed = 5
+status_of Done = done_status
+status_of (BadWord place) = bad_words_status
+status_of FolderFailed = folder_failed_status
+status_of (Refused fault) = refused_status
+status_of (MissingFile name) = refused_status
+status_of (FileTooLarge name) = refused_status
+status_of (FileNotUtf8 name) = refused_status
+status_of (BadRow name) = refused_status
+status_of (GrantsRefused fault) = refused_status
+status_of (RequestRefused number fault) = refused_status
+status_of (ScriptRefused line) = refused_status
+status_of (NotPublished fault) = refused_status
+status_of HubFailed = hub_failed_status
 status_of (Synced answer) = sync_status answer
 status_of (DeltaSynced answer) = delta_status answer
 status_of (NotEntered error) = enter_status error
 status_of (Sent answer) = send_status answer
-status_of CopyFailed = 6
-status_of NothingHeld = 21
-status_of (ExportTooLarge kind bytes) = 13
-status_of NoMemory = 17
+status_of CopyFailed = copy_failed_status
+status_of NothingHeld = nothing_held_status
+status_of (ExportTooLarge kind bytes) = too_large_status
+status_of NoMemory = no_memory_status
 
 -- the line that an end is told by
 abbrev pub end_text : End → List ℕ

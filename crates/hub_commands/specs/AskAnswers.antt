@@ -33,7 +33,8 @@ bytes_in name (Bytes bytes) = Ok bytes
 abbrev pub IsBytesOf : Option (List Stored) → List ℕ → Result (List ℕ) End → Type 0
 IsBytesOf files name bytes = (read : FileRead) × ReadsFile {E = IoError} files [] name largest (Ok read) × (bytes_in name read ≡ bytes)
 
--- how no request comes to be read: the folder fails, the keeper fails as the hub is opened, memory runs out, or else the file is refused
+-- how no request comes to be read: the folder fails, the keeper fails as the hub is opened, memory runs out, or else
+-- the file is refused
 abbrev pub StopsAsking : Outside → List ℕ → End → Type 0
 StopsAsking outside file FolderFailed = HaveRisen outside.folder
 StopsAsking outside file HubFailed = HaveRisen outside.keeper
@@ -62,16 +63,16 @@ abbrev pub StopsShort : List ℕ → List Exchange → List ℕ → Type 0
 StopsShort bytes exchanges done =
     (kept : List ℕ) × (left : List ℕ) × (more : List ℕ) × StandFirst bytes (requests_of exchanges) (kept ++ left) × MayFollow more kept (Some left) × (done ≡ replies_text exchanges ++ more)
 
--- how the bytes end: all of them are requests, the rest is refused under the number of the next request, or memory runs out; and what is
--- written
+-- how the bytes end: all of them are requests, the rest is refused under the number of the next request, or memory runs
+-- out; and what is written
 abbrev pub StreamEnds : List ℕ → List Exchange → List ℕ → End → Type 0
 StreamEnds bytes exchanges done Done = AreRequests bytes (requests_of exchanges) [] × (done ≡ replies_text exchanges)
 StreamEnds bytes exchanges done (RequestRefused number why) = (number ≡ counted (length exchanges + 1)) × RefusesRest bytes exchanges done why
 StreamEnds bytes exchanges done NoMemory = StopsShort bytes exchanges done
 StreamEnds bytes exchanges done _ = ⊥
 
--- the requests of these bytes were taken in turn, at the clock's moments, by a run of the hub, with their replies, and the keeper's count rose
--- with each failure in it
+-- the requests of these bytes were taken in turn, at the clock's moments, by a run of the hub, with their replies, and
+-- the keeper's count rose with each failure in it
 pub record AsksBytes (moment : Option ℤ) (keeper : Faults) (bytes done : List ℕ) (end : End) (before after : KeptState) : Type 0 where
   pub exchanges : List Exchange
   pub moments : AreAt moment exchanges

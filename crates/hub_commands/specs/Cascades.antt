@@ -34,8 +34,8 @@ or_ended (Err e) = Err (end_of_cascade e)
 abbrev pub CascadesCopy : List ℕ → Option ℤ → CopyRun → Result Published CascadeError → KeptState → KeptState → Type 0
 CascadesCopy feed moment copy answer before after = (at : ℤ) × IsMomentOf moment at × MakesCascade (CascadesHeld copy.stands feed at) answer before after
 
--- how nothing is cascaded, or nothing is told of it: a keeper fails, the rows are refused, nothing is held, or memory runs out, where they
--- may be cascaded
+-- how nothing is cascaded, or nothing is told of it: a keeper fails, the rows are refused, nothing is held, or memory
+-- runs out, where they may be cascaded
 abbrev pub StopsCascade : List ℕ → Option ℤ → Faults → CopyRun → End → KeptState → KeptState → Type 0
 StopsCascade feed moment keeper copy HubFailed before after = HaveRisen keeper × ((after ≡ before) ⊎ CascadesCopy feed moment copy (Err error.HubKeeper) before after)
 StopsCascade feed moment keeper copy CopyFailed before after = Rose copy.faults_before copy.faults_now × (after ≡ before)

@@ -13,8 +13,8 @@ use Rattle.roster_values.specs.declared.kind.Kind.{Kind}
 use Rattle.hub_commands.specs.declared.answer.Answer.{Answer}
 use Rattle.hub_commands.specs.declared.answer.End.TheVariants.{CopyFailed, DeltaSynced, Done, NoMemory, Synced}
 
--- the answer of `sync`: that of a synchronisation between copy and link, of which all holds that is promised of one; memory may run out
--- for its line
+-- the answer of `sync`: that of a synchronisation between copy and link, of which all holds that is promised of one;
+-- memory may run out for its line
 abbrev pub IsSyncAnswer : Task → CopyRun → LinkRun → Answer → Type 0
 IsSyncAnswer task copy link answer = (answer.done ≡ []) × (a : SyncAnswer) × IsSyncOf task a copy link × ((answer.end ≡ Synced a) ⊎ (answer.end ≡ NoMemory))
 
@@ -26,8 +26,8 @@ IsDeltaAnswer task copy link answer = (answer.done ≡ []) × (a : DeltaAnswer) 
 abbrev pub CopyStays : CopyRun → Type 0
 CopyStays copy = (c : Copy) → copy.stands c → copy.stood c
 
--- how a command ends that prints of the copy: with such a text, by a failure of the keeper, whose count of faults rose, or for want of
--- memory
+-- how a command ends that prints of the copy: with such a text, by a failure of the keeper, whose count of faults rose,
+-- or for want of memory
 abbrev pub ReadEnds : (List ℕ → Type 0) → CopyRun → Answer → Type 0
 ReadEnds is_text copy answer =
     ((answer.end ≡ Done) × is_text answer.done × (copy.faults_now ≡ copy.faults_before))

@@ -11,7 +11,7 @@ use Rattle.consumer_commands.specs.Below.DeltaAnswer.TheVariants as delta
 use Rattle.consumer_commands.specs.Below.Place.{Place}
 use Rattle.exchange_link.specs.Causes.{Caused, IsMore, RoseBy, ToldCause}
 use Rattle.exchange_link.specs.Completeness.{IsDone}
-use Rattle.exchange_link.specs.Exchanges.{Told}
+use Rattle.exchange_link.specs.Exchanges.{LinkState}
 use Rattle.exchange_link.specs.Marks.{MarksTold}
 use Rattle.exchange_link.specs.declared.answer.SyncAnswer.TheVariants as answer
 use Rattle.hub_cascade.specs.declared.error.CascadeError.{CascadeError}
@@ -35,13 +35,15 @@ use Rattle.hub_commands.specs.declared.answer.Answer.{Answer}
 use Rattle.hub_commands.specs.declared.answer.End.{End}
 use Rattle.hub_commands.specs.declared.answer.End.TheVariants.{DeltaSynced, HubFailed, NoMemory, Synced}
 
--- why an incremental synchronisation had no base: it asked for nothing, or the own reply to its last request says that the base is gone
+-- why an incremental synchronisation had no base: it asked for nothing, or the own reply to its last request says that
+-- the base is gone
 abbrev pub IsUnbased : List ℕ → ℕ → ℕ → DeltaAnswer → Type 0
 IsUnbased kept run count (delta.Ended a) = ⊥
 IsUnbased kept run count delta.NoBase = count ≡ 0
 IsUnbased kept run count (delta.BaseGone version oldest) = (place : Place) × (held : List Record) × IsGiven kept run count place held (delta.BaseGone version oldest)
 
--- an incremental synchronisation that had no base: its run, its exchanges and its answer, and the counts between it and the whole one behind it
+-- an incremental synchronisation that had no base: its run, its exchanges and its answer, and the counts between it and
+-- the whole one behind it
 pub record Behind (copies : CopyRun) (link : LinkRun) : Type 0 where
   pub run : ℕ
   pub count : ℕ
@@ -65,10 +67,10 @@ MissCause task copies link (Err (missed.Sync a)) = (mid : Behind copies link) ×
     (λ n. (task.tries ≤ link.missed) × (task.tries ≤ n) × RoseBy task.tries mid.link_faults link.faults_now) (Rose mid.faults copies.faults_now) a
 
 -- what a link that tells adds
-abbrev pub MissTold : Task → LinkRun → Told → Result ℕ Missed → Type 0
+abbrev pub MissTold : Task → LinkRun → LinkState → Result ℕ Missed → Type 0
 MissTold task link tells (Ok version) = ⊤
-MissTold task link tells (Err (missed.Delta a)) = (told : Told) × link.told told × DeltaTold task.token told tells a
-MissTold task link tells (Err (missed.Sync a)) = (told : Told) × link.told told × ToldCause task.token told tells a
+MissTold task link tells (Err (missed.Delta a)) = (told : LinkState) × link.told told × DeltaTold task.token told tells a
+MissTold task link tells (Err (missed.Sync a)) = (told : LinkState) × link.told told × ToldCause task.token told tells a
 
 -- what is promised of the synchronisation in it: the clauses of `hub_follow::follow` about copy and link, one by one
 pub record IsCaughtUp (task : Task) (synced : Result ℕ Missed) (copies : CopyRun) (link : LinkRun) : Type 0 where
@@ -77,26 +79,26 @@ pub record IsCaughtUp (task : Task) (synced : Result ℕ Missed) (copies : CopyR
   pub copy : (after : Copy) → copies.stands after → (before : Copy) × copies.stood before × CatchesUp (sync_of synced) before after
   pub cause : MissCause task copies link synced
   -- over one that tells
-  pub first : ((c : Copy) → copies.stood c → LacksBase task.token c → ⊥) → (after : Copy) (tells : Told) → copies.stands after → link.tells tells
-      → (told : Told) × link.told told × BeginsFromHeld task.token task.limit copies.stood told.sent tells.sent
-  pub told : Agreed copies link → (after : Copy) (tells : Told) → copies.stands after → link.tells tells
-      → (before : Copy) × (told : Told) × copies.stood before × link.told told × CatchesUpTold task.token (sync_of synced) before told after tells
-  pub cause_told : Agreed copies link → (after : Copy) (tells : Told) → copies.stands after → link.tells tells → MissTold task link tells synced
+  pub first : ((c : Copy) → copies.stood c → LacksBase task.token c → ⊥) → (after : Copy) (tells : LinkState) → copies.stands after → link.tells tells
+      → (told : LinkState) × link.told told × BeginsFromHeld task.token task.limit copies.stood told.sent tells.sent
+  pub told : Agreed copies link → (after : Copy) (tells : LinkState) → copies.stands after → link.tells tells
+      → (before : Copy) × (told : LinkState) × copies.stood before × link.told told × CatchesUpTold task.token (sync_of synced) before told after tells
+  pub cause_told : Agreed copies link → (after : Copy) (tells : LinkState) → copies.stands after → link.tells tells → MissTold task link tells synced
   -- where no call of the link and of the copy's keeper failed
   pub complete : Agreed copies link → ¬ Rose link.faults_before link.faults_now → ¬ Rose copies.faults_before copies.faults_now
-      → (after : Copy) (tells : Told) → copies.stands after → link.tells tells
-      → (before : Copy) × (told : Told) × copies.stood before × link.told told
+      → (after : Copy) (tells : LinkState) → copies.stands after → link.tells tells
+      → (before : Copy) × (told : LinkState) × copies.stood before × link.told told
       × (before.run + 1 < LAST → ¬ Rose told.hub_faults tells.hub_faults → MayCatchUp task.token copies.stood before told tells → IsDone (sync_of synced))
   -- where they agreed on marks
-  pub marks : ((c : Copy) (t : Told) → copies.stood c → link.told t → MarksTold c t)
-      → (after : Copy) (tells : Told) → copies.stands after → link.tells tells → MarksTold after tells
+  pub marks : ((c : Copy) (t : LinkState) → copies.stood c → link.told t → MarksTold c t)
+      → (after : Copy) (tells : LinkState) → copies.stands after → link.tells tells → MarksTold after tells
 
 -- the line of a complete synchronisation, before what its cascade tells
 abbrev pub completed : ℕ → List ℕ
 completed version = sync_text (answer.Complete version)
 
--- what is told of a call whose synchronisation ended so: the line of the version that the copy holds, and what its cascade tells, or where memory
--- ran out nothing of both; or the line of the synchronisation, where nothing is cascaded
+-- what is told of a call whose synchronisation ended so: the line of the version that the copy holds, and what its
+-- cascade tells, or where memory ran out nothing of both; or the line of the synchronisation, where nothing is cascaded
 abbrev pub TellsFollow : List ℕ → Option ℤ → Faults → CopyRun → Result ℕ Missed → Answer → KeptState → KeptState → Type 0
 TellsFollow feed moment keeper copies (Ok version) answer before after =
     ((more : List ℕ) × (answer.done ≡ completed version ++ more) × TellsCascade feed moment keeper copies more answer.end before after)
@@ -120,7 +122,8 @@ IsFollowAnswer task feed moment keeper copies link answer before after =
 
 -- ---- what the steps of it tell
 
--- what is told of a version that the copy holds, and of what was made of it: its line and that of the cascade, or where memory runs out nothing
+-- what is told of a version that the copy holds, and of what was made of it: its line and that of the cascade, or where
+-- memory runs out nothing
 abbrev pub TellsVersion : List ℕ → ℕ → Result Published CascadeError → Answer → Type 0
 TellsVersion feed version made answer =
     ((cascaded : Answer) × IsTold feed (or_ended made) cascaded × (answer ≡ record { done = completed version ++ cascaded.done; end = cascaded.end }))

@@ -40,8 +40,8 @@ abbrev pub SetsGrants : Outside → List ℕ → Result Published HubError → K
 SetsGrants outside file answer before after =
     (entries : List GrantEntry) × (at : ℤ) × IsGrantsOf outside.files file (Ok entries) × IsMomentOf outside.moment at × MakesNext (λ version. GrantsMake version entries at) answer before after
 
--- how the grants of a file come not to be set, or not to be told: the folder or the keeper fails, they aren't published, memory runs
--- out, where they may be set, or else the file is refused
+-- how the grants of a file come not to be set, or not to be told: the folder or the keeper fails, they aren't
+-- published, memory runs out, where they may be set, or else the file is refused
 abbrev pub StopsGrant : Outside → List ℕ → End → KeptState → KeptState → Type 0
 StopsGrant outside file FolderFailed before after = HaveRisen outside.folder × (after ≡ before)
 StopsGrant outside file HubFailed before after = HaveRisen outside.keeper × ((after ≡ before) ⊎ SetsGrants outside file (Err error.Keeper) before after)

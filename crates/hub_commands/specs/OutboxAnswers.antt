@@ -48,7 +48,8 @@ put_in object at name TooLong = Err (FileTooLarge name)
 put_in object at name (Bytes bytes) =
     if is_utf8 bytes then or_bad_row name object bytes (put_of object.kind object.id at bytes) else Err (FileNotUtf8 name)
 
--- the write of a task, or how the file of its body in the root folder is refused; a body may be read at any moment of the clock
+-- the write of a task, or how the file of its body in the root folder is refused; a body may be read at any moment of
+-- the clock
 abbrev pub IsWriteOf : Option (List Stored) → Option ℤ → EnterTask → Result Write End → Type 0
 IsWriteOf files moment (Put object file) write =
     (read : FileRead) × (at : ℤ) × IsMomentOf moment at × ReadsFile {E = IoError} files [] file max_body (Ok read) × (put_in object at file read ≡ write)
@@ -66,7 +67,8 @@ abbrev pub IsEntered : Result ℕ EnterError → Answer → Type 0
 IsEntered (Ok number) answer = ((answer.done ≡ entered_text number) × (answer.end ≡ Done)) ⊎ ((answer.done ≡ []) × (answer.end ≡ NoMemory))
 IsEntered (Err error) answer = (answer.done ≡ []) × ((answer.end ≡ NotEntered error) ⊎ (answer.end ≡ NoMemory))
 
--- the write of a task, or how it comes not to be made: the folder fails, memory runs out, or the file of the body is refused
+-- the write of a task, or how it comes not to be made: the folder fails, memory runs out, or the file of the body is
+-- refused
 abbrev pub ReadsWrite : Outside → EnterTask → Result Write End → Type 0
 ReadsWrite outside task (Ok write) = IsWriteOf outside.files outside.moment task (Ok write) × HaveStood outside.folder
 ReadsWrite outside task (Err FolderFailed) = HaveRisen outside.folder
@@ -87,8 +89,8 @@ IsEnterAnswer task outside copy answer = StopsEnter task outside copy answer ⊎
 
 -- ---- `send` and `outbox`
 
--- the answer of `send`: that of a sending between copy and link, of which all holds that is promised of one; memory may run out for its
--- line
+-- the answer of `send`: that of a sending between copy and link, of which all holds that is promised of one; memory may
+-- run out for its line
 abbrev pub IsSendAnswer : Sending → CopyRun → LinkRun → Answer → Type 0
 IsSendAnswer task copy link answer = (answer.done ≡ []) × (a : SendAnswer) × IsSendOf task a copy link × ((answer.end ≡ Sent a) ⊎ (answer.end ≡ NoMemory))
 

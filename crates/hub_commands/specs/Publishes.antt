@@ -31,7 +31,8 @@ abbrev pub PublishesSet : Outside → Feed → Result Published HubError → Kep
 PublishesSet outside feed answer before after =
     (set : SetRecord) × (at : ℤ) × IsSetOf outside.files feed (Ok set) × IsMomentOf outside.moment at × MakesNext (λ version. Applies version set at) answer before after
 
--- how the first set of some feeds that isn't published, or isn't told, ends them; where memory runs out it may be published
+-- how the first set of some feeds that isn't published, or isn't told, ends them; where memory runs out it may be
+-- published
 abbrev pub StopsAt : Outside → Feed → End → KeptState → KeptState → Type 0
 StopsAt outside feed FolderFailed before after = HaveRisen outside.folder × (after ≡ before)
 StopsAt outside feed HubFailed before after = HaveRisen outside.keeper × PublishesSet outside feed (Err error.Keeper) before after

@@ -33,8 +33,9 @@ IsShowAnswer kind outside answer = IsFolderFailure outside answer ⊎ (IsShown o
 abbrev pub IsPublishAnswer : Outside → List Feed → Answer → KeptState → KeptState → Type 0
 IsPublishAnswer outside feeds answer before after = ((after ≡ before) × IsHubFailure outside answer) ⊎ IsRunOf outside feeds answer.done answer.end before after
 
--- a relation of states holds of a run over a keeper that stood for what `old` holds of, and then for what `new` holds of: there is a
--- state of a hub from which it leads to another; and where the keeper tells, it stood for such a state before
+-- a relation of states holds of a run over a keeper that stood for what `old` holds of, and then for what `new` holds
+-- of: there is a state of a hub from which it leads to another; and where the keeper tells, it stood for such a state
+-- before
 pub record LeadsFrom (old new : KeptState → Type 0) (leads : KeptState → KeptState → Type 0) : Type 0 where
   pub before : KeptState
   pub after : KeptState
@@ -46,7 +47,8 @@ pub record LeadsFrom (old new : KeptState → Type 0) (leads : KeptState → Kep
 abbrev pub LeadsBetween : {H : Type 0} → (H → KeptState → Type 0) → H → H → (KeptState → KeptState → Type 0) → Type 0
 LeadsBetween stands_for old new leads = LeadsFrom (stands_for old) (stands_for new) leads
 
--- what is written, with its status: the text of an answer of which this is so, or where the sink failed a front of such a text
+-- what is written, with its status: the text of an answer of which this is so, or where the sink failed a front of such
+-- a text
 abbrev pub Writes : ℕ → Option (List ℕ) → Option (List ℕ) → ℕ → ℕ → (Answer → Type 0) → Type 0
 Writes status old new before now is =
     (answer : Answer) × is answer

@@ -16,6 +16,7 @@ use consumer_commands::{
 use csv_sets::SetFault;
 use exchange_link::{EnterError, SendAnswer, SyncAnswer};
 use grant_files::GrantFault;
+use hub_words::statuses;
 use rest_provider::RequestFault;
 use roster_base::{NoMemory, Text};
 use roster_values::Kind;
@@ -99,28 +100,29 @@ impl Answer {
 }
 
 impl End {
-    /// The status of the process: 0, 2 to 17, or 19 to 21. 1 is left to an output that couldn't be written, and 18 to a server.
+    /// The status of the process: 0, 2 to 17, or 19 to 21. 1 is left to an output that couldn't be written, and 18 to a
+    /// server.
     pub fn status(&self) -> u8
         ensures value { result ≡ answers.status_of self.now }
         ensures other { result ≢ 1 }
     {
         match self {
-            End::Done => 0,
-            End::BadWord(_) => 2,
-            End::FolderFailed => 3,
-            End::Refused(_) | End::NotPublished(_) => 4,
-            End::MissingFile(_) | End::FileTooLarge(_) | End::GrantsRefused(_) => 4,
-            End::FileNotUtf8(_) | End::BadRow(_) => 4,
-            End::RequestRefused { .. } | End::ScriptRefused { .. } => 4,
-            End::HubFailed => 5,
+            End::Done => statuses::DONE,
+            End::BadWord(_) => statuses::BAD_WORDS,
+            End::FolderFailed => statuses::FOLDER_FAILED,
+            End::Refused(_) | End::NotPublished(_) => statuses::REFUSED,
+            End::MissingFile(_) | End::FileTooLarge(_) => statuses::REFUSED,
+            End::FileNotUtf8(_) | End::BadRow(_) | End::GrantsRefused(_) => statuses::REFUSED,
+            End::RequestRefused { .. } | End::ScriptRefused { .. } => statuses::REFUSED,
+            End::HubFailed => statuses::HUB_FAILED,
             End::Synced(answer) => sync_status(*answer),
             End::DeltaSynced(answer) => delta_status(*answer),
             End::NotEntered(error) => enter_status(*error),
             End::Sent(answer) => send_status(*answer),
-            End::CopyFailed => 6,
-            End::NothingHeld => 21,
-            End::ExportTooLarge { .. } => 13,
-            End::NoMemory => 17,
+            End::CopyFailed => statuses::COPY_FAILED,
+            End::NothingHeld => statuses::NOTHING_HELD,
+            End::ExportTooLarge { .. } => statuses::TOO_LARGE,
+            End::NoMemory => statuses::NO_MEMORY,
         }
     }
 

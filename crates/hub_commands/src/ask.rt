@@ -14,6 +14,7 @@ use crate::printing::tell;
 use crate::publish::end_of_error;
 use csv_sets::file::LARGEST;
 use hub_core::Hub;
+use hub_words::statuses;
 use keeper_memory::HubKeeper;
 use outside_ports::{Clock, FileRead, Folder, HeldSource, IoError, Sink};
 use rest_paths::PathRouter;
@@ -46,7 +47,8 @@ pub fn bytes_of<F: Folder>(alloc: Global, file: &Text, folder: &mut F) -> Result
     }
 }
 
-/// The end of `ask` by how the stream of all its bytes ended, and how many of them weren't taken; none where the sink failed.
+/// The end of `ask` by how the stream of all its bytes ended, and how many of them weren't taken; none where the sink
+/// failed.
 pub fn ask_end(end: StreamEnd, left: u64) -> Option<End>
     ensures { result ≡ ask_end end left }
 {
@@ -82,7 +84,7 @@ pub fn print_end<O: Sink>(alloc: Global, end: Option<End>, out: &mut O) -> u8
 {
     match end {
         Some(end) => tell(alloc, Answer::nothing_done(alloc, end), out),
-        None => 1,
+        None => statuses::OUTPUT_FAILED,
     }
 }
 
@@ -95,7 +97,7 @@ fn ask_bytes<H: HubKeeper, K: Clock, O: Sink>(
     out: &mut O,
 ) -> u8
     requires fits { KeeperFits (H.stands_for keeper.old) hub }
-    requires settled { hub.is_open ≡ false }
+    requires settled { hub.commit_open ≡ false }
     requires kept { IsKept hub.kept }
     ensures { WritesBetween O.written O.faults out.old out.new result
         (λ a. LeadsBetween H.stands_for keeper.old keeper.new (AsksBytes (K.moment desk.now.clock.now) (faults_between H.fault_count keeper.old keeper.new) bytes a.done a.end)) }
@@ -118,7 +120,7 @@ fn ask_opened<H: HubKeeper, K: Clock, O: Sink>(
     out: &mut O,
 ) -> u8
     requires fits { KeeperFits (H.stands_for keeper.old) hub }
-    requires settled { hub.is_open ≡ false }
+    requires settled { hub.commit_open ≡ false }
     requires kept { IsKept hub.kept }
     ensures { WritesBetween O.written O.faults out.old out.new result
         (λ a. LeadsBetween H.stands_for keeper.old keeper.new (AsksBytes (K.moment clock.now) (faults_between H.fault_count keeper.old keeper.new) bytes a.done a.end)) }
@@ -140,7 +142,8 @@ fn ask_opened<H: HubKeeper, K: Clock, O: Sink>(
     }
 }
 
-/// Answers the requests of a file in the root folder by the hub that a keeper keeps, and writes each reply as it is made.
+/// Answers the requests of a file in the root folder by the hub that a keeper keeps, and writes each reply as it is
+/// made.
 pub fn ask<F: Folder, H: HubKeeper, K: Clock, O: Sink>(
     alloc: Global,
     file: &Text,

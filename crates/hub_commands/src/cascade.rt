@@ -51,7 +51,7 @@ fn cascade_into<H: HubKeeper, C: CopyKeeper, K: Clock>(
     clock: &K,
 ) -> Answer
     requires fits { KeeperFits (H.stands_for keeper.old) hub }
-    requires settled { hub.is_open ≡ false }
+    requires settled { hub.commit_open ≡ false }
     requires kept { IsKept hub.kept }
     ensures { LeadsBetween H.stands_for keeper.old keeper.new (IsCascadeAnswer feed.now (K.moment clock.now)
         (faults_between H.fault_count keeper.old keeper.new) (copy_between C.stands_for C.fault_count copy.old copy.new) result) }

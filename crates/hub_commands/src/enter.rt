@@ -151,8 +151,8 @@ pub fn write_of<F: Folder, K: Clock>(
     }
 }
 
-// What is told of a write that was entered, or not.
-fn told(alloc: Global, entered: Result<u64, EnterError>) -> Answer
+// The answer that tells the number of a write that was entered, or why it wasn't.
+fn entered_answer(alloc: Global, entered: Result<u64, EnterError>) -> Answer
     ensures { IsEntered entered result }
 {
     match entered {
@@ -167,8 +167,8 @@ fn told(alloc: Global, entered: Result<u64, EnterError>) -> Answer
     }
 }
 
-/// Puts a write into the outbox: a deletion, or what a file in the root folder says of a row. The file is read before the copy's keeper
-/// is called.
+/// Puts a write into the outbox: a deletion, or what a file in the root folder says of a row. The file is read before
+/// the copy's keeper is called.
 pub fn enter<F: Folder, C: CopyKeeper, K: Clock>(
     alloc: Global,
     task: &EnterTask,
@@ -180,7 +180,7 @@ pub fn enter<F: Folder, C: CopyKeeper, K: Clock>(
         (copy_between C.stands_for C.fault_count copy.old copy.new) result }
 {
     match write_of(alloc, task, folder, clock) {
-        Ok(write) => told(alloc, enter_write(alloc, write, copy)),
+        Ok(write) => entered_answer(alloc, enter_write(alloc, write, copy)),
         Err(end) => Answer::nothing_done(alloc, end),
     }
 }

@@ -71,7 +71,8 @@ pub struct FollowWords<'a> {
     pub feed: &'a Name,
 }
 
-/// Brings a copy up to date with the hub behind a link, and makes its rows those of a feed, in the hub that a keeper keeps.
+/// Brings a copy up to date with the hub behind a link, and makes its rows those of a feed, in the hub that a keeper
+/// keeps.
 pub fn follow<H: HubKeeper, C: CopyKeeper, L: Link, K: Clock>(
     alloc: Global,
     words: &FollowWords<'_>,

@@ -107,7 +107,7 @@ fn grant_into<F: Folder, H: HubKeeper, K: Clock>(
     clock: &K,
 ) -> Answer
     requires fits { KeeperFits (H.stands_for keeper.old) hub }
-    requires settled { hub.is_open ≡ false }
+    requires settled { hub.commit_open ≡ false }
     requires kept { IsKept hub.kept }
     ensures { LeadsBetween H.stands_for keeper.old keeper.new (IsGrantAnswer
         (outside_between F.files F.faults folder.old folder.new (K.moment clock.now) (faults_between H.fault_count keeper.old keeper.new)) file.now result.done result.end) }
@@ -117,7 +117,8 @@ fn grant_into<F: Folder, H: HubKeeper, K: Clock>(
     told(alloc, "grants", answer)
 }
 
-/// Gives each caller what a file in the root folder asks for, in the hub that a keeper keeps, and takes all other grants away.
+/// Gives each caller what a file in the root folder asks for, in the hub that a keeper keeps, and takes all other
+/// grants away.
 pub fn grant<F: Folder, H: HubKeeper, K: Clock>(
     alloc: Global,
     file: &Text,

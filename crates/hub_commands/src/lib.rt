@@ -1,4 +1,5 @@
-//! What each command answers: lines, ends and statuses, over whatever folder, keepers, link, clock and sink are handed in.
+//! What each command answers: lines, ends and statuses, over whatever folder, keepers, link, clock and sink are handed
+//! in.
 #![tactic(auto)]
 
 pub mod answer;

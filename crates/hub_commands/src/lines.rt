@@ -19,16 +19,16 @@ use roster_values::Kind;
 use std::alloc::Global;
 use version_changes::PublishFault;
 
-/// The line of status 3.
+/// The line that tells that the folder failed.
 pub const FOLDER_FAILED: &str = "folder failed\n";
 
-/// The line of status 5.
+/// The line that tells that the hub's keeper failed.
 pub const HUB_FAILED: &str = "hub store failed\n";
 
-/// The line of status 21.
+/// The line that tells that a copy holds nothing.
 pub const NOTHING_HELD: &str = "nothing held\n";
 
-/// The line of status 17.
+/// The line that tells that memory ran out.
 pub const NO_MEMORY: &str = "no memory\n";
 
 fn column_word(fault: ColumnFault) -> &'static str
@@ -369,7 +369,8 @@ pub fn grants_fault_line(alloc: Global, fault: GrantFault) -> Result<String, NoM
     }
 }
 
-// What is said of a fault of the wire. Of the end of a stream, of a source that failed and of want of memory nothing is.
+// What is said of a fault of the wire. Of the end of a stream, of a source that failed and of want of memory nothing
+// is.
 fn unreadable_word(fault: WireFault) -> &'static str
     ensures { result.now ≡ lines.unreadable_word fault }
 {

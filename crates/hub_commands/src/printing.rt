@@ -10,6 +10,7 @@ ghost use Rattle.hub_commands.specs.Runs.{WritesBetween};
 
 use crate::answer::{Answer, End};
 use crate::lines::NO_MEMORY;
+use hub_words::statuses::{self, OUTPUT_FAILED};
 use outside_ports::Sink;
 use roster_base::{Bytes, NoMemory};
 use std::alloc::Global;
@@ -22,7 +23,7 @@ pub fn print_bytes<O: Sink>(out: &mut O, status: u8, bytes: &[u8]) -> u8
 {
     match out.write_all(bytes) {
         Ok(()) => status,
-        Err(_) => 1,
+        Err(_) => OUTPUT_FAILED,
     }
 }
 
@@ -47,8 +48,8 @@ fn print_both<O: Sink>(out: &mut O, status: u8, first: &str, second: &str) -> u8
     if second.is_empty() {
         return print(out, status, first);
     }
-    if print(out, 0, first) == 1 {
-        return 1;
+    if print(out, statuses::DONE, first) == OUTPUT_FAILED {
+        return OUTPUT_FAILED;
     }
     print(out, status, second)
 }
@@ -60,7 +61,7 @@ fn print_answer<O: Sink>(alloc: Global, answer: &Answer, out: &mut O) -> u8
     let done = answer.done.as_str();
     match answer.end.lines(alloc) {
         Ok(lines) => print_both(out, answer.end.status(), done, lines.as_str()),
-        Err(NoMemory) => print_both(out, 17, done, NO_MEMORY),
+        Err(NoMemory) => print_both(out, statuses::NO_MEMORY, done, NO_MEMORY),
     }
 }
 
@@ -79,7 +80,7 @@ pub fn tell_file<O: Sink>(alloc: Global, file: Result<Bytes, End>, out: &mut O) 
 {
     match file {
         Ok(bytes) => {
-            let status = print_bytes(out, 0, bytes.as_slice());
+            let status = print_bytes(out, statuses::DONE, bytes.as_slice());
             drop(bytes);
             status
         }

@@ -88,7 +88,12 @@ pub fn told(alloc: Global, name: &str, answer: Result<Published, End>) -> Answer
 }
 
 // Adds the line of what was made of a set of this name. Where memory runs out, nothing is added.
-fn tell(alloc: Global, done: &mut String, name: &Name, answer: Published) -> Result<(), NoMemory>
+fn push_line(
+    alloc: Global,
+    done: &mut String,
+    name: &Name,
+    answer: Published,
+) -> Result<(), NoMemory>
     ensures ok { OnOk result (string_bytes done.new ≡ string_bytes done.old ++ told_text name.now answer) }
     ensures err { OnErr result (string_bytes done.new ≡ string_bytes done.old) }
 {
@@ -143,7 +148,7 @@ fn publish_feeds<F: Folder, H: HubKeeper, K: Clock>(
             Ok(answer) => answer,
             Err(end) => return end,
         };
-        if let Err(NoMemory) = tell(alloc, done, &feed.name, answer) {
+        if let Err(NoMemory) = push_line(alloc, done, &feed.name, answer) {
             return End::NoMemory;
         }
     }
@@ -160,7 +165,7 @@ fn publish_into<F: Folder, H: HubKeeper, K: Clock>(
     clock: &K,
 ) -> Answer
     requires fits { KeeperFits (H.stands_for keeper.old) hub }
-    requires settled { hub.is_open ≡ false }
+    requires settled { hub.commit_open ≡ false }
     requires kept { IsKept hub.kept }
     ensures { LeadsBetween H.stands_for keeper.old keeper.new (IsRunOf
         (outside_between F.files F.faults folder.old folder.new (K.moment clock.now) (faults_between H.fault_count keeper.old keeper.new)) feeds.now result.done result.end) }

@@ -31,7 +31,7 @@ pub stays : (table table' : Versions) (held held' : HeldMarks) → StaysAsItIs t
 stays table table' held held' same = λ i. record { keep = same.keep i; versions = same.versions i; marks = same.marks i }
 
 -- where no commit is left open, the hub's own state stands
-pub settled : (hub : HeldHub) → hub.is_open ≡ false → (kept : KeptState) → IsStanding hub kept → kept ≡ hub.kept
+pub settled : (hub : HeldHub) → hub.commit_open ≡ false → (kept : KeptState) → IsStanding hub kept → kept ≡ hub.kept
 settled hub closed kept (inl same) = same
 settled hub closed kept (inr made) = let open_still = made.left_open in cc
 

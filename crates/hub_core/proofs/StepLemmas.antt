@@ -122,7 +122,7 @@ sound_after (Ok (Some change)) (Ok (published.Same version)) before after sound 
 sound_after (Ok (Some change)) (Err e) before after sound adopts ok = cc ok
 
 -- what a call did of a hub that has no commit left open
-module _ (asks : BaseVersion → Outcome → Type 0) (before after : HeldHub) (count count' : ℕ) (closed : before.is_open ≡ false) where
+module _ (asks : BaseVersion → Outcome → Type 0) (before after : HeldHub) (count count' : ℕ) (closed : before.commit_open ≡ false) where
   asked : (result : Result Published HubError) → ((kept : KeptState) → IsStanding after kept → (stood : KeptState) × IsStanding before stood × MakesNext asks result stood kept) → MakesNext asks result before.kept after.kept
   asked result told = let (stood, standing, makes) = told after.kept (inl refl) in subst (λ (k : KeptState). MakesNext asks result k after.kept) (settled before closed stood standing) makes
 
@@ -134,7 +134,7 @@ module _ (asks : BaseVersion → Outcome → Type 0) (before after : HeldHub) (c
   did (Err (error.Refused fault)) told works counts = inl (record { made = inl works; stays = counts; asked = asked (Err (error.Refused fault)) told })
 
 -- a hub that stays as it is has made nothing
-pub unmade : (hub : HeldHub) → hub.is_open ≡ false → IsUnmade hub hub
+pub unmade : (hub : HeldHub) → hub.commit_open ≡ false → IsUnmade hub hub
 unmade hub settled = record { kept = refl; settled = settled; keeps = refl; last = inl refl }
 
 -- a commit that was to be handed over is what a call made, if anything
@@ -171,9 +171,9 @@ works_keeps (Err error.Keeper) before after works = ap (λ (h : HeldHub). h.keep
 works_keeps (Err error.NoMemory) before after works = works.keeps
 works_keeps (Err (error.Refused fault)) before after works = works.keeps
 
-pub made_settled : (before after : HeldHub) → IsUnmade before after ⊎ IsMade before after → after.is_open ≡ false
+pub made_settled : (before after : HeldHub) → IsUnmade before after ⊎ IsMade before after → after.commit_open ≡ false
 made_settled before after (inl unmade) = unmade.settled
-made_settled before after (inr made) = ap (λ (h : HeldHub). h.is_open) made.is
+made_settled before after (inr made) = ap (λ (h : HeldHub). h.commit_open) made.is
 
 module _ {A : Type 0} (asks : A → KeptState → KeptState → Type 0) where
   pub did_keeps : (failed answer : A) (before after : HeldHub) (count count' : ℕ) → Did asks failed answer before after count count' → after.keeps ≡ before.keeps

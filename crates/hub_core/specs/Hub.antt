@@ -13,8 +13,9 @@ use Rattle.hub_core.specs.declared.hub.Hub.TheInside.{Inside}
 abbrev pub kept_in : Versions → List MarkRow → KeptState
 kept_in table marks = record { keep = table.keep; versions = table.versions; marks = marks }
 
+-- a hub as a clause sees it
 abbrev pub held_of : Inside → HeldHub
-held_of hub = record { kept = kept_in hub.table hub.marks.marks; last = hub.last; is_open = hub.is_open; keeps = hub.keeps }
+held_of hub = record { kept = kept_in hub.table hub.marks.marks; last = hub.last; commit_open = hub.commit_open; keeps = hub.keeps }
 
 -- a commit that was handed to the keeper, and may be made of this state
 pub record MayBeMade (kept : KeptState) (handed : Option HubCommit) : Type 0 where
@@ -22,7 +23,8 @@ pub record MayBeMade (kept : KeptState) (handed : Option HubCommit) : Type 0 whe
   pub last : handed ≡ Some commit
   pub can : CanCommit kept commit
 
+-- what always holds of a hub's fields
 pub record IsHub (hub : Inside) : Type 0 where
   pub kept : IsKept (kept_in hub.table hub.marks.marks)
-  pub left_open : IsTrue hub.is_open → MayBeMade (kept_in hub.table hub.marks.marks) hub.last
+  pub left_open : IsTrue hub.commit_open → MayBeMade (kept_in hub.table hub.marks.marks) hub.last
   pub sound : IsTrue hub.is_sound → IsSound (newest_kept hub.table.versions)

@@ -4,17 +4,18 @@ use Rattle.keeper_memory.specs.Commits.{with_commit}
 use Rattle.keeper_memory.specs.Kept.{KeptState}
 use Rattle.keeper_memory.specs.declared.hub_commit.HubCommit.{HubCommit}
 
--- a state, the last commit that was handed to the keeper where commits are kept, and else the last one at which the keeper failed, where
--- none was made since; whether the last may have been made, since the keeper failed at it and hasn't been asked; and whether commits are kept
+-- a state, the last commit that was handed to the keeper where commits are kept, and else the last one at which the
+-- keeper failed, where none was made since; whether the last may have been made, since the keeper failed at it and
+-- hasn't been asked; and whether commits are kept
 pub record HeldHub : Type 0 where
   pub kept : KeptState
   pub last : Option HubCommit
-  pub is_open : Bool
+  pub commit_open : Bool
   pub keeps : Bool
 
 -- the state that stands if the last commit was made after all
 pub record IsWithLast (hub : HeldHub) (kept : KeptState) : Type 0 where
-  pub left_open : IsTrue hub.is_open
+  pub left_open : IsTrue hub.commit_open
   pub commit : HubCommit
   pub last : hub.last ≡ Some commit
   pub made : kept ≡ with_commit hub.kept commit

@@ -19,10 +19,10 @@ CountsFault before now (Err (error.Refused fault)) = now ≡ before
 
 -- a commit is left open exactly by a failure of the keeper; where memory runs out one that was open may stay so
 abbrev pub LeavesOpen : {T : Type 0} → Result T HubError → Bool → Type 0
-LeavesOpen (Ok x) is_open = is_open ≡ false
-LeavesOpen (Err error.Keeper) is_open = is_open ≡ true
-LeavesOpen (Err error.NoMemory) is_open = ⊤
-LeavesOpen (Err (error.Refused fault)) is_open = is_open ≡ false
+LeavesOpen (Ok x) commit_open = commit_open ≡ false
+LeavesOpen (Err error.Keeper) commit_open = commit_open ≡ true
+LeavesOpen (Err error.NoMemory) commit_open = ⊤
+LeavesOpen (Err (error.Refused fault)) commit_open = commit_open ≡ false
 
 -- no call refuses but those that publish
 abbrev pub RefusesNothing : {T : Type 0} → Result T HubError → Type 0

@@ -16,10 +16,10 @@ copy_kept false commit = None
 
 -- the hub with a commit that was made, and the hub beside one that was left open
 abbrev pub made_of : HeldHub → HubCommit → HeldHub
-made_of hub commit = record { kept = with_commit hub.kept commit; last = copy_kept hub.keeps commit; is_open = false; keeps = hub.keeps }
+made_of hub commit = record { kept = with_commit hub.kept commit; last = copy_kept hub.keeps commit; commit_open = false; keeps = hub.keeps }
 
 abbrev pub left_of : HeldHub → HubCommit → HeldHub
-left_of hub commit = record { kept = hub.kept; last = Some commit; is_open = true; keeps = hub.keeps }
+left_of hub commit = record { kept = hub.kept; last = Some commit; commit_open = true; keeps = hub.keeps }
 
 -- a commit that may be made, and wasn't, is the last one, since commits are kept
 pub record IsPassedOver (before : HeldHub) (last : Option HubCommit) : Type 0 where
@@ -31,7 +31,7 @@ pub record IsPassedOver (before : HeldHub) (last : Option HubCommit) : Type 0 wh
 -- nothing was made: the last commit is the one that was, or another that wasn't made
 pub record IsUnmade (before after : HeldHub) : Type 0 where
   pub kept : after.kept ≡ before.kept
-  pub settled : after.is_open ≡ false
+  pub settled : after.commit_open ≡ false
   pub keeps : after.keeps ≡ before.keeps
   pub last : (after.last ≡ before.last) ⊎ IsPassedOver before after.last
 
@@ -61,8 +61,8 @@ Works (Err error.Keeper) before after = IsLeftOpen before after
 Works (Err error.NoMemory) before after = IsUnmade before after
 Works (Err (error.Refused fault)) before after = IsUnmade before after
 
--- a call that makes nothing, or one commit, answers what is asked for at the states before and after it; where the keeper failed at its
--- commit, it answers that, and the count rose
+-- a call that makes nothing, or one commit, answers what is asked for at the states before and after it; where the
+-- keeper failed at its commit, it answers that, and the count rose
 pub record IsDone {A : Type 0} (asks : A → KeptState → KeptState → Type 0) (answer : A) (before after : HeldHub) (count count' : ℕ) : Type 0 where
   pub made : IsUnmade before after ⊎ IsMade before after
   pub stays : count' ≡ count
@@ -81,7 +81,7 @@ Did asks failed answer before after count count' = IsDone asks answer before aft
 -- the keeper is asked what it made of that commit, which is then found or not
 pub record IsReloaded (before after : HeldHub) : Type 0 where
   pub stood : IsStanding before after.kept
-  pub settled : after.is_open ≡ false
+  pub settled : after.commit_open ≡ false
   pub last : after.last ≡ before.last
   pub keeps : after.keeps ≡ before.keeps
 

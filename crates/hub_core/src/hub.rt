@@ -1,6 +1,6 @@
 //! The hub.
 
-ghost use Rattle.std.specs.Prelude.{◌≡◌, Err, IfOk, None, Ok, OnErr, Some, false, option_copied, true};
+ghost use Rattle.std.specs.Prelude.{◌≡◌, Err, IfOk, None, Ok, OnErr, Some, false, true};
 ghost use Rattle.std.specs.Option.{ForSome};
 ghost use Rattle.version_changes.specs.grants.Granting.{GrantsMake};
 ghost use Rattle.version_changes.specs.sets.Applying.{Applies};
@@ -31,17 +31,19 @@ use version_core::change::Change;
 use version_core::marks::Marks;
 use version_core::table::Table;
 
-/// A hub's state in memory. The keeper goes in with each call. A clause sees the state, a last commit, whether the keeper failed at that
-/// one and hasn't been asked yet what it made of it, and whether commits are kept. Where they are, the last commit is the last one that was
-/// handed to the keeper and not handed out since; else it is the last one at which the keeper failed, where none was made since.
+/// A hub's state in memory. The keeper goes in with each call. A clause sees the state, a last commit, whether the
+/// keeper failed at that one and hasn't been asked yet what it made of it, and whether commits are kept. Where they
+/// are, the last commit is the last one that was handed to the keeper and not handed out since; else it is the last one
+/// at which the keeper failed, where none was made since.
 #[derive(Drop)]
 pub struct Hub {
     table: Table,
     marks: Marks,
     last: Option<HubCommit>,
-    is_open: bool,
+    commit_open: bool,
     keeps: bool,
-    // Whether the newest version is known to have no broken references, so that a set needs to be checked where it changes rows alone.
+    // Whether the newest version is known to have no broken references, so that a set needs to be checked where it
+    // changes rows alone.
     is_sound: bool,
 }
 
@@ -68,7 +70,7 @@ impl Hub {
     /// The hub of what a keeper keeps.
     pub fn open<H: HubKeeper>(alloc: Global, keeper: &mut H) -> Result<Hub, HubError>
         ensures fits { IfOk result (KeeperFits (H.stands_for keeper.new)) }
-        ensures settled { IfOk result (λ hub. (hub.is_open ≡ false) × (hub.last ≡ None)) }
+        ensures settled { IfOk result (λ hub. (hub.commit_open ≡ false) × (hub.last ≡ None)) }
         ensures keeps { IfOk result (λ hub. hub.keeps ≡ false) }
         ensures kept { IfOk result (λ hub. IsKept hub.kept) }
         ensures told { (kept : KeptState) → H.stands_for keeper.new kept → H.stands_for keeper.old kept }
@@ -83,7 +85,7 @@ impl Hub {
             table,
             marks: Marks::from_tables(alloc, &tables)?,
             last: None,
-            is_open: false,
+            commit_open: false,
             keeps: false,
             is_sound,
         })
@@ -112,33 +114,25 @@ impl Hub {
         &self.marks
     }
 
-    /// Has each commit kept from now on, so that whoever asks can tell what a call made: a copy of it is taken before it is handed to the
-    /// keeper.
+    /// Has each commit kept from now on, so that whoever asks can tell what a call made: a copy of it is taken before
+    /// it is handed to the keeper.
     pub fn keep_commits(&mut self)
         ensures { self.new ≡ record self.old { keeps = true } }
     {
         self.keeps = true;
     }
 
-    /// The last commit that was handed to the keeper, whatever that answered, where commits are kept; else one at which the keeper failed,
-    /// where none was made since. None where it was handed out. No memory is taken.
-    pub fn last_commit(&self) -> Option<&HubCommit>
-        ensures { option_copied result ≡ self.now.last }
-    {
-        self.last.as_ref()
-    }
-
     /// Whether the keeper failed at the last commit, and hasn't been asked yet what it made of it.
     pub fn has_open_commit(&self) -> bool
-        ensures is { result ≡ self.now.is_open }
+        ensures is { result ≡ self.now.commit_open }
         ensures left { result ≡ true → MayBeMade self.now.kept self.now.last }
     {
-        self.is_open
+        self.commit_open
     }
 
     /// Hands out the last commit, where it was made. No memory is taken.
     pub fn take_made(&mut self) -> Option<HubCommit>
-        requires { self.old.is_open ≡ false }
+        requires { self.old.commit_open ≡ false }
         ensures hub { self.new ≡ record self.old { last = None } }
         ensures made { result ≡ made_last self.old.kept self.old.last }
     {
@@ -153,22 +147,22 @@ impl Hub {
         }
     }
 
-    /// Asks the keeper what it made of a commit at which it failed, where there is one, and takes the commit in where it was made. Nothing
-    /// else of what the keeper keeps is taken.
+    /// Asks the keeper what it made of a commit at which it failed, where there is one, and takes the commit in where
+    /// it was made. Nothing else of what the keeper keeps is taken.
     pub fn ready<H: HubKeeper>(&mut self, alloc: Global, keeper: &mut H) -> Result<(), HubError>
         requires { KeeperFits (H.stands_for keeper.old) self.old }
         ensures fits { KeeperFits (H.stands_for keeper.new) self.new }
         ensures told { (after : KeptState) → IsStanding self.new after → IsStanding self.old after × (H.stands_for keeper.new after → H.stands_for keeper.old after) }
-        ensures settled { LeavesOpen result self.new.is_open }
+        ensures settled { LeavesOpen result self.new.commit_open }
         ensures last { self.new.last ≡ self.old.last }
         ensures keeps { self.new.keeps ≡ self.old.keeps }
         ensures err { OnErr result (self.new ≡ self.old) }
-        ensures idle { self.old.is_open ≡ false → (result ≡ Ok tt) × (self.new ≡ self.old) × (keeper.new ≡ keeper.old) }
+        ensures idle { self.old.commit_open ≡ false → (result ≡ Ok tt) × (self.new ≡ self.old) × (keeper.new ≡ keeper.old) }
         ensures cause { CountsFault (H.fault_count keeper.old) (H.fault_count keeper.new) result }
         ensures leads { H.leads keeper.old keeper.new }
         ensures refused { RefusesNothing result }
     {
-        if !self.is_open {
+        if !self.commit_open {
             return Ok(());
         }
         let tables = keeper.load(alloc)?;
@@ -177,7 +171,7 @@ impl Hub {
         };
         self.is_sound = false;
         take_in_made(alloc, &mut self.table, &mut self.marks, last, &tables)?;
-        self.is_open = false;
+        self.commit_open = false;
         Ok(())
     }
 
@@ -191,8 +185,9 @@ impl Hub {
         Ok(Some(commit.copy(alloc)?))
     }
 
-    /// Hands a commit to the keeper, and takes it in where it was made. All memory is taken before, that of a copy too where commits are
-    /// kept; else the commit is copied nowhere: it moves into the table, or stays beside it where the keeper failed.
+    /// Hands a commit to the keeper, and takes it in where it was made. All memory is taken before, that of a copy too
+    /// where commits are kept; else the commit is copied nowhere: it moves into the table, or stays beside it where the
+    /// keeper failed.
     pub fn install<H: HubKeeper>(
         &mut self,
         alloc: Global,
@@ -200,12 +195,12 @@ impl Hub {
         commit: HubCommit,
     ) -> Result<(), HubError>
         requires fits { KeeperFits (H.stands_for keeper.old) self.old }
-        requires settled { self.old.is_open ≡ false }
+        requires settled { self.old.commit_open ≡ false }
         requires can { CanCommit self.old.kept commit }
         ensures fits { KeeperFits (H.stands_for keeper.new) self.new }
         ensures told { (after : KeptState) → IsStanding self.new after → (H.stands_for keeper.new after → H.stands_for keeper.old self.old.kept) × Installs commit result self.old.kept after }
         ensures handed { Handed commit result self.old self.new }
-        ensures settled { LeavesOpen result self.new.is_open }
+        ensures settled { LeavesOpen result self.new.commit_open }
         ensures cause { CountsFault (H.fault_count keeper.old) (H.fault_count keeper.new) result }
         ensures leads { H.leads keeper.old keeper.new }
         ensures refused { RefusesNothing result }
@@ -222,7 +217,7 @@ impl Hub {
             Err(KeeperError::Failed) => {
                 drop(copy);
                 drop(self.last.replace(commit));
-                self.is_open = true;
+                self.commit_open = true;
                 Err(HubError::Keeper)
             }
             Err(KeeperError::NoMemory) => {
@@ -245,12 +240,12 @@ impl Hub {
         change: Change,
     ) -> Result<Published, HubError>
         requires fits { KeeperFits (H.stands_for keeper.old) self.old }
-        requires settled { self.old.is_open ≡ false }
+        requires settled { self.old.commit_open ≡ false }
         requires can { CanLead self.old.kept.versions change }
         ensures fits { KeeperFits (H.stands_for keeper.new) self.new }
         ensures told { (after : KeptState) → IsStanding self.new after → (H.stands_for keeper.new after → H.stands_for keeper.old self.old.kept) × Adopts (Ok (Some change)) result self.old.kept after }
         ensures works { Works result self.old self.new }
-        ensures settled { LeavesOpen result self.new.is_open }
+        ensures settled { LeavesOpen result self.new.commit_open }
         ensures cause { CountsFault (H.fault_count keeper.old) (H.fault_count keeper.new) result }
         ensures leads { H.leads keeper.old keeper.new }
     {
@@ -273,12 +268,12 @@ impl Hub {
         due: Result<Option<Change>, Refusal<PublishFault>>,
     ) -> Result<Published, HubError>
         requires fits { KeeperFits (H.stands_for keeper.old) self.old }
-        requires settled { self.old.is_open ≡ false }
+        requires settled { self.old.commit_open ≡ false }
         requires can { IfOk due (λ change. ForSome change (CanLead self.old.kept.versions)) }
         ensures fits { KeeperFits (H.stands_for keeper.new) self.new }
         ensures told { (after : KeptState) → IsStanding self.new after → (H.stands_for keeper.new after → H.stands_for keeper.old self.old.kept) × Adopts due result self.old.kept after }
         ensures works { Works result self.old self.new }
-        ensures settled { LeavesOpen result self.new.is_open }
+        ensures settled { LeavesOpen result self.new.commit_open }
         ensures cause { CountsFault (H.fault_count keeper.old) (H.fault_count keeper.new) result }
         ensures leads { H.leads keeper.old keeper.new }
     {
@@ -302,7 +297,8 @@ impl Hub {
         }
     }
 
-    /// Publishes a set at a moment: the next version, where the set changes a row of the newest. Its rows move into the version.
+    /// Publishes a set at a moment: the next version, where the set changes a row of the newest. Its rows move into the
+    /// version.
     pub fn publish<H: HubKeeper>(
         &mut self,
         alloc: Global,
@@ -314,10 +310,10 @@ impl Hub {
         ensures fits { KeeperFits (H.stands_for keeper.new) self.new }
         ensures told { (after : KeptState) → IsStanding self.new after → (before : KeptState) × IsStanding self.old before × (H.stands_for keeper.new after → H.stands_for keeper.old before) × MakesNext (λ version. Applies version set at) result before after }
         // Of a hub with no commit left open, what it made is the last commit, if anything.
-        ensures did { self.old.is_open ≡ false → Did (MakesNext (λ version. Applies version set at)) (Err error.Keeper) result self.old self.new (H.fault_count keeper.old) (H.fault_count keeper.new) }
+        ensures did { self.old.commit_open ≡ false → Did (MakesNext (λ version. Applies version set at)) (Err error.Keeper) result self.old self.new (H.fault_count keeper.old) (H.fault_count keeper.new) }
         ensures reloads { DidReload (MakesNext (λ version. Applies version set at)) (λ fault. Err fault) result self.old self.new (H.fault_count keeper.old) (H.fault_count keeper.new) }
         ensures keeps { self.new.keeps ≡ self.old.keeps }
-        ensures settled { LeavesOpen result self.new.is_open }
+        ensures settled { LeavesOpen result self.new.commit_open }
         ensures cause { CountsFault (H.fault_count keeper.old) (H.fault_count keeper.new) result }
         ensures leads { H.leads keeper.old keeper.new }
     {
@@ -328,8 +324,8 @@ impl Hub {
         answer
     }
 
-    /// Gives each caller of a list what it asks for, and takes all other grants away, at a moment: the next version, where a grant of
-    /// the newest changes.
+    /// Gives each caller of a list what it asks for, and takes all other grants away, at a moment: the next version,
+    /// where a grant of the newest changes.
     pub fn set_grants<H: HubKeeper>(
         &mut self,
         alloc: Global,
@@ -341,10 +337,10 @@ impl Hub {
         ensures fits { KeeperFits (H.stands_for keeper.new) self.new }
         ensures told { (after : KeptState) → IsStanding self.new after → (before : KeptState) × IsStanding self.old before × (H.stands_for keeper.new after → H.stands_for keeper.old before) × MakesNext (λ version. GrantsMake version list.now at) result before after }
         // Of a hub with no commit left open, what it made is the last commit, if anything.
-        ensures did { self.old.is_open ≡ false → Did (MakesNext (λ version. GrantsMake version list.now at)) (Err error.Keeper) result self.old self.new (H.fault_count keeper.old) (H.fault_count keeper.new) }
+        ensures did { self.old.commit_open ≡ false → Did (MakesNext (λ version. GrantsMake version list.now at)) (Err error.Keeper) result self.old self.new (H.fault_count keeper.old) (H.fault_count keeper.new) }
         ensures reloads { DidReload (MakesNext (λ version. GrantsMake version list.now at)) (λ fault. Err fault) result self.old self.new (H.fault_count keeper.old) (H.fault_count keeper.new) }
         ensures keeps { self.new.keeps ≡ self.old.keeps }
-        ensures settled { LeavesOpen result self.new.is_open }
+        ensures settled { LeavesOpen result self.new.commit_open }
         ensures cause { CountsFault (H.fault_count keeper.old) (H.fault_count keeper.new) result }
         ensures leads { H.leads keeper.old keeper.new }
     {

@@ -5,14 +5,14 @@ ghost use Rattle.std.specs.Prelude.{◌≡◌, OnErr, OnOk, Some, is_some, map};
 ghost use Rattle.version_core.specs.Changes.{change_key};
 ghost use Rattle.version_core.specs.Marks.{mark_at};
 ghost use Rattle.version_core.specs.Tables.{AreTables};
-ghost use Rattle.keeper_memory.specs.Commits.{CanCommit, CanLead, versions_after, with_commit};
+ghost use Rattle.keeper_memory.specs.Commits.{CanCommit, with_commit};
 ghost use Rattle.keeper_memory.specs.Kept.{kept_by};
 ghost use Rattle.hub_core.specs.Hub.{kept_in};
 ghost use Rattle.hub_core.specs.Made.{has_commit, taken_in};
 ghost use Rattle.hub_core.specs.Room.{HasRoomFor, StaysAsItIs};
 
 use keeper_memory::HubCommit;
-use keeper_memory::hub_commit::add_mark;
+use keeper_memory::hub_commit::{add_change, add_mark};
 use roster_base::{NoMemory, TryCopy};
 use roster_texts::Name;
 use std::alloc::Global;
@@ -41,18 +41,6 @@ pub fn make_room(table: &mut Table, marks: &mut Marks, commit: &HubCommit) -> Re
 {
     make_room_in_table(table, &commit.change)?;
     marks.reserve()
-}
-
-// Adds the version that a change leads to, where there is one.
-fn add_change(table: &mut Table, change: Option<Change>)
-    requires room { ForSome change (λ change. table.old.room ≡ Some (map change_key change.rows)) }
-    requires can { ForSome change (CanLead table.old.versions) }
-    ensures keep { table.new.keep ≡ table.old.keep }
-    ensures versions { table.new.versions ≡ versions_after table.old.keep table.old.versions change }
-{
-    if let Some(change) = change {
-        table.add(change);
-    }
 }
 
 /// Takes a commit in. No memory is taken.

@@ -8,8 +8,9 @@ use Rattle.consumer_deltas.specs.DeltaCalls.{AsksDeltas, DeltaHeld, DeltaSynchro
 use Rattle.consumer_deltas.specs.DeltaRequests.{IsDeltaUnder}
 use Rattle.consumer_deltas.specs.declared.answer.DeltaAnswer.{DeltaAnswer}
 use Rattle.consumer_deltas.specs.declared.answer.DeltaAnswer.TheVariants as delta
+use Rattle.exchange_link.proofs.StageLemmas.{on_token}
 use Rattle.exchange_link.specs.Asked.{AreNumbered}
-use Rattle.exchange_link.specs.Exchanges.{Told}
+use Rattle.exchange_link.specs.Exchanges.{LinkState}
 use Rattle.exchange_link.specs.Synchronised.{CompleteAt, HeldLaw, HeldTold, IsPinOf, Leaves, StageLaw, StageOn}
 use Rattle.exchange_link.specs.Synchronised.{Synchronised, own_stage}
 use Rattle.exchange_link.specs.declared.answer.SyncAnswer.{SyncAnswer}
@@ -48,7 +49,7 @@ held_behind (answer.Complete version) b m c e x = x
 held_behind answer.KeeperFault b m c e x = ⊎_elim (λ (same : c.held ≡ m.held). inl (same ∙ e)) (λ swapped. inr swapped) x
 held_behind a b m c e x = x ∙ e
 
--- both
+-- one call behind the other
 pub leaves_both : (token : List ℕ) (d : DeltaAnswer) (a : SyncAnswer) (b m c : Copy) → lacks_base d ≡ true → DeltaLeaves token d b m → Leaves token a m c → CatchesUp a b c
 leaves_both token (delta.Ended s) a b m c e x y = false_true e
 leaves_both token delta.NoBase a b m c e x y = subst (λ n. CatchesUp a n c) x (leaves_sync token a m c y)
@@ -68,15 +69,6 @@ pin_older : (o : Option Stage) (h i : HubState) (v : ℕ) → newest_number h �
 pin_older None h i v le x = omega (arith, le, x)
 pin_older (Some s) h i v le x = x
 
-own_token_if : (b : Bool) (f s : Stage) (token : List ℕ) → (b ≡ true → f.token ≡ token) → StageOn token (if b then Some f else None) (Some s) → s.token ≡ token
-own_token_if true f s token e x = x.token ∙ e refl
-own_token_if false f s token e x = x
-
--- a stage that goes on is under the token
-pub on_token : (token : List ℕ) (o : Option Stage) (s : Stage) → StageOn token (own_stage token o) (Some s) → s.token ≡ token
-on_token token None s x = x
-on_token token (Some f) s x = own_token_if (bytes_eq f.token token) f s token (λ h. (bytes_eq-Decides f.token token).0 h) x
-
 own_if : (b : Bool) (s : Stage) → b ≡ true → (if b then Some s else None) ≡ Some s
 own_if true s e = refl
 own_if false s e = false_true e
@@ -88,7 +80,8 @@ none_pin : (token : List ℕ) (o : Option Stage) (h i : HubState) (v : ℕ) → 
 none_pin token None h i v le on x = pin_older None h i v le x
 none_pin token (Some s) h i v le on x = absurd on
 
--- the pin of the stage that a call left is that of the stage before it, or else one not older than the newest version then
+-- the pin of the stage that a call left is that of the stage before it, or else one not older than the newest version
+-- then
 pin_on : (token : List ℕ) (o n : Option Stage) (h i : HubState) (v : ℕ) → newest_number h ≤ newest_number i → StageOn token (own_stage token o) n → IfSome n (λ s. IsPinOf (own_stage token o) h s.pin)
     → IsPinOf (own_stage token n) i v → IsPinOf (own_stage token o) h v
 pin_on token o None h i v le on pin x = none_pin token (own_stage token o) h i v le on x
@@ -100,7 +93,7 @@ pin_on token o (Some s) h i v le on pin x =
 pub stays_on : (token : List ℕ) (o n : Option Stage) → StageLaw token answer.HubFault o n → StageOn token (own_stage token o) n
 stays_on token o n x = ⊎_elim (λ (on : StageOn token (own_stage token o) n). on) (λ y. ⊎_elim (λ z. absurd z.0) (λ z. absurd z.0) y) x
 
-pin_behind : (token : List ℕ) (d : DeltaAnswer) (b : Copy) (t : Told) (m : Copy) (w : Told) (v : ℕ) → lacks_base d ≡ true → DeltaSynchronised token d b t m w → IsPinOf (own_stage token m.stage) w.hub v → IsPinOf (own_stage token b.stage) t.hub v
+pin_behind : (token : List ℕ) (d : DeltaAnswer) (b : Copy) (t : LinkState) (m : Copy) (w : LinkState) (v : ℕ) → lacks_base d ≡ true → DeltaSynchronised token d b t m w → IsPinOf (own_stage token m.stage) w.hub v → IsPinOf (own_stage token b.stage) t.hub v
 pin_behind token (delta.Ended s) b t m w v e x p = false_true e
 pin_behind token delta.NoBase b t m w v e x p =
     pin_older (own_stage token b.stage) t.hub w.hub v (newest_grew t.hub w.hub x.moved.grew) (subst (λ (c : Copy). IsPinOf (own_stage token c.stage) w.hub v) x.leaves p)
@@ -109,17 +102,17 @@ pin_behind token (delta.BaseGone held oldest) b t m w v e x p =
 
 -- ---- over one that tells
 
-pub told_delta : (token : List ℕ) (d : DeltaAnswer) (b : Copy) (t : Told) (c : Copy) (u : Told) → lacks_base d ≡ false → DeltaSynchronised token d b t c u → CatchesUpTold token (sync_of (end_of_delta d)) b t c u
+pub told_delta : (token : List ℕ) (d : DeltaAnswer) (b : Copy) (t : LinkState) (c : Copy) (u : LinkState) → lacks_base d ≡ false → DeltaSynchronised token d b t c u → CatchesUpTold token (sync_of (end_of_delta d)) b t c u
 told_delta token (delta.Ended a) b t c u e x = subst (λ s. CatchesUpTold token s b t c u) (sym (sync_delta a)) (record { leaves = leaves_sync token a b c x.leaves; agree = x.agree; held = x.held })
 told_delta token delta.NoBase b t c u e x = true_false e
 told_delta token (delta.BaseGone held oldest) b t c u e x = true_false e
 
-held_same : (token : List ℕ) (d : DeltaAnswer) (b : Copy) (t : Told) (m : Copy) (w : Told) → lacks_base d ≡ true → DeltaHeld token d b t m w → m.held ≡ b.held
+held_same : (token : List ℕ) (d : DeltaAnswer) (b : Copy) (t : LinkState) (m : Copy) (w : LinkState) → lacks_base d ≡ true → DeltaHeld token d b t m w → m.held ≡ b.held
 held_same token (delta.Ended s) b t m w e x = false_true e
 held_same token delta.NoBase b t m w e x = x
 held_same token (delta.BaseGone held oldest) b t m w e x = x
 
-module _ (token : List ℕ) (d : DeltaAnswer) (b : Copy) (t : Told) (m : Copy) (w : Told) (c : Copy) (u : Told) (e : lacks_base d ≡ true) (x : DeltaSynchronised token d b t m w) where
+module _ (token : List ℕ) (d : DeltaAnswer) (b : Copy) (t : LinkState) (m : Copy) (w : LinkState) (c : Copy) (u : LinkState) (e : lacks_base d ≡ true) (x : DeltaSynchronised token d b t m w) where
   complete_both : (v : ℕ) → CompleteAt v token m w c u → CompleteAt v token b t c u
   complete_both v y = record { held = y.held; stage = y.stage; standing = y.standing; known = y.known; pin = pin_behind token d b t m w v e x y.pin }
 

@@ -7,7 +7,7 @@ use Rattle.consumer_deltas.specs.DeltaCalls.{DeltaSynchronised, IsDeltaDone}
 use Rattle.consumer_deltas.specs.declared.answer.DeltaAnswer.{DeltaAnswer}
 use Rattle.consumer_deltas.specs.declared.answer.DeltaAnswer.TheVariants as delta
 use Rattle.exchange_link.specs.Completeness.{IsDone, StandsAt, first_pin}
-use Rattle.exchange_link.specs.Exchanges.{Told}
+use Rattle.exchange_link.specs.Exchanges.{LinkState}
 use Rattle.exchange_link.specs.Synchronised.{HeldTold, IsPinOf, StageOn, own_stage, own_state}
 use Rattle.exchange_link.specs.declared.answer.SyncAnswer.TheVariants as answer
 use Rattle.hub_cascade.specs.Answers.{CountsCopy, CountsHub, MakesCascade, TellsHeld}
@@ -15,7 +15,8 @@ use Rattle.hub_cascade.specs.declared.error.CascadeError.{CascadeError}
 use Rattle.hub_cascade.specs.declared.error.CascadeError.TheVariants as error
 use Rattle.hub_core.specs.declared.published.Published.{Published}
 use Rattle.hub_follow.proofs.Ending.{false_true, sync_delta, true_false}
-use Rattle.hub_follow.proofs.Joining.{newest_grew, on_token, own_same, stays_on}
+use Rattle.exchange_link.proofs.StageLemmas.{on_token}
+use Rattle.hub_follow.proofs.Joining.{newest_grew, own_same, stays_on}
 use Rattle.hub_follow.specs.Ends.{IsFollowed, IsMiss, after_cascade, answer_of_miss, end_of_delta, lacks_base, sync_of}
 use Rattle.hub_follow.specs.declared.answer.FollowAnswer.{FollowAnswer}
 use Rattle.hub_follow.specs.declared.answer.Missed.{Missed}
@@ -67,7 +68,7 @@ first_on token o None h i le on pin = first_none token (own_stage token o) h i l
 first_on token o (Some s) h i le on pin =
     subst (λ n. pin_first (own_stage token o) h ≤ pin_first n i) (sym (own_same token s (on_token token o s on))) (first_some (own_stage token o) h s.pin pin)
 
-module _ (token : List ℕ) (b : Copy) (t : Told) (m : Copy) (w : Told) where
+module _ (token : List ℕ) (b : Copy) (t : LinkState) (m : Copy) (w : LinkState) where
   first_behind : (d : DeltaAnswer) → lacks_base d ≡ true → DeltaSynchronised token d b t m w → pin_first (own_stage token b.stage) t.hub ≤ pin_first (own_stage token m.stage) w.hub
   first_behind (delta.Ended s) e x = false_true e
   first_behind delta.NoBase e x =
@@ -134,5 +135,5 @@ pub is_followed : (a : FollowAnswer) (version : ℕ) (made : Result Published Ca
 is_followed a version made e x = subst IsFollowed (sym e) x
 
 -- a copy that is complete holds something
-pub held_some : (version : ℕ) (token : List ℕ) (b : Copy) (t : Told) (c : Copy) (u : Told) → HeldTold token (answer.Complete version) b t c u → c.held ≡ None → ⊥
+pub held_some : (version : ℕ) (token : List ℕ) (b : Copy) (t : LinkState) (c : Copy) (u : LinkState) → HeldTold token (answer.Complete version) b t c u → c.held ≡ None → ⊥
 held_some version token b t c u x none = let e = sym none ∙ x.held in cc

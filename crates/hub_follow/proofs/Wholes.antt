@@ -7,7 +7,7 @@ use Rattle.consumer_deltas.specs.DeltaAnswers.{DeltaTold}
 use Rattle.consumer_deltas.specs.declared.answer.DeltaAnswer.{DeltaAnswer}
 use Rattle.consumer_deltas.specs.declared.answer.DeltaAnswer.TheVariants as delta
 use Rattle.exchange_link.specs.Causes.{ToldCause}
-use Rattle.exchange_link.specs.Exchanges.{Told}
+use Rattle.exchange_link.specs.Exchanges.{LinkState}
 use Rattle.exchange_link.specs.Synchronised.{CompleteAt, held_at}
 use Rattle.exchange_link.specs.declared.answer.SyncAnswer.{SyncAnswer}
 use Rattle.exchange_link.specs.declared.answer.SyncAnswer.TheVariants as answer
@@ -44,14 +44,14 @@ module _ {K N : Type 0} (copies : KeeperView K) (links : LinkView N) (token : Li
   by_sync old between new before mid after d a x y = (between, mid, d, x, y)
 
 module _ {N : Type 0} (links : LinkView N) (token : List ℕ) where
-  pub told_by_delta : (before : N) (told tells : Told) (d : DeltaAnswer) → lacks_base d ≡ false → links.tells before told → DeltaTold token told tells d → MissedTold links token before tells (end_of_delta d)
+  pub told_by_delta : (before : N) (told tells : LinkState) (d : DeltaAnswer) → lacks_base d ≡ false → links.tells before told → DeltaTold token told tells d → MissedTold links token before tells (end_of_delta d)
   told_by_delta before told tells (delta.Ended (answer.Complete version)) e t x = tt
   told_by_delta before told tells (delta.Ended a) e t x = (told, t, x)
   told_by_delta before told tells delta.NoBase e t x = true_false e
   told_by_delta before told tells (delta.BaseGone held oldest) e t x = true_false e
 
-  pub told_by_sync : (before : N) (tells : Told) (a : SyncAnswer) → (told : Told) × links.tells before told × ToldCause token told tells a
-      → (told : Told) × (mid : Told) × (first : DeltaAnswer) × links.tells before told × (lacks_base first ≡ true) × DeltaTold token told mid first → MissedTold links token before tells (end_of_sync a)
+  pub told_by_sync : (before : N) (tells : LinkState) (a : SyncAnswer) → (told : LinkState) × links.tells before told × ToldCause token told tells a
+      → (told : LinkState) × (mid : LinkState) × (first : DeltaAnswer) × links.tells before told × (lacks_base first ≡ true) × DeltaTold token told mid first → MissedTold links token before tells (end_of_sync a)
   told_by_sync before tells (answer.Complete version) x y = tt
   told_by_sync before tells a x y = (x, y)
 
@@ -82,7 +82,7 @@ rows_held : (o : Option Held) (v : ℕ) (token : List ℕ) (h : HubState) → o 
     → flat_map (λ kind. option_map_or (λ (x : Held). get_or x.lists (place_of_kind kind) []) o []) all_kinds ≡ rows_seen (version_at h v) token
 rows_held o v token h e = ap (λ (o : Option Held). flat_map (λ kind. option_map_or (λ (x : Held). get_or x.lists (place_of_kind kind) []) o []) all_kinds) e
 
-pub rows_complete : (v : ℕ) (token : List ℕ) (before : Copy) (told : Told) (after : Copy) (tells : Told) → CompleteAt v token before told after tells → held_rows after ≡ rows_seen (version_at tells.hub v) token
+pub rows_complete : (v : ℕ) (token : List ℕ) (before : Copy) (told : LinkState) (after : Copy) (tells : LinkState) → CompleteAt v token before told after tells → held_rows after ≡ rows_seen (version_at tells.hub v) token
 rows_complete v token before told after tells x = rows_held after.held v token tells.hub x.held
 
 pub shows_rows : (made : Result Published CascadeError) (current held seen : List Record) → held ≡ seen → IfOk made (λ _. current ≡ active_rows held) → IfOk made (λ _. current ≡ active_rows seen)

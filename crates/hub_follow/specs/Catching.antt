@@ -5,7 +5,7 @@ use Rattle.consumer_deltas.specs.DeltaAnswers.{HasBase, LacksBase}
 use Rattle.consumer_deltas.specs.DeltaRequests.{IsDeltaUnder}
 use Rattle.exchange_link.specs.Agreement.{StageAgrees}
 use Rattle.exchange_link.specs.Completeness.{StandsAt, first_pin}
-use Rattle.exchange_link.specs.Exchanges.{Told}
+use Rattle.exchange_link.specs.Exchanges.{LinkState}
 use Rattle.exchange_link.specs.Sayings.{list_of}
 use Rattle.exchange_link.specs.Synchronised.{HeldLaw, HeldTold, own_state}
 use Rattle.exchange_link.specs.declared.answer.SyncAnswer.{SyncAnswer}
@@ -28,7 +28,8 @@ pub record CatchesUp (a : SyncAnswer) (before after : Copy) : Type 0 where
 
 -- ---- over one that tells
 
-pub record CatchesUpTold (token : List ℕ) (a : SyncAnswer) (before : Copy) (told : Told) (after : Copy) (tells : Told) : Type 0 where
+-- the same, and what a link that tells adds
+pub record CatchesUpTold (token : List ℕ) (a : SyncAnswer) (before : Copy) (told : LinkState) (after : Copy) (tells : LinkState) : Type 0 where
   pub leaves : CatchesUp a before after
   pub agree : StageAgrees after tells
   pub held : HeldTold token a before told after tells
@@ -47,13 +48,13 @@ FirstIs P (q ∷ earlier ∷ others) = FirstIs P (earlier ∷ others)
 abbrev pub AsksFromHeld : List ℕ → ℕ → (Copy → Type 0) → Request → Type 0
 AsksFromHeld token limit befores q = (base : ℕ) × ((c : Copy) × befores c × HasBase base token c) × ((n : Echo) × IsDeltaUnder token limit base n q)
 
--- the first request that was sent since asks from there on
+-- the first request that was sent since asks for what differs from such a version on
 pub record BeginsFromHeld (token : List ℕ) (limit : ℕ) (befores : Copy → Type 0) (before after : List Request) : Type 0 where
   pub more : List Request
   pub sent : after ≡ more ++ before
   pub first : FirstIs (AsksFromHeld token limit befores) more
 
 -- when it has to be complete: the pin stands, and so does what is held under the token, if anything is
-pub record MayCatchUp (token : List ℕ) (befores : Copy → Type 0) (before : Copy) (told tells : Told) : Type 0 where
+pub record MayCatchUp (token : List ℕ) (befores : Copy → Type 0) (before : Copy) (told tells : LinkState) : Type 0 where
   pub pin : StandsAt (first_pin (own_state token (stage_of before)) told.hub) token tells.hub
   pub base : ((c : Copy) → befores c → LacksBase token c) ⊎ ((held : ℕ) × HasBase held token before × StandsAt held token tells.hub)

@@ -4,7 +4,7 @@ use Rattle.consumer_deltas.specs.DeltaAnswers.{BaseLaw, DeltaTold}
 use Rattle.consumer_deltas.specs.DeltaCauses.{DeltaCaused}
 use Rattle.consumer_deltas.specs.declared.answer.DeltaAnswer.{DeltaAnswer}
 use Rattle.exchange_link.specs.Causes.{Caused, RoseBy, ToldCause}
-use Rattle.exchange_link.specs.Exchanges.{Told}
+use Rattle.exchange_link.specs.Exchanges.{LinkState}
 use Rattle.exchange_link.specs.declared.answer.SyncAnswer.{SyncAnswer}
 use Rattle.hub_follow.specs.Ends.{lacks_base}
 use Rattle.hub_follow.specs.declared.answer.Missed.{Missed}
@@ -14,23 +14,27 @@ use Rattle.roster_base.specs.Faults.{Rose}
 
 -- ---- what is seen of a keeper of copies, and of a link
 
+-- the copies for which a keeper stands, its count of faults, and what calls make of it
 pub record KeeperView (K : Type 0) : Type 1 where
   pub stands : K → Copy → Type 0
   pub faults : K → ℕ
   pub leads : K → K → Type 0
 
+-- the same from its parts
 abbrev pub keeper_view : {K : Type 0} → (K → Copy → Type 0) → (K → ℕ) → (K → K → Type 0) → KeeperView K
 keeper_view stands faults leads = record { stands = stands; faults = faults; leads = leads }
 
+-- what a link tells, its counts, what it keeps, and what exchanges make of it
 pub record LinkView (N : Type 0) : Type 1 where
-  pub tells : N → Told → Type 0
+  pub tells : N → LinkState → Type 0
   pub asked : N → ℕ
   pub missed : N → ℕ
   pub kept : N → List ℕ
   pub faults : N → ℕ
   pub leads : N → N → Type 0
 
-abbrev pub link_view : {N : Type 0} → (N → Told → Type 0) → (N → ℕ) → (N → ℕ) → (N → List ℕ) → (N → ℕ) → (N → N → Type 0) → LinkView N
+-- the same from its parts
+abbrev pub link_view : {N : Type 0} → (N → LinkState → Type 0) → (N → ℕ) → (N → ℕ) → (N → List ℕ) → (N → ℕ) → (N → N → Type 0) → LinkView N
 link_view tells asked missed kept faults leads = record { tells = tells; asked = asked; missed = missed; kept = kept; faults = faults; leads = leads }
 
 -- ---- the causes
@@ -40,11 +44,12 @@ module _ {K N : Type 0} (copies : KeeperView K) (links : LinkView N) (token : Li
   abbrev pub IsTried : N → N → ℕ → Type 0
   IsTried old new n = (tries ≤ links.missed new) × (tries ≤ n) × RoseBy tries (links.faults old) (links.faults new)
 
-  -- an incremental synchronisation answered so, and a whole one
+  -- an incremental synchronisation answered so
   abbrev pub DeltaAnswers : K → K → N → N → DeltaAnswer → Type 0
   DeltaAnswers old new before after a =
       DeltaCaused token limit (copies.stands old) (copies.stands new) (links.asked before) (links.asked after) (links.kept after) (IsTried before after) (Rose (copies.faults old) (copies.faults new)) a
 
+  -- a whole one answered so
   abbrev pub SyncAnswers : K → K → N → N → SyncAnswer → Type 0
   SyncAnswers old new before after a =
       Caused token limit (copies.stands new) (links.tells after) (links.asked before) (links.asked after) (links.kept after) (IsTried before after) (Rose (copies.faults old) (copies.faults new)) a
@@ -66,8 +71,8 @@ module _ {K N : Type 0} (copies : KeeperView K) (links : LinkView N) (token : Li
   MissedBy old new before after (Err (missed.Sync a)) = (between : K) × (mid : N) × (first : DeltaAnswer) × IsBehind old between before mid first × SyncAnswers between new mid after a
 
 -- what a link that tells adds: also of the incremental one that came first
-abbrev pub MissedTold : {N : Type 0} → LinkView N → List ℕ → N → Told → Result ℕ Missed → Type 0
+abbrev pub MissedTold : {N : Type 0} → LinkView N → List ℕ → N → LinkState → Result ℕ Missed → Type 0
 MissedTold links token before tells (Ok version) = ⊤
-MissedTold links token before tells (Err (missed.Delta a)) = (told : Told) × links.tells before told × DeltaTold token told tells a
-MissedTold links token before tells (Err (missed.Sync a)) = ((told : Told) × links.tells before told × ToldCause token told tells a)
-    × ((told : Told) × (mid : Told) × (first : DeltaAnswer) × links.tells before told × (lacks_base first ≡ true) × DeltaTold token told mid first)
+MissedTold links token before tells (Err (missed.Delta a)) = (told : LinkState) × links.tells before told × DeltaTold token told tells a
+MissedTold links token before tells (Err (missed.Sync a)) = ((told : LinkState) × links.tells before told × ToldCause token told tells a)
+    × ((told : LinkState) × (mid : LinkState) × (first : DeltaAnswer) × links.tells before told × (lacks_base first ≡ true) × DeltaTold token told mid first)

@@ -22,11 +22,12 @@ lacks_base (delta.Ended a) = false
 lacks_base delta.NoBase = true
 lacks_base (delta.BaseGone held oldest) = true
 
--- the version that a whole synchronisation brought, and that an incremental one did
+-- the version that a whole synchronisation brought
 abbrev pub end_of_sync : SyncAnswer → Result ℕ Missed
 end_of_sync (answer.Complete version) = Ok version
 end_of_sync a = Err (missed.Sync a)
 
+-- the version that an incremental synchronisation brought
 abbrev pub end_of_delta : DeltaAnswer → Result ℕ Missed
 end_of_delta (delta.Ended (answer.Complete version)) = Ok version
 end_of_delta a = Err (missed.Delta a)
@@ -57,10 +58,12 @@ synced (follow.Sync a) = Err (missed.Sync a)
 synced (follow.Delta a) = Err (missed.Delta a)
 synced (follow.Cascade version e) = Ok version
 
+-- the answer where nothing was cascaded
 abbrev pub answer_of_miss : Missed → FollowAnswer
 answer_of_miss (missed.Sync a) = follow.Sync a
 answer_of_miss (missed.Delta a) = follow.Delta a
 
+-- the answer behind a cascade of a version that the copy holds
 abbrev pub after_cascade : ℕ → Result Published CascadeError → FollowAnswer
 after_cascade version (Ok published) = follow.Done version published
 after_cascade version (Err e) = follow.Cascade version e

@@ -9,8 +9,8 @@ use hub_cascade::CascadeError;
 use hub_core::Published;
 use roster_texts::{Moment, Name, Token};
 
-/// What is followed, and as what: the token under which another hub is asked, in pages of so many rows or entries, each request tried so
-/// often; and the feed whose rows are made those of the copy, at a moment.
+/// What is followed, and as what: the token under which another hub is asked, in pages of so many rows or entries, each
+/// request tried so often; and the feed whose rows are made those of the copy, at a moment.
 #[derive(Clone, Copy)]
 pub struct FollowTask<'a> {
     pub token: &'a Token,
@@ -27,7 +27,7 @@ pub enum FollowAnswer {
     Done { version: u64, published: Published },
     /// A whole synchronisation wasn't complete: nothing was cascaded.
     Sync(SyncAnswer),
-    /// An incremental one wasn't: nothing was cascaded.
+    /// An incremental synchronisation wasn't complete: nothing was cascaded.
     Delta(DeltaAnswer),
     /// The copy holds this version, whole, and its cascade made nothing, or it isn't known what it made.
     Cascade { version: u64, error: CascadeError },
@@ -36,7 +36,9 @@ pub enum FollowAnswer {
 /// The synchronisation that wasn't complete, with its answer.
 #[derive(Clone, Copy)]
 pub enum Missed {
+    /// The whole one, made where there was no base.
     Sync(SyncAnswer),
+    /// The incremental one.
     Delta(DeltaAnswer),
 }
 
@@ -57,7 +59,7 @@ pub fn end_of_sync(answer: SyncAnswer) -> Result<u64, Missed>
     }
 }
 
-/// The version that an incremental one brought.
+/// The version that an incremental synchronisation brought.
 pub fn end_of_delta(answer: DeltaAnswer) -> Result<u64, Missed>
     ensures { result ≡ end_of_delta answer }
 {

@@ -4,7 +4,7 @@ ghost use Rattle.std.specs.Prelude.{◌+◌, ◌<◌, ◌≤◌, IfErr};
 ghost use Rattle.consumer_deltas.specs.DeltaAnswers.{LacksBase};
 ghost use Rattle.exchange_link.specs.Agreement.{StageAgrees};
 ghost use Rattle.exchange_link.specs.Completeness.{IsDone};
-ghost use Rattle.exchange_link.specs.Exchanges.{Told};
+ghost use Rattle.exchange_link.specs.Exchanges.{LinkState};
 ghost use Rattle.exchange_link.specs.Marks.{MarksTold};
 ghost use Rattle.hub_follow.specs.Catching.{BeginsFromHeld, CatchesUp, CatchesUpTold, MayCatchUp};
 ghost use Rattle.hub_follow.specs.Causes.{MissedBy, MissedTold, keeper_view, link_view};
@@ -21,8 +21,8 @@ use keeper_memory::CopyKeeper;
 use roster_texts::Token;
 use std::alloc::Global;
 
-/// Brings a copy to what the token sees of the hub's newest version: by what differs from the held version, and whole where there is none
-/// that the hub could differ from. The version that the copy then holds.
+/// Brings a copy to what the token sees of the hub's newest version: by what differs from the held version, and whole
+/// where there is none that the hub could differ from. The version that the copy then holds.
 pub fn catch_up<C: CopyKeeper, L: Link>(
     alloc: Global,
     copy: &mut C,
@@ -42,24 +42,24 @@ pub fn catch_up<C: CopyKeeper, L: Link>(
     ensures link_leads { L.leads link.old link.new }
     // Over one that tells. Where something is held under the token, the first request asks for what differs from it.
     ensures first { ((c : Copy) → C.stands_for copy.old c → LacksBase token.now c → ⊥)
-        → (after : Copy) (tells : Told) → C.stands_for copy.new after → L.tells link.new tells
-        → (told : Told) × L.tells link.old told × BeginsFromHeld token.now limit (C.stands_for copy.old) told.sent tells.sent }
+        → (after : Copy) (tells : LinkState) → C.stands_for copy.new after → L.tells link.new tells
+        → (told : LinkState) × L.tells link.old told × BeginsFromHeld token.now limit (C.stands_for copy.old) told.sent tells.sent }
     // Over one that tells, where copy and link agree.
-    ensures told { ((c : Copy) (t : Told) → C.stands_for copy.old c → L.tells link.old t → StageAgrees c t)
-        → (after : Copy) (tells : Told) → C.stands_for copy.new after → L.tells link.new tells
-        → (before : Copy) × (told : Told) × C.stands_for copy.old before × L.tells link.old told × CatchesUpTold token.now (sync_of result) before told after tells }
-    ensures cause_told { ((c : Copy) (t : Told) → C.stands_for copy.old c → L.tells link.old t → StageAgrees c t)
-        → (after : Copy) (tells : Told) → C.stands_for copy.new after → L.tells link.new tells
+    ensures told { ((c : Copy) (t : LinkState) → C.stands_for copy.old c → L.tells link.old t → StageAgrees c t)
+        → (after : Copy) (tells : LinkState) → C.stands_for copy.new after → L.tells link.new tells
+        → (before : Copy) × (told : LinkState) × C.stands_for copy.old before × L.tells link.old told × CatchesUpTold token.now (sync_of result) before told after tells }
+    ensures cause_told { ((c : Copy) (t : LinkState) → C.stands_for copy.old c → L.tells link.old t → StageAgrees c t)
+        → (after : Copy) (tells : LinkState) → C.stands_for copy.new after → L.tells link.new tells
         → MissedTold (link_view L.tells L.asked L.missed L.kept L.fault_count L.leads) token.now link.old tells result }
     // And where no call of the link and of the copy's keeper failed.
-    ensures complete { ((c : Copy) (t : Told) → C.stands_for copy.old c → L.tells link.old t → StageAgrees c t)
+    ensures complete { ((c : Copy) (t : LinkState) → C.stands_for copy.old c → L.tells link.old t → StageAgrees c t)
         → ¬ Rose (L.fault_count link.old) (L.fault_count link.new) → ¬ Rose (C.fault_count copy.old) (C.fault_count copy.new)
-        → (after : Copy) (tells : Told) → C.stands_for copy.new after → L.tells link.new tells
-        → (before : Copy) × (told : Told) × C.stands_for copy.old before × L.tells link.old told
+        → (after : Copy) (tells : LinkState) → C.stands_for copy.new after → L.tells link.new tells
+        → (before : Copy) × (told : LinkState) × C.stands_for copy.old before × L.tells link.old told
         × (before.run + 1 < LAST → ¬ Rose told.hub_faults tells.hub_faults → MayCatchUp token.now (C.stands_for copy.old) before told tells → IsDone (sync_of result)) }
-    // Where they agree on marks, they go on to.
-    ensures marks { ((c : Copy) (t : Told) → C.stands_for copy.old c → L.tells link.old t → MarksTold c t)
-        → (after : Copy) (tells : Told) → C.stands_for copy.new after → L.tells link.new tells → MarksTold after tells }
+    // Where they agreed on marks before, they still do.
+    ensures marks { ((c : Copy) (t : LinkState) → C.stands_for copy.old c → L.tells link.old t → MarksTold c t)
+        → (after : Copy) (tells : LinkState) → C.stands_for copy.new after → L.tells link.new tells → MarksTold after tells }
 {
     let answer = delta_sync(alloc, copy, link, token, limit, tries);
     if lacks_base(answer) {

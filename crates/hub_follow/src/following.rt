@@ -4,7 +4,7 @@ ghost use Rattle.std.specs.Prelude.{◌≡◌, ◌+◌, ◌<◌, ◌≤◌, IfEr
 ghost use Rattle.consumer_deltas.specs.DeltaAnswers.{LacksBase};
 ghost use Rattle.exchange_link.specs.Agreement.{StageAgrees};
 ghost use Rattle.exchange_link.specs.Completeness.{IsDone};
-ghost use Rattle.exchange_link.specs.Exchanges.{Told};
+ghost use Rattle.exchange_link.specs.Exchanges.{LinkState};
 ghost use Rattle.exchange_link.specs.Marks.{MarksTold};
 ghost use Rattle.hub_cascade.specs.Answers.{CountsCopy, CountsHub, LeavesOpen, MakesCascade, TellsHeld};
 ghost use Rattle.hub_cascade.specs.Cascading.{active_rows, current_rows};
@@ -41,13 +41,14 @@ pub fn follow<H: HubKeeper, C: CopyKeeper, L: Link>(
     requires fits { KeeperFits (H.stands_for keeper.old) hub.old }
     requires limit { (0 < task.limit) × (task.limit ≤ 1000) }
     requires tries { (0 < task.tries) × (task.tries ≤ 100) }
-    // The hub: after a synchronisation that wasn't complete it is as before, and else what a cascade of the copy makes of it.
+    // The hub: after a synchronisation that wasn't complete it is as before, and else what a cascade of the copy makes
+    // of it.
     ensures fits { KeeperFits (H.stands_for keeper.new) hub.new }
     ensures told { (after : KeptState) → IsStanding hub.new after → (before : KeptState) × IsStanding hub.old before × (H.stands_for keeper.new after → H.stands_for keeper.old before)
         × IfCascaded result (λ made. MakesCascade (CascadesHeld (C.stands_for copy.new) task.entry.feed.now task.entry.at) made before after) (after ≡ before) }
     ensures unmoved { IfCascaded result (λ made. ⊤) ((hub.new ≡ hub.old) × (keeper.new ≡ keeper.old)) }
     ensures held { IfCascaded result (TellsHeld (C.stands_for copy.new)) ⊤ }
-    ensures settled { IfCascaded result (λ made. LeavesOpen made hub.new.is_open) ⊤ }
+    ensures settled { IfCascaded result (λ made. LeavesOpen made hub.new.commit_open) ⊤ }
     ensures keeps { hub.new.keeps ≡ hub.old.keeps }
     ensures hub_cause { IfCascaded result (CountsHub (H.fault_count keeper.old) (H.fault_count keeper.new)) ⊤ }
     ensures hub_leads { H.leads keeper.old keeper.new }
@@ -61,36 +62,37 @@ pub fn follow<H: HubKeeper, C: CopyKeeper, L: Link>(
     ensures link_leads { L.leads link.old link.new }
     // Over one that tells. Where something is held under the token, the first request asks for what differs from it.
     ensures first { ((c : Copy) → C.stands_for copy.old c → LacksBase task.entry.token.now c → ⊥)
-        → (after : Copy) (tells : Told) → C.stands_for copy.new after → L.tells link.new tells
-        → (told : Told) × L.tells link.old told × BeginsFromHeld task.entry.token.now task.entry.limit (C.stands_for copy.old) told.sent tells.sent }
+        → (after : Copy) (tells : LinkState) → C.stands_for copy.new after → L.tells link.new tells
+        → (told : LinkState) × L.tells link.old told × BeginsFromHeld task.entry.token.now task.entry.limit (C.stands_for copy.old) told.sent tells.sent }
     // Over one that tells, where copy and link agree.
-    ensures synchronised { ((c : Copy) (t : Told) → C.stands_for copy.old c → L.tells link.old t → StageAgrees c t)
-        → (after : Copy) (tells : Told) → C.stands_for copy.new after → L.tells link.new tells
-        → (before : Copy) × (told : Told) × C.stands_for copy.old before × L.tells link.old told × CatchesUpTold task.entry.token.now (sync_of (synced result)) before told after tells }
-    ensures cause_told { ((c : Copy) (t : Told) → C.stands_for copy.old c → L.tells link.old t → StageAgrees c t)
-        → (after : Copy) (tells : Told) → C.stands_for copy.new after → L.tells link.new tells
+    ensures synchronised { ((c : Copy) (t : LinkState) → C.stands_for copy.old c → L.tells link.old t → StageAgrees c t)
+        → (after : Copy) (tells : LinkState) → C.stands_for copy.new after → L.tells link.new tells
+        → (before : Copy) × (told : LinkState) × C.stands_for copy.old before × L.tells link.old told × CatchesUpTold task.entry.token.now (sync_of (synced result)) before told after tells }
+    ensures cause_told { ((c : Copy) (t : LinkState) → C.stands_for copy.old c → L.tells link.old t → StageAgrees c t)
+        → (after : Copy) (tells : LinkState) → C.stands_for copy.new after → L.tells link.new tells
         → MissedTold (link_view L.tells L.asked L.missed L.kept L.fault_count L.leads) task.entry.token.now link.old tells (synced result) }
     // And where no call of the link and of the copy's keeper failed.
-    ensures caught { ((c : Copy) (t : Told) → C.stands_for copy.old c → L.tells link.old t → StageAgrees c t)
+    ensures caught { ((c : Copy) (t : LinkState) → C.stands_for copy.old c → L.tells link.old t → StageAgrees c t)
         → ¬ Rose (L.fault_count link.old) (L.fault_count link.new) → ¬ Rose (C.fault_count copy.old) (C.fault_count copy.new)
-        → (after : Copy) (tells : Told) → C.stands_for copy.new after → L.tells link.new tells
-        → (before : Copy) × (told : Told) × C.stands_for copy.old before × L.tells link.old told
+        → (after : Copy) (tells : LinkState) → C.stands_for copy.new after → L.tells link.new tells
+        → (before : Copy) × (told : LinkState) × C.stands_for copy.old before × L.tells link.old told
         × (before.run + 1 < LAST → ¬ Rose told.hub_faults tells.hub_faults → MayCatchUp task.entry.token.now (C.stands_for copy.old) before told tells → IsDone (sync_of (synced result))) }
-    // Nor of the hub's, and the cascade refuses nothing.
-    ensures complete { ((c : Copy) (t : Told) → C.stands_for copy.old c → L.tells link.old t → StageAgrees c t)
+    // And where no call of the hub's keeper failed, and the cascade refuses nothing.
+    ensures complete { ((c : Copy) (t : LinkState) → C.stands_for copy.old c → L.tells link.old t → StageAgrees c t)
         → ¬ Rose (L.fault_count link.old) (L.fault_count link.new) → ¬ Rose (C.fault_count copy.old) (C.fault_count copy.new)
         → ¬ Rose (H.fault_count keeper.old) (H.fault_count keeper.new)
-        → (after : Copy) (tells : Told) → C.stands_for copy.new after → L.tells link.new tells
-        → (before : Copy) × (told : Told) × C.stands_for copy.old before × L.tells link.old told
+        → (after : Copy) (tells : LinkState) → C.stands_for copy.new after → L.tells link.new tells
+        → (before : Copy) × (told : LinkState) × C.stands_for copy.old before × L.tells link.old told
         × (before.run + 1 < LAST → ¬ Rose told.hub_faults tells.hub_faults → MayCatchUp task.entry.token.now (C.stands_for copy.old) before told tells
         → ((standing : KeptState) (fault : PublishFault) → IsStanding hub.old standing → CascadesHeld (C.stands_for copy.new) task.entry.feed.now task.entry.at (newest_kept standing.versions) (Refuses fault) → ⊥) → IsFollowed result) }
-    // Where they agree on marks, they go on to.
-    ensures marks { ((c : Copy) (t : Told) → C.stands_for copy.old c → L.tells link.old t → MarksTold c t)
-        → (after : Copy) (tells : Told) → C.stands_for copy.new after → L.tells link.new tells → MarksTold after tells }
-    // The active rows of the feed are exactly those that the copy holds, and so those that the token sees of the version of the other hub.
+    // Where they agreed on marks before, they still do.
+    ensures marks { ((c : Copy) (t : LinkState) → C.stands_for copy.old c → L.tells link.old t → MarksTold c t)
+        → (after : Copy) (tells : LinkState) → C.stands_for copy.new after → L.tells link.new tells → MarksTold after tells }
+    // The active rows of the feed are exactly those that the copy holds, and so those that the token sees of the
+    // version of the other hub.
     ensures served { IfDone result (λ version. (c : Copy) → C.stands_for copy.new c → current_rows task.entry.feed.now (newest_kept hub.new.kept.versions).rows ≡ active_rows (held_rows c)) }
-    ensures done_shows { ((c : Copy) (t : Told) → C.stands_for copy.old c → L.tells link.old t → StageAgrees c t)
-        → (after : Copy) (tells : Told) → C.stands_for copy.new after → L.tells link.new tells
+    ensures done_shows { ((c : Copy) (t : LinkState) → C.stands_for copy.old c → L.tells link.old t → StageAgrees c t)
+        → (after : Copy) (tells : LinkState) → C.stands_for copy.new after → L.tells link.new tells
         → IfDone result (λ version. current_rows task.entry.feed.now (newest_kept hub.new.kept.versions).rows ≡ active_rows (rows_seen (version_at tells.hub version) task.entry.token.now)) }
 {
     match catch_up(alloc, copy, link, task.token, task.limit, task.tries) {

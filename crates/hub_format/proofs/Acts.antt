@@ -9,7 +9,7 @@ use Rattle.item_maps.specs.declared.item.Edit.{Edit}
 use Rattle.hub_format.specs.Edits.{clear_version, put_at, puts}
 use Rattle.hub_format.specs.Format.{Entry}
 use Rattle.hub_format.specs.Pieces.{number}
-use Rattle.hub_format.proofs.Finds.{filled}
+use Rattle.hub_format.proofs.EntryMaps.{filled}
 use Rattle.std.specs.Prelude.{◌+◌}
 
 abbrev pub Map : Type 0

@@ -7,7 +7,7 @@ use Rattle.version_core.specs.declared.grant_row.GrantRow.{GrantRow}
 use Rattle.std.specs.Option.{ForSome}
 use Rattle.roster_base.specs.Order.{RiseBy}
 use Rattle.hub_format.specs.Format.{Entry, of_changes, some_grants}
-use Rattle.hub_format.proofs.Finds.{Differ}
+use Rattle.hub_format.proofs.EntryMaps.{Differ}
 use Rattle.hub_format.proofs.Labels.{grants_differ}
 
 pub of_changes-push : (own : Change → List Entry) (changes : List Change) (change : Change) → of_changes own (changes ++ change ∷ []) ≡ own change ++ of_changes own changes

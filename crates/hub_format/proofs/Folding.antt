@@ -17,11 +17,11 @@ use Rattle.version_core.specs.declared.grant_row.GrantRow.{GrantRow}
 use Rattle.version_core.specs.declared.mark.MarkRow.{MarkRow}
 use Rattle.version_core.specs.declared.row_change.RowChange.{RowChange}
 use Rattle.hub_format.specs.Edits.{moved}
-use Rattle.hub_format.specs.Format.{Entry, grants_under, of_changes, own_grants, rows_under, some_grants}
+use Rattle.hub_format.specs.Format.{Entry, grants_under, of_changes, own_grants, rows_under, some_grants, where_label}
 use Rattle.hub_format.specs.Pieces.{caller_label, key_label, number}
 use Rattle.hub_format.proofs.Acts.{Act, Map, puts_act}
-use Rattle.hub_format.proofs.Finds.{Alike, alike_map, filled, filled_is, found, found-append, or_else, retained}
-use Rattle.hub_format.proofs.Finds.{where-append, where_all, where_label, where_none}
+use Rattle.hub_format.proofs.EntryMaps.{Alike, alike_map, filled, filled_is, found, found-append, or_else, retained}
+use Rattle.hub_format.proofs.EntryMaps.{where-append, where_all, where_none}
 use Rattle.hub_format.proofs.Labels.{grants_differ}
 use Rattle.hub_format.proofs.Orders.{of_other, of_version}
 

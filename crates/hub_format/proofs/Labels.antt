@@ -13,7 +13,7 @@ use Rattle.version_core.specs.Grants.{caller_of}
 use Rattle.version_core.specs.declared.grant_row.GrantRow.{GrantRow}
 use Rattle.hub_format.specs.Format.{grants_under}
 use Rattle.hub_format.specs.Pieces.{caller_label, key_label, number}
-use Rattle.hub_format.proofs.Finds.{Differ, found}
+use Rattle.hub_format.proofs.EntryMaps.{Differ, found}
 use Rattle.hub_format.proofs.Orders.{behind}
 
 -- labels in the order of keys, behind one prefix

@@ -15,9 +15,9 @@ use Rattle.version_core.proofs.OrderLemmas.{passes}
 use Rattle.version_core.specs.Changes.{AreChanges, change_key}
 use Rattle.version_core.specs.declared.change.Change.{Change}
 use Rattle.version_core.specs.declared.row_change.RowChange.{RowChange}
-use Rattle.hub_format.specs.Format.{Entry, of_changes, rows_under}
+use Rattle.hub_format.specs.Format.{Entry, of_changes, rows_under, where_label}
 use Rattle.hub_format.specs.Pieces.{key_label, number}
-use Rattle.hub_format.proofs.Finds.{retained, where-append, where_all, where_label, where_none}
+use Rattle.hub_format.proofs.EntryMaps.{retained, where-append, where_all, where_none}
 use Rattle.hub_format.proofs.Folding.{IsOf}
 use Rattle.hub_format.proofs.Labels.{ordered}
 use Rattle.hub_format.proofs.Orders.{of_other, of_version}

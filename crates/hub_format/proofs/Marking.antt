@@ -16,7 +16,7 @@ use Rattle.hub_format.specs.Edits.{put_at}
 use Rattle.hub_format.specs.Format.{FitsMark, items_of, mark_entry}
 use Rattle.hub_format.specs.Pieces.{mark_body, mark_label, number}
 use Rattle.hub_format.proofs.Acts.{by_area}
-use Rattle.hub_format.proofs.Finds.{Alike, alike_map, found, missed, turned}
+use Rattle.hub_format.proofs.EntryMaps.{Alike, alike_map, found, missed, turned}
 use Rattle.item_maps.proofs.ItemLemmas.{tied_same}
 use Rattle.hub_format.proofs.Orders.{same_number}
 

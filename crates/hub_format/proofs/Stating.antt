@@ -6,7 +6,7 @@ use Rattle.std.specs.Int.RustNames.{FitsSigned}
 use Rattle.std.proofs.lemmas.Int.{of_z-to_z, to_z-of_z}
 use Rattle.roster_texts.specs.Moments.{is_moment, moment_at}
 use Rattle.hub_format.specs.Pieces.{moment, number}
-use Rattle.hub_format.proofs.Back.{cast_fits, number_back}
+use Rattle.hub_format.proofs.Decoding.{cast_fits, number_back}
 
 -- where a number is a moment, it is that one
 pub moment_found : (n : ℕ) (at : ℤ) (ms : ℤ) (found : Option ℤ) → FitsSigned w64 at → n ≡ cast_unsigned w64 at → ms ≡ cast_signed w64 n → found ≡ moment_at ms → IfSome found (λ m. m ≡ at)

@@ -28,13 +28,13 @@ use Rattle.hub_format.specs.Format.{some_grants, state_entry, version_entry}
 use Rattle.hub_format.specs.Pieces.{IsReadBack, caller_label, change_body, flag, grant_body, has_grants, key_label}
 use Rattle.hub_format.specs.Pieces.{mark_body, mark_label, number, row_body, schools_bytes, sized}
 use Rattle.roster_values.proofs.KindLaws.{kind_from_place}
-use Rattle.hub_format.proofs.Back.{moment_back, owner_back, same_ends, schools_back, sized_back, state_back}
+use Rattle.hub_format.proofs.Decoding.{moment_back, owner_back, same_ends, schools_back, sized_back, state_back}
 use Rattle.hub_format.proofs.Endings.{marks_rise}
 use Rattle.hub_format.proofs.Labels.{same_caller}
 use Rattle.hub_format.proofs.Listing.{listed_sorted, rows_rise}
 use Rattle.hub_format.proofs.Marking.{same_parts}
 use Rattle.hub_format.proofs.Orders.{same_number}
-use Rattle.hub_format.proofs.Told.{IsToldBy, base_grants_told, changes_told, listed_of, newest_from, none_told}
+use Rattle.hub_format.proofs.TableListings.{IsToldBy, base_grants_told, changes_told, listed_of, newest_from, none_told}
 
 -- lists whose entries are equal are equal, where each is
 pub same_list : {X : Type 0} (entry : X → Entry) (P : X → Type 0) → ((x y : X) → P x → P y → entry x ≡ entry y → x ≡ y)

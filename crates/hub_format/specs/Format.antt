@@ -1,5 +1,6 @@
 -- The items in which a hub's state is kept.
-use Rattle.std.specs.Prelude.{◌≡◌, ◌<◌, ◌==◌, ◌^◌, ℕ, List, [], ◌∷◌, ◌++◌, Option, None, Some, map, if◌then◌else◌}
+use Rattle.std.specs.Prelude.{◌≡◌, ◌<◌, ◌==◌, ◌^◌, ℕ, Bool, List, [], ◌∷◌, ◌++◌, Option, None, Some, filter, map}
+use Rattle.std.specs.Prelude.{if◌then◌else◌}
 use Rattle.std.specs.FinMap.{from_entries}
 use Rattle.std.specs.Int.{w64}
 use Rattle.std.specs.Int.RustNames.{FitsSigned}
@@ -18,6 +19,8 @@ use Rattle.version_core.specs.declared.grant_row.GrantRow.{GrantRow}
 use Rattle.version_core.specs.declared.hub_tables.HubTables.{HubTables}
 use Rattle.version_core.specs.declared.mark.MarkRow.{MarkRow}
 use Rattle.version_core.specs.declared.row_change.RowChange.{RowChange}
+use Rattle.hub_format.specs.Areas.{base_rows_area, change_rows_area, format_area, grants_area, marks_area, state_area}
+use Rattle.hub_format.specs.Areas.{versions_area}
 use Rattle.hub_format.specs.Pieces.{AreSized, HasNoZero, IsReadBack, IsSized, caller_label, change_body, grant_body}
 use Rattle.hub_format.specs.Pieces.{key_label, mark_body, mark_label, moment, number, row_body}
 
@@ -28,6 +31,10 @@ new_tables keep = record { keep = keep; base = empty_version; changes = []; mark
 -- a label and the body under it
 abbrev pub Entry : Type 0
 Entry = List ℕ × List ℕ
+
+-- the entries whose labels pass a test
+abbrev pub where_label : (List ℕ → Bool) → List Entry → List Entry
+where_label test entries = filter (λ e. test e.0) entries
 
 -- the number of a format
 abbrev pub format_entry : ℕ → Entry
@@ -77,13 +84,13 @@ of_changes own (change ∷ changes) = of_changes own changes ++ own change
 -- the entries of each area
 abbrev pub area_of : HubTables → ℕ → List Entry
 area_of t area =
-    if area == 0 then format_entry 1 ∷ []
-    else if area == 1 then state_entry t.keep t.base ∷ []
-    else if area == 2 then rows_under [] t.base.rows
-    else if area == 3 then of_changes own_version t.changes
-    else if area == 4 then of_changes own_rows t.changes
-    else if area == 5 then of_changes own_grants t.changes ++ grants_under t.base.number t.base.grants
-    else if area == 6 then map mark_entry t.marks
+    if area == format_area then format_entry 1 ∷ []
+    else if area == state_area then state_entry t.keep t.base ∷ []
+    else if area == base_rows_area then rows_under [] t.base.rows
+    else if area == versions_area then of_changes own_version t.changes
+    else if area == change_rows_area then of_changes own_rows t.changes
+    else if area == grants_area then of_changes own_grants t.changes ++ grants_under t.base.number t.base.grants
+    else if area == marks_area then map mark_entry t.marks
     else []
 
 abbrev pub items_of : HubTables → Items

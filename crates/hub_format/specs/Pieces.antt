@@ -77,7 +77,8 @@ change_body change = moment change.moment ++ has_grants change.grants ∷ []
 
 abbrev pub mark_body : MarkRow → List ℕ
 mark_body mark =
-    flag mark.write.delete ∷ place_of_kind mark.write.kind ∷ (sized mark.write.id ++ (sized mark.write.body ++ (mark.kept.outcome ∷ number mark.kept.version)))
+    flag mark.write.delete ∷ place_of_kind mark.write.kind
+    ∷ (sized mark.write.id ++ (sized mark.write.body ++ (mark.kept.outcome ∷ number mark.kept.version)))
 
 abbrev pub HasNoZero : List ℕ → Type 0
 HasNoZero text = AllByRecursion (λ b. 0 < b) text

@@ -3,7 +3,7 @@
 ghost use Rattle.std.specs.Prelude.{◌≡◌, ◌++◌, [], ◌+◌, ◌<◌, ◌^◌, IfOk, OnOk};
 ghost use Rattle.std.specs.List.{AllByRecursion};
 ghost use Rattle.std.specs.Option.{ForSome};
-ghost use Rattle.hub_format.specs.Areas.{area_number};
+ghost use Rattle.hub_format.specs.Areas.{area_number, format_area, grants_area, state_area};
 ghost use Rattle.hub_format.specs.Edits.{clear_version, mark_edits, put_at, puts};
 ghost use Rattle.hub_format.specs.Format.{FitsGrant, FitsMark, format_entry, some_grants};
 ghost use Rattle.hub_format.specs.Pieces.{number};
@@ -31,7 +31,7 @@ pub const WRITTEN_FORMAT: u64 = 2;
 
 /// The edit that stores the number of a format.
 pub fn put_format(alloc: Global, format: u64) -> Result<Edit, NoMemory>
-    ensures { IfOk result (λ edit. edit ≡ put_at 0 (format_entry format)) }
+    ensures { IfOk result (λ edit. edit ≡ put_at format_area (format_entry format)) }
 {
     Ok(Edit::Put {
         area: HubArea::Format.number(),
@@ -40,9 +40,10 @@ pub fn put_format(alloc: Global, format: u64) -> Result<Edit, NoMemory>
     })
 }
 
-/// The edit that stores a state whose base has the moment of these bytes.
+/// The edit that stores a state: how many versions it keeps beside the newest, and of its base the number and the bytes
+/// of the moment.
 pub fn put_state(alloc: Global, keep: u64, base: u64, at: &[u8]) -> Result<Edit, NoMemory>
-    ensures { IfOk result (λ edit. edit ≡ put_at 1 ([], number keep ++ number base ++ at.now)) }
+    ensures { IfOk result (λ edit. edit ≡ put_at state_area ([], number keep ++ number base ++ at.now)) }
 {
     let mut body = Vec::new(alloc);
     push_number(&mut body, keep)?;
@@ -62,7 +63,8 @@ pub fn put_some_grants(
     version: u64,
     grants: &Option<Items<GrantRow>>,
 ) -> Result<(), NoMemory>
-    ensures edits { OnOk result (edits.new.items ≡ edits.old.items ++ puts 5 (some_grants version grants.now)) }
+    ensures edits { OnOk result
+        (edits.new.items ≡ edits.old.items ++ puts grants_area (some_grants version grants.now)) }
     ensures fits { OnOk result (ForSome grants.now (AllByRecursion FitsGrant)) }
 {
     match grants {

@@ -13,6 +13,7 @@ use item_maps::{Edit, Item};
 use roster_base::{Bytes, NoMemory};
 use std::alloc::Global;
 
+// The edit that stores an item behind another prefix, in place of a version's number.
 fn put_moved(alloc: Global, area: HubArea, prefix: &[u8], item: &Item) -> Result<Edit, NoMemory>
     ensures { IfOk result (λ edit. edit ≡ put_at (area_number area) (moved_to prefix.now (entry_of item.now))) }
 {
@@ -34,7 +35,8 @@ fn push_moved(
     prefix: &[u8],
     items: &[Item],
 ) -> Result<(), NoMemory>
-    ensures { OnOk result (edits.new.items ≡ edits.old.items ++ puts (area_number area) (all_moved prefix.now (map entry_of items.now))) }
+    ensures { OnOk result (edits.new.items
+        ≡ edits.old.items ++ puts (area_number area) (all_moved prefix.now (map entry_of items.now))) }
 {
     for item in items {
         edits.push(put_moved(alloc, area, prefix, item)?)?;
@@ -42,7 +44,7 @@ fn push_moved(
     Ok(())
 }
 
-/// Adds the edits by which the base's grants go along, where the version has none of its own.
+/// Adds the edits by which the base's grants go along, where the flag is 0: the version has none of its own.
 pub fn push_grants(
     alloc: Global,
     edits: &mut Vec<Edit>,
@@ -59,7 +61,8 @@ pub fn push_grants(
     push_moved(alloc, edits, HubArea::Grants, prefix.as_slice(), grants)
 }
 
-/// The bytes of a change's moment, and whether it has grants.
+/// The bytes of a change's moment and the flag behind them, which is 0 where the change has no grants. None where a
+/// body has no such parts.
 pub fn change_parts(body: &[u8]) -> Option<(&[u8], u8)>
     ensures parts { IfSome result (λ p. body.now ≡ p.0.now ++ p.1 ∷ []) }
     ensures eight { IfSome result (λ p. length p.0.now ≡ 8) }

@@ -1,10 +1,11 @@
-//! What items of a hub's state are worth.
+//! Laws on the items of a hub's state. Each function here does nothing; its contract is a law.
 
 ghost use Rattle.std.specs.Prelude.{◌≡◌, ◌+◌, [], ◌∷◌, map};
 ghost use Rattle.item_maps.specs.Items.{Items, listed};
 ghost use Rattle.keeper_memory.specs.Kept.{KeptState};
 ghost use Rattle.version_core.specs.Tables.{AreTables};
 ghost use Rattle.version_core.specs.declared.hub_tables.HubTables.{HubTables};
+ghost use Rattle.hub_format.specs.Areas.{base_rows_area, format_area, grants_area, marks_area, state_area};
 ghost use Rattle.hub_format.specs.Format.{Fit, Keep, format_entry, grants_under, items_of, mark_entry, rows_under};
 ghost use Rattle.hub_format.specs.Format.{state_entry};
 ghost use Rattle.hub_format.specs.Pieces.{number};
@@ -16,10 +17,13 @@ pub fn items_keep_one_state()
 
 /// What is listed of the items of tables: the format, the state, the rows and the grants of the base, and the marks.
 pub fn items_tell_the_base()
-    ensures format { (t : HubTables) → listed 0 [] (0 ∷ []) (items_of t) ≡ format_entry 1 ∷ [] }
-    ensures state { (t : HubTables) → listed 1 [] (0 ∷ []) (items_of t) ≡ state_entry t.keep t.base ∷ [] }
-    ensures rows { (t : HubTables) → AreTables t → listed 2 [] (255 ∷ []) (items_of t) ≡ rows_under [] t.base.rows }
+    ensures format { (t : HubTables) → listed format_area [] (0 ∷ []) (items_of t) ≡ format_entry 1 ∷ [] }
+    ensures state { (t : HubTables) → listed state_area [] (0 ∷ []) (items_of t) ≡ state_entry t.keep t.base ∷ [] }
+    ensures rows { (t : HubTables) → AreTables t
+        → listed base_rows_area [] (255 ∷ []) (items_of t) ≡ rows_under [] t.base.rows }
     ensures grants { (t : HubTables) → AreTables t → Fit t
-        → listed 5 (number t.base.number) (number (t.base.number + 1)) (items_of t) ≡ grants_under t.base.number t.base.grants }
-    ensures marks { (t : HubTables) → AreTables t → Fit t → listed 6 [] (255 ∷ []) (items_of t) ≡ map mark_entry t.marks }
+        → listed grants_area (number t.base.number) (number (t.base.number + 1)) (items_of t)
+        ≡ grants_under t.base.number t.base.grants }
+    ensures marks { (t : HubTables) → AreTables t → Fit t
+        → listed marks_area [] (255 ∷ []) (items_of t) ≡ map mark_entry t.marks }
 {}

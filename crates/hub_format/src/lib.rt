@@ -1,4 +1,5 @@
-//! The items in which a hub's state is kept: their labels and bodies as definitions, written and read, and the edits that store them.
+//! The items in which a hub's state is kept: their labels and bodies as definitions, written and read, and the edits
+//! that store them.
 #![tactic(auto)]
 
 mod area;
@@ -24,8 +25,9 @@ pub use plan::lets_go;
 pub use read_grants::{grants_of, id_at};
 pub use read_marks::{marks_of, write_of};
 pub use read_rows::{key_of, row_of_body, rows_of, with_id};
-pub use read_state::{state_of, version_of};
+pub use read_state::{StoredState, state_of, version_of};
 pub use reading::{
-    Format, behind, format_of, number_at, only_body, only_number, sized_at, state_parts,
+    Format, behind, format_of, label_parts, number_at, only_body, only_number, sized_at,
+    state_parts,
 };
 pub use writing::{change_body, put_version, row_body};

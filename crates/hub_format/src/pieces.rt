@@ -14,7 +14,7 @@ use roster_texts::{Id, Moment, Name};
 use roster_types::owner::Owner;
 use roster_values::Kind;
 
-/// A number in 8 bytes.
+/// Adds a number in 8 bytes.
 pub fn push_number(to: &mut Vec<u8>, n: u64) -> Result<(), NoMemory>
     ensures { OnOk result (to.new.items ≡ to.old.items ++ number n) }
 {
@@ -22,7 +22,7 @@ pub fn push_number(to: &mut Vec<u8>, n: u64) -> Result<(), NoMemory>
     Ok(())
 }
 
-/// A moment in two's complement.
+/// Adds a moment in two's complement.
 pub(crate) fn push_moment(to: &mut Vec<u8>, at: Moment) -> Result<(), NoMemory>
     ensures bytes { OnOk result (to.new.items ≡ to.old.items ++ moment at) }
     ensures fits { FitsSigned w64 at }
@@ -31,7 +31,7 @@ pub(crate) fn push_moment(to: &mut Vec<u8>, at: Moment) -> Result<(), NoMemory>
     Ok(())
 }
 
-/// Bytes behind their length.
+/// Adds bytes behind their length.
 pub fn push_sized(to: &mut Vec<u8>, text: &[u8]) -> Result<(), NoMemory>
     ensures bytes { OnOk result (to.new.items ≡ to.old.items ++ sized text.now) }
     ensures fits { IsSized text.now }
@@ -41,7 +41,7 @@ pub fn push_sized(to: &mut Vec<u8>, text: &[u8]) -> Result<(), NoMemory>
     Ok(())
 }
 
-/// An owner: a feed under 1, a caller under 0.
+/// Adds an owner: a feed under 1, a caller under 0.
 pub(crate) fn push_owner(to: &mut Vec<u8>, owner: &Owner) -> Result<(), NoMemory>
     ensures bytes { OnOk result (to.new.items ≡ to.old.items ++ owner_bytes owner.now) }
     ensures fits { OnOk result (IsSized (owner_name owner.now)) }
@@ -66,7 +66,7 @@ pub fn kind_byte(kind: Kind) -> u8
     kind.place() as u8
 }
 
-/// A caller, and the 0 that ends it.
+/// Adds a caller, and the 0 that ends it.
 #[tactic(auto, using(crate::proofs::Names::name_has_no_zero, crate::proofs::Names::name_is_below))]
 pub(crate) fn push_caller(to: &mut Vec<u8>, caller: &Name) -> Result<(), NoMemory>
     ensures bytes { OnOk result (to.new.items ≡ to.old.items ++ caller_label caller.now) }
@@ -78,6 +78,7 @@ pub(crate) fn push_caller(to: &mut Vec<u8>, caller: &Name) -> Result<(), NoMemor
     Ok(())
 }
 
+// Adds an id behind its length.
 fn push_id(to: &mut Vec<u8>, id: &Id) -> Result<(), NoMemory>
     ensures bytes { OnOk result (to.new.items ≡ to.old.items ++ sized id.now) }
     ensures fits { OnOk result (IsSized id.now) }
@@ -85,7 +86,7 @@ fn push_id(to: &mut Vec<u8>, id: &Id) -> Result<(), NoMemory>
     push_sized(to, id.as_str().as_bytes())
 }
 
-// Ids, each behind its length.
+// Adds ids, each behind its length.
 fn push_ids(to: &mut Vec<u8>, ids: &[Id]) -> Result<(), NoMemory>
     ensures bytes { OnOk result (to.new.items ≡ to.old.items ++ all_sized ids.now) }
     ensures fits { OnOk result (AllByRecursion IsSized ids.now) }
@@ -96,7 +97,7 @@ fn push_ids(to: &mut Vec<u8>, ids: &[Id]) -> Result<(), NoMemory>
     Ok(())
 }
 
-/// All schools under 0, or those that are listed under 1.
+/// Adds schools: all of them under 0, or those that are listed under 1.
 pub(crate) fn push_schools(to: &mut Vec<u8>, schools: &Schools) -> Result<(), NoMemory>
     ensures bytes { OnOk result (to.new.items ≡ to.old.items ++ schools_bytes schools.now) }
     ensures fits { OnOk result (AreSized schools.now) }

@@ -24,7 +24,7 @@ fn caller_in(label: &[u8]) -> Option<&[u8]>
     if *zero == 0 { Some(caller) } else { None }
 }
 
-/// The id in front, without its length, and what stands behind it.
+/// The id in front, without its length, and what stands behind it. None where no id stands there.
 pub fn id_at(alloc: Global, bytes: &[u8]) -> Result<Option<(Id, &[u8])>, NoMemory>
     ensures id { IfOk result (λ o. IfSome o (λ p. bytes.now ≡ sized p.0 ++ p.1.now)) }
     ensures small { IfOk result (λ o. IfSome o (λ p. IsSized p.0)) }
@@ -136,7 +136,8 @@ fn grant_of_body(alloc: Global, body: &[u8]) -> Result<Option<Grant>, NoMemory>
 
 // The grant of an item, whose label has a version's number in front. None where it is no grant's item.
 fn grant_of(alloc: Global, item: &Item) -> Result<Option<GrantRow>, NoMemory>
-    ensures found { (version : ℕ) (row : GrantValue) → FitsGrant row → entry_of item.now ≡ grant_entry version row → IfOk result (λ o. IfSome o (λ found. found ≡ row)) }
+    ensures found { (version : ℕ) (row : GrantValue) → FitsGrant row → entry_of item.now ≡ grant_entry version row
+        → IfOk result (λ o. IfSome o (λ found. found ≡ row)) }
     ensures whole { IfOk result (λ o. IfSome o (λ found. entry_behind item.now ≡ own_entry found)) }
 {
     let Some(caller) = caller_in(behind(item.label.as_slice(), 8)) else {
@@ -153,7 +154,8 @@ fn grant_of(alloc: Global, item: &Item) -> Result<Option<GrantRow>, NoMemory>
 
 /// The grants of items behind a version's number. None where one is no grant's item.
 pub fn grants_of(alloc: Global, items: &[Item]) -> Result<Option<Vec<GrantRow>>, NoMemory>
-    ensures found { (version : ℕ) (grants : List GrantValue) → AllByRecursion FitsGrant grants → map entry_of items.now ≡ grants_under version grants
+    ensures found { (version : ℕ) (grants : List GrantValue) → AllByRecursion FitsGrant grants
+        → map entry_of items.now ≡ grants_under version grants
         → IfOk result (λ o. IfSome o (λ found. found.items ≡ grants)) }
     ensures whole { IfOk result (λ o. IfSome o (λ found. map entry_behind items.now ≡ map own_entry found.items)) }
 {

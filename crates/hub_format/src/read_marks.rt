@@ -6,28 +6,13 @@ ghost use Rattle.item_maps.specs.Edits.{entry_of};
 ghost use Rattle.roster_values.specs.Kinds.{place_of_kind};
 ghost use Rattle.version_core.specs.declared.mark.MarkRow.{MarkRow as MarkValue};
 ghost use Rattle.hub_format.specs.Format.{FitsMark, mark_entry};
-ghost use Rattle.hub_format.specs.Pieces.{IsSized, flag, mark_label, number, sized};
+ghost use Rattle.hub_format.specs.Pieces.{IsSized, flag, number, sized};
 
-use crate::reading::{id_of, kind_of, name_of, number_at, sized_at};
+use crate::reading::{id_of, kind_of, label_parts, name_of, number_at, sized_at};
 use item_maps::Item;
 use roster_base::{Bytes, NoMemory};
 use std::alloc::Global;
 use version_core::mark::{Kept, MarkRow, Write};
-
-// The caller and the number of a label.
-fn label_parts(label: &[u8]) -> Option<(&[u8], u64)>
-    ensures { IfSome result (λ p. label.now ≡ mark_label (p.0.now, p.1)) }
-{
-    let ends = label.len().checked_sub(9)?;
-    let (caller, rest) = label.split_at_checked(ends)?;
-    let (zero, bytes) = rest.split_first()?;
-    let (number, rest) = number_at(bytes)?;
-    if *zero == 0 && rest.is_empty() {
-        Some((caller, number))
-    } else {
-        None
-    }
-}
 
 // What was kept of a write: the outcome and the version.
 fn kept_of(bytes: &[u8]) -> Option<Kept>
@@ -65,7 +50,8 @@ pub fn write_of(
     id: &[u8],
     text: &[u8],
 ) -> Result<Option<Write>, NoMemory>
-    ensures { IfOk result (λ o. IfSome o (λ w. (flag w.delete ≡ delete) × (place_of_kind w.kind ≡ kind) × (w.id ≡ id.now) × (w.body ≡ text.now))) }
+    ensures { IfOk result (λ o. IfSome o
+        (λ w. (flag w.delete ≡ delete) × (place_of_kind w.kind ≡ kind) × (w.id ≡ id.now) × (w.body ≡ text.now))) }
 {
     let (delete, kind) = match (delete_of(delete), kind_of(kind)) {
         (Some(delete), Some(kind)) => (delete, kind),
@@ -84,40 +70,58 @@ pub fn write_of(
 }
 
 // The parts of a body: whether the write deletes, its kind, its id, its own body, and what was kept of it.
-fn body_parts(body: &[u8]) -> Option<(u8, u8, &[u8], &[u8], Kept)>
-    ensures parts { IfSome result (λ p. body.now ≡ p.0 ∷ p.1 ∷ (sized p.2.now ++ (sized p.3.now ++ (p.4.outcome ∷ number p.4.version)))) }
-    ensures id { IfSome result (λ p. IsSized p.2.now) }
-    ensures text { IfSome result (λ p. IsSized p.3.now) }
-    ensures version { IfSome result (λ p. p.4.version < 2 ^ 64) }
+#[derive(Clone, Copy)]
+struct BodyParts<'a> {
+    delete: u8,
+    kind: u8,
+    id: &'a [u8],
+    text: &'a [u8],
+    kept: Kept,
+}
+
+// The parts of a body, if it is that of a mark.
+fn body_parts(body: &[u8]) -> Option<BodyParts<'_>>
+    ensures parts { IfSome result
+        (λ p. body.now ≡ p.delete ∷ p.kind ∷ (sized p.id.now ++ (sized p.text.now ++ (p.kept.outcome ∷ number p.kept.version)))) }
+    ensures id { IfSome result (λ p. IsSized p.id.now) }
+    ensures text { IfSome result (λ p. IsSized p.text.now) }
+    ensures version { IfSome result (λ p. p.kept.version < 2 ^ 64) }
 {
     let (delete, rest) = body.split_first()?;
     let (kind, rest) = rest.split_first()?;
     let (id, rest) = sized_at(rest)?;
     let (text, rest) = sized_at(rest)?;
     let kept = kept_of(rest)?;
-    Some((*delete, *kind, id, text, kept))
+    Some(BodyParts {
+        delete: *delete,
+        kind: *kind,
+        id,
+        text,
+        kept,
+    })
 }
 
 // The mark of an item. None where it is no mark's item.
 fn mark_of(alloc: Global, item: &Item) -> Result<Option<MarkRow>, NoMemory>
-    ensures found { (mark : MarkValue) → FitsMark mark → entry_of item.now ≡ mark_entry mark → IfOk result (λ o. IfSome o (λ found. found ≡ mark)) }
+    ensures found { (mark : MarkValue) → FitsMark mark → entry_of item.now ≡ mark_entry mark
+        → IfOk result (λ o. IfSome o (λ found. found ≡ mark)) }
     ensures whole { IfOk result (λ o. IfSome o (λ found. entry_of item.now ≡ mark_entry found)) }
 {
     let Some((caller, number)) = label_parts(item.label.as_slice()) else {
         return Ok(None);
     };
-    let Some((delete, kind, id, text, kept)) = body_parts(item.body.as_slice()) else {
+    let Some(parts) = body_parts(item.body.as_slice()) else {
         return Ok(None);
     };
     let Some(caller) = name_of(alloc, caller)? else {
         return Ok(None);
     };
-    match write_of(alloc, delete, kind, id, text)? {
+    match write_of(alloc, parts.delete, parts.kind, parts.id, parts.text)? {
         Some(write) => Ok(Some(MarkRow {
             caller,
             number,
             write,
-            kept,
+            kept: parts.kept,
         })),
         None => Ok(None),
     }
@@ -125,7 +129,8 @@ fn mark_of(alloc: Global, item: &Item) -> Result<Option<MarkRow>, NoMemory>
 
 /// The marks of items. None where one is no mark's item.
 pub fn marks_of(alloc: Global, items: &[Item]) -> Result<Option<Vec<MarkRow>>, NoMemory>
-    ensures found { (marks : List MarkValue) → AllByRecursion FitsMark marks → map entry_of items.now ≡ map mark_entry marks
+    ensures found { (marks : List MarkValue) → AllByRecursion FitsMark marks
+        → map entry_of items.now ≡ map mark_entry marks
         → IfOk result (λ o. IfSome o (λ found. found.items ≡ marks)) }
     ensures whole { IfOk result (λ o. IfSome o (λ found. map entry_of items.now ≡ map mark_entry found.items)) }
 {

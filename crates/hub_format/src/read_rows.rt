@@ -20,7 +20,7 @@ use row_json::read_row;
 use std::alloc::Global;
 use version_core::row_change::RowChange;
 
-// The owner of a name under this byte.
+// The owner of a name: a caller under 0, a feed under 1.
 fn owner_of(byte: u8, name: Name) -> Option<Owner>
     ensures bytes { IfSome result (λ owner. byte ∷ sized name ≡ owner_bytes owner) }
     ensures name { IfSome result (λ owner. owner_name owner ≡ name) }
@@ -50,7 +50,8 @@ fn parts_of(body: &[u8]) -> Option<(u8, &[u8], &[u8])>
 
 /// The row and the owner of a body, if it is one of a row of this kind.
 pub fn row_of_body(alloc: Global, kind: Kind, body: &[u8]) -> Result<Option<RowChange>, NoMemory>
-    ensures row { (change : RowValue) → IsReadBack change → change.row.kind ≡ kind → body.now ≡ row_body change → IfOk result (λ o. IfSome o (λ found. found ≡ change)) }
+    ensures row { (change : RowValue) → IsReadBack change → change.row.kind ≡ kind → body.now ≡ row_body change
+        → IfOk result (λ o. IfSome o (λ found. found ≡ change)) }
     ensures kind { IfOk result (λ o. IfSome o (λ found. found.row.kind ≡ kind)) }
 {
     let Some((byte, name, text)) = parts_of(body) else {
@@ -89,9 +90,11 @@ pub fn with_id(row: RowChange, id: &[u8]) -> Option<RowChange>
     }
 }
 
-// The row of an item whose label has so many bytes in front of the row's key. None where it is no row's item, or another row's.
+// The row of an item whose label has so many bytes in front of the row's key. None where it is no row's item, or
+// another row's.
 fn row_of(alloc: Global, skip: usize, item: &Item) -> Result<Option<RowChange>, NoMemory>
-    ensures found { (prefix : List ℕ) (row : RowValue) → length prefix ≡ skip → IsReadBack row → entry_of item.now ≡ row_entry prefix row → IfOk result (λ o. IfSome o (λ found. found ≡ row)) }
+    ensures found { (prefix : List ℕ) (row : RowValue) → length prefix ≡ skip → IsReadBack row
+        → entry_of item.now ≡ row_entry prefix row → IfOk result (λ o. IfSome o (λ found. found ≡ row)) }
     ensures key { IfOk result (λ o. IfSome o (λ found. drop skip item.now.label ≡ key_label (change_key found))) }
 {
     let Some((kind, id)) = key_of(behind(item.label.as_slice(), skip)) else {
@@ -103,15 +106,19 @@ fn row_of(alloc: Global, skip: usize, item: &Item) -> Result<Option<RowChange>, 
     }
 }
 
-/// The rows of items whose labels have so many bytes in front of the rows' keys. None where one is no row's item, or another row's.
+/// The rows of items whose labels have so many bytes in front of the rows' keys. None where one is no row's item, or
+/// another row's.
 pub fn rows_of(
     alloc: Global,
     skip: usize,
     items: &[Item],
 ) -> Result<Option<Vec<RowChange>>, NoMemory>
-    ensures found { (prefix : List ℕ) (rows : List RowValue) → length prefix ≡ skip → AllByRecursion IsReadBack rows → map entry_of items.now ≡ rows_under prefix rows
+    ensures found { (prefix : List ℕ) (rows : List RowValue) → length prefix ≡ skip → AllByRecursion IsReadBack rows
+        → map entry_of items.now ≡ rows_under prefix rows
         → IfOk result (λ o. IfSome o (λ found. found.items ≡ rows)) }
-    ensures keys { IfOk result (λ o. IfSome o (λ found. map (λ (item : ItemValue). drop skip item.label) items.now ≡ map (λ row. key_label (change_key row)) found.items)) }
+    ensures keys { IfOk result
+        (λ o. IfSome o (λ found. map (λ (item : ItemValue). drop skip item.label) items.now
+        ≡ map (λ row. key_label (change_key row)) found.items)) }
 {
     let mut found = Vec::new(alloc);
     for item in items {

@@ -24,7 +24,8 @@ fn moment_of(n: u64) -> Option<Moment>
 // The body of the only item, if its label has so many bytes.
 fn labelled_body(items: &[Item], len: usize) -> Option<&[u8]>
     ensures body { (entry : Entry) → map entry_of items.now ≡ entry ∷ [] → IfSome result (λ body. body.now ≡ entry.1) }
-    ensures label { IfSome result (λ body. (label : List ℕ) × (length label ≡ len) × (map entry_of items.now ≡ (label, body.now) ∷ [])) }
+    ensures label { IfSome result
+        (λ body. (label : List ℕ) × (length label ≡ len) × (map entry_of items.now ≡ (label, body.now) ∷ [])) }
 {
     match items {
         [item] if item.label.as_slice().len() == len => Some(item.body.as_slice()),
@@ -32,16 +33,33 @@ fn labelled_body(items: &[Item], len: usize) -> Option<&[u8]>
     }
 }
 
-/// How many versions are kept beside the newest, and the number and the moment of the base, from the items of the state. None
-/// where they are no state's.
-pub fn state_of(items: &[Item]) -> Option<(u64, u64, Moment)>
-    ensures found { (keep : ℕ) (base : BaseVersion) → keep < 2 ^ 64 → base.number < 2 ^ 64 → FitsSigned w64 base.moment → map entry_of items.now ≡ state_entry keep base ∷ []
-        → IfSome result (λ s. (s.0 ≡ keep) × (s.1 ≡ base.number) × (s.2 ≡ base.moment)) }
-    ensures whole { IfSome result (λ s. (label : List ℕ) × (length label ≡ 0) × (map entry_of items.now ≡ (label, number s.0 ++ (number s.1 ++ moment s.2)) ∷ [])) }
+/// What the item of a state says.
+#[derive(Clone, Copy)]
+pub struct StoredState {
+    /// How many versions are kept beside the newest.
+    pub keep: u64,
+    /// The number of the base.
+    pub base: u64,
+    /// The moment of the base.
+    pub moment: Moment,
+}
+
+/// The state, from its items. None where they are no state's.
+pub fn state_of(items: &[Item]) -> Option<StoredState>
+    ensures found { (keep : ℕ) (base : BaseVersion) → keep < 2 ^ 64 → base.number < 2 ^ 64 → FitsSigned w64 base.moment
+        → map entry_of items.now ≡ state_entry keep base ∷ []
+        → IfSome result (λ s. (s.keep ≡ keep) × (s.base ≡ base.number) × (s.moment ≡ base.moment)) }
+    ensures whole { IfSome result
+        (λ s. (label : List ℕ) × (length label ≡ 0)
+        × (map entry_of items.now ≡ (label, number s.keep ++ (number s.base ++ moment s.moment)) ∷ [])) }
 {
     let (keep, base, rest) = state_parts(labelled_body(items, 0)?)?;
     let at = only_number(rest)?;
-    Some((keep, base, moment_of(at)?))
+    Some(StoredState {
+        keep,
+        base,
+        moment: moment_of(at)?,
+    })
 }
 
 // The only byte, if it is 0 or 1.
@@ -60,7 +78,8 @@ fn only_flag(bytes: &[u8]) -> Option<u8>
 pub fn version_of(items: &[Item]) -> Option<(Moment, u8)>
     ensures found { (change : Change) → FitsSigned w64 change.moment → map entry_of items.now ≡ own_version change
         → IfSome result (λ v. (v.0 ≡ change.moment) × (v.1 ≡ has_grants change.grants)) }
-    ensures whole { IfSome result (λ v. (label : List ℕ) × (length label ≡ 8) × (map entry_of items.now ≡ (label, moment v.0 ++ v.1 ∷ []) ∷ [])) }
+    ensures whole { IfSome result
+        (λ v. (label : List ℕ) × (length label ≡ 8) × (map entry_of items.now ≡ (label, moment v.0 ++ v.1 ∷ []) ∷ [])) }
     ensures flag { IfSome result (λ v. v.1 ≤ 1) }
 {
     let (at, rest) = number_at(labelled_body(items, 8)?)?;

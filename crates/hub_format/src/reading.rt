@@ -21,7 +21,7 @@ fn number_of(bytes: [u8; 8]) -> u64
     u64::from_be_bytes(bytes)
 }
 
-/// The number in front, and what stands behind it.
+/// The number in the 8 bytes in front, and what stands behind it.
 pub fn number_at(bytes: &[u8]) -> Option<(u64, &[u8])>
     ensures { IfSome result (λ r. bytes.now ≡ number r.0 ++ r.1.now) }
 {
@@ -29,7 +29,7 @@ pub fn number_at(bytes: &[u8]) -> Option<(u64, &[u8])>
     Some((number_of(*first), rest))
 }
 
-/// The only number.
+/// The number in these bytes, if it is all that they are.
 pub fn only_number(bytes: &[u8]) -> Option<u64>
     ensures { IfSome result (λ n. bytes.now ≡ number n) }
 {
@@ -37,7 +37,7 @@ pub fn only_number(bytes: &[u8]) -> Option<u64>
     if rest.is_empty() { Some(n) } else { None }
 }
 
-/// What stands behind so many bytes.
+/// What stands behind so many bytes; nothing where there are fewer.
 pub fn behind(bytes: &[u8], skip: usize) -> &[u8]
     ensures { result.now ≡ drop skip bytes.now }
 {
@@ -55,6 +55,22 @@ pub fn sized_at(bytes: &[u8]) -> Option<(&[u8], &[u8])>
     let (len, rest) = number_at(bytes)?;
     let len = usize::try_from(len).ok()?;
     rest.split_at_checked(len)
+}
+
+/// The parts of a label that ends with a 0 and a number: what stands in front of them, and the number.
+pub fn label_parts(label: &[u8]) -> Option<(&[u8], u64)>
+    ensures { IfSome result (λ p. label.now ≡ p.0.now ++ 0 ∷ number p.1) }
+{
+    // The 0 and the number's 8 bytes.
+    let ends = label.len().checked_sub(9)?;
+    let (front, rest) = label.split_at_checked(ends)?;
+    let (zero, bytes) = rest.split_first()?;
+    let (number, rest) = number_at(bytes)?;
+    if *zero == 0 && rest.is_empty() {
+        Some((front, number))
+    } else {
+        None
+    }
 }
 
 /// The name in these bytes, if they are one.
@@ -77,7 +93,7 @@ pub(crate) fn id_of(alloc: Global, bytes: &[u8]) -> Result<Option<Id>, NoMemory>
     }
 }
 
-/// The kind of a byte.
+/// The kind at the place of this byte.
 #[tactic(auto, using(crate::proofs::KindBytes::kind_placed))]
 pub(crate) fn kind_of(byte: u8) -> Option<Kind>
     ensures { IfSome result (λ kind. place_of_kind kind ≡ byte) }
@@ -85,7 +101,7 @@ pub(crate) fn kind_of(byte: u8) -> Option<Kind>
     Kind::ALL.get(usize::from(byte)).copied()
 }
 
-/// The body of the only item.
+/// The body of the only item. None where there is none, or another.
 pub fn only_body(items: &[Item]) -> Option<&[u8]>
     ensures { (entry : Entry) → map entry_of items.now ≡ entry ∷ [] → IfSome result (λ body. body.now ≡ entry.1) }
 {
@@ -95,7 +111,8 @@ pub fn only_body(items: &[Item]) -> Option<&[u8]>
     }
 }
 
-/// How many versions a state keeps beside the newest, the number of its base, and what stands behind them, from its body.
+/// How many versions a state keeps beside the newest, the number of its base, and what stands behind them, from its
+/// body.
 pub fn state_parts(body: &[u8]) -> Option<(u64, u64, &[u8])>
     ensures { IfSome result (λ s. body.now ≡ number s.0 ++ (number s.1 ++ s.2.now)) }
 {
@@ -107,13 +124,13 @@ pub fn state_parts(body: &[u8]) -> Option<(u64, u64, &[u8])>
 /// The format of a store.
 #[derive(Clone, Copy)]
 pub enum Format {
-    /// It has none yet.
+    /// None yet: the store is new.
     New,
-    /// Format 1.
+    /// Format 1, which is turned into format 2.
     One,
-    /// Format 2.
+    /// Format 2, which is written.
     Two,
-    /// Another, which isn't known here.
+    /// Another one, which this program doesn't know.
     Other,
 }
 
@@ -129,7 +146,7 @@ fn is_two(body: &[u8]) -> bool
     body == [0, 0, 0, 0, 0, 0, 0, 2].as_slice()
 }
 
-// The format of this number.
+// The format whose number has these bytes.
 fn format_in(body: &[u8]) -> Format
     ensures one { body.now ≡ number 1 → result ≡ format.One }
     ensures two { body.now ≡ number 2 → result ≡ format.Two }
@@ -149,7 +166,8 @@ pub fn format_of(items: &[Item]) -> Format
     ensures none { map entry_of items.now ≡ [] → result ≡ format.New }
     ensures one { map entry_of items.now ≡ format_entry 1 ∷ [] → result ≡ format.One }
     ensures two { map entry_of items.now ≡ format_entry 2 ∷ [] → result ≡ format.Two }
-    ensures other { (entry : Entry) → map entry_of items.now ≡ entry ∷ [] → entry.1 ≢ number 1 → entry.1 ≢ number 2 → result ≡ format.Other }
+    ensures other { (entry : Entry) → map entry_of items.now ≡ entry ∷ [] → entry.1 ≢ number 1 → entry.1 ≢ number 2
+        → result ≡ format.Other }
 {
     match items {
         [] => Format::New,

@@ -4,6 +4,7 @@ ghost use Rattle.std.specs.Prelude.{◌≡◌, ◌++◌, ◌<◌, ◌^◌, IfOk,
 ghost use Rattle.std.specs.Int.{w64};
 ghost use Rattle.std.specs.Int.RustNames.{FitsSigned};
 ghost use Rattle.std.specs.List.{AllByRecursion};
+ghost use Rattle.hub_format.specs.Areas.{grants_area, marks_area, versions_area};
 ghost use Rattle.hub_format.specs.Edits.{put_at, puts};
 ghost use Rattle.hub_format.specs.Format.{FitsGrant, FitsMark, grant_entry, grants_under, mark_entry, version_entry};
 ghost use Rattle.hub_format.specs.Pieces.{AreSized, HasNoZero, IsReadBack, IsSized, caller_label, change_body};
@@ -45,7 +46,7 @@ pub fn change_body(alloc: Global, change: &Change) -> Result<Bytes, NoMemory>
 
 /// The edit that stores a change's version.
 pub fn put_version(alloc: Global, change: &Change) -> Result<Edit, NoMemory>
-    ensures edit { IfOk result (λ edit. edit ≡ put_at 3 (version_entry change.now)) }
+    ensures edit { IfOk result (λ edit. edit ≡ put_at versions_area (version_entry change.now)) }
     ensures fits { OnOk result (FitsSigned w64 change.now.moment) }
 {
     Ok(Edit::Put {
@@ -92,7 +93,7 @@ fn grant_body(alloc: Global, grant: &Grant) -> Result<Bytes, NoMemory>
 }
 
 fn put_grant(alloc: Global, version: u64, row: &GrantRow) -> Result<Edit, NoMemory>
-    ensures edit { IfOk result (λ edit. edit ≡ put_at 5 (grant_entry version row.now)) }
+    ensures edit { IfOk result (λ edit. edit ≡ put_at grants_area (grant_entry version row.now)) }
     ensures fits { OnOk result (FitsGrant row.now) }
 {
     Ok(Edit::Put {
@@ -109,7 +110,8 @@ pub(crate) fn put_grants(
     version: u64,
     grants: &[GrantRow],
 ) -> Result<(), NoMemory>
-    ensures edits { OnOk result (edits.new.items ≡ edits.old.items ++ puts 5 (grants_under version grants.now)) }
+    ensures edits { OnOk result
+        (edits.new.items ≡ edits.old.items ++ puts grants_area (grants_under version grants.now)) }
     ensures fits { OnOk result (AllByRecursion FitsGrant grants.now) }
 {
     for row in grants {
@@ -148,7 +150,7 @@ fn mark_body(alloc: Global, mark: &MarkRow) -> Result<Bytes, NoMemory>
 
 /// The edit that stores a mark.
 pub(crate) fn put_mark(alloc: Global, mark: &MarkRow) -> Result<Edit, NoMemory>
-    ensures edit { IfOk result (λ edit. edit ≡ put_at 6 (mark_entry mark.now)) }
+    ensures edit { IfOk result (λ edit. edit ≡ put_at marks_area (mark_entry mark.now)) }
     ensures fits { OnOk result (FitsMark mark.now) }
 {
     Ok(Edit::Put {

@@ -1,4 +1,6 @@
-//! The one history, which exists in the proofs alone: beginnings of it that were seen, and the word that says how long it is.
+//! The one history, which exists in the proofs alone: beginnings of it that were seen, and the word that says how long
+//! it is.
+
 ghost use Rattle.std.specs.Prelude.{◌≡◌, ◌+◌, ◌==◌, ◌<◌, ◌^◌, ◌++◌, ◌∷◌, ◌⊎◌, [], length, MatchBool, true};
 ghost use mathlib.Core.List.{IsPrefix};
 ghost use Rattle.hub_history.specs.Rules.{head_of};
@@ -8,7 +10,7 @@ use crate::naming::Naming;
 use logbook::{Gain, Offer, Plain, Play, Rule, Seen, Start, Word};
 use std::marker::{Model, PhantomData};
 
-/// The rule of the history.
+/// The rule of the history: its word says how long it is.
 pub struct Law;
 
 impl Rule<Entry, u64> for Law {
@@ -29,7 +31,7 @@ impl Rule<Entry, u64> for Law {
     ghost moves = { λ ask before after answer. Unit {0} };
 }
 
-/// Callers trade nothing.
+/// What a caller gains by a step beside what it sees: nothing.
 pub struct Nothing;
 
 impl Gain<Entry, u64> for Nothing {
@@ -165,7 +167,7 @@ impl<N: Naming> Front<N> {
     }
 
     /// Whether the other front is this one with one entry more.
-    pub fn goes_to(&self, other: &Front<N>) -> bool
+    pub fn is_followed_by(&self, other: &Front<N>) -> bool
         ensures longer { result ≡ (length self.now + 1 == length other.now) }
         ensures begins { result ≡ true → IsPrefix self.now other.now }
     {

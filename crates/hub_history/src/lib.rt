@@ -1,5 +1,5 @@
-//! The history of one hub that threads share: a writer that publishes it entry by entry, and readers that take what is published and never
-//! wait.
+//! The history of one hub that threads share: a writer that publishes it entry by entry, and readers that take what is
+//! published and never wait.
 #![tactic(auto)]
 
 mod entry;

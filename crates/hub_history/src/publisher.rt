@@ -49,7 +49,10 @@ where
 
     ghost Value = { Published };
 
-    ghost view = { λ p. record { published = p.published; waiting = waiting_of p.waits (drop p.writer.behind p.writer.log.items) } };
+    ghost view = { λ p. record {
+      published = p.published;
+      waiting = waiting_of p.waits (drop p.writer.behind p.writer.log.items);
+    } };
 
     ghost invariant = { λ p.
         (p.writer.desk.shown.value ≡ p.published)
@@ -80,7 +83,8 @@ fn note<N: Naming>(head: &Head<N>, front: &mut Front<N>, noted: bool, entry: &En
 fn append<N: Naming>(writer: &mut HubWriter<N>, front: &Front<N>, entry: Entry) -> Result<(), Entry>
     requires { EndsLegally N.opening front.now entry }
     ensures desk { writer.new.desk ≡ writer.old.desk }
-    ensures has { Appends (drop writer.old.behind writer.old.log.items) (drop writer.new.behind writer.new.log.items) front.now entry result }
+    ensures has { Appends (drop writer.old.behind writer.old.log.items)
+        (drop writer.new.behind writer.new.log.items) front.now entry result }
 {
     match writer.append(Noted::new(entry, front.again())) {
         Ok(()) => Ok(()),
@@ -88,8 +92,8 @@ fn append<N: Naming>(writer: &mut HubWriter<N>, front: &Front<N>, entry: Entry) 
     }
 }
 
-// Hands the entry that waits to the writer, where one does and the writer hasn't got it. It says what still waits, and whether that was
-// noted.
+// Hands the entry that waits to the writer, where one does and the writer hasn't got it. It says what still waits, and
+// whether that was noted.
 fn hand_over<N: Naming>(
     writer: &mut HubWriter<N>,
     head: &Head<N>,
@@ -99,10 +103,12 @@ fn hand_over<N: Naming>(
     noted: bool,
 ) -> (Option<Entry>, bool)
     requires stage { IsStage published.now (drop writer.old.behind writer.old.log.items) waits noted front.old }
-    requires legal { IsLegal N.opening (published.now ++ waiting_list (waiting_of waits (drop writer.old.behind writer.old.log.items))) }
+    requires legal { IsLegal N.opening
+        (published.now ++ waiting_list (waiting_of waits (drop writer.old.behind writer.old.log.items))) }
     ensures desk { writer.new.desk ≡ writer.old.desk }
     ensures stage { IsStage published.now (drop writer.new.behind writer.new.log.items) result.0 result.1 front.new }
-    ensures same { waiting_of result.0 (drop writer.new.behind writer.new.log.items) ≡ waiting_of waits (drop writer.old.behind writer.old.log.items) }
+    ensures same { waiting_of result.0 (drop writer.new.behind writer.new.log.items)
+        ≡ waiting_of waits (drop writer.old.behind writer.old.log.items) }
 {
     let Some(entry) = waits else {
         return (None, noted);
@@ -159,7 +165,7 @@ impl<N: Naming> Publisher<N> {
         self.published.again()
     }
 
-    /// An entry waits.
+    /// Lets an entry wait to be published.
     pub fn put(&mut self, entry: Entry)
         requires none { self.old.waiting ≡ None }
         requires can { CanEnter (state_after N.opening self.old.published) entry }
@@ -169,7 +175,8 @@ impl<N: Naming> Publisher<N> {
         self.noted = false;
     }
 
-    /// Publishes the entry that waits, where one does, and says whether it did. Where not, there was no memory, and it waits.
+    /// Publishes the entry that waits, where one does, and says whether it did. Where not, there was no memory, and it
+    /// waits.
     pub fn publish<R: Wait>(self, rt: &R) -> (Publisher<N>, bool)
         ensures { MatchBool result.1 (result.0 ≡ none_waits (history self)) (result.0 ≡ self) }
     {

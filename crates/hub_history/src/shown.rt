@@ -2,7 +2,6 @@
 
 ghost use Rattle.std.specs.Prelude.{◌≡◌, IfOk, OnOk, Some, map};
 ghost use Rattle.std.specs.Option.{ForSome};
-ghost use Rattle.keeper_memory.specs.Commits.{CanLead, versions_after};
 ghost use Rattle.version_core.specs.Changes.{change_key};
 ghost use Rattle.hub_history.specs.Histories.{EndsLegally, IsTableOf, change_of, state_after};
 
@@ -11,6 +10,7 @@ use crate::history::Front;
 use crate::naming::Naming;
 use crossbeam_utils::rule::{Outcome, Protocol};
 use keeper_memory::HubCommit;
+use keeper_memory::hub_commit::add_change;
 use left_right::Absorb;
 use left_right::reader::Reader;
 use left_right::writer::Writer;
@@ -107,7 +107,7 @@ impl<N: Naming> Noted<N> {
     }
 }
 
-// An equal change, where an entry has one.
+// A copy of an entry's change, where it has one.
 fn copied_change(alloc: Global, entry: &Entry) -> Result<Option<Change>, NoMemory>
     ensures { IfOk result (λ change. change ≡ change_of entry.now) }
 {
@@ -136,7 +136,8 @@ fn change_in(entry: Entry) -> Option<Change>
 fn make_room(table: &mut Table, entry: &Entry) -> Result<(), NoMemory>
     ensures keep { table.new.keep ≡ table.old.keep }
     ensures versions { table.new.versions ≡ table.old.versions }
-    ensures room { OnOk result (ForSome (change_of entry.now) (λ change. table.new.room ≡ Some (map change_key change.rows))) }
+    ensures room { OnOk result
+        (ForSome (change_of entry.now) (λ change. table.new.room ≡ Some (map change_key change.rows))) }
 {
     match entry {
         Entry::Commit(
@@ -146,18 +147,6 @@ fn make_room(table: &mut Table, entry: &Entry) -> Result<(), NoMemory>
             },
         ) => table.reserve(change),
         _ => Ok(()),
-    }
-}
-
-// Adds the version that a change leads to, where there is one. No memory is taken.
-fn add_change(table: &mut Table, change: Option<Change>)
-    requires room { ForSome change (λ change. table.old.room ≡ Some (map change_key change.rows)) }
-    requires can { ForSome change (CanLead table.old.versions) }
-    ensures keep { table.new.keep ≡ table.old.keep }
-    ensures versions { table.new.versions ≡ versions_after table.old.keep table.old.versions change }
-{
-    if let Some(change) = change {
-        table.add(change);
     }
 }
 
@@ -171,7 +160,7 @@ impl<N: Naming> Absorb<Noted<N>> for Shown<N> {
     ghost applied = { λ log o. taken log o.front };
 
     fn absorb_first(&mut self, operation: &Noted<N>, _other: &Shown<N>) -> Result<(), AllocError> {
-        if !self.front.goes_to(&operation.front) {
+        if !self.front.is_followed_by(&operation.front) {
             return Ok(());
         }
         let Ok(change) = copied_change(self.alloc, &operation.entry) else {
@@ -186,7 +175,7 @@ impl<N: Naming> Absorb<Noted<N>> for Shown<N> {
     }
 
     fn absorb_second(&mut self, operation: Noted<N>, _other: &Shown<N>) -> Result<(), Noted<N>> {
-        if !self.front.goes_to(&operation.front) {
+        if !self.front.is_followed_by(&operation.front) {
             return Ok(());
         }
         if make_room(&mut self.table, &operation.entry).is_err() {

@@ -15,8 +15,8 @@ use std::collections::LinkedList;
 use std::marker::Model;
 use std::mem::ManuallyDrop;
 
-/// A publisher, or none inside a call. A lock's guard asks how its value is dropped, and a writer of `left_right` can't be: so the publisher
-/// is kept as a value that is never dropped, and is taken out at the end.
+/// A publisher, or none inside a call. A lock's guard asks how its value is dropped, and a writer of `left_right` can't
+/// be: so the publisher is kept as a value that is never dropped, and is taken out at the end.
 pub struct Slot<N: Naming>
 where
     Shown<N>: Absorb<Noted<N>, State = LinkedList<Entry>>,

@@ -12,7 +12,7 @@ use Rattle.hub_replies.proofs.Checking.{EitherIs, IfRefused, check_is, either_is
 use Rattle.hub_spec.specs.requests.Requests.{query_for_path, query_or_cause, wanted_by}
 use Rattle.hub_spec.specs.rules.Answers.{Answered, Answers, Entered, Written, cause_of, causes, reply_to_write}
 use Rattle.hub_spec.specs.rules.Answers.{write_of, write_result}
-use Rattle.hub_spec.specs.rules.Checks.{Entry, base_checked, base_refused, check, entry_of, grant_in, is_base, is_open}
+use Rattle.hub_spec.specs.rules.Checks.{Entry, base_checked, base_refused, check, entry_of, grant_in, is_base, may_read}
 use Rattle.hub_spec.specs.rules.Checks.{method_refused, pin_refused, query_or, refused, refused_at, version_read}
 use Rattle.hub_spec.specs.rules.Reads.{Contents, contents_at, read_at, read_result}
 use Rattle.hub_spec.specs.rules.Runs.{Acts, Answer, Fails, Replied, Steps, Take, WantsMemory}
@@ -74,7 +74,7 @@ module _ (request : Request) (state : HubState) where
   module _ (entry : Entry) where
     version_spares : (pin : Option ℕ) → IfRefused Spares (version_read state entry.by wanted pin)
     version_spares None = tt
-    version_spares (Some pin) = elim (is_open state entry.by pin) as (λ b. IfRefused Spares (cond b (Ok pin) (Err (pin_refused state entry.by wanted)))) [ true ↦ tt | false ↦ refl ]
+    version_spares (Some pin) = elim (may_read state entry.by pin) as (λ b. IfRefused Spares (cond b (Ok pin) (Err (pin_refused state entry.by wanted)))) [ true ↦ tt | false ↦ refl ]
 
     query_or_spares : (version : ℕ) → IfRefused Spares (query_or wanted version wanted.query)
     query_or_spares version = by wanted.path

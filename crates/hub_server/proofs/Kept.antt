@@ -17,7 +17,7 @@ module _ (opening : KeptState) (stood stands : KeptState → Type 0) (hub : Held
       comes (inr last) = (history log, s.legal, inr (last.commit, last.made ∙ ap (λ kept. with_commit kept last.commit) s.replays))
 
   -- before one
-  pub stands_still : KeeperFits stands hub → hub.is_open ≡ false → hub.kept ≡ opening → ((kept : KeptState) → stands kept → stood kept) → (now : KeptState) → stands now → stood opening × ComesBy opening now
+  pub stands_still : KeeperFits stands hub → hub.commit_open ≡ false → hub.kept ≡ opening → ((kept : KeptState) → stands kept → stood kept) → (now : KeptState) → stands now → stood opening × ComesBy opening now
   stands_still fits settled kept told now is = still (fits now is)
     where
       still : IsStanding hub now → stood opening × ComesBy opening now

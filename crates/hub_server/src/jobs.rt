@@ -138,8 +138,8 @@ fn serve<H: HubKeeper, N: Naming, R: Wait, K: Clock, G: Gate, A: Acceptor + Drop
     (acceptor, ending)
 }
 
-/// Does jobs, in any thread. What it works with goes in with each, since a type that holds all of it is too large for the proof that threads
-/// may share it.
+/// Does jobs, in any thread. What it works with goes in with each, since a type that holds all of it is too large for
+/// the proof that threads may share it.
 pub trait Worker<S, Q, C, A: Drop, F: Drop> {
     ghost use Rattle.hub_server.specs.declared.jobs.Job.{Job};
     ghost use Rattle.hub_server.specs.declared.jobs.JobEnd.{JobEnd};
@@ -181,7 +181,7 @@ impl<
         let Ok(router) = PathRouter::new(outside.ports.alloc) else {
             return undone(job);
         };
-        let end = run_at(shared, seats, outside, &router, job);
+        let end = do_job(shared, seats, outside, &router, job);
         drop(router);
         end
     }
@@ -212,7 +212,7 @@ fn undone<A: Drop, F: Drop>(job: Job<A, F>) -> JobEnd<A, F>
 }
 
 // Does a job with a router.
-fn run_at<
+fn do_job<
     'x,
     H: HubKeeper,
     N: Naming,
@@ -245,11 +245,11 @@ fn run_at<
         Job::Feed(
             FeedJob {
                 number: _,
-                feed: of,
+                feed: job_feed,
                 folder,
             },
         ) => {
-            let (folder, ending) = feed(&desk, &of, folder, ports.notices);
+            let (folder, ending) = feed(&desk, &job_feed, folder, ports.notices);
             JobEnd::Feed(folder, ending)
         }
         Job::Acceptor(

@@ -246,8 +246,9 @@ where
     do_all(shared, &seats, &outside, jobs)
 }
 
-// A failure of the keeper that its count doesn't tell can't be, since it counts each.
-fn told(ending: Ending, before: u64, now: u64) -> Ending
+// The ending, but want of memory in place of a failure of the keeper that its count doesn't tell. There is no such
+// failure, since the keeper counts each.
+fn ending_by_count(ending: Ending, before: u64, now: u64) -> Ending
     ensures told { result ≡ endings.KeeperFailed → Rose before now }
     ensures same { (result ≡ ending) ⊎ (result ≡ endings.NoMemory) }
 {
@@ -279,7 +280,7 @@ where
     A::Input: Send,
     A::Output: Send,
     requires fits { KeeperFits (H.stands_for keeper) hub }
-    requires settled { hub.is_open ≡ false }
+    requires settled { hub.commit_open ≡ false }
     requires named { (opened.seen.book ≡ N.book) × (hub.kept ≡ N.opening) × (H.fault_count keeper ≡ N.count) }
     requires stood { (kept : KeptState) → H.stands_for keeper kept → N.stood kept }
     requires feeds { length task.feeds ≡ length doors.folders.items }
@@ -306,7 +307,7 @@ where
     let keeper = shared.close(ports.rt);
     match results {
         Ok(Results { ending, doors }) => Served {
-            ending: told(ending, before, keeper.faults()),
+            ending: ending_by_count(ending, before, keeper.faults()),
             keeper,
             doors,
         },
@@ -319,7 +320,7 @@ where
 }
 
 // The ending where the hub couldn't be opened.
-fn ending_of(error: HubError) -> Ending
+fn ending_unopened(error: HubError) -> Ending
     ensures one { (result ≡ endings.KeeperFailed) ⊎ (result ≡ endings.NoMemory) }
     ensures keeper { result ≡ endings.KeeperFailed → error ≡ errors.Keeper }
 {
@@ -329,8 +330,9 @@ fn ending_of(error: HubError) -> Ending
     }
 }
 
-/// Serves the hub that a keeper keeps: for each acceptor the stated number of connections, one after another, and beside them the set of
-/// each feed, published once. The ending is the first of the jobs' that isn't Done, feeds before acceptors.
+/// Serves the hub that a keeper keeps: for each acceptor the stated number of connections, one after another, and
+/// beside them the set of each feed, published once. The ending is the first of the jobs' that isn't Done, feeds before
+/// acceptors.
 pub fn serve_task<
     R: Threads + Wait + Sync,
     A: Acceptor + Drop + Send,
@@ -363,7 +365,7 @@ where
         Err(error) => {
             drop(task);
             Served {
-                ending: ending_of(error),
+                ending: ending_unopened(error),
                 keeper,
                 doors,
             }

@@ -25,7 +25,7 @@ pub same_reloads : (log log' : Published) (hub out : HeldHub) (count count' : �
 same_reloads log log' hub out count count' same = inl ([], inl refl, ap history same ∙ sym (append-nil (history log)))
 
 -- the keeper was asked what it made of the commit that was left open
-module _ (log log' : Published) (hub after out : HeldHub) (count count' : ℕ) (none : log.waiting ≡ None) (left : hub.is_open ≡ true) (kept : after.last ≡ hub.last) (done : Bool) (outcome : Outcome hub after count count') (push : Pushed (entry_due after) log log' done) where
+module _ (log log' : Published) (hub after out : HeldHub) (count count' : ℕ) (none : log.waiting ≡ None) (left : hub.commit_open ≡ true) (kept : after.last ≡ hub.last) (done : Bool) (outcome : Outcome hub after count count') (push : Pushed (entry_due after) log log' done) where
   found_commit : (made : IsCommit hub after count count') → IsFound hub (Commit made.commit ∷ [])
   found_commit made = inr (made.commit, left, own_last hub after kept made.closed made.commit made.due, refl)
 
@@ -46,11 +46,11 @@ module _ (log log' : Published) (hub after out : HeldHub) (count count' : ℕ) (
           inr (p.0, let r = fault.rose in omega (arith, r))
 
   -- it was published, or a fault
-  pub asked_reloads : (r : Result (Unit {0}) HubError) → (r ≡ Err error.NoMemory → ⊥) → LeavesOpen r after.is_open → RefusesNothing r → done ≡ true → out ≡ handed_out after → Reloads (history log) log' hub out count count' r
+  pub asked_reloads : (r : Result (Unit {0}) HubError) → (r ≡ Err error.NoMemory → ⊥) → LeavesOpen r after.commit_open → RefusesNothing r → done ≡ true → out ≡ handed_out after → Reloads (history log) log' hub out count count' r
   asked_reloads (Ok x) told shut refuses all is = by outcome
     where
-      closed : out.is_open ≡ false
-      closed = ap (λ (h : HeldHub). h.is_open) is ∙ (left_out after ∙ shut)
+      closed : out.commit_open ≡ false
+      closed = ap (λ (h : HeldHub). h.commit_open) is ∙ (left_out after ∙ shut)
 
       last : out.last ≡ None
       last = ap (λ (h : HeldHub). h.last) is ∙ last_out after shut

@@ -55,16 +55,16 @@ pushed log put log' e done none is m =
 
 -- ---- what a hub has made, or left open
 
-pub due_open : (hub : HeldHub) → hub.is_open ≡ true → entry_due hub ≡ Some Fault
+pub due_open : (hub : HeldHub) → hub.commit_open ≡ true → entry_due hub ≡ Some Fault
 due_open hub open_is = ap (λ (b : Bool). if b then Some Fault else option_map Commit (made_last hub.kept hub.last)) open_is
 
-pub due_closed : (hub : HeldHub) → hub.is_open ≡ false → entry_due hub ≡ option_map Commit (made_last hub.kept hub.last)
+pub due_closed : (hub : HeldHub) → hub.commit_open ≡ false → entry_due hub ≡ option_map Commit (made_last hub.kept hub.last)
 due_closed hub closed = ap (λ (b : Bool). if b then Some Fault else option_map Commit (made_last hub.kept hub.last)) closed
 
-pub out_open : (hub : HeldHub) → hub.is_open ≡ true → handed_out hub ≡ hub
+pub out_open : (hub : HeldHub) → hub.commit_open ≡ true → handed_out hub ≡ hub
 out_open hub open_is = ap (λ (b : Bool). if b then hub else record hub { last = None }) open_is
 
-pub out_closed : (hub : HeldHub) → hub.is_open ≡ false → handed_out hub ≡ record hub { last = None }
+pub out_closed : (hub : HeldHub) → hub.commit_open ≡ false → handed_out hub ≡ record hub { last = None }
 out_closed hub closed = ap (λ (b : Bool). if b then hub else record hub { last = None }) closed
 
 made_none : (kept : KeptState) (last : Option HubCommit) → last ≡ None → made_last kept last ≡ None
@@ -80,7 +80,7 @@ made_not kept last commit is has = ap (made_last kept) is ∙ ap (λ (b : Bool).
 pub record IsNothing (before after : HeldHub) (count count' : ℕ) : Type 0 where
   pub due : entry_due after ≡ None
   pub kept : after.kept ≡ before.kept
-  pub closed : after.is_open ≡ false
+  pub closed : after.commit_open ≡ false
   pub keeps : after.keeps ≡ before.keeps
   pub stays : count' ≡ count
 
@@ -89,14 +89,14 @@ pub record IsCommit (before after : HeldHub) (count count' : ℕ) : Type 0 where
   pub can : CanCommit before.kept commit
   pub due : entry_due after ≡ Some (Commit commit)
   pub kept : after.kept ≡ with_commit before.kept commit
-  pub closed : after.is_open ≡ false
+  pub closed : after.commit_open ≡ false
   pub keeps : after.keeps ≡ before.keeps
   pub stays : count' ≡ count
 
 pub record IsFault (before after : HeldHub) (count count' : ℕ) : Type 0 where
   pub due : entry_due after ≡ Some Fault
   pub kept : after.kept ≡ before.kept
-  pub left : after.is_open ≡ true
+  pub left : after.commit_open ≡ true
   pub keeps : after.keeps ≡ before.keeps
   pub rose : count' ≡ min (count + 1) (2 ^ 64 - 1)
 
@@ -110,7 +110,7 @@ unmade_due before after none is = due_closed after is.settled ∙ ap (option_map
     from (inl same) = made_none after.kept after.last (same ∙ none)
     from (inr over) = made_not after.kept after.last over.commit over.is (ap (λ (k : KeptState). has_commit k over.commit) is.kept ∙ not_made before.kept over.commit over.can)
 
-made_is : (before after : HeldHub) (count count' : ℕ) (commit : HubCommit) → CanCommit before.kept commit → after.kept ≡ with_commit before.kept commit → after.last ≡ Some commit → after.is_open ≡ false → after.keeps ≡ before.keeps → count' ≡ count
+made_is : (before after : HeldHub) (count count' : ℕ) (commit : HubCommit) → CanCommit before.kept commit → after.kept ≡ with_commit before.kept commit → after.last ≡ Some commit → after.commit_open ≡ false → after.keeps ≡ before.keeps → count' ≡ count
     → IsCommit before after count count'
 made_is before after count count' commit can kept last closed keeps stays = record {
   commit = commit;
@@ -131,13 +131,13 @@ module _ {A : Type 0} (asks : A → KeptState → KeptState → Type 0) (failed 
       from (inl un) = inl (record { due = unmade_due before after none un; kept = un.kept; closed = un.settled; keeps = un.keeps; stays = done.stays })
       from (inr mk) =
           let last : after.last ≡ Some mk.commit = ap (λ (h : HeldHub). h.last) mk.is ∙ ap (λ (b : Bool). copy_kept b mk.commit) keeps in
-          inr (inl (made_is before after count count' mk.commit mk.can (ap (λ (h : HeldHub). h.kept) mk.is) last (ap (λ (h : HeldHub). h.is_open) mk.is) (ap (λ (h : HeldHub). h.keeps) mk.is) done.stays))
+          inr (inl (made_is before after count count' mk.commit mk.can (ap (λ (h : HeldHub). h.kept) mk.is) last (ap (λ (h : HeldHub). h.commit_open) mk.is) (ap (λ (h : HeldHub). h.keeps) mk.is) done.stays))
   outcome (inr fell) =
-      let left : after.is_open ≡ true = ap (λ (h : HeldHub). h.is_open) fell.left.is in
+      let left : after.commit_open ≡ true = ap (λ (h : HeldHub). h.commit_open) fell.left.is in
       inr (inr (record { due = due_open after left; kept = ap (λ (h : HeldHub). h.kept) fell.left.is; left = left; keeps = ap (λ (h : HeldHub). h.keeps) fell.left.is; rose = fell.rose }))
 
 -- what a reload found
-pub reload_outcome : (before after : HeldHub) (count count' : ℕ) → MayBeMade before.kept before.last → IsStanding before after.kept → after.last ≡ before.last → after.keeps ≡ before.keeps → after.is_open ≡ false → count' ≡ count → Outcome before after count count'
+pub reload_outcome : (before after : HeldHub) (count count' : ℕ) → MayBeMade before.kept before.last → IsStanding before after.kept → after.last ≡ before.last → after.keeps ≡ before.keeps → after.commit_open ≡ false → count' ≡ count → Outcome before after count count'
 reload_outcome before after count count' may (inl same) last keeps closed stays =
     inl (record {
       due = due_closed after closed ∙ ap (option_map Commit) (made_not after.kept after.last may.commit (last ∙ may.last) (ap (λ (k : KeptState). has_commit k may.commit) same ∙ not_made before.kept may.commit may.can));
@@ -152,14 +152,14 @@ reload_outcome before after count count' may (inr with) last keeps closed stays 
     inr (inl (made_is before after count count' may.commit may.can kept (last ∙ may.last) closed keeps stays))
 
 -- a hub that stays open at a fault
-pub fault_outcome : (before after : HeldHub) (count count' : ℕ) → after ≡ before → before.is_open ≡ true → count' ≡ min (count + 1) (2 ^ 64 - 1) → Outcome before after count count'
+pub fault_outcome : (before after : HeldHub) (count count' : ℕ) → after ≡ before → before.commit_open ≡ true → count' ≡ min (count + 1) (2 ^ 64 - 1) → Outcome before after count count'
 fault_outcome before after count count' same left rose =
-    let still : after.is_open ≡ true = ap (λ (h : HeldHub). h.is_open) same ∙ left in
+    let still : after.commit_open ≡ true = ap (λ (h : HeldHub). h.commit_open) same ∙ left in
     inr (inr (record { due = due_open after still; kept = ap (λ (h : HeldHub). h.kept) same; left = still; keeps = ap (λ (h : HeldHub). h.keeps) same; rose = rose }))
 
 -- what the keeper told of a commit that was left open, where memory didn't run out
-pub asked_outcome : (r : Result (Unit {0}) HubError) (before after : HeldHub) (count count' : ℕ) → (r ≡ Err error.NoMemory → ⊥) → before.is_open ≡ true → MayBeMade before.kept before.last → IsStanding before after.kept → after.last ≡ before.last → after.keeps ≡ before.keeps
-    → LeavesOpen r after.is_open → OnErr r (after ≡ before) → CountsFault count count' r → RefusesNothing r → Outcome before after count count'
+pub asked_outcome : (r : Result (Unit {0}) HubError) (before after : HeldHub) (count count' : ℕ) → (r ≡ Err error.NoMemory → ⊥) → before.commit_open ≡ true → MayBeMade before.kept before.last → IsStanding before after.kept → after.last ≡ before.last → after.keeps ≡ before.keeps
+    → LeavesOpen r after.commit_open → OnErr r (after ≡ before) → CountsFault count count' r → RefusesNothing r → Outcome before after count count'
 asked_outcome (Ok x) before after count count' told left may stood last keeps opens same counts refuses = reload_outcome before after count count' may stood last keeps opens counts
 asked_outcome (Err error.Keeper) before after count count' told left may stood last keeps opens same counts refuses = fault_outcome before after count count' same left counts
 asked_outcome (Err error.NoMemory) before after count count' told left may stood last keeps opens same counts refuses = absurd (told refl)
@@ -168,34 +168,34 @@ asked_outcome (Err (error.Refused fault)) before after count count' told left ma
 -- ---- standing
 
 fits_out : (stands : KeptState → Type 0) (hub : HeldHub) → KeeperFits stands hub → KeeperFits stands (handed_out hub)
-fits_out stands hub fits = by hub.is_open refl
+fits_out stands hub fits = by hub.commit_open refl
   where
-    by : (b : Bool) → hub.is_open ≡ b → KeeperFits stands (handed_out hub)
+    by : (b : Bool) → hub.commit_open ≡ b → KeeperFits stands (handed_out hub)
     by true is = subst (KeeperFits stands) (sym (out_open hub is)) fits
     by false is = subst (KeeperFits stands) (sym (out_closed hub is)) (λ kept stood. inl (settled hub is kept (fits kept stood)))
 
 kept_out : (hub : HeldHub) → (handed_out hub).kept ≡ hub.kept
-kept_out hub = by hub.is_open refl
+kept_out hub = by hub.commit_open refl
   where
-    by : (b : Bool) → hub.is_open ≡ b → (handed_out hub).kept ≡ hub.kept
+    by : (b : Bool) → hub.commit_open ≡ b → (handed_out hub).kept ≡ hub.kept
     by true is = ap (λ (h : HeldHub). h.kept) (out_open hub is)
     by false is = ap (λ (h : HeldHub). h.kept) (out_closed hub is)
 
-pub left_out : (hub : HeldHub) → (handed_out hub).is_open ≡ hub.is_open
-left_out hub = by hub.is_open refl
+pub left_out : (hub : HeldHub) → (handed_out hub).commit_open ≡ hub.commit_open
+left_out hub = by hub.commit_open refl
   where
-    by : (b : Bool) → hub.is_open ≡ b → (handed_out hub).is_open ≡ hub.is_open
-    by true is = ap (λ (h : HeldHub). h.is_open) (out_open hub is)
-    by false is = ap (λ (h : HeldHub). h.is_open) (out_closed hub is)
+    by : (b : Bool) → hub.commit_open ≡ b → (handed_out hub).commit_open ≡ hub.commit_open
+    by true is = ap (λ (h : HeldHub). h.commit_open) (out_open hub is)
+    by false is = ap (λ (h : HeldHub). h.commit_open) (out_closed hub is)
 
 keeps_out : (hub : HeldHub) → (handed_out hub).keeps ≡ hub.keeps
-keeps_out hub = by hub.is_open refl
+keeps_out hub = by hub.commit_open refl
   where
-    by : (b : Bool) → hub.is_open ≡ b → (handed_out hub).keeps ≡ hub.keeps
+    by : (b : Bool) → hub.commit_open ≡ b → (handed_out hub).keeps ≡ hub.keeps
     by true is = ap (λ (h : HeldHub). h.keeps) (out_open hub is)
     by false is = ap (λ (h : HeldHub). h.keeps) (out_closed hub is)
 
-pub last_out : (hub : HeldHub) → hub.is_open ≡ false → (handed_out hub).last ≡ None
+pub last_out : (hub : HeldHub) → hub.commit_open ≡ false → (handed_out hub).last ≡ None
 last_out hub closed = ap (λ (h : HeldHub). h.last) (out_closed hub closed)
 
 module _ (o : KeptState) (base : ℕ) (first : KeptState → Type 0) (log : Published) (hub : HeldHub) (stood : KeptState → Type 0) (count : ℕ) (is : Standing o base first log hub stood count) where
@@ -272,9 +272,9 @@ module _ {A : Type 0} (asks : A → KeptState → KeptState → Type 0) (failed 
     where
       closed : IsUnmade hub after ⊎ IsMade hub after → ⊥
       closed (inl un) = let a = un.settled in let b = fault.left in cc
-      closed (inr mk) = let a = ap (λ (k : HeldHub). k.is_open) mk.is in let b = fault.left in cc
-  owned_told answer done (inr fell) (inl nothing) push all = absurd (let a = ap (λ (k : HeldHub). k.is_open) fell.left.is in let b = nothing.closed in cc)
-  owned_told answer done (inr fell) (inr (inl made)) push all = absurd (let a = ap (λ (k : HeldHub). k.is_open) fell.left.is in let b = made.closed in cc)
+      closed (inr mk) = let a = ap (λ (k : HeldHub). k.commit_open) mk.is in let b = fault.left in cc
+  owned_told answer done (inr fell) (inl nothing) push all = absurd (let a = ap (λ (k : HeldHub). k.commit_open) fell.left.is in let b = nothing.closed in cc)
+  owned_told answer done (inr fell) (inr (inl made)) push all = absurd (let a = ap (λ (k : HeldHub). k.commit_open) fell.left.is in let b = made.closed in cc)
   owned_told answer done (inr fell) (inr (inr fault)) push all =
       let p = subst (λ (d : Option Entry). Pushed d log log' done) fault.due push in
       (Fault ∷ [], inr (inl (p.1 all, refl, rose_so fell.rose, fell.told)))
@@ -293,7 +293,7 @@ module _ {A : Type 0} (asks : A → KeptState → KeptState → Type 0) (failed 
   owned_busy answer told done is (inr fell) (inl nothing) push =
       let same = (subst (λ (d : Option Entry). Pushed d log log' done) nothing.due push).0 in
       ([], inr (inr (ap history same ∙ sym (append-nil h), inl (inl refl, inl refl), is)))
-  owned_busy answer told done is (inr fell) (inr (inl made)) push = absurd (let a = ap (λ (k : HeldHub). k.is_open) fell.left.is in let b = made.closed in cc)
+  owned_busy answer told done is (inr fell) (inr (inl made)) push = absurd (let a = ap (λ (k : HeldHub). k.commit_open) fell.left.is in let b = made.closed in cc)
   owned_busy answer told done is (inr fell) (inr (inr fault)) push =
       let p = subst (λ (d : Option Entry). Pushed d log log' done) fault.due push in
       (Fault ∷ [], inr (inr (p.0, inr (refl, rose_so fault.rose), is)))
@@ -311,5 +311,5 @@ mapped_from : (o : Option HubCommit) (commit : HubCommit) → option_map Commit 
 mapped_from None commit is = absurd (cc (is))
 mapped_from (Some other) commit is = let same : other ≡ commit = cc in ap Some same
 
-pub own_last : (before after : HeldHub) → after.last ≡ before.last → after.is_open ≡ false → (commit : HubCommit) → entry_due after ≡ Some (Commit commit) → before.last ≡ Some commit
+pub own_last : (before after : HeldHub) → after.last ≡ before.last → after.commit_open ≡ false → (commit : HubCommit) → entry_due after ≡ Some (Commit commit) → before.last ≡ Some commit
 own_last before after last closed commit due = sym last ∙ made_from after.kept after.last commit (mapped_from (made_last after.kept after.last) commit (sym (due_closed after closed) ∙ due))

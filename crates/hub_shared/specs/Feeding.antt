@@ -16,7 +16,8 @@ use Rattle.rest_provider.specs.Moments.{IsMomentOf}
 use Rattle.roster_types.specs.Sets.{SetRecord}
 use Rattle.version_changes.specs.sets.Applying.{Applies}
 
--- a set was published once, at the clock's moment, and this is the receipt, which ends in a fault where the keeper failed
+-- a set was published once, at the clock's moment, and this is the receipt, which ends in a fault where the keeper
+-- failed
 abbrev pub IsFed : KeptState → SetRecord → Option ℤ → Result Published HubError → List Entry → Type 0
 IsFed opening set moment published receipt = (at : ℤ) × IsMomentOf moment at
     × Receipted (MakesNext (λ version. Applies version set at)) (Err error.Keeper) (Err error.NoMemory) opening published receipt × (published ≡ Err error.Keeper → EndsInFault receipt)

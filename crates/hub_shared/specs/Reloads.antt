@@ -9,11 +9,12 @@ use Rattle.hub_history.specs.declared.entry.Entry.TheVariants.{Fault}
 use Rattle.hub_history.specs.Published.{Published, history, none_waits}
 use Rattle.hub_shared.specs.Standings.{IsFound}
 
--- behind this history the call goes on, over a hub with no commit left open or to hand out, and a whole history published; or the keeper's
--- count rose, and a fault is published; or memory ran out, and the history grew by what was found, or by a fault
+-- behind this history the call goes on, over a hub with no commit left open or to hand out, and a whole history
+-- published; or the keeper's count rose, and a fault is published; or memory ran out, and the history grew by what was
+-- found, or by a fault
 abbrev pub Reloads : List Entry → Published → HeldHub → HeldHub → ℕ → ℕ → Result (Unit {0}) HubError → Type 0
 Reloads before log' hub hub' count count' (Ok done) =
-    (found : List Entry) × IsFound hub found × (log' ≡ none_waits (before ++ found)) × (hub'.is_open ≡ false) × (hub'.last ≡ None) × (count' ≡ count)
+    (found : List Entry) × IsFound hub found × (log' ≡ none_waits (before ++ found)) × (hub'.commit_open ≡ false) × (hub'.last ≡ None) × (count' ≡ count)
 Reloads before log' hub hub' count count' (Err error.Keeper) = (log' ≡ none_waits (before ++ Fault ∷ [])) × Rose count count'
 Reloads before log' hub hub' count count' (Err error.NoMemory) =
     ((found : List Entry) × IsFound hub found × (history log' ≡ before ++ found)) ⊎ ((history log' ≡ before ++ Fault ∷ []) × Rose count count')

@@ -100,8 +100,8 @@ Turns takes before now kept kept' value value' (turn.Stopped e) = IsStopped befo
 
 -- ---- the order of a seat's reads
 
--- the place of the history at which a request was answered: a write's is its receipt; a read's begins with each of the earlier places, or the
--- reply is 503, and the place is no matter
+-- the place of the history at which a request was answered: a write's is its receipt; a read's begins with each of the
+-- earlier places, or the reply is 503, and the place is no matter
 abbrev pub AnsweredAt : KeptState → Option ℤ → List (List Entry) → Exchange → List Entry → Type 0
 AnsweredAt opening moment earlier e place =
     MatchBool (is_write e.request.verb) (IsWritten opening moment e.request e.reply place)

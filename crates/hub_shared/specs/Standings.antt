@@ -11,16 +11,17 @@ use Rattle.hub_history.specs.declared.entry.Entry.TheVariants.{Commit, Fault}
 use Rattle.hub_history.specs.Histories.{IsLegal, faults_in, state_after}
 use Rattle.hub_history.specs.Published.{Published, history, none_waits}
 
--- the history replays to the hub's state, and the keeper stands for it, or, where it failed at the last commit and wasn't asked since, for
--- it without that commit or with it. That, and a fault in the history, is only where the keeper's count rose. The hub keeps its commits.
--- Where the keeper stands for any state, it stood for the opening one when the hub was opened
+-- the history replays to the hub's state, and the keeper stands for it, or, where it failed at the last commit and
+-- wasn't asked since, for it without that commit or with it. That, and a fault in the history, is only where the
+-- keeper's count rose. The hub keeps its commits. Where the keeper stands for any state, it stood for the opening one
+-- when the hub was opened
 pub record Standing (opening : KeptState) (base : ℕ) (stood : KeptState → Type 0) (log : Published) (hub : HeldHub) (stands : KeptState → Type 0) (count : ℕ) : Type 0 where
   pub replays : hub.kept ≡ state_after opening (history log)
   pub legal : IsLegal opening (history log)
   pub fits : KeeperFits stands hub
   pub told : (now : KeptState) → stands now → stood opening
   pub later : min base (2 ^ 64 - 1) ≤ count
-  pub rose : IsTrue hub.is_open → Rose base count
+  pub rose : IsTrue hub.commit_open → Rose base count
   pub faults : min (faults_in (history log) + base) (2 ^ 64 - 1) ≤ count
   pub keeps : IsTrue hub.keeps
 
@@ -36,11 +37,11 @@ published_of (Some p) = p
 
 -- what a hub has made, or left open, since the last commit was handed out
 abbrev pub entry_due : HeldHub → Option Entry
-entry_due hub = if hub.is_open then Some Fault else option_map Commit (made_last hub.kept hub.last)
+entry_due hub = if hub.commit_open then Some Fault else option_map Commit (made_last hub.kept hub.last)
 
 -- the hub with that handed out
 abbrev pub handed_out : HeldHub → HeldHub
-handed_out hub = if hub.is_open then hub else record hub { last = None }
+handed_out hub = if hub.commit_open then hub else record hub { last = None }
 
 -- an entry was added to the history, if there was one, and was published, or waits
 abbrev pub Pushed : Option Entry → Published → Published → Bool → Type 0
@@ -49,7 +50,7 @@ Pushed (Some e) log log' done = (history log' ≡ history log ++ e ∷ []) × (d
 
 -- a reload found the commit that was left open, or it did not
 abbrev pub IsFound : HeldHub → List Entry → Type 0
-IsFound hub found = (found ≡ []) ⊎ ((commit : HubCommit) × IsTrue hub.is_open × (hub.last ≡ Some commit) × (found ≡ Commit commit ∷ []))
+IsFound hub found = (found ≡ []) ⊎ ((commit : HubCommit) × IsTrue hub.commit_open × (hub.last ≡ Some commit) × (found ≡ Commit commit ∷ []))
 
 -- the keeper's count rose, and a fault is published behind the history and a commit that a reload found
 abbrev pub FaultPublished : Published → Published → HeldHub → ℕ → ℕ → Type 0
@@ -74,8 +75,8 @@ module _ {A : Type 0} (asks : A → KeptState → KeptState → Type 0) (failed 
   IsOwn before own count count' =
       (IsDue own × ((own ≡ []) ⊎ ((answer : A) × asks answer (state_after opening before) (state_after opening (before ++ own))))) ⊎ ((own ≡ Fault ∷ []) × Rose count count')
 
-  -- what came of the call's own work behind this history: it is answered there, and what it made is published; or the keeper's count rose, and
-  -- a fault is published; or memory ran out, and the history grew by no more than that
+  -- what came of the call's own work behind this history: it is answered there, and what it made is published; or the
+  -- keeper's count rose, and a fault is published; or memory ran out, and the history grew by no more than that
   abbrev pub Owned : List Entry → Published → ℕ → ℕ → A → Type 0
   Owned before log' count count' answer = (own : List Entry)
       × (((log' ≡ none_waits (before ++ own)) × IsDue own × asks answer (state_after opening before) (state_after opening (before ++ own)))

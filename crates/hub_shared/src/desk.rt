@@ -11,7 +11,8 @@ use std::alloc::Global;
 use std::collections::LinkedList;
 use std::sync::Wait;
 
-/// The hub that the jobs of a server share, and what goes in with each call of it. Before and after each call the job passes the gate.
+/// The hub that the jobs of a server share, and what goes in with each call of it. Before and after each call the job
+/// passes the gate.
 #[derive(Drop)]
 pub struct Desk<'a, H: HubKeeper, N: Naming, R: Wait, K: Clock, G: Gate>
 where
@@ -24,5 +25,6 @@ where
     pub shared: &'a SharedHub<H, N>,
     pub clock: &'a K,
     pub gate: &'a G,
+    /// The number of the job, by which the gate knows it.
     pub job: u32,
 }

@@ -157,10 +157,11 @@ impl<H: HubKeeper, N: Naming> LockedHub<H, N> {
         ensures receipt { result.1 ≡ self.new.log.published }
     {
         let (done, receipt) = self.carry_out(rt, alloc, Publishing { set, at });
-        (told(done), receipt)
+        (publication_answer(done), receipt)
     }
 
-    /// Gives each caller of a list what it asks for, at the whole history. The receipt stands for what is then published.
+    /// Gives each caller of a list what it asks for, at the whole history. The receipt stands for what is then
+    /// published.
     pub fn set_grants<R: Wait>(
         &mut self,
         rt: &R,
@@ -173,7 +174,7 @@ impl<H: HubKeeper, N: Naming> LockedHub<H, N> {
         ensures receipt { result.1 ≡ self.new.log.published }
     {
         let (done, receipt) = self.carry_out(rt, alloc, Granting { list, at });
-        (told(done), receipt)
+        (publication_answer(done), receipt)
     }
 
     /// Ends the publisher, and gives the keeper back. No memory is taken.
@@ -202,7 +203,9 @@ fn replied(alloc: Global, request: &Request, done: Result<Reply, HubError>) -> R
 }
 
 // What a publication answers, where a step around its work may have failed.
-fn told(done: Result<Result<Published, HubError>, HubError>) -> Result<Published, HubError>
+fn publication_answer(
+    done: Result<Result<Published, HubError>, HubError>,
+) -> Result<Published, HubError>
     ensures { result ≡ answer_of (λ fault. Err fault) done }
 {
     match done {

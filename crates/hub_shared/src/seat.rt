@@ -69,8 +69,8 @@ impl<N: Naming> ReadSeat<N> {
         }
     }
 
-    /// Answers a request that writes nothing, at a beginning of the history that begins with all that the seat has seen or was told of. It
-    /// waits for nobody. Once the hub is closed it may answer that memory ran out.
+    /// Answers a request that writes nothing, at a beginning of the history that begins with all that the seat has seen
+    /// or was told of. It waits for nobody. Once the hub is closed it may answer that memory ran out.
     pub fn read(&mut self, alloc: Global, router: &PathRouter, request: &Request) -> Reply
         requires { is_write request.now.verb ≡ false }
         ensures seen { IsPrefix self.old.seen self.new.seen }
@@ -87,7 +87,8 @@ impl<N: Naming> ReadSeat<N> {
                 let reply = answer_read(alloc, router, shown.table(), request);
                 self.reader = Some(reading.leave());
                 self.seen = front;
-                // What the seat was told of was published before, so that it has seen it now, which no clause of the lock-free reader tells.
+                // What the seat was told of was published before, so that it has seen it now, which no clause of the
+                // lock-free reader tells.
                 if !self.told.begins(&self.seen) {
                     drop(reply);
                     return busy(alloc, request);

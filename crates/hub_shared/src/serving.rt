@@ -18,7 +18,8 @@ use roster_base::NoMemory;
 use status_info::{Reply, Request};
 use std::sync::Wait;
 
-// Answers a request: a read by the seat, or without one under the lock; a write under the lock, whose receipt the seat learns.
+// Answers a request: a read by the seat, or without one under the lock; a write under the lock, whose receipt the seat
+// learns.
 fn answer_shared<H: HubKeeper, N: Naming, R: Wait, K: Clock, G: Gate>(
     desk: &Desk<'_, H, N, R, K, G>,
     seat: &mut Option<ReadSeat<N>>,
@@ -123,8 +124,9 @@ fn serve<H: HubKeeper, N: Naming, R: Wait, K: Clock, G: Gate, S: Source, W: Sink
     }
 }
 
-/// Answers the requests of a connection in turn, each write at the clock's moment, and writes their replies, until something ends the
-/// stream: reads by the seat, which learns the receipt of each write, or without a seat under the lock.
+/// Answers the requests of a connection in turn, each write at the clock's moment, and writes their replies, until
+/// something ends the stream: reads by the seat, which learns the receipt of each write, or without a seat under the
+/// lock.
 pub fn serve_shared<H: HubKeeper, N: Naming, R: Wait, K: Clock, G: Gate, S: Source, W: Sink>(
     desk: &Desk<'_, H, N, R, K, G>,
     seat: &mut Option<ReadSeat<N>>,
@@ -132,8 +134,9 @@ pub fn serve_shared<H: HubKeeper, N: Naming, R: Wait, K: Clock, G: Gate, S: Sour
     source: &mut S,
     sink: &mut W,
 ) -> StreamEnd
-    // The requests are the first of the stream, however its reads are cut; what is written is the texts of their replies, and then what
-    // tells of a fault; and each reply is that of a read at a place of the history, or of a write that stands in it.
+    // The requests are the first of the stream, however its reads are cut; what is written is the texts of their
+    // replies, and then what tells of a fault; and each reply is that of a read at a place of the history, or of a
+    // write that stands in it.
     ensures { Serves (TakesShared N.opening (K.moment desk.now.clock.now)) (ends_of (S.left source.old) (S.faults source.old) (W.written sink.old) (W.faults sink.old))
         (ends_of (S.left source.new) (S.faults source.new) (W.written sink.new) (W.faults sink.new)) seat.old seat.new result }
 {

@@ -48,8 +48,8 @@ where
 }
 
 impl<H: HubKeeper, N: Naming> SharedHub<H, N> {
-    /// Shares a hub, of which so many readers may have a seat. The hub's state is the opening state of the history. At `Err` there was no
-    /// memory, and the keeper comes back as it was.
+    /// Shares a hub, of which so many readers may have a seat. The hub's state is the opening state of the history. At
+    /// `Err` there was no memory, and the keeper comes back as it was.
     pub fn open(
         alloc: Global,
         opened: Opened,
@@ -59,7 +59,7 @@ impl<H: HubKeeper, N: Naming> SharedHub<H, N> {
     ) -> Result<SharedHub<H, N>, (NoMemory, H)>
         requires places { 0 < places }
         requires fits { KeeperFits (H.stands_for keeper) hub }
-        requires settled { hub.is_open ≡ false }
+        requires settled { hub.commit_open ≡ false }
         requires named { (opened.seen.book ≡ N.book) × (hub.kept ≡ N.opening) × (H.fault_count keeper ≡ N.count) }
         requires stood { (kept : KeptState) → H.stands_for keeper kept → N.stood kept }
         ensures { IfErr result (λ e. e.1 ≡ keeper) }
@@ -101,7 +101,8 @@ impl<H: HubKeeper, N: Naming> SharedHub<H, N> {
         self.lock.lock(rt).read(alloc, router, request)
     }
 
-    /// Carries out a request. The receipt's history ends with the commit that was made, and the reply is the hub's before it.
+    /// Carries out a request. The receipt's history ends with the commit that was made, and the reply is the hub's
+    /// before it.
     pub fn write<R: Wait>(
         &self,
         rt: &R,
@@ -143,8 +144,9 @@ impl<H: HubKeeper, N: Naming> SharedHub<H, N> {
         self.lock.lock(rt).set_grants(rt, alloc, list, at)
     }
 
-    /// Gives the keeper back. It stands for the opening state with a history, and where it failed at the last commit, for that without it or
-    /// with it; and where it stands for any state, it stood for the opening one when the hub was opened. No memory is taken.
+    /// Gives the keeper back. It stands for the opening state with a history, and where it failed at the last commit,
+    /// for that without it or with it; and where it stands for any state, it stood for the opening one when the hub was
+    /// opened. No memory is taken.
     pub fn close<R: Wait>(self, rt: &R) -> H
         ensures { (log : Writings) × (hub : HeldHub) × Standing N.opening N.count N.stood log hub (H.stands_for result) (H.fault_count result) }
     {

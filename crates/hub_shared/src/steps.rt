@@ -26,7 +26,8 @@ fn due(hub: &mut Hub) -> Option<Entry>
     hub.take_made().map(Entry::Commit)
 }
 
-// Adds what the hub made, or left open, to the history, if anything, and publishes it. It says whether there was memory to publish.
+// Adds what the hub made, or left open, to the history, if anything, and publishes it. It says whether there was memory
+// to publish.
 fn settle<N: Naming, R: Wait>(
     rt: &R,
     hub: &mut Hub,
@@ -83,7 +84,8 @@ fn reload<H: HubKeeper, N: Naming, R: Wait>(
     (publisher, told)
 }
 
-// The steps before a call's own work: what waits is published, and the keeper is asked what it made of a commit at which it failed.
+// The steps before a call's own work: what waits is published, and the keeper is asked what it made of a commit at
+// which it failed.
 fn begin<H: HubKeeper, N: Naming, R: Wait>(
     rt: &R,
     alloc: Global,
@@ -102,8 +104,8 @@ fn begin<H: HubKeeper, N: Naming, R: Wait>(
     reload(rt, alloc, hub, keeper, publisher)
 }
 
-/// Does the work of a call, with the steps before it, and publishes what it made. Where a step before it fails, or memory runs out to
-/// publish, there is no answer.
+/// Does the work of a call, with the steps before it, and publishes what it made. Where a step before it fails, or
+/// memory runs out to publish, there is no answer.
 pub fn carry_out<H: HubKeeper, N: Naming, W: Work<H> + Drop, R: Wait>(
     rt: &R,
     alloc: Global,

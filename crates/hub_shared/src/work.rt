@@ -31,7 +31,7 @@ pub trait Work<H: HubKeeper> {
 
     fn run(self, alloc: Global, hub: &mut Hub, keeper: &mut H) -> Self::Answer
         requires fits { KeeperFits (H.stands_for keeper.old) hub.old }
-        requires settled { hub.old.is_open ≡ false }
+        requires settled { hub.old.commit_open ≡ false }
         ensures fits { KeeperFits (H.stands_for keeper.new) hub.new }
         ensures told { (now : KeptState) → H.stands_for keeper.new now → (before : KeptState) × H.stands_for keeper.old before }
         ensures did { Did (asks self) (fails self error.Keeper) result hub.old hub.new (H.fault_count keeper.old) (H.fault_count keeper.new) };

@@ -29,7 +29,7 @@ use Rattle.version_core.specs.declared.grant_row.GrantRow.{GrantRow}
 use Rattle.version_core.specs.declared.mark.MarkRow.{MarkRow}
 use Rattle.version_core.specs.declared.mark.Write.{Write}
 use Rattle.hub_spec.proofs.JudgeLemmas.{IsNew, mark_found, new_judged, write_is, write_same}
-use Rattle.hub_spec.specs.marks.Answering.{SaysWrite, Shown, Shut, Stranger, Taken, access_to, kept_status}
+use Rattle.hub_spec.specs.marks.Answering.{IsWriteReply, Shown, Shut, Stranger, Taken, access_to, kept_status}
 use Rattle.hub_spec.specs.marks.Marked.{Marked, marked_at, marked_in}
 
 -- ---- what a marked request is
@@ -88,8 +88,8 @@ good_mark (mark.Number n) number e = refl
 good_mark mark.Bad number e = cc
 
 module _ (state : HubState) (wanted : Wanted) (marked : Marked) (is : IsMarked wanted marked) (at : ℤ) (reply : Reply) (next : HubState) where
-  abbrev Says : Type 0
-  Says = SaysWrite state wanted.token marked reply next
+  abbrev IsPageReply : Type 0
+  IsPageReply = IsWriteReply state wanted.token marked reply next
 
   module _ (by : GrantRow) (known : grant_in state wanted.token ≡ Some by) where
     abbrev after : Verdict → HubState
@@ -97,7 +97,7 @@ module _ (state : HubState) (wanted : Wanted) (marked : Marked) (is : IsMarked w
 
     -- the mark is held
     repeats : (held : MarkRow) (b : Bool) → mark_at (by.caller, marked.number) state.marks ≡ Some held → same_write held.write marked.write ≡ b
-        → reply ≡ sent wanted (reply_to_write state wanted marked.write (cond b (Repeat held.kept) (Refused 1))) → next ≡ after (cond b (Repeat held.kept) (Refused 1)) → Says
+        → reply ≡ sent wanted (reply_to_write state wanted marked.write (cond b (Repeat held.kept) (Refused 1))) → next ≡ after (cond b (Repeat held.kept) (Refused 1)) → IsPageReply
     unfolding state_after kept_status
     repeats held true holds same e left = Shown by held known (ap (λ (s : HubState). mark_at (by.caller, marked.number) s.marks) left ∙ holds) (record {
       write = write_is held.write marked.write same;
@@ -129,7 +129,7 @@ module _ (state : HubState) (wanted : Wanted) (marked : Marked) (is : IsMarked w
       over_one : (number : ℕ) → 2 ≤ number → cond (nat_lt 1 number) (mark_number wanted.mark) None ≡ Some marked.number
       over_one number le = let more : nat_lt 1 number ≡ true = grind (arith, nat_tests) in ap (λ b. cond b (mark_number wanted.mark) None) more ∙ is.number
 
-      judges : (verdict : Verdict) → IsNew verdict → reply ≡ sent wanted (reply_to_write state wanted marked.write verdict) → next ≡ after verdict → Says
+      judges : (verdict : Verdict) → IsNew verdict → reply ≡ sent wanted (reply_to_write state wanted marked.write verdict) → next ≡ after verdict → IsPageReply
       unfolding kept_status
       judges (Leads version) new e left = Shown by (kept (Leads version) (done_of marked.write)) known (keeps (Leads version) (done_of marked.write) refl left) (record {
         write = refl;
@@ -152,13 +152,13 @@ module _ (state : HubState) (wanted : Wanted) (marked : Marked) (is : IsMarked w
       })
 
     judged : (o : Option MarkRow) (verdict : Verdict) → mark_at (by.caller, marked.number) state.marks ≡ o → Judged o (newest_in state) by marked.write at verdict
-        → reply ≡ sent wanted (reply_to_write state wanted marked.write verdict) → next ≡ after verdict → Says
+        → reply ≡ sent wanted (reply_to_write state wanted marked.write verdict) → next ≡ after verdict → IsPageReply
     judged (Some held) verdict holds is_verdict e left =
         repeats held (same_write held.write marked.write) holds refl (e ∙ ap (λ v. sent wanted (reply_to_write state wanted marked.write v)) is_verdict) (left ∙ ap after is_verdict)
     judged None verdict free is_verdict e left = judges free verdict (new_judged (newest_in state) by marked.write at marked.write.delete verdict is_verdict) e left
 
     written : (verdict : Verdict) → Judges state by (mark_number wanted.mark) marked.write at verdict
-        → reply ≡ sent wanted (reply_to_write state wanted marked.write verdict) → next ≡ state_after state by.caller (mark_number wanted.mark) marked.write verdict → Says
+        → reply ≡ sent wanted (reply_to_write state wanted marked.write verdict) → next ≡ state_after state by.caller (mark_number wanted.mark) marked.write verdict → IsPageReply
     unfolding Judges
     written verdict judges e left =
         judged (mark_at (by.caller, marked.number) state.marks) verdict refl (subst (λ n. Judged (held_mark state by.caller n) (newest_in state) by marked.write at verdict) is.number judges) e
@@ -168,11 +168,11 @@ module _ (state : HubState) (wanted : Wanted) (marked : Marked) (is : IsMarked w
     entry = record { path = is.path; by = by }
 
     opened : (b : Bool) → opens by.grant.scopes marked.write.kind (access_to marked.write) ≡ b
-        → Written state wanted entry marked.write at (check b (refused_at wanted (newest_number state) cause.ScopeMissing) >>= λ _. check true (refused_at wanted (newest_number state) cause.BadMark)) reply next → Says
+        → Written state wanted entry marked.write at (check b (refused_at wanted (newest_number state) cause.ScopeMissing) >>= λ _. check true (refused_at wanted (newest_number state) cause.BadMark)) reply next → IsPageReply
     opened false shut said = Shut by known shut (ap (λ (r : Reply). r.cause) said.0) (ap (λ (r : Reply). r.mark) said.0)
     opened true opens said = written said.0 said.1 said.2 said.3
 
-    entered : Entered (is_write wanted.verb) state wanted at entry reply next → Says
+    entered : Entered (is_write wanted.verb) state wanted at entry reply next → IsPageReply
     entered said =
         let one = subst (λ b. Entered b state wanted at entry reply next) is.writes said in
         let two = subst (λ w. Written state wanted entry w at (write_result state wanted entry) reply next) (sym is.write) one in
@@ -183,12 +183,12 @@ module _ (state : HubState) (wanted : Wanted) (marked : Marked) (is : IsMarked w
         opened _ refl (subst (λ r. Written state wanted entry marked.write at r reply next) (λ i. result (test i) (good_mark wanted.mark marked.number is.number i)) two)
 
   answered : (o : Option GrantRow) → grant_in state wanted.token ≡ o
-      → Answered state wanted at (found_or (refused wanted cause.NoKnownToken) o >>= λ by. Ok (record { path = is.path; by = by })) reply next → Says
+      → Answered state wanted at (found_or (refused wanted cause.NoKnownToken) o >>= λ by. Ok (record { path = is.path; by = by })) reply next → IsPageReply
   answered None unknown said = Stranger unknown (ap (λ (r : Reply). r.cause) said.0) (ap (λ (r : Reply). r.mark) said.0)
   answered (Some by) known said = entered by known said
 
   -- a marked write is answered with one of four
-  pub says_write : Answers state wanted at reply next → Says
+  pub says_write : Answers state wanted at reply next → IsPageReply
   unfolding Answers
   says_write said =
       let path = ap (λ o. found_or (refused wanted cause.NoSuchPath) o >>= λ path. check (allows path wanted.verb) (method_refused wanted path) >>= λ _. found_or (refused wanted cause.NoKnownToken) (grant_in state wanted.token) >>= λ by. Ok (record { path = path; by = by })) is.is_path in

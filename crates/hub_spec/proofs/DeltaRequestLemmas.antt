@@ -9,7 +9,7 @@ use Rattle.hub_spec.specs.requests.PageRequests.{CanAsk}
 use Rattle.hub_spec.specs.requests.Requests.{AnswersRequest, wanted_by}
 use Rattle.hub_spec.specs.rules.Answers.{Answers}
 use Rattle.hub_spec.specs.rules.Asking.{Asking}
-use Rattle.hub_spec.specs.rules.DeltaAsking.{SaysFrom, asking_from}
+use Rattle.hub_spec.specs.rules.DeltaAsking.{IsDeltaReply, asking_from}
 use Rattle.hub_spec.specs.rules.States.{IsHub}
 use Rattle.status_info.specs.declared.reply.Reply.{Reply}
 use Rattle.status_info.specs.declared.request.Echo.{Echo}
@@ -24,6 +24,6 @@ pub delta_read : (ask : Asking) → CanAsk ask → (base : ℕ) → base < 10 ^ 
 delta_read ask can base small token echo = (λ i. wanted_by (record (delta_request token ask base echo) { query = text_of ask.limit ask.offset base ask.pin i })) ∙ read_again ask can (Some base) small token echo
 
 pub delta_says : (state : HubState) → IsHub state → (ask : Asking) → CanAsk ask → (base : ℕ) → base < 10 ^ 18 → (token : List ℕ) (echo : Option Echo) (at : ℤ) (reply : Reply) (after : HubState)
-    → AnswersRequest state (delta_request token ask base echo) at reply after → SaysFrom state token ask base reply × (after ≡ state)
+    → AnswersRequest state (delta_request token ask base echo) at reply after → IsDeltaReply state token ask base reply × (after ≡ state)
 delta_says state hub ask can base small token echo at reply after answers =
     says_from state hub token ask base echo at reply after (subst (λ w. Answers state w at reply after) (delta_read ask can base small token echo) answers)

@@ -8,9 +8,9 @@ use Rattle.hub_spec.proofs.Cutting.{known_at, rows_are_cut, since_newest}
 use Rattle.hub_spec.proofs.Saying.{closed_pin, newest_read, open_read, outside, within}
 use Rattle.hub_spec.specs.rules.Answers.{Answered, Answers, either, sent}
 use Rattle.hub_spec.specs.rules.Asking.{Asking, IsRead}
-use Rattle.hub_spec.specs.rules.Checks.{Entry, base_refused, check, first_open, is_base, is_open, pin_refused, refused}
+use Rattle.hub_spec.specs.rules.Checks.{Entry, base_refused, check, first_open, is_base, may_read, pin_refused, refused}
 use Rattle.hub_spec.specs.rules.Checks.{refused_at, version_at, version_read}
-use Rattle.hub_spec.specs.rules.DeltaAsking.{SaysFrom, NotKnown, PinGone, NotOpened, BaseGone, Differs, asking_from}
+use Rattle.hub_spec.specs.rules.DeltaAsking.{IsDeltaReply, NotKnown, PinGone, NotOpened, BaseGone, Differs, asking_from}
 use Rattle.hub_spec.specs.rules.DeltaAsking.{query_from}
 use Rattle.hub_spec.specs.rules.Reads.{Contents, delta_shown, read_at, shown}
 use Rattle.hub_spec.specs.rules.States.{IsHub}
@@ -55,7 +55,7 @@ module _ (state : HubState) (hub : IsHub state) (token : List ℕ) (ask : Asking
     kind_rows version since stands opened = rows_are_cut state hub token by known ask.kind version since stands ∙ ap (λ b. cond b (filter (is_of_kind ask.kind) (rows_at by version)) []) opened
 
     said_differs : (version : ℕ) → IsRead state by ask.pin version → opens by.grant.scopes ask.kind Read ≡ true → first_open state by ≤ base → base ≤ version
-        → reply ≡ sent wanted (shown wanted version (query_from ask base) (page_at by version)) → SaysFrom state token ask base reply
+        → reply ≡ sent wanted (shown wanted version (query_from ask base) (page_at by version)) → IsDeltaReply state token ask base reply
     unfolding wanted page_at rule_of
     said_differs version reads opened low high said =
         let until = reads.stands in
@@ -69,48 +69,48 @@ module _ (state : HubState) (hub : IsHub state) (token : List ℕ) (ask : Asking
         (ap (λ (r : Reply). r.headless) said)
 
     said_opened : (version : ℕ) → IsRead state by ask.pin version → opens by.grant.scopes ask.kind Read ≡ true
-        → reply ≡ sent wanted (either (check (is_base state by version base) (base_refused state by wanted version) >>= λ _. Ok (shown wanted version (query_from ask base) (page_at by version)))) → SaysFrom state token ask base reply
+        → reply ≡ sent wanted (either (check (is_base state by version base) (base_refused state by wanted version) >>= λ _. Ok (shown wanted version (query_from ask base) (page_at by version)))) → IsDeltaReply state token ask base reply
     unfolding wanted
     said_opened version reads opened said =
         let rest : Bool → Reply = λ b. sent wanted (either (check b (base_refused state by wanted version) >>= λ _. Ok (shown wanted version (query_from ask base) (page_at by version)))) in
-        elim (is_base state by version base) as (λ b. is_base state by version base ≡ b → reply ≡ rest b → SaysFrom state token ask base reply) [
+        elim (is_base state by version base) as (λ b. is_base state by version base ≡ b → reply ≡ rest b → IsDeltaReply state token ask base reply) [
           | true ↦ λ passes e. let facts = within base (first_open state by) version passes in said_differs version reads opened facts.0 facts.1 e
           | false ↦ λ fails e. BaseGone by version (known_at state hub token by known version reads.since reads.stands) reads (outside base (first_open state by) version fails)
               (ap (λ (r : Reply). r.cause) e) (ap (λ (r : Reply). r.oldest) e) (ap (λ (r : Reply). r.version) e)
         ] refl said
 
-    said_at : (version : ℕ) → IsRead state by ask.pin version → reply ≡ sent wanted (either (read_at state wanted (entry by) version)) → SaysFrom state token ask base reply
+    said_at : (version : ℕ) → IsRead state by ask.pin version → reply ≡ sent wanted (either (read_at state wanted (entry by) version)) → IsDeltaReply state token ask base reply
     unfolding wanted entry page_at rows_at rule_of read_at kind_cut
     said_at version reads said =
         let rest : Bool → Reply = λ b. sent wanted (either (check b (refused_at wanted version cause.ScopeMissing) >>= λ _. check (is_base state by version base) (base_refused state by wanted version) >>= λ _. Ok (shown wanted version (query_from ask base) (page_at by version)))) in
-        elim (opens by.grant.scopes ask.kind Read) as (λ b. opens by.grant.scopes ask.kind Read ≡ b → reply ≡ rest b → SaysFrom state token ask base reply) [
+        elim (opens by.grant.scopes ask.kind Read) as (λ b. opens by.grant.scopes ask.kind Read ≡ b → reply ≡ rest b → IsDeltaReply state token ask base reply) [
           | true ↦ λ opened e. said_opened version reads opened e
           | false ↦ λ shut e.
               let none : list_in (version_at state version) token ask.kind ≡ [] = rows_are_cut state hub token by known ask.kind version reads.since reads.stands ∙ ap (λ b. cond b (filter (is_of_kind ask.kind) (rows_at by version)) []) shut in
               NotOpened by version (known_at state hub token by known version reads.since reads.stands) reads shut none (ap (λ (r : Reply). r.cause) e) (ap (λ (r : Reply). r.version) e)
         ] refl said
 
-    said_open : (pin : ℕ) → ask.pin ≡ Some pin → reply ≡ sent wanted (either (version_read state by wanted (Some pin) >>= read_at state wanted (entry by))) → SaysFrom state token ask base reply
+    said_open : (pin : ℕ) → ask.pin ≡ Some pin → reply ≡ sent wanted (either (version_read state by wanted (Some pin) >>= read_at state wanted (entry by))) → IsDeltaReply state token ask base reply
     unfolding wanted entry
     said_open pin asked said =
-        elim (is_open state by pin) as (λ b. is_open state by pin ≡ b → reply ≡ sent wanted (either (cond b (Ok pin) (Err (pin_refused state by wanted)) >>= read_at state wanted (entry by))) → SaysFrom state token ask base reply) [
+        elim (may_read state by pin) as (λ b. may_read state by pin ≡ b → reply ≡ sent wanted (either (cond b (Ok pin) (Err (pin_refused state by wanted)) >>= read_at state wanted (entry by))) → IsDeltaReply state token ask base reply) [
           | true ↦ λ opened e. said_at pin (open_read state by pin asked opened) e
           | false ↦ λ closed e. PinGone by pin known asked (closed_pin state by pin closed) (ap (λ (r : Reply). r.cause) e) (ap (λ (r : Reply). r.oldest) e) (ap (λ (r : Reply). r.version) e)
         ] refl said
 
-    said_pinned : (p : Option ℕ) → ask.pin ≡ p → reply ≡ sent wanted (either (version_read state by wanted p >>= read_at state wanted (entry by))) → SaysFrom state token ask base reply
+    said_pinned : (p : Option ℕ) → ask.pin ≡ p → reply ≡ sent wanted (either (version_read state by wanted p >>= read_at state wanted (entry by))) → IsDeltaReply state token ask base reply
     said_pinned None asked said = said_at (newest_number state) (newest_read state by asked (since_newest state hub token by known)) said
     said_pinned (Some pin) asked said = said_open pin asked said
 
   said_entered : (o : Option GrantRow) (at : ℤ) (after : HubState) → grant_of token (newest_in state).grants ≡ o
       → Answered state wanted at (found_or (refused wanted cause.NoKnownToken) o >>= λ by. Ok (entry by)) reply after
-      → SaysFrom state token ask base reply × (after ≡ state)
+      → IsDeltaReply state token ask base reply × (after ≡ state)
   unfolding wanted entry
   said_entered None at after is said = (NotKnown is (ap (λ (r : Reply). r.cause) said.0), said.1)
   said_entered (Some by) at after is said = (said_pinned by is ask.pin refl said.0, said.1)
 
 -- a consumer's request for what differs is answered with one of five, and leaves the state
 pub says_from : (state : HubState) → IsHub state → (token : List ℕ) (ask : Asking) (base : ℕ) (echo : Option Echo) (at : ℤ) (reply : Reply) (after : HubState)
-    → Answers state (asking_from token ask base echo) at reply after → SaysFrom state token ask base reply × (after ≡ state)
+    → Answers state (asking_from token ask base echo) at reply after → IsDeltaReply state token ask base reply × (after ≡ state)
 unfolding Answers wanted entry
 says_from state hub token ask base echo at reply after said = said_entered state hub token ask base echo reply (grant_of token (newest_in state).grants) at after refl said

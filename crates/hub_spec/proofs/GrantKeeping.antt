@@ -1,4 +1,5 @@
--- A step that takes a request leads from a state in which each caller keeps its grant to another, whatever its versions hold.
+-- A step that takes a request leads from a state in which each caller keeps its grant to another, whatever its versions
+-- hold.
 use Rattle.std.proofs.Common.{◌≡◌, ℕ, ℤ, inl, inr, Bool, true, false, Result, Ok, Err, sym, subst}
 use Rattle.std.specs.Option.{ForSome}
 use Rattle.rest_paths.specs.Paths.{IsPath}

@@ -5,7 +5,7 @@ use Rattle.std.proofs.Common.{subst, ◌∙◌, arith}
 use Rattle.std.proofs.Math.ListN.{get_or-append}
 use Rattle.hub_spec.specs.rules.Answers.{Answered, Answers, Entered, Written, write_of, write_result}
 use Rattle.hub_spec.specs.rules.Checks.{Entry, check, entry_of, grant_in, method_refused, refused}
-use Rattle.hub_spec.specs.rules.Growth.{Goes, Grew, IsMarkOf, IsNewMark, IsRunMark}
+use Rattle.hub_spec.specs.rules.Growth.{GrowsBy, Grew, IsMarkOf, IsNewMark, IsRunMark}
 use Rattle.hub_spec.specs.rules.Marked.{same_write}
 use Rattle.hub_spec.specs.rules.Runs.{Acts, ActedOrNot, Answer, Command, Does, Fails, Publish, Reopen, Runs, SetGrants}
 use Rattle.hub_spec.specs.rules.Runs.{Step, Steps, Take, Wants, WantsMemory, end_of, state_with}
@@ -204,50 +204,50 @@ module _ (before : HubState) (wanted : Wanted) (at : ℤ) (reply : Reply) (after
   unfolding Answers
   answer_leaves answers = answered_leaves (entry_of before wanted) refl answers
 
-Goes-same : (command : Command) (before after : HubState) → after ≡ before → Goes command before after
-Goes-same command before after same =
-    subst (Goes command before) (sym same) (record { grew = Grew-refl before; marks = λ caller number mark new. absurd (no_new_mark before caller number mark new) })
+GrowsBy-same : (command : Command) (before after : HubState) → after ≡ before → GrowsBy command before after
+GrowsBy-same command before after same =
+    subst (GrowsBy command before) (sym same) (record { grew = Grew-refl before; marks = λ caller number mark new. absurd (no_new_mark before caller number mark new) })
 
-Goes-made : (command : Command) (before after : HubState) (outcome : applying.Outcome) → after ≡ state_with before outcome → Goes command before after
-Goes-made command before after (applying.Refuses fault) same = Goes-same command before after same
-Goes-made command before after applying.Unchanged same = Goes-same command before after same
-Goes-made command before after (applying.Leads version) same =
-    subst (Goes command before) (sym same) (record { grew = Grew-published before version; marks = λ caller number mark new. absurd (no_new_mark before caller number mark new) })
+GrowsBy-made : (command : Command) (before after : HubState) (outcome : applying.Outcome) → after ≡ state_with before outcome → GrowsBy command before after
+GrowsBy-made command before after (applying.Refuses fault) same = GrowsBy-same command before after same
+GrowsBy-made command before after applying.Unchanged same = GrowsBy-same command before after same
+GrowsBy-made command before after (applying.Leads version) same =
+    subst (GrowsBy command before) (sym same) (record { grew = Grew-published before version; marks = λ caller number mark new. absurd (no_new_mark before caller number mark new) })
 
-does_go : (command : Command) (before : HubState) (answer : Answer) (after : HubState) → Does command before answer after → Goes command before after
-does_go (Publish set at) before answer after does = Goes-made (Publish set at) before after does.0 does.3
-does_go (SetGrants entries at) before answer after does = Goes-made (SetGrants entries at) before after does.0 does.3
+does_go : (command : Command) (before : HubState) (answer : Answer) (after : HubState) → Does command before answer after → GrowsBy command before after
+does_go (Publish set at) before answer after does = GrowsBy-made (Publish set at) before after does.0 does.3
+does_go (SetGrants entries at) before answer after does = GrowsBy-made (SetGrants entries at) before after does.0 does.3
 does_go (Take wanted at) before answer after does =
     let leaves = answer_leaves before wanted at does.0 after does.1 in
     record { grew = leaves.grew; marks = λ caller number mark new. (wanted, at, refl, leaves.marks caller number mark new) }
-does_go Reopen before answer after does = Goes-same Reopen before after does.1
+does_go Reopen before answer after does = GrowsBy-same Reopen before after does.1
 
-acted_goes : (command : Command) (before after : HubState) → ActedOrNot command before after → Goes command before after
-acted_goes command before after (inl same) = Goes-same command before after same
+acted_goes : (command : Command) (before after : HubState) → ActedOrNot command before after → GrowsBy command before after
+acted_goes command before after (inl same) = GrowsBy-same command before after same
 acted_goes command before after (inr does) = does_go command before does.0 after does.1
 
-wants_goes : (command : Command) (before after : HubState) → Wants command before after → Goes command before after
-wants_goes (Publish set at) before after wants = Goes-same (Publish set at) before after wants
-wants_goes (SetGrants entries at) before after wants = Goes-same (SetGrants entries at) before after wants
+wants_goes : (command : Command) (before after : HubState) → Wants command before after → GrowsBy command before after
+wants_goes (Publish set at) before after wants = GrowsBy-same (Publish set at) before after wants
+wants_goes (SetGrants entries at) before after wants = GrowsBy-same (SetGrants entries at) before after wants
 wants_goes (Take wanted at) before after wants = acted_goes (Take wanted at) before after wants
-wants_goes Reopen before after wants = Goes-same Reopen before after wants
+wants_goes Reopen before after wants = GrowsBy-same Reopen before after wants
 
-pub step_goes : (command : Command) (before : HubState) (answer : Answer) (after : HubState) (failed : ℕ) → Steps command before answer after failed → Goes command before after
-step_goes command before answer after failed (Acts does none) = does_go command before answer after does
-step_goes command before answer after failed (Fails acted told once) = acted_goes command before after acted
-step_goes command before answer after failed (WantsMemory wants told none) = wants_goes command before after wants
+pub step_grows : (command : Command) (before : HubState) (answer : Answer) (after : HubState) (failed : ℕ) → Steps command before answer after failed → GrowsBy command before after
+step_grows command before answer after failed (Acts does none) = does_go command before answer after does
+step_grows command before answer after failed (Fails acted told once) = acted_goes command before after acted
+step_grows command before answer after failed (WantsMemory wants told none) = wants_goes command before after wants
 
 -- and a run of steps
 pub run_grows : (before : HubState) (steps : List Step) (faults : ℕ) → Runs before steps faults → Grew before (end_of before steps)
 run_grows before [] faults run = Grew-refl before
 run_grows before (step ∷ steps) faults run =
-    Grew-trans before step.after (end_of step.after steps) (step_goes step.command before step.answer step.after run.0 run.2).grew (run_grows step.after steps run.1 run.4)
+    Grew-trans before step.after (end_of step.after steps) (step_grows step.command before step.answer step.after run.0 run.2).grew (run_grows step.after steps run.1 run.4)
 
 pub run_marks : (before : HubState) (steps : List Step) (faults : ℕ) → Runs before steps faults → (caller : List ℕ) (number : ℕ) (mark : MarkRow)
     → IsNewMark before (end_of before steps) caller number mark → IsRunMark before steps (end_of before steps) caller number mark
 run_marks before [] faults run caller number mark new = absurd (no_new_mark before caller number mark new)
 run_marks before (step ∷ steps) faults run caller number mark new =
-    let goes = step_goes step.command before step.answer step.after run.0 run.2 in
+    let goes = step_grows step.command before step.answer step.after run.0 run.2 in
     let rest = run_grows step.after steps run.1 run.4 in
     elim (mark_at (caller, number) step.after.marks) as (λ o. mark_at (caller, number) step.after.marks ≡ o → IsRunMark before (step ∷ steps) (end_of step.after steps) caller number mark) [
       | None ↦ λ none.

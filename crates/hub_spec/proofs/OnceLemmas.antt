@@ -12,7 +12,7 @@ use Rattle.rest_paths.specs.Paths.{PathParts}
 use Rattle.hub_spec.proofs.ArrangedLemmas.{list-permutes}
 use Rattle.hub_spec.proofs.ListLemmas.{ascends_kept}
 use Rattle.hub_spec.specs.views.Lists.{is_listed, list_of}
-use Rattle.hub_spec.specs.views.Once.{same_key}
+use Rattle.hub_spec.specs.views.SameKeys.{same_key}
 use Rattle.reference_rules.proofs.KeyOrder.{and_first, and_second, less_from_is_lt}
 use Rattle.roster_types.specs.Keys.{Ascends, Key, key_cmp, keyed, row_key}
 use Rattle.roster_types.specs.Records.{Record}

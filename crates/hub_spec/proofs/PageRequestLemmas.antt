@@ -6,7 +6,7 @@ use Rattle.hub_spec.proofs.Saying.{says}
 use Rattle.hub_spec.specs.requests.PageRequests.{CanAsk, page_query, page_request}
 use Rattle.hub_spec.specs.requests.Requests.{AnswersRequest, wanted_by}
 use Rattle.hub_spec.specs.rules.Answers.{Answers}
-use Rattle.hub_spec.specs.rules.Asking.{Asking, Says, asking}
+use Rattle.hub_spec.specs.rules.Asking.{Asking, IsPageReply, asking}
 use Rattle.hub_spec.specs.rules.States.{IsHub}
 use Rattle.status_info.specs.declared.reply.Reply.{Reply}
 use Rattle.status_info.specs.declared.request.Echo.{Echo}
@@ -20,5 +20,5 @@ text_of limit offset (Some pin) = refl
 pub page_read : (ask : Asking) → CanAsk ask → (token : List ℕ) (echo : Option Echo) → wanted_by (page_request token ask echo) ≡ asking token ask echo
 page_read ask can token echo = (λ i. wanted_by (record (page_request token ask echo) { query = text_of ask.limit ask.offset ask.pin i })) ∙ read_again ask can None tt token echo
 
-pub page_says : (state : HubState) → IsHub state → (ask : Asking) → CanAsk ask → (token : List ℕ) (echo : Option Echo) (at : ℤ) (reply : Reply) (after : HubState) → AnswersRequest state (page_request token ask echo) at reply after → Says state token ask reply × (after ≡ state)
+pub page_says : (state : HubState) → IsHub state → (ask : Asking) → CanAsk ask → (token : List ℕ) (echo : Option Echo) (at : ℤ) (reply : Reply) (after : HubState) → AnswersRequest state (page_request token ask echo) at reply after → IsPageReply state token ask reply × (after ≡ state)
 page_says state hub ask can token echo at reply after answers = says state hub token ask echo at reply after (subst (λ w. Answers state w at reply after) (page_read ask can token echo) answers)

@@ -12,7 +12,7 @@ use Rattle.filter_grammar.specs.rows.Orders.{arranged}
 use Rattle.hub_spec.specs.views.Pages.{page_of}
 use Rattle.hub_spec.specs.declared.views.page.Page.{Page}
 use Rattle.hub_spec.specs.views.Rules.{rule_of}
-use Rattle.hub_spec.specs.views.Seen.{seen, sees_row, sees_org, is_at_school, sees_user, sees_course, sees_line_item}
+use Rattle.hub_spec.specs.views.Seen.{seen, sees_row, sees_org, is_at_school, sees_user, sees_course, sees_class_of}
 use Rattle.filter_grammar.specs.Subjects.{subject_of}
 use Rattle.filter_grammar.specs.declared.query.Order.TheVariants.{Desc}
 use Rattle.filter_grammar.specs.declared.filter.Joint.TheVariants.{And}
@@ -66,15 +66,15 @@ edges = refl
 -- what a caller of one school isn't shown: a user and a school that it doesn't see, and a user who isn't there
 unseen : object_of east (path (route.One (Of Users)) (codes "u3" ∷ [])) ∷ object_of east (path (route.One (Of Users)) (codes "zzz" ∷ [])) ∷ []
     ≡ None ∷ None ∷ []
-unfolding object_of rule_of sees_row sees_org is_at_school sees_user sees_course sees_line_item key_cmp
+unfolding object_of rule_of sees_row sees_org is_at_school sees_user sees_course sees_class_of key_cmp
 unseen = refl
 
 unseen_school : ids_of (list_of east (path route.SchoolClasses (codes "s2" ∷ [])) (query 100 0)) ≡ None
-unfolding list_of belongs rule_of arranged sees_row sees_org is_at_school sees_user sees_course sees_line_item key_cmp
+unfolding list_of belongs rule_of arranged sees_row sees_org is_at_school sees_user sees_course sees_class_of key_cmp
 unseen_school = refl
 
 shown : option_map (λ (row : Record). row.id) (object_of east (path (route.One (Of Demographics)) (codes "u1" ∷ []))) ≡ Some (codes "u1")
-unfolding object_of rule_of sees_row sees_org is_at_school sees_user sees_course sees_line_item key_cmp
+unfolding object_of rule_of sees_row sees_org is_at_school sees_user sees_course sees_class_of key_cmp
 shown = refl
 
 abbrev oaks : ℕ → Query

@@ -1,7 +1,7 @@
 -- What a grant of one school sees of a small district, and what its scopes open.
 use Rattle.std.proofs.Common.{◌≡◌, [], ◌∷◌, true, false, refl, map, codes}
 use Rattle.hub_spec.specs.examples.Lake.{lake}
-use Rattle.hub_spec.specs.views.Seen.{seen, sees_row, sees_org, is_at_school, sees_user, sees_course, sees_line_item}
+use Rattle.hub_spec.specs.views.Seen.{seen, sees_row, sees_org, is_at_school, sees_user, sees_course, sees_class_of}
 use Rattle.grant_scopes.specs.Opens.{opens}
 use Rattle.roster_types.specs.Keys.{key_cmp}
 use Rattle.roster_types.specs.Records.{Record}
@@ -13,7 +13,7 @@ use Rattle.roster_values.specs.Kinds.{all_kinds}
 fifteen : map (λ (row : Record). row.id) (seen (Listed (codes "s1" ∷ [])) lake)
     ≡ codes "d1" ∷ codes "s1" ∷ codes "g1" ∷ codes "t1" ∷ codes "y25" ∷ codes "alg" ∷ codes "k1" ∷ codes "u1" ∷ codes "u2" ∷ codes "u4"
     ∷ codes "e1" ∷ codes "u1" ∷ codes "hw" ∷ codes "li1" ∷ codes "r1" ∷ []
-unfolding sees_row sees_org is_at_school sees_user sees_course sees_line_item key_cmp
+unfolding sees_row sees_org is_at_school sees_user sees_course sees_class_of key_cmp
 fifteen = refl
 
 all_seen : seen All lake ≡ lake

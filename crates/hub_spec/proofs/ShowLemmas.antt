@@ -19,7 +19,8 @@ use Rattle.version_core.specs.declared.change.BaseVersion.{BaseVersion}
 use Rattle.version_core.specs.declared.grant_row.GrantRow.{GrantRow}
 use Rattle.version_core.specs.declared.mark.MarkRow.{MarkRow}
 use Rattle.hub_spec.specs.marks.Agreement.{GivesOnly, IsShown}
-use Rattle.hub_spec.specs.marks.Answering.{CanSendWrite, SaysWrite, Shown, ShowsMark, Shut, Stranger, Taken, access_to}
+use Rattle.hub_spec.specs.marks.Answering.{CanSendWrite, IsWriteReply, Shown, ShowsMark, Shut, Stranger, Taken}
+use Rattle.hub_spec.specs.marks.Answering.{access_to}
 use Rattle.hub_spec.specs.marks.Answering.{kept_status}
 use Rattle.hub_spec.specs.marks.Marked.{Marked, mark_of}
 
@@ -71,7 +72,7 @@ module _ (mid after : HubState) (hub : IsHub mid) (to : Grew mid after) where
 module _ (mid left after : HubState) (hub : IsHub mid) (step : Grew mid left) (on : Grew left after) (to : Grew mid after) (token : Option (List ℕ)) (reply : Reply) where
   -- a reply that shows the mark shows what each later state holds under it
   pub own_shown : (entry : OutEntry) (version : ℕ) (caller : List ℕ) → GivesOnly after token caller → reply.mark ≡ Some entry.number → reply.version ≡ Some version
-      → SaysWrite mid token (mark_of entry) reply left → IsShown after caller entry (record { status = status_of reply.cause; version = version })
+      → IsWriteReply mid token (mark_of entry) reply left → IsShown after caller entry (record { status = status_of reply.cause; version = version })
   own_shown entry version caller only em ev says = elim says as (λ _. IsShown after caller entry (record { status = status_of reply.cause; version = version })) [
     | Stranger unknown why none ↦ absurd (let e = em in let n = none in cc)
     | Shut by known shut why none ↦ absurd (let e = em in let n = none in cc)
@@ -87,7 +88,7 @@ module _ (mid left after : HubState) (hub : IsHub mid) (step : Grew mid left) (o
 
   -- where the token can send the write, the reply shows its mark
   pub shown_where_it_can : (marked : Marked) (by : GrantRow) (since : ℕ) → IsHub after → since ≤ newest_number mid → grant_in after token ≡ Some by → by.grant.since ≤ since
-      → CanSendWrite after by marked → SaysWrite mid token marked reply left → (kept : MarkRow) × ShowsMark kept marked reply
+      → CanSendWrite after by marked → IsWriteReply mid token marked reply left → (kept : MarkRow) × ShowsMark kept marked reply
   shown_where_it_can marked by since good le known unchanged can says =
       let stands = stood mid after hub to token by since good le known unchanged in
       elim says as (λ _. (kept : MarkRow) × ShowsMark kept marked reply) [

@@ -1,12 +1,13 @@
 -- Writes to the hub of a small district.
 use Rattle.std.proofs.Common.{◌≡◌, ℕ, pos, List, [], ◌∷◌, true, false, Option, None, Some, refl, map, codes}
-use Rattle.hub_spec.specs.examples.Hubs.{east, hub, noon, second}
+use Rattle.hub_spec.specs.examples.Hubs.{east, hub, second}
+use Rattle.hub_spec.specs.examples.Lake.{noon}
 use Rattle.hub_spec.specs.rules.Answers.{cause_of}
-use Rattle.hub_spec.specs.rules.Checks.{first_open, is_open}
+use Rattle.hub_spec.specs.rules.Checks.{first_open, may_read}
 use Rattle.version_changes.specs.grants.Granting.{grants_from}
 use Rattle.hub_spec.specs.rules.Refusals.{delete_refusal, put_refusal}
 use Rattle.hub_spec.specs.rules.Verdicts.{repeated, Refused, Repeat}
-use Rattle.hub_spec.specs.views.Seen.{sees_row, is_at_school, sees_user, sees_line_item}
+use Rattle.hub_spec.specs.views.Seen.{sees_row, is_at_school, sees_user, sees_class_of}
 use Rattle.grant_scopes.specs.declared.entry.GrantEntry.{GrantEntry}
 use Rattle.grant_scopes.specs.declared.schools.Schools.TheVariants.{All, Listed}
 use Rattle.roster_base.specs.Order.{placed}
@@ -61,7 +62,7 @@ puts : put_refusal second east (put LineItems (codes "li3") []) (line_item (code
     ∷ put_refusal second east (put Results (codes "r9") []) (result (codes "r9") (codes "li9") (codes "u1"))
     ∷ put_refusal second east (put LineItems (codes "li1") []) (line_item (codes "li1") None)
     ∷ [] ≡ Some 6 ∷ None ∷ None ∷ Some 5 ∷ Some 5 ∷ Some 4 ∷ []
-unfolding sees_row is_at_school sees_user sees_line_item key_cmp
+unfolding sees_row is_at_school sees_user sees_class_of key_cmp
 puts = refl
 
 -- the same write repeats what was kept, another is refused
@@ -77,7 +78,7 @@ causes : map cause_of (0 ∷ 1 ∷ 2 ∷ 3 ∷ 4 ∷ 5 ∷ 6 ∷ 7 ∷ 8 ∷ 9 �
 causes = refl
 
 -- which versions the caller may ask for
-pins : map (is_open hub east) (0 ∷ 1 ∷ 2 ∷ 3 ∷ 9 ∷ []) ≡ false ∷ false ∷ true ∷ false ∷ false ∷ []
+pins : map (may_read hub east) (0 ∷ 1 ∷ 2 ∷ 3 ∷ 9 ∷ []) ≡ false ∷ false ∷ true ∷ false ∷ false ∷ []
 pins = refl
 
 first_pin : first_open hub east ≡ 2

@@ -1,4 +1,5 @@
--- What becomes of a write, what a request is answered by its checks in order, what a run of the hub is, and what a state keeps.
+-- What becomes of a write, what a request is answered by its checks in order, what a run of the hub is, and what a
+-- state keeps.
 pub mod Answers
 pub mod Asking
 pub mod Checks

@@ -3,8 +3,8 @@ pub mod Cuts
 pub mod Deltas
 pub mod Links
 pub mod Lists
-pub mod Once
 pub mod Pages
 pub mod References
 pub mod Rules
+pub mod SameKeys
 pub mod Seen

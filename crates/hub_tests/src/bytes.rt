@@ -1,7 +1,7 @@
 //! Files of the system that are no text, or have more bytes than are read.
 
 use crate::publishing::ORGS;
-use crate::runs::{ROOM, new_keepers, run_words, words_of};
+use crate::runs::{ROOM, new_keepers, run_words};
 use exchange_link::PeerLink;
 use outside_ports::{DirFolder, MemSink};
 use std::io::Write;
@@ -9,6 +9,7 @@ use std::path::PathBuf;
 use std::process::Abort;
 use std::test::Fail;
 use std::{env, fs, process};
+use test_lake::words_of;
 
 // Words, their file, its first bytes, its length, and what is printed.
 struct Case {
@@ -76,8 +77,8 @@ fn make_file(rt: HostRuntime, folder: &PathBuf, case: &Case) -> Result<(), Fail>
     Ok(())
 }
 
-// The status and the text of the words of a case over the files of a folder.
-fn told_of(rt: HostRuntime, folder: &PathBuf, line: &str) -> Result<(u8, MemSink), Fail> {
+// The status of words that are run over the files of a folder, and what they write.
+fn run_over(rt: HostRuntime, folder: &PathBuf, line: &str) -> Result<(u8, MemSink), Fail> {
     let alloc = rt.alloc();
     let words = words_of(alloc, line)?;
     let mut files = DirFolder::new(rt, String::from_str(alloc, folder.as_str())?);
@@ -103,7 +104,7 @@ fn assert_refused(
     case: &Case,
 ) -> Result<(), Fail> {
     make_file(rt, folder, case)?;
-    let (told, sink) = told_of(rt, folder, case.line)?;
+    let (told, sink) = run_over(rt, folder, case.line)?;
     assert_eq!(abort;
         (told, str::from_utf8(sink.written())),
         (4, Ok(case.want)),

@@ -158,7 +158,6 @@ pub const PAGES: Given = Given::Replies(&[
     no_rows!("resources", "11", "16"),
     no_rows!("classResources", "12", "21"),
     no_rows!("courseResources", "13", "22"),
-    // The last of the kinds.
 ]);
 
 /// The org that is held then.

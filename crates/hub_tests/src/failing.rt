@@ -1,5 +1,5 @@
-//! Runs one behind another of which one call to the outside fails, each in its turn: the run in which it fails ends with the status of
-//! its port, and once the same words are run again all stands as if nothing had failed.
+//! Runs one behind another of which one call to the outside fails, each in its turn: the run in which it fails ends
+//! with the status of its port, and once the same words are run again all stands as if nothing had failed.
 
 use crate::consuming::{HELD, PAGES};
 use crate::runs::{Given, Keepers, Ports, Turn, assert_turns, files_of, new_keepers, run_line};
@@ -19,16 +19,44 @@ enum Port {
     Copy { acted: bool },
 }
 
-// A port, and the status and the line by which a run ends in which one of its calls fails.
-type PortEnd = (Port, u8, &'static str);
+// How a run ends in which a call of a port fails: by a status and a line.
+struct PortEnd {
+    port: Port,
+    status: u8,
+    line: &'static str,
+}
 
 static PORTS: [PortEnd; 6] = [
-    (Port::Folder, 3, "folder failed\n"),
-    (Port::Sink, 1, ""),
-    (Port::Hub { acted: false }, 5, "hub store failed\n"),
-    (Port::Hub { acted: true }, 5, "hub store failed\n"),
-    (Port::Copy { acted: false }, 6, "copy store failed\n"),
-    (Port::Copy { acted: true }, 6, "copy store failed\n"),
+    PortEnd {
+        port: Port::Folder,
+        status: 3,
+        line: "folder failed\n",
+    },
+    PortEnd {
+        port: Port::Sink,
+        status: 1,
+        line: "",
+    },
+    PortEnd {
+        port: Port::Hub { acted: false },
+        status: 5,
+        line: "hub store failed\n",
+    },
+    PortEnd {
+        port: Port::Hub { acted: true },
+        status: 5,
+        line: "hub store failed\n",
+    },
+    PortEnd {
+        port: Port::Copy { acted: false },
+        status: 6,
+        line: "copy store failed\n",
+    },
+    PortEnd {
+        port: Port::Copy { acted: true },
+        status: 6,
+        line: "copy store failed\n",
+    },
 ];
 
 const STREAM: &str =
@@ -112,7 +140,7 @@ fn assert_line(
     line: &str,
     ports: &mut Ports,
     keepers: &mut Keepers,
-    port: &PortEnd,
+    end: &PortEnd,
 ) -> Result<(), Fail> {
     let before = faults(ports, keepers);
     let told = run_line(alloc, line, ports, keepers)?;
@@ -120,7 +148,7 @@ fn assert_line(
         assert_eq!(rt; told, 0, "{line}");
         return Ok(());
     }
-    let ends = told == port.1 && ports.sink.written().ends_with(port.2.as_bytes());
+    let ends = told == end.status && ports.sink.written().ends_with(end.line.as_bytes());
     let is_told = ends || line == "ask r.http";
     let again = run_line(alloc, line, ports, keepers)?;
     assert_eq!(rt; (is_told, again), (true, 0), "{line}, once more: {told}");
@@ -133,10 +161,10 @@ fn assert_lines(
     alloc: Global,
     ports: &mut Ports,
     keepers: &mut Keepers,
-    port: &PortEnd,
+    end: &PortEnd,
 ) -> Result<bool, Fail> {
     for line in &LINES {
-        assert_line(rt, alloc, line, ports, keepers, port)?;
+        assert_line(rt, alloc, line, ports, keepers, end)?;
     }
     Ok(faults(ports, keepers) != 0)
 }
@@ -145,12 +173,12 @@ fn assert_planned(
     rt: &impl Abort,
     alloc: Global,
     keepers: &mut Keepers,
-    port: &PortEnd,
+    end: &PortEnd,
     number: u64,
 ) -> Result<bool, Fail> {
-    plan(keepers, port.0, number)?;
-    let mut ports = ports_with(alloc, port.0, number)?;
-    let made = assert_lines(rt, alloc, &mut ports, keepers, port);
+    plan(keepers, end.port, number)?;
+    let mut ports = ports_with(alloc, end.port, number)?;
+    let made = assert_lines(rt, alloc, &mut ports, keepers, end);
     drop(ports);
     made
 }
@@ -159,11 +187,11 @@ fn assert_over(
     rt: &impl Abort,
     alloc: Global,
     keepers: &mut Keepers,
-    port: &PortEnd,
+    end: &PortEnd,
     number: u64,
 ) -> Result<bool, Fail> {
     assert_turns(rt, alloc, keepers, &BEGUN)?;
-    let made = assert_planned(rt, alloc, keepers, port, number)?;
+    let made = assert_planned(rt, alloc, keepers, end, number)?;
     assert_turns(rt, alloc, keepers, &STANDS)?;
     Ok(made)
 }
@@ -172,11 +200,11 @@ fn assert_over(
 fn assert_failing(
     rt: &impl Abort,
     alloc: Global,
-    port: &PortEnd,
+    end: &PortEnd,
     number: u64,
 ) -> Result<bool, Fail> {
     let mut keepers = new_keepers(alloc);
-    let made = assert_over(rt, alloc, &mut keepers, port, number);
+    let made = assert_over(rt, alloc, &mut keepers, end, number);
     drop(keepers);
     made
 }
@@ -184,9 +212,9 @@ fn assert_failing(
 // More than the calls of a port.
 const MOST_CALLS: u64 = 1_000;
 
-fn assert_port(rt: &impl Abort, alloc: Global, port: &PortEnd) -> Result<(), Fail> {
+fn assert_port(rt: &impl Abort, alloc: Global, end: &PortEnd) -> Result<(), Fail> {
     for number in 1..MOST_CALLS {
-        if !assert_failing(rt, alloc, port, number)? {
+        if !assert_failing(rt, alloc, end, number)? {
             assert!(rt; number > 1, "no call");
             return Ok(());
         }
@@ -196,8 +224,8 @@ fn assert_port(rt: &impl Abort, alloc: Global, port: &PortEnd) -> Result<(), Fai
 
 #[test]
 fn each_call_to_the_outside_may_fail(rt: HostRuntime) -> Result<(), Fail> {
-    for port in &PORTS {
-        assert_port(&rt, rt.alloc(), port)?;
+    for end in &PORTS {
+        assert_port(&rt, rt.alloc(), end)?;
     }
     Ok(())
 }

@@ -1,4 +1,5 @@
-//! Tests of the program's top calls: words, files and replies in, statuses and exact texts out; and a server that threads run.
+//! Tests of the program's top calls: words, files and replies in, statuses and exact texts out; and a server that
+//! threads run.
 #![tactic(auto)]
 
 #[cfg(test)]

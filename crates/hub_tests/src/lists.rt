@@ -3,8 +3,8 @@
 use crate::asking::{Stream, assert_streams};
 use std::test::Fail;
 
-// A limit above the greatest, an offset at the end, a page between two others, two pages of a filtered and sorted list, a field that isn't
-// sorted by, and no fields.
+// A limit above the greatest, an offset at the end, a page between two others, two pages of a filtered and sorted list,
+// a field that isn't sorted by, and no fields.
 static PAGES: [Stream; 7] = [
     (
         "GET /ims/oneroster/v1p1/orgs?limit=5000 HTTP/1.1\r\nHost: hub\r\nAuthorization: Bearer tok-e\r\n\r\n",

@@ -1,5 +1,5 @@
-//! Scripts that are refused, and districts that are made. What scripts print that aren't refused is told by the one that the gate runs, in
-//! `crates/hub/data`.
+//! Scripts that are refused, and districts that are made. What scripts print that aren't refused is told by the one
+//! that the gate runs, in `crates/hub/data`.
 
 use crate::runs::{Given, Turn, assert_scene, assert_turn, new_keepers};
 use std::test::Fail;

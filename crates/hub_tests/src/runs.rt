@@ -7,10 +7,7 @@ use outside_ports::{FixedClock, Folder, MemFolder, MemSink};
 use std::alloc::Global;
 use std::process::Abort;
 use std::test::Fail;
-use test_lake::{File, file, files};
-
-/// 2024-08-01T12:00:00.000Z
-pub const NOON: i64 = 1_722_513_600_000;
+use test_lake::{File, NOON, file, files, words_of};
 
 /// The bytes that a sink has room for: more than a run writes.
 pub const ROOM: u64 = 8_192;
@@ -43,15 +40,6 @@ pub fn new_keepers(alloc: Global) -> Keepers {
         hub: MemHub::new(alloc, 9),
         copy: MemCopy::new(alloc),
     }
-}
-
-/// The words between spaces.
-pub fn words_of(alloc: Global, line: &str) -> Result<Vec<String>, Fail> {
-    let mut words = Vec::new(alloc);
-    for word in line.split_whitespace() {
-        words.push(String::from_str(alloc, word)?)?;
-    }
-    Ok(words)
 }
 
 /// Runs words at noon, and gives the status.
@@ -108,7 +96,8 @@ fn push_given(alloc: Global, all: &mut Vec<File>, given: Given) -> Result<(), Fa
     }
 }
 
-/// The files that are given, and behind them those of every run and of the example district in `lake`. Of two with one name the first counts.
+/// The files that are given, and behind them those of every run and of the example district in `lake`. Of two with one
+/// name the first counts.
 pub fn files_of(alloc: Global, given: Given) -> Result<Vec<File>, Fail> {
     let mut all = Vec::new(alloc);
     push_given(alloc, &mut all, given)?;

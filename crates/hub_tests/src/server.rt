@@ -4,7 +4,7 @@ ghost use Rattle.std.specs.Prelude.{◌≡◌, Ok, length, map, string_bytes};
 ghost use Rattle.hub_words.specs.Words.{split_serve};
 ghost use Rattle.hub_words.specs.declared.words.ServeWords.{ServeWords as ServeWordsValue};
 
-use crate::runs::{NOON, ROOM, words_of};
+use crate::runs::ROOM;
 use hub_cli::{ServeEnd, serve_hub};
 use hub_server::{Doors, NoNotices, Ports};
 use keeper_memory::HubKeeper;
@@ -15,6 +15,7 @@ use std::process::Abort;
 use std::sync::Wait;
 use std::test::Fail;
 use std::thread::Threads;
+use test_lake::{NOON, words_of};
 
 // A connection that sends these bytes so many times.
 fn connection(alloc: Global, sent: &str, times: usize) -> Result<(MemSource, MemSink), Fail> {
@@ -66,9 +67,8 @@ pub fn serve<R: Threads + Wait + Abort + Sync, H: HubKeeper + Send, G: Gate + Sy
     keeper: H,
     gate: &G,
 ) -> (u8, H) {
-    let words = match words_of(alloc, line) {
-        Ok(words) => words,
-        Err(_fail) => panic!(rt; "no words"),
+    let Ok(words) = words_of(alloc, line) else {
+        panic!(rt; "no words");
     };
     assert_enough(rt, alloc, words.as_slice(), &doors);
     let clock = FixedClock::at(NOON);

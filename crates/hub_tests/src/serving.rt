@@ -1,4 +1,5 @@
-//! Servers over a keeper in memory, and two threads that write at once: what they end by, and the newest version that the keeper then holds.
+//! Servers over a keeper in memory, and two threads that write at once: what they end by, and the newest version that
+//! the keeper then holds.
 
 use crate::runs::{Given, Keepers, LAKE, assert_turn, assert_turns, files_of, new_keepers};
 use crate::server::{acceptor, serve};

@@ -30,6 +30,7 @@ abbrev pub ended : ℕ → Command → List (List ℕ) → Result Command ℕ
 ended place command [] = Ok command
 ended place command (word ∷ words) = Err place
 
+-- a command with the kind that its last word names, if it names one
 abbrev pub of_kind : ℕ → (Kind → Command) → Option Kind → List (List ℕ) → Result Command ℕ
 of_kind place command None words = Err place
 of_kind place command (Some kind) words = ended (place + 1) (command kind) words
@@ -50,6 +51,7 @@ is_file_word word = is_name word && not (begins_with_dot word)
 abbrev pub is_equals_sign : ℕ → Bool
 is_equals_sign b = b == 61
 
+-- a feed with this name and folder, if they are words for them
 abbrev pub feed_in : List ℕ → List ℕ → Option Feed
 feed_in name dir = if is_name name && is_file_word dir then Some (record { name = name; dir = dir }) else None
 
@@ -57,6 +59,7 @@ feed_in name dir = if is_name name && is_file_word dir then Some (record { name 
 unfoldable pub feed_of : List ℕ → Option Feed
 feed_of word = feed_in (before_first is_equals_sign word) (after_first is_equals_sign word)
 
+-- what a word says, or the word's place where it says nothing
 abbrev pub or_bad : {A : Type 0} → ℕ → Option A → Result A ℕ
 or_bad place None = Err place
 or_bad place (Some x) = Ok x
@@ -88,6 +91,7 @@ unfoldable pub number_in : List ℕ → Option ℕ
 number_in [] = None
 number_in (b ∷ bs) = if (b == digit_zero) || nat_lt 12 (length (b ∷ bs)) then None else digits_value (b ∷ bs)
 
+-- a number from 1 to the most
 abbrev pub in_bounds : ℕ → Option ℕ → Option ℕ
 in_bounds most None = None
 in_bounds most (Some n) = if nat_le 1 n && nat_le n most then Some n else None
@@ -98,6 +102,7 @@ number_to most word = in_bounds most (number_in word)
 
 -- ---- a synchronisation
 
+-- how many rows a page has at most, and how often a request is tried at most
 abbrev pub largest_limit : ℕ
 largest_limit = 1000
 
@@ -140,6 +145,7 @@ follow_words place words = do
 
 -- ---- the outbox
 
+-- a kind, if callers write its rows
 abbrev pub only_gradebook : Option Kind → Option Kind
 only_gradebook None = None
 only_gradebook (Some kind) = if is_gradebook kind then Some kind else None
@@ -185,6 +191,7 @@ enter_words place (word ∷ words) =
     else if bytes_eq word (codes "delete") then delete_words (place + 1) words
     else Err place
 
+-- how often a request is tried, behind the token of `send`
 abbrev pub send_tries_words : ℕ → List ℕ → List (List ℕ) → Result Command ℕ
 send_tries_words place token [] = Err place
 send_tries_words place token (word ∷ words) = do
@@ -223,6 +230,7 @@ export_words place (word ∷ words) =
 
 -- ---- a district
 
+-- how many schools are made at most
 abbrev pub largest_count : ℕ
 largest_count = 200
 
@@ -258,6 +266,7 @@ command_words place (word ∷ words) =
 
 -- ---- options
 
+-- what is given where no option is
 abbrev pub no_options : Options
 no_options = record { folder = None; store = None; peer = None; keep = None }
 
@@ -274,21 +283,31 @@ option_of options word =
 abbrev pub largest_keep : ℕ
 largest_keep = 100000
 
+-- the options with so many versions to keep
 abbrev pub with_keep : ℕ → Options → Option ℕ → Result Options ℕ
 with_keep place options None = Err place
 with_keep place options (Some n) = Ok (record options { keep = Some n })
 
+-- the value of an option, if the word for it isn't empty
+abbrev pub filled : ℕ → List ℕ → Result (List ℕ) ℕ
+filled place [] = Err place
+filled place (b ∷ bs) = Ok (b ∷ bs)
+
+-- the options with a folder, a store or an address
 abbrev pub with_folder : ℕ → Options → List ℕ → Result Options ℕ
-with_folder place options [] = Err place
-with_folder place options (b ∷ bs) = Ok (record options { folder = Some (b ∷ bs) })
+with_folder place options value = do
+  folder ← filled place value
+  Ok (record options { folder = Some folder })
 
 abbrev pub with_store : ℕ → Options → List ℕ → Result Options ℕ
-with_store place options [] = Err place
-with_store place options (b ∷ bs) = Ok (record options { store = Some (b ∷ bs) })
+with_store place options value = do
+  store ← filled place value
+  Ok (record options { store = Some store })
 
 abbrev pub with_peer : ℕ → Options → List ℕ → Result Options ℕ
-with_peer place options [] = Err place
-with_peer place options (b ∷ bs) = Ok (record options { peer = Some (b ∷ bs) })
+with_peer place options value = do
+  peer ← filled place value
+  Ok (record options { peer = Some peer })
 
 -- the options with one more, whose value stands at a place
 abbrev pub set_option : ℕ → Options → OptionWord → List ℕ → Result Options ℕ
@@ -298,13 +317,14 @@ set_option place options Peer value = with_peer place options value
 set_option place options Keep value = with_keep place options (number_to largest_keep value)
 
 abbrev pub parsed_of : Options → Command → Parsed
-parsed_of options c = record { folder = options.folder; store = options.store; peer = options.peer; keep = options.keep; command = c }
+parsed_of options c = record { options = options; command = c }
 
 -- what follows a word: options behind the value of one, or the command that begins with the word
 abbrev pub behind : {A : Type 0} → Option (Result Options ℕ) → Result A ℕ → (Options → Result A ℕ) → Result A ℕ
 behind None command more = command
 behind (Some options) command more = options >>= more
 
+-- the options with the one that a word named, if it named one
 abbrev pub set_if : ℕ → Options → Option OptionWord → List ℕ → Option (Result Options ℕ)
 set_if place options None value = None
 set_if place options (Some option) value = Some (set_option place options option value)
@@ -330,6 +350,7 @@ split words = with_command parsed_of command_words words
 
 -- ---- a server
 
+-- how many connections are served at an address at most
 abbrev pub largest_connections : ℕ
 largest_connections = 1000000
 
@@ -373,22 +394,22 @@ split_serve words = with_command served_by serve_command words
 
 -- the root folder: the one that the words name, and else the working folder
 abbrev pub root_in : Result Parsed ℕ → List ℕ
-root_in (Ok parsed) = unwrap_or parsed.folder []
+root_in (Ok parsed) = unwrap_or parsed.options.folder []
 root_in (Err place) = []
 
 -- how many versions a new keeper keeps beside the newest
 abbrev pub keep_in : Result Parsed ℕ → ℕ
-keep_in (Ok parsed) = unwrap_or parsed.keep 10000
+keep_in (Ok parsed) = unwrap_or parsed.options.keep 10000
 keep_in (Err place) = 10000
 
 -- the folder of the hub's store, where the words name one
 abbrev pub store_in : Result Parsed ℕ → Option (List ℕ)
-store_in (Ok parsed) = parsed.store
+store_in (Ok parsed) = parsed.options.store
 store_in (Err place) = None
 
 -- the address of the hub that is copied, where the words name one
 abbrev pub peer_in : Result Parsed ℕ → Option (List ℕ)
-peer_in (Ok parsed) = parsed.peer
+peer_in (Ok parsed) = parsed.options.peer
 peer_in (Err place) = None
 
 -- the command that words spell

@@ -16,14 +16,16 @@ use roster_texts::{Id, Name, Token};
 use roster_values::{Kind, Mode};
 use std::alloc::Global;
 
-/// How many rows a page has at most, and how often a request is tried, at most.
+/// How many rows a page has at most.
 const LARGEST_LIMIT: u32 = 1_000;
 
+/// How often a request is tried at most.
 const LARGEST_TRIES: u32 = 100;
 
 /// How many schools are made at most.
 const LARGEST_COUNT: u32 = 200;
 
+// A command whose words end here.
 fn end(place: usize, command: Command, words: &[String]) -> Result<Command, WordError>
     ensures { Gives (λ c. c) result (spec.ended place command (map string_bytes words.now)) }
 {
@@ -182,6 +184,7 @@ pub fn number_to(most: u32, word: &str) -> Option<u32>
     }
 }
 
+// How often a request is tried, which ends what is asked of a synchronisation, and the words behind it.
 fn tries_at(
     place: usize,
     token: Token,
@@ -202,6 +205,7 @@ fn tries_at(
     }
 }
 
+// How many rows a page has and how often a request is tried, and the words behind them.
 fn limit_at(
     place: usize,
     token: Token,
@@ -298,6 +302,7 @@ fn gradebook_kind(word: &str) -> Option<Kind>
     }
 }
 
+// The id and the file of a write that puts a row of a kind.
 fn put_id(alloc: Global, place: usize, kind: Kind, words: &[String]) -> Result<Command, WordError>
     requires place { place + length words.now < 2 ^ 63 }
     requires writes { IsGradebook kind }
@@ -329,6 +334,7 @@ fn put(alloc: Global, place: usize, words: &[String]) -> Result<Command, WordErr
     }
 }
 
+// The id of a row of a kind that is deleted.
 fn delete_id(
     alloc: Global,
     place: usize,
@@ -374,6 +380,7 @@ fn enter(alloc: Global, place: usize, words: &[String]) -> Result<Command, WordE
     }
 }
 
+// How often a request is tried, behind the token of `send`.
 fn send_tries(place: usize, token: Token, words: &[String]) -> Result<Command, WordError>
     requires { place + length words.now < 2 ^ 63 }
     ensures { Gives (λ c. c) result (spec.send_tries_words place token (map string_bytes words.now)) }

@@ -1,9 +1,10 @@
-//! The words of the command line, and what they ask for.
+//! The words of the command line, what they ask for, and the statuses that the program ends with.
 #![tactic(auto)]
 
 pub mod commands;
 mod options;
 mod serving;
+pub mod statuses;
 pub mod task;
 pub mod words;
 

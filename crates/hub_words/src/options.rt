@@ -29,6 +29,16 @@ fn option_of(options: &Options, word: &str) -> Option<OptionWord>
     None
 }
 
+// The text of an option's value, if the word for it isn't empty.
+fn filled(alloc: Global, place: usize, value: &str) -> Result<Text, WordError>
+    ensures { Gives (λ t. t) result (spec.filled place value.now) }
+{
+    if value.is_empty() {
+        return Err(Refusal::Fault(place));
+    }
+    Ok(Text::new(alloc, value)?)
+}
+
 // The options with the folder that a word names.
 fn with_folder(
     alloc: Global,
@@ -38,10 +48,7 @@ fn with_folder(
 ) -> Result<Options, WordError>
     ensures { Gives (λ o. o) result (spec.with_folder place options value.now) }
 {
-    if value.is_empty() {
-        return Err(Refusal::Fault(place));
-    }
-    let folder = Some(Text::new(alloc, value)?);
+    let folder = Some(filled(alloc, place, value)?);
     Ok(Options { folder, ..options })
 }
 
@@ -54,10 +61,7 @@ fn with_store(
 ) -> Result<Options, WordError>
     ensures { Gives (λ o. o) result (spec.with_store place options value.now) }
 {
-    if value.is_empty() {
-        return Err(Refusal::Fault(place));
-    }
-    let store = Some(Text::new(alloc, value)?);
+    let store = Some(filled(alloc, place, value)?);
     Ok(Options { store, ..options })
 }
 
@@ -70,10 +74,7 @@ fn with_peer(
 ) -> Result<Options, WordError>
     ensures { Gives (λ o. o) result (spec.with_peer place options value.now) }
 {
-    if value.is_empty() {
-        return Err(Refusal::Fault(place));
-    }
-    let peer = Some(Text::new(alloc, value)?);
+    let peer = Some(filled(alloc, place, value)?);
     Ok(Options { peer, ..options })
 }
 

@@ -9,7 +9,8 @@ use roster_texts::{Id, Name, Token};
 use roster_values::Kind;
 use std::marker::Model;
 
-/// The token under which the rows are asked for, how many rows a page has at most, 1 to 1,000, and how often a request is tried, 1 to 100.
+/// The token under which the rows are asked for, how many rows a page has at most, 1 to 1,000, and how often a request
+/// is tried, 1 to 100.
 #[derive(Drop)]
 pub struct SyncTask {
     token: Token,
@@ -201,12 +202,14 @@ pub struct Feed {
     pub dir: Text,
 }
 
-/// What a server does: so many connections are served at each address, and beside them the set of each feed is published once.
+/// What a server does: so many connections are served at each address, and beside them the set of each feed is
+/// published once.
 #[derive(Drop)]
 pub struct ServeTask {
     /// How many connections are served at each address, one after another.
     pub connections: u32,
     /// Where it listens: a host and a port each.
     pub addresses: Items<Text>,
+    /// The feeds whose sets are published.
     pub feeds: Items<Feed>,
 }

@@ -39,7 +39,8 @@ pub enum Command {
     SyncDelta { task: SyncTask },
     /// Makes the rows of the copy those of a feed of the hub.
     Cascade { feed: Name },
-    /// Brings the copy to the newest version of the hub at the address of the words, and makes its rows those of a feed of this hub.
+    /// Brings the copy to the newest version of the hub at the address of the words, and makes its rows those of a feed
+    /// of this hub.
     Follow { task: SyncTask, feed: Name },
     /// Puts a write into the outbox of the copy.
     Enter { task: EnterTask },
@@ -79,21 +80,14 @@ pub struct Options {
     pub store: Option<Text>,
     /// The address of the hub that is copied, where one is named.
     pub peer: Option<Text>,
-    /// How many versions a new keeper keeps beside the newest.
+    /// How many versions a new keeper keeps beside the newest, where the words say so: 1 to 100,000.
     pub keep: Option<u32>,
 }
 
 /// What the words say: the options, which stand first, and the command.
 #[derive(Drop)]
 pub struct Parsed {
-    /// The folder of the files, where another than the working folder is named.
-    pub folder: Option<Text>,
-    /// The folder of the hub's store, where one is named.
-    pub store: Option<Text>,
-    /// The address of the hub that is copied, where one is named.
-    pub peer: Option<Text>,
-    /// How many versions a new keeper keeps beside the newest, where the words say so: 1 to 100,000.
-    pub keep: Option<u32>,
+    pub options: Options,
     pub command: Command,
 }
 
@@ -121,19 +115,7 @@ pub fn split_words(alloc: Global, words: &[String]) -> Result<Parsed, WordError>
     let (options, place) = first_options(alloc, words)?;
     let (_, behind) = words.split_at(place);
     let command = command_at(alloc, place, behind)?;
-    let Options {
-        folder,
-        store,
-        peer,
-        keep,
-    } = options;
-    Ok(Parsed {
-        folder,
-        store,
-        peer,
-        keep,
-        command,
-    })
+    Ok(Parsed { options, command })
 }
 
 /// What words spell: the options and the command, or the place, from 0, of the first word that no command continues.
@@ -150,13 +132,13 @@ pub fn read_words(alloc: Global, words: &[String]) -> Result<Spelled, NoMemory>
     }
 }
 
-/// The root folder, in which a command finds its files: the one that the words name, and else the working folder, whose name
-/// is empty.
+/// The root folder, in which a command finds its files: the one that the words name, and else the working folder, whose
+/// name is empty.
 pub fn root_of(spelled: &Spelled) -> &str
     ensures { result.now ≡ spec.root_in spelled.now }
 {
     match spelled {
-        Ok(parsed) => match &parsed.folder {
+        Ok(parsed) => match &parsed.options.folder {
             Some(folder) => folder.as_str(),
             None => "",
         },
@@ -169,7 +151,7 @@ pub fn keep_of(spelled: &Spelled) -> u32
     ensures { result ≡ spec.keep_in spelled.now }
 {
     match spelled {
-        Ok(parsed) => parsed.keep.unwrap_or(USUAL_KEEP),
+        Ok(parsed) => parsed.options.keep.unwrap_or(USUAL_KEEP),
         Err(_) => USUAL_KEEP,
     }
 }
@@ -179,7 +161,7 @@ pub fn store_of(spelled: &Spelled) -> Option<&Text>
     ensures { option_copied result ≡ spec.store_in spelled.now }
 {
     match spelled {
-        Ok(parsed) => parsed.store.as_ref(),
+        Ok(parsed) => parsed.options.store.as_ref(),
         Err(_) => None,
     }
 }
@@ -189,7 +171,7 @@ pub fn peer_of(spelled: &Spelled) -> Option<&Text>
     ensures { option_copied result ≡ spec.peer_in spelled.now }
 {
     match spelled {
-        Ok(parsed) => parsed.peer.as_ref(),
+        Ok(parsed) => parsed.options.peer.as_ref(),
         Err(_) => None,
     }
 }

@@ -13,9 +13,11 @@ bytes_cmp = slice_cmp nat_cmp
 abbrev pub Items : Type 0
 Items = ℕ → FinMap bytes_cmp (List ℕ)
 
+-- each area is empty
 abbrev pub no_items : Items
 no_items area = empty
 
+-- a label is at least `from` and below `to`
 abbrev pub is_between : List ℕ → List ℕ → List ℕ → Bool
 is_between from to label = is_ge (bytes_cmp label from) && is_lt (bytes_cmp label to)
 
@@ -23,8 +25,10 @@ is_between from to label = is_ge (bytes_cmp label from) && is_lt (bytes_cmp labe
 abbrev pub listed : ℕ → List ℕ → List ℕ → Items → List (List ℕ × List ℕ)
 listed area from to m = entries (retain_keys (m area) (is_between from to))
 
+-- the items without those of the area whose label is at least `from` and below `to`
 abbrev pub cleared : ℕ → List ℕ → List ℕ → Items → Items
 cleared area from to m = λ a. if a == area then retain_keys (m a) (λ label. not (is_between from to label)) else m a
 
+-- the items with this body at its place, whether or not one stood there
 abbrev pub put : ℕ → List ℕ → List ℕ → Items → Items
 put area label body m = λ a. if a == area then insert (m a) label body else m a

@@ -16,6 +16,7 @@ pub record LeavesNo (old new : State) : Type 0 where
   pub live : IsTrue new.is_open
   pub left : (db : Trees) → new.may_leave db → old.may_leave db
 
+-- the same where the disk is clean and the connection was open
 abbrev pub LeavesNothing : State → State → Type 0
 LeavesNothing old new = HasCleanDisk new → IsTrue old.is_open → LeavesNo old new
 

@@ -97,10 +97,10 @@ module _ (m : Items) (area : ℕ) (label body : List ℕ) where
     pub puts : Holds next (put area label body m)
     puts = record { table = up; sound = sound_put; complete = complete_put; single = single_put }
 
-tidied : (e t : Bool) → ((e && (t && true)) || false) ≡ (e && t)
-tidied true true = refl
-tidied true false = refl
-tidied false t = refl
+without_true : (e t : Bool) → ((e && (t && true)) || false) ≡ (e && t)
+without_true true true = refl
+without_true true false = refl
+without_true false t = refl
 
 -- a row conflicts with a new one where it has its area and its label
 pub conflict_is : (n : Value) (area : ℕ) (label body : List ℕ) (id : ℤ) (a : ℕ) (l b : List ℕ)
@@ -109,7 +109,7 @@ unfolding binary first_key
 conflict_is n area label body id a l b =
     let one : is_true (from_truth (Some (is_eq (value_cmp (Int (pos a)) (Int (pos area)))))) ≡ (a == area) = truth_is _ ∙ ap is_eq (value_cmp-Int (pos a) (pos area)) ∙ same_area a area in
     let two : is_true (from_truth (Some (is_eq (value_cmp (Blob l) (Blob label))))) ≡ is_eq (bytes_cmp l label) = truth_is _ ∙ ap is_eq (value_cmp-Blob l label) in
-    ap₂ (λ (e t : Bool). (e && (t && true)) || false) one two ∙ tidied (a == area) (is_eq (bytes_cmp l label))
+    ap₂ (λ (e t : Bool). (e && (t && true)) || false) one two ∙ without_true (a == area) (is_eq (bytes_cmp l label))
 
 pub conflict_parts : (n : Value) (area : ℕ) (label body : List ℕ) (id : ℤ) (a : ℕ) (l b : List ℕ)
     → conflicts (Some (1 ∷ 2 ∷ [])) item_schema.indexes item_table (n ∷ Int (pos area) ∷ Blob label ∷ Blob body ∷ []) (row_of id a l b) ≡ true → (a ≡ area) × (l ≡ label)
@@ -123,17 +123,17 @@ own_conflict n area label body id b = conflict_is n area label body id area labe
 
 -- ---- the row is new
 
-either : (b : Bool) (x : Value) → cond b x x ≡ x
-either true x = refl
-either false x = refl
+cond_same : (b : Bool) (x : Value) → cond b x x ≡ x
+cond_same true x = refl
+cond_same false x = refl
 
 cast_null : cast Integer Null ≡ Null
 unfolding unary
-cast_null = either _ Null
+cast_null = cond_same _ Null
 
 pub cast_int : (n : ℤ) → cast Integer (Int n) ≡ Int n
 unfolding unary
-cast_int n = either _ (Int n)
+cast_int n = cond_same _ (Int n)
 
 pub cast_source : (v : Value) (area : ℕ) (label body : List ℕ) → cast Integer v ≡ v
     → cast_row item_table (v ∷ Int (pos area) ∷ Blob label ∷ Blob body ∷ []) ≡ v ∷ Int (pos area) ∷ Blob label ∷ Blob body ∷ []

@@ -9,16 +9,19 @@ use Rattle.sqlite_rules.specs.Lists.{Has}
 use Rattle.item_store.specs.Stands.{Earlier}
 use Rattle.item_store.specs.Table.{make_text, select_text, delete_text, upsert_text, begin_text, commit_text, no_text}
 
+-- the texts of all statements but the rollback
 abbrev pub texts : List (List ℕ)
 texts = make_text ∷ begin_text ∷ upsert_text ∷ delete_text ∷ commit_text ∷ select_text ∷ no_text ∷ []
 
--- one of them was run
+-- a statement of such a text was run
 abbrev pub Ran : State → State → Type 0
-Ran old new = (sql : List ℕ) × Has texts sql × (params : Row) × (((count : ℕ) × Executes sql params old new (Ok count)) ⊎ ((rows : List Row) × Shown sql params old new rows))
+Ran old new = (sql : List ℕ) × Has texts sql × (params : Row)
+    × (((count : ℕ) × Executes sql params old new (Ok count)) ⊎ ((rows : List Row) × Shown sql params old new rows))
 
--- one of them was refused, with this error
+-- a statement of such a text was refused, with this error
 abbrev pub Refused : State → State → Error → Type 0
-Refused old new e = (sql : List ℕ) × Has texts sql × (params : Row) × (Executes sql params old new (Err e) ⊎ FailsToQuery sql params old new e)
+Refused old new e = (sql : List ℕ) × Has texts sql × (params : Row)
+    × (Executes sql params old new (Err e) ⊎ FailsToQuery sql params old new e)
 
 -- how a call of one statement ended
 abbrev pub Asks : {T : Type 0} → State → State → Result T Error → Type 0

@@ -8,6 +8,7 @@ use Rattle.roster_base.specs.declared.keeper.KeeperError.{KeeperError}
 use Rattle.roster_base.specs.declared.keeper.KeeperError.TheVariants.{Failed, NoMemory}
 use Rattle.item_store.specs.Asked.{IsRefused}
 
+-- the error of want of memory
 abbrev pub no_memory : Error
 no_memory = SqliteFailure OutOfMemory
 

@@ -27,8 +27,8 @@ MayHold s ms = (db : Trees) → s.may_leave db → IsLeftOf db ms
 abbrev pub WasOpen : State → State → Type 0
 WasOpen old new = HasCleanDisk new → IsTrue new.is_open → IsTrue old.is_open
 
--- A call ended on a connection that was open. Success leaves it open; an error leaves it open or its transaction undone. A
--- stop then leaves what a stop before the call left, or these trees.
+-- A call ended on a connection that was open. Success leaves it open; an error leaves it open or its transaction
+-- undone. A stop then leaves what a stop before the call left, or these trees.
 pub record LeavesAs {T : Type 0} (old new : State) (result : Result T Error) (Adds : Trees → Type 0) : Type 0 where
   pub live : OnOk result (IsTrue new.is_open)
   pub ended : OnErr result (IsTrue new.is_open ⊎ (new.in_transaction ≡ false))
@@ -46,7 +46,8 @@ pub record MayFind (s : State) (m : Items) : Type 0 where
   pub may : s.may_leave db
   pub is : IsLeft db m
 
--- a clean disk under a connection that is shut, though the disk has failed at most so often, or that has failed less often
+-- a clean disk under a connection that is shut, though the disk has failed at most so often, or that has failed less
+-- often
 pub record IsDown (times : ℕ) (s : State) : Type 0 where
   pub clean : HasCleanDisk s
   pub counted : times < 2 ^ 64 - 1

@@ -6,6 +6,7 @@ use Rattle.item_store.specs.Table.{no_schema, item_schema}
 use Rattle.item_maps.specs.Items.{Items, no_items}
 use Rattle.item_store.specs.Items.{Holds}
 
+-- the table stands, and its rows are these items
 pub record IsTabled (db : Database) (m : Items) : Type 0 where
   pub schema : db.schema ≡ item_schema
   pub rows : Holds (db.trees 0) m
@@ -14,8 +15,9 @@ pub record IsTabled (db : Database) (m : Items) : Type 0 where
 abbrev pub IsTold : Database → Items → Type 0
 IsTold db m = ((db.schema ≡ no_schema) × (m ≡ no_items)) ⊎ IsTabled db m
 
-abbrev pub Says : State → Type 0 → Type 0
-Says s P = HasCleanDisk s → IsTrue s.is_open → P
+-- this holds while the disk gives back what was written to it and the connection is open
+abbrev pub WhileClean : State → Type 0 → Type 0
+WhileClean s P = HasCleanDisk s → IsTrue s.is_open → P
 
 -- between statements, outside a transaction
 pub record IsSettled (s : State) (Table : Database → Items → Type 0) (m : Items) : Type 0 where
@@ -23,12 +25,13 @@ pub record IsSettled (s : State) (Table : Database → Items → Type 0) (m : It
   pub same : s.now ≡ s.committed
   pub told : Table s.committed m
 
+-- outside a transaction the connection stands for these items
 abbrev pub StandsFor : State → Items → Type 0
-StandsFor s m = Says s (IsSettled s IsTold m)
+StandsFor s m = WhileClean s (IsSettled s IsTold m)
 
 -- the same, and the table stands
 abbrev pub IsReady : State → Items → Type 0
-IsReady s m = Says s (IsSettled s IsTabled m)
+IsReady s m = WhileClean s (IsSettled s IsTabled m)
 
 -- inside a transaction that has come from the items `base` to these
 pub record IsInside (s : State) (base m : Items) : Type 0 where
@@ -36,8 +39,9 @@ pub record IsInside (s : State) (base m : Items) : Type 0 where
   pub table : IsTabled s.now m
   pub base_told : IsTold s.committed base
 
+-- the connection is inside a transaction that has come from the items `base` to these
 abbrev pub IsWithin : State → Items → Items → Type 0
-IsWithin s base m = Says s (IsInside s base m)
+IsWithin s base m = WhileClean s (IsInside s base m)
 
 -- a rollback leads back to the items `base`
 pub record MayGoBack (s : State) (base : Items) : Type 0 where
@@ -45,8 +49,9 @@ pub record MayGoBack (s : State) (base : Items) : Type 0 where
   pub table : s.in_transaction ≡ true → s.now.schema ≡ item_schema
   pub settled : s.in_transaction ≡ false → s.now ≡ s.committed
 
+-- a rollback leads the connection back to the items `base`
 abbrev pub GoesBackTo : State → Items → Type 0
-GoesBackTo s base = Says s (MayGoBack s base)
+GoesBackTo s base = WhileClean s (MayGoBack s base)
 
 -- clean now, so clean before
 abbrev pub Earlier : State → State → Type 0

@@ -12,6 +12,7 @@ ghost use Rattle.item_store.specs.Table.{delete_text, upsert_text};
 
 use sqlite::{Alter, Connection, Error, params};
 
+// Runs the statement that takes away the items of a range.
 fn run_clear<S: Alter>(
     conn: &mut Connection<S>,
     area: u32,
@@ -19,8 +20,10 @@ fn run_clear<S: Alter>(
     to: &[u8],
 ) -> Result<usize, Error>
     ensures runs { HasCleanDisk (state S.Store conn.new)
-        → Executes delete_text (params_of area from.now to.now []) (state S.Store conn.old) (state S.Store conn.new) result }
-    ensures survives { Survives (state S.Store conn.old) (state S.Store conn.new) (CommitsBy delete_text (params_of area from.now to.now []) (state S.Store conn.old)) }
+        → Executes delete_text (params_of area from.now to.now []) (state S.Store conn.old)
+        (state S.Store conn.new) result }
+    ensures survives { Survives (state S.Store conn.old) (state S.Store conn.new)
+        (CommitsBy delete_text (params_of area from.now to.now []) (state S.Store conn.old)) }
     ensures honest { Earlier (state S.Store conn.old) (state S.Store conn.new) }
     ensures lasts { Lasts (state S.Store conn.old) (state S.Store conn.new) }
 {
@@ -30,6 +33,7 @@ fn run_clear<S: Alter>(
     )
 }
 
+// Runs the statement that stores an item.
 fn run_put<S: Alter>(
     conn: &mut Connection<S>,
     area: u32,
@@ -37,8 +41,10 @@ fn run_put<S: Alter>(
     body: &[u8],
 ) -> Result<usize, Error>
     ensures runs { HasCleanDisk (state S.Store conn.new)
-        → Executes upsert_text (put_params area label.now body.now) (state S.Store conn.old) (state S.Store conn.new) result }
-    ensures survives { Survives (state S.Store conn.old) (state S.Store conn.new) (CommitsBy upsert_text (put_params area label.now body.now) (state S.Store conn.old)) }
+        → Executes upsert_text (put_params area label.now body.now) (state S.Store conn.old)
+        (state S.Store conn.new) result }
+    ensures survives { Survives (state S.Store conn.old) (state S.Store conn.new)
+        (CommitsBy upsert_text (put_params area label.now body.now) (state S.Store conn.old)) }
     ensures honest { Earlier (state S.Store conn.old) (state S.Store conn.new) }
     ensures lasts { Lasts (state S.Store conn.old) (state S.Store conn.new) }
 {
@@ -57,9 +63,12 @@ pub fn clear<S: Alter>(
 ) -> Result<(), Error>
     ensures ok { (base m : Items) → IsWithin (state S.Store conn.old) base m
         → OnOk result (IsWithin (state S.Store conn.new) base (cleared area from.now to.now m)) }
-    ensures err { (base m : Items) → IsWithin (state S.Store conn.old) base m → OnErr result (GoesBackTo (state S.Store conn.new) base) }
-    ensures asks { HasCleanDisk (state S.Store conn.new) → Asks (state S.Store conn.old) (state S.Store conn.new) result }
-    ensures left { (base m : Items) → IsWithin (state S.Store conn.old) base m → Leaves (state S.Store conn.old) (state S.Store conn.new) result (λ _. ⊥) }
+    ensures err { (base m : Items) → IsWithin (state S.Store conn.old) base m
+        → OnErr result (GoesBackTo (state S.Store conn.new) base) }
+    ensures asks { HasCleanDisk (state S.Store conn.new)
+        → Asks (state S.Store conn.old) (state S.Store conn.new) result }
+    ensures left { (base m : Items) → IsWithin (state S.Store conn.old) base m
+        → Leaves (state S.Store conn.old) (state S.Store conn.new) result (λ _. ⊥) }
     ensures was_open { WasOpen (state S.Store conn.old) (state S.Store conn.new) }
     ensures honest { Earlier (state S.Store conn.old) (state S.Store conn.new) }
     ensures lasts { Lasts (state S.Store conn.old) (state S.Store conn.new) }
@@ -77,9 +86,12 @@ pub fn put<S: Alter>(
 ) -> Result<(), Error>
     ensures ok { (base m : Items) → IsWithin (state S.Store conn.old) base m
         → OnOk result (IsWithin (state S.Store conn.new) base (put_in area label.now body.now m)) }
-    ensures err { (base m : Items) → IsWithin (state S.Store conn.old) base m → OnErr result (GoesBackTo (state S.Store conn.new) base) }
-    ensures asks { HasCleanDisk (state S.Store conn.new) → Asks (state S.Store conn.old) (state S.Store conn.new) result }
-    ensures left { (base m : Items) → IsWithin (state S.Store conn.old) base m → Leaves (state S.Store conn.old) (state S.Store conn.new) result (λ _. ⊥) }
+    ensures err { (base m : Items) → IsWithin (state S.Store conn.old) base m
+        → OnErr result (GoesBackTo (state S.Store conn.new) base) }
+    ensures asks { HasCleanDisk (state S.Store conn.new)
+        → Asks (state S.Store conn.old) (state S.Store conn.new) result }
+    ensures left { (base m : Items) → IsWithin (state S.Store conn.old) base m
+        → Leaves (state S.Store conn.old) (state S.Store conn.new) result (λ _. ⊥) }
     ensures was_open { WasOpen (state S.Store conn.old) (state S.Store conn.new) }
     ensures honest { Earlier (state S.Store conn.old) (state S.Store conn.new) }
     ensures lasts { Lasts (state S.Store conn.old) (state S.Store conn.new) }

@@ -13,6 +13,10 @@ ghost use Rattle.item_store.specs.Table.{select_text};
 
 use sqlite::{Alter, Connection, Error, Row, params};
 
+/// How many items one call lists at most.
+pub const MOST_ITEMS: u64 = 1_000_000_000_000_000;
+
+// Runs the statement that lists items.
 fn run_select<S: Alter>(
     conn: &mut Connection<S>,
     area: u32,
@@ -20,11 +24,13 @@ fn run_select<S: Alter>(
     to: &[u8],
     limit: u64,
 ) -> Result<Vec<Row>, Error>
-    requires { limit ≤ 1000000000000000 }
+    requires { limit ≤ MOST_ITEMS }
     ensures ok { HasCleanDisk (state S.Store conn.new) → IfOk result (λ rows.
-        Shown select_text (params_of area from.now to.now (Int (pos limit) ∷ [])) (state S.Store conn.old) (state S.Store conn.new) rows.items) }
+        Shown select_text (params_of area from.now to.now (Int (pos limit) ∷ [])) (state S.Store conn.old)
+        (state S.Store conn.new) rows.items) }
     ensures err { HasCleanDisk (state S.Store conn.new) → IfErr result
-        (FailsToQuery select_text (params_of area from.now to.now (Int (pos limit) ∷ [])) (state S.Store conn.old) (state S.Store conn.new)) }
+        (FailsToQuery select_text (params_of area from.now to.now (Int (pos limit) ∷ [])) (state S.Store conn.old)
+        (state S.Store conn.new)) }
     ensures survives { Survives (state S.Store conn.old) (state S.Store conn.new)
         (CommitsShowing select_text (params_of area from.now to.now (Int (pos limit) ∷ [])) (state S.Store conn.old)) }
     ensures honest { Earlier (state S.Store conn.old) (state S.Store conn.new) }
@@ -36,8 +42,8 @@ fn run_select<S: Alter>(
     )
 }
 
-/// The first `limit` items of the area whose label is at least `from` and below `to`, in the order of labels: a row of label and
-/// body each.
+/// The first `limit` items of the area whose label is at least `from` and below `to`, in the order of labels, each as a
+/// row of its label and its body.
 pub fn select<S: Alter>(
     conn: &mut Connection<S>,
     area: u32,
@@ -45,12 +51,14 @@ pub fn select<S: Alter>(
     to: &[u8],
     limit: u64,
 ) -> Result<Vec<Row>, Error>
-    requires { limit ≤ 1000000000000000 }
+    requires { limit ≤ MOST_ITEMS }
     ensures rows { (m : Items) → IsReady (state S.Store conn.old) m → HasCleanDisk (state S.Store conn.new)
         → IfOk result (λ rows. rows.items ≡ map shown (take limit (listed area from.now to.now m))) }
     ensures same { (m : Items) → IsReady (state S.Store conn.old) m → StandsFor (state S.Store conn.new) m }
-    ensures asks { HasCleanDisk (state S.Store conn.new) → Asks (state S.Store conn.old) (state S.Store conn.new) result }
-    ensures left { (m : Items) → IsReady (state S.Store conn.old) m → Leaves (state S.Store conn.old) (state S.Store conn.new) result (λ _. ⊥) }
+    ensures asks { HasCleanDisk (state S.Store conn.new)
+        → Asks (state S.Store conn.old) (state S.Store conn.new) result }
+    ensures left { (m : Items) → IsReady (state S.Store conn.old) m
+        → Leaves (state S.Store conn.old) (state S.Store conn.new) result (λ _. ⊥) }
     ensures was_open { WasOpen (state S.Store conn.old) (state S.Store conn.new) }
     ensures honest { Earlier (state S.Store conn.old) (state S.Store conn.new) }
     ensures lasts { Lasts (state S.Store conn.old) (state S.Store conn.new) }

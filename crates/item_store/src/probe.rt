@@ -14,9 +14,12 @@ use sqlite::{Alter, Connection, Error};
 /// Asks the statement that does nothing. A connection that a fault has shut refuses it, and leaves its files alone.
 pub fn answers<S: Alter>(conn: &mut Connection<S>) -> Result<(), Error>
     ensures same { (m : Items) → StandsFor (state S.Store conn.old) m → StandsFor (state S.Store conn.new) m }
-    ensures live { HasCleanDisk (state S.Store conn.new) → OnOk result (IsTrue (state S.Store conn.old).is_open × IsTrue (state S.Store conn.new).is_open) }
-    ensures left { HasCleanDisk (state S.Store conn.new) → (db : Trees) → (state S.Store conn.new).may_leave db → (state S.Store conn.old).may_leave db }
-    ensures asks { HasCleanDisk (state S.Store conn.new) → Asks (state S.Store conn.old) (state S.Store conn.new) result }
+    ensures live { HasCleanDisk (state S.Store conn.new)
+        → OnOk result (IsTrue (state S.Store conn.old).is_open × IsTrue (state S.Store conn.new).is_open) }
+    ensures left { HasCleanDisk (state S.Store conn.new) → (db : Trees) → (state S.Store conn.new).may_leave db
+        → (state S.Store conn.old).may_leave db }
+    ensures asks { HasCleanDisk (state S.Store conn.new)
+        → Asks (state S.Store conn.old) (state S.Store conn.new) result }
     ensures was_open { WasOpen (state S.Store conn.old) (state S.Store conn.new) }
     ensures honest { Earlier (state S.Store conn.old) (state S.Store conn.new) }
     ensures lasts { Lasts (state S.Store conn.old) (state S.Store conn.new) }

@@ -11,17 +11,19 @@ ghost use Rattle.item_store.specs.Stands.{StandsFor, Earlier};
 ghost use Rattle.item_maps.specs.Edits.{after, entry_of};
 ghost use Rattle.item_store.specs.Causes.{IsFailed, IsCaused};
 
-use crate::commit_edits::commit_edits;
-use crate::read_items::read_items;
+use crate::edits::commit_edits;
+use crate::items::read_items;
+use crate::listing::MOST_ITEMS;
 use item_maps::{Edit, Item};
 use roster_base::KeeperError;
 use sqlite::{Alter, Connection, Error, ErrorCode};
 use std::alloc::Global;
 
-/// Items in the table `item` of a database, from area and label to body. The table is made by the first call that needs it.
+/// Items in the table `item` of a database, from area and label to body. The table is made by the first call that needs
+/// it.
 ///
-/// What the clauses say of items holds while the connection is open and its disk gives back what was written to it. Of a
-/// call that shuts the connection they still say which items the files hold. A connection that is handed in inside a
+/// What the clauses say of items holds while the connection is open and its disk gives back what was written to it. Of
+/// a call that shuts the connection they still say which items the files hold. A connection that is handed in inside a
 /// transaction fails at each call.
 #[derive(Drop)]
 pub struct ItemStore<S: Alter> {
@@ -81,8 +83,8 @@ impl<S: Alter> ItemStore<S> {
         KeeperError::Failed
     }
 
-    /// The first `limit` items of the area whose label is at least `from` and below `to`, in the order of label bytes. The items
-    /// stay as they are. The limit is at most 10^15.
+    /// The first `limit` items of the area whose label is at least `from` and below `to`, in the order of label bytes.
+    /// The items stay as they are. The limit is at most `MOST_ITEMS`.
     pub fn range(
         &mut self,
         alloc: Global,
@@ -91,25 +93,35 @@ impl<S: Alter> ItemStore<S> {
         to: &[u8],
         limit: u64,
     ) -> Result<Vec<Item>, KeeperError>
-        requires { limit ≤ 1000000000000000 }
-        ensures items { (m : Items) → StandsFor (state S.Store self.old.connection) m → HasCleanDisk (state S.Store self.new.connection)
+        requires { limit ≤ MOST_ITEMS }
+        ensures items { (m : Items) → StandsFor (state S.Store self.old.connection) m
+            → HasCleanDisk (state S.Store self.new.connection)
             → IfOk result (λ items. map entry_of items.items ≡ take limit (listed area from.now to.now m)) }
-        ensures same { (m : Items) → StandsFor (state S.Store self.old.connection) m → StandsFor (state S.Store self.new.connection) m }
+        ensures same { (m : Items) → StandsFor (state S.Store self.old.connection) m
+            → StandsFor (state S.Store self.new.connection) m }
         ensures cause { CountsFailure self.old.faults self.new.faults result }
-        ensures refused { (m : Items) → StandsFor (state S.Store self.old.connection) m → HasCleanDisk (state S.Store self.new.connection)
-            → IsTrue (state S.Store self.old.connection).is_open → IfErr result (IsCaused (state S.Store) self.old.connection self.new.connection) }
+        ensures refused { (m : Items) → StandsFor (state S.Store self.old.connection) m
+            → HasCleanDisk (state S.Store self.new.connection)
+            → IsTrue (state S.Store self.old.connection).is_open
+            → IfErr result (IsCaused (state S.Store) self.old.connection self.new.connection) }
         // Also where a fault has shut the connection.
-        ensures left { (m : Items) → StandsFor (state S.Store self.old.connection) m → HasCleanDisk (state S.Store self.new.connection)
-            → IsTrue (state S.Store self.old.connection).is_open → MayHold (state S.Store self.new.connection) (m ∷ []) }
+        ensures left { (m : Items) → StandsFor (state S.Store self.old.connection) m
+            → HasCleanDisk (state S.Store self.new.connection)
+            → IsTrue (state S.Store self.old.connection).is_open
+            → MayHold (state S.Store self.new.connection) (m ∷ []) }
         ensures honest { Earlier (state S.Store self.old.connection) (state S.Store self.new.connection) }
         ensures lasts { Lasts (state S.Store self.old.connection) (state S.Store self.new.connection) }
         // Where the call shuts the connection, an open finds these items.
-        ensures found { (m n : Items) → StandsFor (state S.Store self.old.connection) m → IsTrue (state S.Store self.old.connection).is_open
+        ensures found { (m n : Items) → StandsFor (state S.Store self.old.connection) m
+            → IsTrue (state S.Store self.old.connection).is_open
             → MayFind (state S.Store self.new.connection) n → n ≡ m }
         // A call that succeeds leaves the connection open.
-        ensures live { HasCleanDisk (state S.Store self.new.connection) → OnOk result (IsTrue (state S.Store self.new.connection).is_open) }
+        ensures live { HasCleanDisk (state S.Store self.new.connection)
+            → OnOk result (IsTrue (state S.Store self.new.connection).is_open) }
         // Over a connection that was shut before the call nothing is changed.
-        ensures shut { (n : Items) → MayFind (state S.Store self.new.connection) n → (state S.Store self.old.connection).is_open ≡ false → IsErr result × MayFind (state S.Store self.old.connection) n }
+        ensures shut { (n : Items) → MayFind (state S.Store self.new.connection) n
+            → (state S.Store self.old.connection).is_open ≡ false
+            → IsErr result × MayFind (state S.Store self.old.connection) n }
         ensures was_open { WasOpen (state S.Store self.old.connection) (state S.Store self.new.connection) }
     {
         // Read for its clause `live`: what is committed is a database.
@@ -124,22 +136,31 @@ impl<S: Alter> ItemStore<S> {
     pub fn commit(&mut self, edits: &[Edit]) -> Result<(), KeeperError>
         ensures ok { (m : Items) → StandsFor (state S.Store self.old.connection) m
             → OnOk result (StandsFor (state S.Store self.new.connection) (after edits.now m)) }
-        ensures err { (m : Items) → StandsFor (state S.Store self.old.connection) m → OnErr result (StandsFor (state S.Store self.new.connection) m) }
+        ensures err { (m : Items) → StandsFor (state S.Store self.old.connection) m
+            → OnErr result (StandsFor (state S.Store self.new.connection) m) }
         ensures cause { CountsFailure self.old.faults self.new.faults result }
-        ensures refused { (m : Items) → StandsFor (state S.Store self.old.connection) m → HasCleanDisk (state S.Store self.new.connection)
-            → IsTrue (state S.Store self.old.connection).is_open → IfErr result (IsCaused (state S.Store) self.old.connection self.new.connection) }
+        ensures refused { (m : Items) → StandsFor (state S.Store self.old.connection) m
+            → HasCleanDisk (state S.Store self.new.connection)
+            → IsTrue (state S.Store self.old.connection).is_open
+            → IfErr result (IsCaused (state S.Store) self.old.connection self.new.connection) }
         // Also where a fault has shut the connection: a stop leaves the items before the call, or those after it.
-        ensures left { (m : Items) → StandsFor (state S.Store self.old.connection) m → HasCleanDisk (state S.Store self.new.connection)
-            → IsTrue (state S.Store self.old.connection).is_open → MayHold (state S.Store self.new.connection) (m ∷ after edits.now m ∷ []) }
+        ensures left { (m : Items) → StandsFor (state S.Store self.old.connection) m
+            → HasCleanDisk (state S.Store self.new.connection)
+            → IsTrue (state S.Store self.old.connection).is_open
+            → MayHold (state S.Store self.new.connection) (m ∷ after edits.now m ∷ []) }
         ensures honest { Earlier (state S.Store self.old.connection) (state S.Store self.new.connection) }
         ensures lasts { Lasts (state S.Store self.old.connection) (state S.Store self.new.connection) }
         // Where the call shuts the connection, an open finds the items before the call, or those after it.
-        ensures found { (m n : Items) → StandsFor (state S.Store self.old.connection) m → IsTrue (state S.Store self.old.connection).is_open
+        ensures found { (m n : Items) → StandsFor (state S.Store self.old.connection) m
+            → IsTrue (state S.Store self.old.connection).is_open
             → MayFind (state S.Store self.new.connection) n → (n ≡ m) ⊎ (n ≡ after edits.now m) }
         // A call that succeeds leaves the connection open.
-        ensures live { HasCleanDisk (state S.Store self.new.connection) → OnOk result (IsTrue (state S.Store self.new.connection).is_open) }
+        ensures live { HasCleanDisk (state S.Store self.new.connection)
+            → OnOk result (IsTrue (state S.Store self.new.connection).is_open) }
         // Over a connection that was shut before the call nothing is changed.
-        ensures shut { (n : Items) → MayFind (state S.Store self.new.connection) n → (state S.Store self.old.connection).is_open ≡ false → IsErr result × MayFind (state S.Store self.old.connection) n }
+        ensures shut { (n : Items) → MayFind (state S.Store self.new.connection) n
+            → (state S.Store self.old.connection).is_open ≡ false
+            → IsErr result × MayFind (state S.Store self.old.connection) n }
         ensures was_open { WasOpen (state S.Store self.old.connection) (state S.Store self.new.connection) }
     {
         // Read for its clause `live`: what is committed is a database.

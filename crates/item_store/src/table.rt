@@ -20,9 +20,12 @@ fn has_table<S: Alter>(conn: &Connection<S>) -> bool
 // Makes the table where it doesn't stand, by a statement.
 fn create<S: Alter>(conn: &mut Connection<S>) -> Result<(), Error>
     ensures ok { (m : Items) → StandsFor (state S.Store conn.old) m → OnOk result (IsReady (state S.Store conn.new) m) }
-    ensures err { (m : Items) → StandsFor (state S.Store conn.old) m → OnErr result (StandsFor (state S.Store conn.new) m) }
-    ensures asks { HasCleanDisk (state S.Store conn.new) → Asks (state S.Store conn.old) (state S.Store conn.new) result }
-    ensures left { (m : Items) → StandsFor (state S.Store conn.old) m → Leaves (state S.Store conn.old) (state S.Store conn.new) result (λ db. IsLeft db m) }
+    ensures err { (m : Items) → StandsFor (state S.Store conn.old) m
+        → OnErr result (StandsFor (state S.Store conn.new) m) }
+    ensures asks { HasCleanDisk (state S.Store conn.new)
+        → Asks (state S.Store conn.old) (state S.Store conn.new) result }
+    ensures left { (m : Items) → StandsFor (state S.Store conn.old) m
+        → Leaves (state S.Store conn.old) (state S.Store conn.new) result (λ db. IsLeft db m) }
     ensures was_open { WasOpen (state S.Store conn.old) (state S.Store conn.new) }
     ensures honest { Earlier (state S.Store conn.old) (state S.Store conn.new) }
     ensures lasts { Lasts (state S.Store conn.old) (state S.Store conn.new) }
@@ -37,9 +40,11 @@ fn create<S: Alter>(conn: &mut Connection<S>) -> Result<(), Error>
 /// Makes the table where it doesn't stand. A database that has it is asked nothing.
 pub fn make<S: Alter>(conn: &mut Connection<S>) -> Result<(), Error>
     ensures ok { (m : Items) → StandsFor (state S.Store conn.old) m → OnOk result (IsReady (state S.Store conn.new) m) }
-    ensures err { (m : Items) → StandsFor (state S.Store conn.old) m → OnErr result (StandsFor (state S.Store conn.new) m) }
+    ensures err { (m : Items) → StandsFor (state S.Store conn.old) m
+        → OnErr result (StandsFor (state S.Store conn.new) m) }
     ensures asks { HasCleanDisk (state S.Store conn.new) → AsksInTurn (state S.Store) conn.old conn.new result }
-    ensures left { (m : Items) → StandsFor (state S.Store conn.old) m → Leaves (state S.Store conn.old) (state S.Store conn.new) result (λ db. IsLeft db m) }
+    ensures left { (m : Items) → StandsFor (state S.Store conn.old) m
+        → Leaves (state S.Store conn.old) (state S.Store conn.new) result (λ db. IsLeft db m) }
     ensures was_open { WasOpen (state S.Store conn.old) (state S.Store conn.new) }
     ensures honest { Earlier (state S.Store conn.old) (state S.Store conn.new) }
     ensures lasts { Lasts (state S.Store conn.old) (state S.Store conn.new) }

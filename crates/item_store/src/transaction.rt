@@ -13,10 +13,14 @@ use sqlite::{Alter, Connection, Error};
 
 /// Begins a transaction.
 pub fn begin<S: Alter>(conn: &mut Connection<S>) -> Result<(), Error>
-    ensures ok { (m : Items) → IsReady (state S.Store conn.old) m → OnOk result (IsWithin (state S.Store conn.new) m m) }
-    ensures err { (m : Items) → IsReady (state S.Store conn.old) m → OnErr result (StandsFor (state S.Store conn.new) m) }
-    ensures asks { HasCleanDisk (state S.Store conn.new) → Asks (state S.Store conn.old) (state S.Store conn.new) result }
-    ensures left { (m : Items) → IsReady (state S.Store conn.old) m → Leaves (state S.Store conn.old) (state S.Store conn.new) result (λ _. ⊥) }
+    ensures ok { (m : Items) → IsReady (state S.Store conn.old) m
+        → OnOk result (IsWithin (state S.Store conn.new) m m) }
+    ensures err { (m : Items) → IsReady (state S.Store conn.old) m
+        → OnErr result (StandsFor (state S.Store conn.new) m) }
+    ensures asks { HasCleanDisk (state S.Store conn.new)
+        → Asks (state S.Store conn.old) (state S.Store conn.new) result }
+    ensures left { (m : Items) → IsReady (state S.Store conn.old) m
+        → Leaves (state S.Store conn.old) (state S.Store conn.new) result (λ _. ⊥) }
     ensures was_open { WasOpen (state S.Store conn.old) (state S.Store conn.new) }
     ensures honest { Earlier (state S.Store conn.old) (state S.Store conn.new) }
     ensures lasts { Lasts (state S.Store conn.old) (state S.Store conn.new) }
@@ -27,14 +31,19 @@ pub fn begin<S: Alter>(conn: &mut Connection<S>) -> Result<(), Error>
 
 /// Commits the transaction.
 pub fn commit<S: Alter>(conn: &mut Connection<S>) -> Result<(), Error>
-    ensures ok { (base m : Items) → IsWithin (state S.Store conn.old) base m → OnOk result (StandsFor (state S.Store conn.new) m) }
-    ensures err { (base m : Items) → IsWithin (state S.Store conn.old) base m → OnErr result (GoesBackTo (state S.Store conn.new) base) }
-    ensures asks { HasCleanDisk (state S.Store conn.new) → Asks (state S.Store conn.old) (state S.Store conn.new) result }
-    ensures left { (base m : Items) → IsWithin (state S.Store conn.old) base m → Leaves (state S.Store conn.old) (state S.Store conn.new) result (λ db. IsLeft db m) }
+    ensures ok { (base m : Items) → IsWithin (state S.Store conn.old) base m
+        → OnOk result (StandsFor (state S.Store conn.new) m) }
+    ensures err { (base m : Items) → IsWithin (state S.Store conn.old) base m
+        → OnErr result (GoesBackTo (state S.Store conn.new) base) }
+    ensures asks { HasCleanDisk (state S.Store conn.new)
+        → Asks (state S.Store conn.old) (state S.Store conn.new) result }
+    ensures left { (base m : Items) → IsWithin (state S.Store conn.old) base m
+        → Leaves (state S.Store conn.old) (state S.Store conn.new) result (λ db. IsLeft db m) }
     ensures was_open { WasOpen (state S.Store conn.old) (state S.Store conn.new) }
     ensures honest { Earlier (state S.Store conn.old) (state S.Store conn.new) }
     ensures lasts { Lasts (state S.Store conn.old) (state S.Store conn.new) }
-    ensures live { HasCleanDisk (state S.Store conn.new) → OnOk result (IsTrue (state S.Store conn.new).is_open × ((state S.Store conn.new).in_transaction ≡ false)) }
+    ensures live { HasCleanDisk (state S.Store conn.new)
+        → OnOk result (IsTrue (state S.Store conn.new).is_open × ((state S.Store conn.new).in_transaction ≡ false)) }
 {
     // Read for its clause `live`: what is committed is a database.
     let _ = conn.schema();

@@ -19,19 +19,23 @@ pub record FailurePlan : Type 0 where
 abbrev pub one_more : ℕ → ℕ
 one_more n = min (n + 1) (2 ^ 64 - 1)
 
+-- these calls are to fail, and none came yet
 abbrev pub planned : List ℕ → List ℕ → List ℕ → FailurePlan
 planned before after reads = record { before = before; after = after; reads = reads; commits_made = 0; reads_made = 0; faults = 0 }
 
+-- the number is listed
 abbrev pub is_among : ℕ → List ℕ → Bool
 is_among number numbers = list_any (λ n. n == number) numbers
 
--- whether the next read is to fail, and the next commit before it acts and after it has acted
+-- the next read is to fail
 abbrev pub read_fails : FailurePlan → Bool
 read_fails plan = is_among (one_more plan.reads_made) plan.reads
 
+-- the next commit is to fail before it acts
 abbrev pub fails_before : FailurePlan → Bool
 fails_before plan = is_among (one_more plan.commits_made) plan.before
 
+-- the next commit is to fail after it has acted
 abbrev pub fails_after : FailurePlan → Bool
 fails_after plan = is_among (one_more plan.commits_made) plan.after
 
@@ -39,13 +43,15 @@ fails_after plan = is_among (one_more plan.commits_made) plan.after
 abbrev pub with_fault : Bool → FailurePlan → FailurePlan
 with_fault fails plan = record plan { faults = if fails then one_more plan.faults else plan.faults }
 
+-- the plan after a read
 abbrev pub after_read : FailurePlan → FailurePlan
 after_read plan = with_fault (read_fails plan) (record plan { reads_made = one_more plan.reads_made })
 
--- and a commit before and after it has acted
+-- the plan after a commit has come, before it acts
 abbrev pub after_begin : FailurePlan → FailurePlan
 after_begin plan = with_fault (fails_before plan) (record plan { commits_made = one_more plan.commits_made })
 
+-- the plan after a commit that has acted
 abbrev pub after_end : FailurePlan → FailurePlan
 after_end plan = with_fault (is_among plan.commits_made plan.after) plan
 
@@ -53,7 +59,7 @@ after_end plan = with_fault (is_among plan.commits_made plan.after) plan
 abbrev pub FailsIf : Bool → Result (Unit {0}) KeeperError → Type 0
 FailsIf fails result = result ≡ (if fails then Err Failed else Ok tt)
 
--- a commit is counted, and what is listed stays
+-- after a commit: it is counted, and what is listed stays
 pub record KeepsPlan (old new : FailurePlan) : Type 0 where
   pub before : new.before ≡ old.before
   pub after : new.after ≡ old.after

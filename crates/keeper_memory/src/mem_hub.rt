@@ -21,7 +21,7 @@ use std::marker::Model;
 use version_core::hub_tables::HubTables;
 use version_core::marks::Marks;
 
-// A hub's state in memory; contracts see what is kept.
+// A hub's state in memory. A clause sees what is kept.
 #[derive(Drop)]
 struct MemTables {
     versions: MemVersions,
@@ -40,6 +40,7 @@ impl Model for MemTables {
 }
 
 impl MemTables {
+    // Version 0 alone, and no marks.
     fn new(alloc: Global, keep: u32) -> MemTables
         ensures { result ≡ record { keep = keep; versions = empty_version ∷ []; marks = [] } }
     {
@@ -49,6 +50,7 @@ impl MemTables {
         }
     }
 
+    // What the tables stand for.
     fn holding(alloc: Global, tables: HubTables) -> Result<MemTables, NoMemory>
         requires { AreTables tables }
         ensures { IfOk result (λ t. t ≡ kept_by tables) }
@@ -66,6 +68,7 @@ impl MemTables {
         })
     }
 
+    // Tables that stand for what is kept.
     fn load(&self, alloc: Global) -> Result<HubTables, NoMemory>
         ensures value { IfOk result (λ t. kept_by t ≡ self.now) }
         ensures tables { IfOk result AreTables }
@@ -73,6 +76,7 @@ impl MemTables {
         self.versions.tables(alloc, self.marks.as_slice())
     }
 
+    // Adds the change and the mark of a commit, or neither where memory runs out.
     fn commit(&mut self, alloc: Global, commit: &HubCommit) -> Result<(), NoMemory>
         requires { CanCommit self.old commit.now }
         ensures ok { OnOk result (self.new ≡ with_commit self.old commit.now) }
@@ -125,8 +129,8 @@ impl MemHub {
         })
     }
 
-    /// The same keeper, of which these calls fail: the commits of these numbers, from 1 on, before and after they have acted, and the
-    /// loads of these.
+    /// The same keeper, of which these calls fail: the commits of these numbers, from 1 on, before and after they have
+    /// acted, and the loads of these.
     pub fn with_failures(self, before: Vec<u64>, after: Vec<u64>, reads: Vec<u64>) -> MemHub
         ensures kept { result.kept ≡ self.kept }
         ensures plan { result.plan ≡ planned before.items after.items reads.items }

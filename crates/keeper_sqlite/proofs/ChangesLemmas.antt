@@ -10,7 +10,7 @@ use Rattle.version_core.specs.declared.change.Change.{Change}
 use Rattle.version_core.specs.declared.hub_tables.HubTables.{HubTables}
 use Rattle.hub_format.specs.Format.{FitsChange, items_of, own_grants, own_version}
 use Rattle.hub_format.specs.Pieces.{number}
-use Rattle.hub_format.proofs.Told.{IsToldBy, changes_told, listed_of, newest_from, none_told}
+use Rattle.hub_format.proofs.TableListings.{IsToldBy, changes_told, listed_of, newest_from, none_told}
 use Rattle.keeper_sqlite.proofs.HubKeepingLemmas.{listed_alike}
 use Rattle.keeper_sqlite.specs.hub.Rows.{HasChanges}
 

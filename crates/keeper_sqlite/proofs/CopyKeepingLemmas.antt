@@ -14,8 +14,8 @@ use Rattle.keeper_memory.specs.declared.copy.change.CopyChange.{CopyChange}
 use Rattle.hub_format.proofs.Orders.{same_number}
 use Rattle.hub_format.specs.Format.{Entry, format_entry}
 use Rattle.copy_format.proofs.Changing.{Keep-change, first_kept, turned_kept}
-use Rattle.copy_format.proofs.Once.{kept_once}
-use Rattle.copy_format.proofs.Told.{format_told}
+use Rattle.copy_format.proofs.Unique.{kept_once}
+use Rattle.copy_format.proofs.CopyListings.{format_told}
 use Rattle.copy_format.specs.Edits.{first_edits, turn_edits}
 use Rattle.copy_format.specs.Format.{Keep, KeepOne}
 use Rattle.keeper_sqlite.proofs.HubKeepingLemmas.{none}

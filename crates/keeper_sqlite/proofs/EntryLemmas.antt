@@ -14,7 +14,7 @@ use Rattle.hub_format.specs.Pieces.{number}
 use Rattle.item_maps.specs.Edits.{entry_of}
 use Rattle.item_maps.specs.Items.{Items, listed}
 use Rattle.item_maps.specs.declared.item.Item.{Item}
-use Rattle.copy_format.proofs.Told.{all_out, entry_told, unsettled_above}
+use Rattle.copy_format.proofs.CopyListings.{all_out, entry_told, unsettled_above}
 use Rattle.copy_format.proofs.Changing.{small_numbers}
 use Rattle.copy_format.specs.Format.{IsOut, out_entry}
 use Rattle.keeper_sqlite.specs.copy.Keeping.{HasCopy}

@@ -13,18 +13,19 @@ use Rattle.version_core.specs.Table.{LeadOn}
 use Rattle.version_core.specs.Tables.{AreTables}
 use Rattle.version_core.specs.declared.change.Change.{Change}
 use Rattle.version_core.specs.declared.hub_tables.HubTables.{HubTables}
-use Rattle.hub_format.specs.Format.{Entry, Fit, Keep, format_entry, items_of, new_tables}
+use Rattle.hub_format.specs.Format.{Entry, Fit, Keep, format_entry, items_of, new_tables, where_label}
 use Rattle.hub_format.proofs.Listing.{listed_where}
 use Rattle.hub_format.proofs.Orders.{same_number}
-use Rattle.hub_format.proofs.Told.{IsToldBy, base_grants_told, base_rows_told, changes_told, format_told, listed_of}
+use Rattle.hub_format.proofs.TableListings.{IsToldBy, base_grants_told, base_rows_told, changes_told, format_told}
+use Rattle.hub_format.proofs.TableListings.{listed_of}
 use Rattle.hub_format.proofs.Unique.{kept_once as kept_once_in_1}
 use Rattle.span_format.specs.Edits.{edits, first_edits, turn_edits}
 use Rattle.span_format.specs.Format.{FitSpans, FitsSpanCommit, KeepSpans, Span, items_in, own_spans}
 use Rattle.span_format.specs.Oldest.{AreOldest}
-use Rattle.span_format.specs.Reading.{came_within, where_label}
+use Rattle.span_format.specs.Reading.{came_within}
 use Rattle.span_format.proofs.Keeping.{Keep-commit, first_kept}
 use Rattle.span_format.proofs.Naming.{oldest_named}
-use Rattle.span_format.proofs.Told as span_told
+use Rattle.span_format.proofs.SpanListings as span_told
 use Rattle.span_format.proofs.Turning.{turned}
 use Rattle.span_format.proofs.Unique.{kept_once}
 use Rattle.keeper_sqlite.specs.declared.hub.rows.StoredRows.TheVariants.{Areas, Spans}

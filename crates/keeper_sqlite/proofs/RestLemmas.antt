@@ -15,11 +15,11 @@ use Rattle.item_maps.specs.Edits.{entry_of}
 use Rattle.item_maps.specs.Items.{Items, bytes_cmp, is_between, listed}
 use Rattle.item_maps.specs.declared.item.Item.{Item}
 use Rattle.version_core.proofs.OrderLemmas.{passed as holds}
-use Rattle.hub_format.specs.Format.{Entry}
-use Rattle.hub_format.proofs.Finds.{where_all, where_label}
+use Rattle.hub_format.specs.Format.{Entry, where_label}
+use Rattle.hub_format.proofs.EntryMaps.{where_all}
 use Rattle.hub_format.proofs.Orders.{greater_is}
 use Rattle.roster_base.proofs.Rising.{is_less}
-use Rattle.span_format.proofs.Told.{passed}
+use Rattle.span_format.proofs.SpanListings.{passed}
 use Rattle.keeper_sqlite.proofs.RangeLemmas.{whole_range}
 
 -- ---- the least label above another

@@ -15,11 +15,11 @@ use Rattle.version_core.specs.declared.change.BaseVersion.{BaseVersion}
 use Rattle.version_core.specs.declared.change.Change.{Change}
 use Rattle.version_core.specs.declared.hub_tables.HubTables.{HubTables}
 use Rattle.version_core.specs.declared.row_change.RowChange.{RowChange}
-use Rattle.hub_format.specs.Format.{Entry}
+use Rattle.hub_format.specs.Format.{Entry, where_label}
 use Rattle.hub_format.specs.Pieces.{IsReadBack}
-use Rattle.hub_format.proofs.Finds.{where-append}
+use Rattle.hub_format.proofs.EntryMaps.{where-append}
 use Rattle.span_format.specs.Format.{Span, span_entry, spans_from}
-use Rattle.span_format.specs.Reading.{FitsSpan, came, came_within, where_label}
+use Rattle.span_format.specs.Reading.{FitsSpan, came, came_within}
 use Rattle.span_format.proofs.Turning.{rows_are}
 use Rattle.keeper_sqlite.proofs.HubKeepingLemmas.{tables_stay}
 use Rattle.keeper_sqlite.specs.declared.hub.rows.ChangeRows.{ChangeRows}

@@ -10,7 +10,8 @@ use Rattle.keeper_sqlite.specs.copy.Keeping as copy
 use Rattle.keeper_sqlite.specs.hub.Keeping as hub
 use Rattle.keeper_sqlite.specs.hub.Telling.{KeepSome, Tells}
 
--- The premise on a store: what was handed in was new or a keeper's own, and its disk has given back what was written and still answers.
+-- The premise on a store: what was handed in was new or a keeper's own, and its disk has given back what was written
+-- and still answers.
 abbrev pub IsSound : {X : Type 0} → (Items → X → Type 0) → State → State → Type 0
 IsSound keep at_first now = KeepSome keep (StandsFor at_first) × IsTrusted now
 

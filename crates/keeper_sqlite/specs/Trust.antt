@@ -34,8 +34,9 @@ KnownBehind (Ok done) before now = now
 KnownBehind (Err Failed) before now = before → now
 KnownBehind (Err NoMemory) before now = ⊤
 
--- The items that an open may find: while it is trusted those alone for which it stands, and once a fault has shut it those of a database
--- that a stop may leave. Of a store that was shut by a call that wanted memory (`lost`) nothing is said.
+-- The items that an open may find: while it is trusted those alone for which it stands, and once a fault has shut it
+-- those of a database that a stop may leave. Of a store that was shut by a call that wanted memory (`lost`) nothing is
+-- said.
 abbrev pub MayHold : State → Bool → Items → Type 0
 MayHold s lost n = (MayFind s n × (lost ≡ false)) ⊎ (IsTrusted s × ((m : Items) → StandsFor s m → n ≡ m))
 

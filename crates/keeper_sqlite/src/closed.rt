@@ -25,7 +25,7 @@ impl ClosedStore {
         ClosedStore { faults: 0 }
     }
 
-    // Counts a failure.
+    // Counts a call that failed, up to the end of `u64`.
     fn fail(&mut self) -> KeeperError
         ensures counted { CountsError self.old.faults self.new.faults result }
         ensures failed { result ≡ keeper.Failed }

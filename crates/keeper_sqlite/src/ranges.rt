@@ -15,7 +15,7 @@ use roster_base::KeeperError;
 use sqlite::Alter;
 use std::alloc::Global;
 
-// More items than a store has.
+// More items than a store has: a range that gives so many is refused.
 const MOST: u64 = 1_000_000_000_000_000;
 
 /// All items of the area whose label is at least `from` and below `to`, in the order of label bytes.
@@ -26,14 +26,19 @@ pub fn all_of<S: Alter>(
     from: &[u8],
     to: &[u8],
 ) -> Result<Vec<Item>, KeeperError>
-    ensures items { (m : Items) → StandsFor (state S.Store store.old.connection) m → IsTrusted (state S.Store store.new.connection)
+    ensures items { (m : Items) → StandsFor (state S.Store store.old.connection) m
+        → IsTrusted (state S.Store store.new.connection)
         → IfOk result (λ items. map entry_of items.items ≡ listed area from.now to.now m) }
-    ensures same { (m : Items) → StandsFor (state S.Store store.old.connection) m → StandsFor (state S.Store store.new.connection) m }
+    ensures same { (m : Items) → StandsFor (state S.Store store.old.connection) m
+        → StandsFor (state S.Store store.new.connection) m }
     ensures cause { CountsFailure store.old.faults store.new.faults result }
     ensures trust { IsTrusted (state S.Store store.new.connection) → IsTrusted (state S.Store store.old.connection) }
-    ensures held { (lost : Bool) → Stay (MayHold (state S.Store store.new.connection) lost) (MayHold (state S.Store store.old.connection) lost) }
-    ensures signs { Stay (shown_by (state S.Store store.new.connection)) (shown_by (state S.Store store.old.connection)) }
-    ensures live { HasCleanDisk (state S.Store store.new.connection) → OnOk result (IsTrusted (state S.Store store.new.connection)) }
+    ensures held { (lost : Bool)
+        → Stay (MayHold (state S.Store store.new.connection) lost) (MayHold (state S.Store store.old.connection) lost) }
+    ensures signs { Stay (shown_by (state S.Store store.new.connection))
+        (shown_by (state S.Store store.old.connection)) }
+    ensures live { HasCleanDisk (state S.Store store.new.connection)
+        → OnOk result (IsTrusted (state S.Store store.new.connection)) }
 {
     let items = store.range(alloc, area, from, to, MOST)?;
     if items.len() as u64 >= MOST {
@@ -42,8 +47,8 @@ pub fn all_of<S: Alter>(
     Ok(items)
 }
 
-/// The first `limit` items of the area whose label is at least `from` and below `to`, in the order of label bytes. The limit is at most
-/// 10^15.
+/// The first `limit` items of the area whose label is at least `from` and below `to`, in the order of label bytes. The
+/// limit is at most 10^15.
 pub fn part_of<S: Alter>(
     alloc: Global,
     store: &mut ItemStore<S>,
@@ -53,14 +58,19 @@ pub fn part_of<S: Alter>(
     limit: u64,
 ) -> Result<Vec<Item>, KeeperError>
     requires { limit ≤ 1000000000000000 }
-    ensures items { (m : Items) → StandsFor (state S.Store store.old.connection) m → IsTrusted (state S.Store store.new.connection)
+    ensures items { (m : Items) → StandsFor (state S.Store store.old.connection) m
+        → IsTrusted (state S.Store store.new.connection)
         → IfOk result (λ items. map entry_of items.items ≡ take limit (listed area from.now to.now m)) }
-    ensures same { (m : Items) → StandsFor (state S.Store store.old.connection) m → StandsFor (state S.Store store.new.connection) m }
+    ensures same { (m : Items) → StandsFor (state S.Store store.old.connection) m
+        → StandsFor (state S.Store store.new.connection) m }
     ensures cause { CountsFailure store.old.faults store.new.faults result }
     ensures trust { IsTrusted (state S.Store store.new.connection) → IsTrusted (state S.Store store.old.connection) }
-    ensures held { (lost : Bool) → Stay (MayHold (state S.Store store.new.connection) lost) (MayHold (state S.Store store.old.connection) lost) }
-    ensures signs { Stay (shown_by (state S.Store store.new.connection)) (shown_by (state S.Store store.old.connection)) }
-    ensures live { HasCleanDisk (state S.Store store.new.connection) → OnOk result (IsTrusted (state S.Store store.new.connection)) }
+    ensures held { (lost : Bool)
+        → Stay (MayHold (state S.Store store.new.connection) lost) (MayHold (state S.Store store.old.connection) lost) }
+    ensures signs { Stay (shown_by (state S.Store store.new.connection))
+        (shown_by (state S.Store store.old.connection)) }
+    ensures live { HasCleanDisk (state S.Store store.new.connection)
+        → OnOk result (IsTrusted (state S.Store store.new.connection)) }
 {
     let items = store.range(alloc, area, from, to, limit)?;
     Ok(items)

@@ -15,7 +15,8 @@ use std::alloc::Global;
 // How many items are read at once: some megabytes of them, so that their statements cost little beside them.
 const PIECE: u64 = 4096;
 
-/// The items of an area that are still to be read: of those whose label is below 255, the ones from a label on, or none.
+/// The items of an area that are still to be read: of those whose label is below 255, the ones from a label on, or
+/// none.
 #[derive(Drop)]
 pub(crate) struct Rest {
     area: u32,
@@ -23,7 +24,7 @@ pub(crate) struct Rest {
     is_over: bool,
 }
 
-// The least label above this one.
+// The least label above this one: the same, and a 0 behind it.
 fn label_behind(alloc: Global, label: &[u8]) -> Result<Bytes, NoMemory>
     ensures { IfOk result (λ behind. behind ≡ label.now ++ 0 ∷ []) }
 {
@@ -53,11 +54,12 @@ impl Rest {
         self.is_over
     }
 
-    // Goes behind these items, which are the first of them.
+    // Goes behind these items, which are the first of those that were still to be read.
     fn go_behind(&mut self, alloc: Global, items: &[Item]) -> Result<(), NoMemory>
         requires { self.old.is_over ≡ false }
         ensures { (m : Items) → map entry_of items.now ≡ take 4096 (listed self.old.area self.old.from (255 ∷ []) m)
-            → OnOk result (map entry_of items.now ++ rest_of self.new m ≡ listed self.old.area self.old.from (255 ∷ []) m) }
+            → OnOk result (map entry_of items.now ++ rest_of self.new m
+            ≡ listed self.old.area self.old.from (255 ∷ []) m) }
     {
         if (items.len() as u64) < PIECE {
             self.is_over = true;
@@ -77,7 +79,8 @@ impl Rest {
         store: &mut S,
     ) -> Result<Vec<Item>, KeeperError>
         requires { self.old.is_over ≡ false }
-        ensures items { (m : Items) → S.stands_for store.old m → S.is_trusted store.new → IfOk result (λ items. map entry_of items.items ++ rest_of self.new m ≡ rest_of self.old m) }
+        ensures items { (m : Items) → S.stands_for store.old m → S.is_trusted store.new
+            → IfOk result (λ items. map entry_of items.items ++ rest_of self.new m ≡ rest_of self.old m) }
         ensures same { Stay (S.stands_for store.old) (S.stands_for store.new) }
         ensures cause { CountsFailure (S.fault_count store.old) (S.fault_count store.new) result }
         ensures trust { S.is_trusted store.new → S.is_trusted store.old }

@@ -16,7 +16,8 @@ use std::alloc::Global;
 #[derive(Drop)]
 pub struct SqlItems<S: Alter> {
     store: ItemStore<S>,
-    // A commit wanted memory, and none succeeded since: if such a one shut the store, an open alone could tell whether it was made.
+    // A commit wanted memory, and none succeeded since: if such a one shut the store, an open alone could tell whether
+    // it was made.
     lost: bool,
 }
 

@@ -28,7 +28,8 @@ pub trait StoredItems: Drop {
     /// It has given back what was written so far, and it still answers.
     ghost is_trusted: { Self → Type 0 };
 
-    /// The items that an open may find: those for which it stands, or, once a fault has shut it, those that a stop may leave.
+    /// The items that an open may find: those for which it stands, or, once a fault has shut it, those that a stop may
+    /// leave.
     ghost may_hold: { Self → Items → Type 0 };
 
     /// Some clause says what an open may find, also once a fault has shut it.
@@ -40,9 +41,9 @@ pub trait StoredItems: Drop {
     /// How many calls failed. The count stays at the end of `u64`.
     ghost fault_count: { Self → ℕ };
 
-    /// All items of the area whose label is at least `from` and below `to`, in the order of label bytes. From `[]` to `[0]` that is the
-    /// one without a label, and to `[255]` all of the area, since the keepers write no label that begins with 255. The items stay as
-    /// they are.
+    /// All items of the area whose label is at least `from` and below `to`, in the order of label bytes. From `[]` to
+    /// `[0]` that is the one without a label, and to `[255]` all of the area, since the keepers write no label that
+    /// begins with 255. The items stay as they are.
     fn all_of(
         &mut self,
         alloc: Global,
@@ -50,7 +51,8 @@ pub trait StoredItems: Drop {
         from: &[u8],
         to: &[u8],
     ) -> Result<Vec<Item>, KeeperError>
-        ensures items { (m : Items) → stands_for self.old m → is_trusted self.new → IfOk result (λ items. map entry_of items.items ≡ listed area from.now to.now m) }
+        ensures items { (m : Items) → stands_for self.old m → is_trusted self.new
+            → IfOk result (λ items. map entry_of items.items ≡ listed area from.now to.now m) }
         ensures same { Stay (stands_for self.old) (stands_for self.new) }
         ensures cause { CountsFailure (fault_count self.old) (fault_count self.new) result }
         ensures trust { is_trusted self.new → is_trusted self.old }
@@ -60,8 +62,8 @@ pub trait StoredItems: Drop {
         ensures signs { Stay (shows self.new) (shows self.old) }
         ensures live { shows self.new Clean → OnOk result (is_trusted self.new) };
 
-    /// The first `limit` items of the area whose label is at least `from` and below `to`, in the order of label bytes. The items stay
-    /// as they are. The limit is at most 10^15.
+    /// The first `limit` items of the area whose label is at least `from` and below `to`, in the order of label bytes.
+    /// The items stay as they are. The limit is at most 10^15.
     fn part_of(
         &mut self,
         alloc: Global,
@@ -71,7 +73,8 @@ pub trait StoredItems: Drop {
         limit: u64,
     ) -> Result<Vec<Item>, KeeperError>
         requires { limit ≤ 1000000000000000 }
-        ensures items { (m : Items) → stands_for self.old m → is_trusted self.new → IfOk result (λ items. map entry_of items.items ≡ take limit (listed area from.now to.now m)) }
+        ensures items { (m : Items) → stands_for self.old m → is_trusted self.new
+            → IfOk result (λ items. map entry_of items.items ≡ take limit (listed area from.now to.now m)) }
         ensures same { Stay (stands_for self.old) (stands_for self.new) }
         ensures cause { CountsFailure (fault_count self.old) (fault_count self.new) result }
         ensures trust { is_trusted self.new → is_trusted self.old }
@@ -89,7 +92,8 @@ pub trait StoredItems: Drop {
         ensures trust { is_trusted self.new → is_trusted self.old }
         // Also where the call shuts it.
         ensures made { (n : Items) → may_hold self.new n
-            → (IsErr result × may_hold self.old n) ⊎ (is_trusted self.old × ((m : Items) → stands_for self.old m → CameOf result edits.now m n)) }
+            → (IsErr result × may_hold self.old n)
+            ⊎ (is_trusted self.old × ((m : Items) → stands_for self.old m → CameOf result edits.now m n)) }
         // Want of memory alone may leave unknown what was made.
         ensures known { KnownBehind result (is_known self.old) (is_known self.new) }
         ensures signs { Stay (shows self.new) (shows self.old) }

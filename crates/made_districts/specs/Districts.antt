@@ -22,27 +22,38 @@ joined pieces = flat_map (λ piece. piece) pieces
 abbrev pub school_id : ℕ → List ℕ
 school_id number = codes "s" ++ four number
 
+-- the number of a student in three digits
 abbrev pub student_number : ℕ → List ℕ
 student_number number = three number
 
+-- the line of a school
 abbrev pub org_line : List ℕ → ℕ → List ℕ
 org_line id number = joined (id ∷ codes ",,,School " ∷ decimal number ∷ codes ",school,d\n" ∷ [])
 
+-- the line of a school's one course
 abbrev pub course_line : List ℕ → List ℕ
 course_line id = joined (id ∷ codes "-c,,,Course," ∷ id ∷ codes "\n" ∷ [])
 
+-- the line of a class of the course
 abbrev pub class_line : List ℕ → List ℕ → List ℕ
-class_line id number = joined (id ∷ codes "-k" ∷ number ∷ codes ",,,Class " ∷ number ∷ codes "," ∷ id ∷ codes "-c,scheduled," ∷ id ∷ codes ",t\n" ∷ [])
+class_line id number =
+    joined (id ∷ codes "-k" ∷ number ∷ codes ",,,Class " ∷ number ∷ codes ","
+    ∷ id ∷ codes "-c,scheduled," ∷ id ∷ codes ",t\n" ∷ [])
 
+-- the lines of its two classes
 abbrev pub class_lines : List ℕ → List ℕ
 class_lines id = class_line id (codes "1") ++ class_line id (codes "2")
 
+-- the line of a user
 abbrev pub user_line : List ℕ → List ℕ → List ℕ → List ℕ
-user_line school id role = joined (id ∷ codes ",,,true," ∷ school ∷ codes "," ∷ role ∷ codes "," ∷ id ∷ codes ",Given,Family\n" ∷ [])
+user_line school id role =
+    joined (id ∷ codes ",,,true," ∷ school ∷ codes "," ∷ role ∷ codes "," ∷ id ∷ codes ",Given,Family\n" ∷ [])
 
+-- the line of a school's one teacher
 abbrev pub teacher_line : List ℕ → List ℕ
 teacher_line school = user_line school (joined (school ∷ codes "-t" ∷ [])) (codes "teacher")
 
+-- the line of a student
 abbrev pub student_line : List ℕ → List ℕ → List ℕ
 student_line school number = user_line school (joined (school ∷ codes "-u" ∷ number ∷ [])) (codes "student")
 
@@ -50,16 +61,23 @@ student_line school number = user_line school (joined (school ∷ codes "-u" ∷
 abbrev pub class_of : ℕ → List ℕ
 class_of student = if student % 2 == 1 then codes "1" else codes "2"
 
+-- the line of a student's enrollment in a class
 abbrev pub enrolled_line : List ℕ → List ℕ → List ℕ → List ℕ
 enrolled_line school number class =
-    joined (school ∷ codes "-e" ∷ number ∷ codes ",,," ∷ school ∷ codes "-k" ∷ class ∷ codes "," ∷ school ∷ codes "," ∷ school ∷ codes "-u" ∷ number ∷ codes ",student\n" ∷ [])
+    joined (school ∷ codes "-e" ∷ number ∷ codes ",,," ∷ school ∷ codes "-k" ∷ class ∷ codes ","
+    ∷ school ∷ codes "," ∷ school ∷ codes "-u" ∷ number ∷ codes ",student\n" ∷ [])
 
+-- the line of the teacher's enrollment in a class
 abbrev pub teaching_line : List ℕ → List ℕ → List ℕ
-teaching_line school class = joined (school ∷ codes "-f" ∷ class ∷ codes ",,," ∷ school ∷ codes "-k" ∷ class ∷ codes "," ∷ school ∷ codes "," ∷ school ∷ codes "-t,teacher\n" ∷ [])
+teaching_line school class =
+    joined (school ∷ codes "-f" ∷ class ∷ codes ",,," ∷ school ∷ codes "-k" ∷ class ∷ codes ","
+    ∷ school ∷ codes "," ∷ school ∷ codes "-t,teacher\n" ∷ [])
 
+-- the teacher is in both classes
 abbrev pub teaching_lines : List ℕ → List ℕ
 teaching_lines school = teaching_line school (codes "1") ++ teaching_line school (codes "2")
 
+-- the line of a student among the users, or else among the enrollments
 abbrev pub of_student : Bool → List ℕ → ℕ → List ℕ
 of_student true school number = student_line school (student_number number)
 of_student false school number = enrolled_line school (student_number number) (class_of number)
@@ -69,15 +87,19 @@ abbrev pub numbers_to : ℕ → List ℕ
 numbers_to zero = []
 numbers_to (suc n) = numbers_to n ++ suc n ∷ []
 
+-- those lines of the hundred students of a school
 unfoldable pub student_lines : Bool → List ℕ → List ℕ
 student_lines is_user school = flat_map (of_student is_user school) (numbers_to 100)
 
+-- the lines of a school's users
 abbrev pub user_lines : List ℕ → List ℕ
 user_lines school = teacher_line school ++ student_lines true school
 
+-- the lines of a school's enrollments
 abbrev pub enrollment_lines : List ℕ → List ℕ
 enrollment_lines school = student_lines false school ++ teaching_lines school
 
+-- what stands in a file for a school, by its id and its number
 abbrev pub part_lines : Part → List ℕ → ℕ → List ℕ
 part_lines part.Org id number = org_line id number
 part_lines part.Course id number = course_line id
@@ -91,6 +113,7 @@ school_lines part number = part_lines part (school_id number) number
 
 -- ---- the files
 
+-- a header, perhaps with rows behind it, and the lines of each school
 abbrev pub by_school : Part → List ℕ → ℕ → List ℕ
 by_school part head count = head ++ flat_map (school_lines part) (numbers_to count)
 
@@ -109,12 +132,15 @@ file_bytes kind count = written_text kind []
 abbrev pub dir : List ℕ
 dir = codes "gen"
 
+-- the file of a kind in the set
 abbrev pub kind_file : ℕ → Kind → Stored
 kind_file count kind = record { dir = dir; name = file_of kind; bytes = file_bytes kind count }
 
+-- the file of grants: one caller, which may read the roster and the gradebook of every school
 abbrev pub grants_file : Stored
 grants_file = record { dir = []; name = codes "grants.csv"; bytes = codes "caller,token,scopes,schools\ncopy,make,roster.readonly gradebook.readonly,*\n" }
 
+-- the manifest of the set, with a file of each kind
 abbrev pub manifest_file : Stored
 manifest_file = record { dir = dir; name = codes "manifest.csv"; bytes = codes "propertyName,value\nmanifest.version,1.0\noneroster.version,1.1\nfile.orgs,bulk\nfile.academicSessions,bulk\nfile.courses,bulk\nfile.classes,bulk\nfile.users,bulk\nfile.enrollments,bulk\nfile.demographics,bulk\nfile.categories,bulk\nfile.lineItems,bulk\nfile.results,bulk\nfile.resources,bulk\nfile.classResources,bulk\nfile.courseResources,bulk\n" }
 

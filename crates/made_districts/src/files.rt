@@ -114,7 +114,8 @@ fn push_kind_files(
     count: u16,
 ) -> Result<(), NoMemory>
     requires { count ≤ 200 }
-    ensures { OnOk result (map stored_of files.new.items ≡ map stored_of files.old.items ++ map (districts.kind_file count) kinds.now) }
+    ensures { OnOk result (map stored_of files.new.items ≡ map stored_of files.old.items
+        ++ map (districts.kind_file count) kinds.now) }
 {
     for kind in kinds {
         files.push(kind_file(alloc, *kind, count)?)?;
@@ -122,7 +123,8 @@ fn push_kind_files(
     Ok(())
 }
 
-/// A folder with the set of a district of so many schools, a manifest and a file for each kind, and a file of grants beside it.
+/// A folder with the set of a district of so many schools, a manifest and a file for each kind, and a file of grants
+/// beside it.
 pub fn made_folder(alloc: Global, count: u16) -> Result<MemFolder, NoMemory>
     requires { count ≤ 200 }
     ensures { IfOk result (λ f. f.files ≡ districts.made_files count) }

@@ -9,8 +9,8 @@ use crate::sink::Sink;
 use crate::source::Source;
 use std::alloc::Global;
 
-/// Gives connections, one after another, and counts them and its faults. Both counts stay at the end of `u64`; no connection is given
-/// once theirs is there.
+/// Gives connections, one after another, and counts them and its faults. Both counts stay at the end of `u64`; no
+/// connection is given once theirs is there.
 pub trait Acceptor {
     /// What the other end sends.
     type Input: Source + Drop;

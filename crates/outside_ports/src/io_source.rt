@@ -8,7 +8,7 @@ use std::io::Read;
 use std::marker::Model;
 
 /// How many reads a source allows.
-const MOST_READS: u64 = 1_000_000_000_000_000;
+pub const MOST_READS: u64 = 1_000_000_000_000_000;
 
 /// A source over any reader, as standard input's. It tells nothing of the bytes left, and a clause sees its count of
 /// faults and its budget alone: no reader says how many reads still give bytes, so each takes one of 10^15, and behind
@@ -31,7 +31,7 @@ impl<R> Model for IoSource<R> {
 impl<R: Read> IoSource<R> {
     /// The source over this reader.
     pub fn new(reader: R) -> IoSource<R>
-        ensures { result ≡ record { budget = 1000000000000000; faults = 0 } }
+        ensures { result ≡ record { budget = MOST_READS; faults = 0 } }
     {
         IoSource {
             reader,

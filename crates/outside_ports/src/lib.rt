@@ -1,5 +1,5 @@
-//! What the program asks of the outside, as traits with contracts: folders, sources, sinks, a clock, acceptors of connections and gates,
-//! each in memory and real.
+//! What the program asks of the outside, as traits with contracts: folders, sources, sinks, a clock, acceptors of
+//! connections and gates, each in memory and real.
 #![tactic(auto)]
 
 pub mod acceptor;

@@ -14,7 +14,8 @@ use std::alloc::Global;
 use std::marker::Model;
 use std::vec::IntoIter;
 
-/// Connections in memory, handed out in order, and the numbers, from 1, of the calls that fail. A call that finds none left fails too.
+/// Connections in memory, handed out in order, and the numbers, from 1, of the calls that fail. A call that finds none
+/// left fails too.
 #[derive(Drop)]
 pub struct MemAcceptor {
     streams: IntoIter<(MemSource, MemSink)>,

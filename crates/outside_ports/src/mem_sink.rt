@@ -65,6 +65,7 @@ impl MemSink {
         ensures front { AppendsPart (Some self.old.written) (Some self.new.written) piece.now }
     {
         let taken = count.min(self.room);
+        // It can't fail: the memory for the room is there already.
         let _ = self.bytes.extend_from_slice(&piece[..taken]);
         self.room -= taken;
     }

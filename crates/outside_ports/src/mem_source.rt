@@ -11,9 +11,11 @@ use crate::failed::Failed;
 use crate::source::Source;
 use std::marker::Model;
 
-/// Bytes in memory, which it tells, the most bytes of each read in turn, and the numbers, from 1, of the calls that fail.
+/// Bytes in memory, which it tells, the most bytes of each read in turn, and the numbers, from 1, of the calls that
+/// fail.
 ///
-/// A cut of 0 counts as 1. A call that fails uses no cut, and a read behind the last cut gives all that the buffer takes.
+/// A cut of 0 counts as 1. A call that fails uses no cut, and a read behind the last cut gives all that the buffer
+/// takes.
 #[derive(Drop)]
 pub struct MemSource {
     bytes: Vec<u8>,
@@ -29,7 +31,11 @@ impl Model for MemSource {
 
     ghost Value = { HeldInput };
 
-    ghost view = { λ s. record { left = drop s.taken s.bytes.items; cuts = drop s.cuts_made s.cuts.items; calls = s.calls } };
+    ghost view = { λ s. record {
+      left = drop s.taken s.bytes.items;
+      cuts = drop s.cuts_made s.cuts.items;
+      calls = s.calls;
+    } };
 
     ghost invariant = { λ s. s.taken ≤ vec_len s.bytes };
 }

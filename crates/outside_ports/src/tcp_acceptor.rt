@@ -14,15 +14,16 @@ use std::marker::Model;
 use std::net::{Net, TcpListener, TcpStream};
 use std::time::{Clock, Duration};
 
-// How long a read or a write may wait for the other end, in seconds. A connection that is kept open waits for its next request no longer
-// either, since its acceptor serves no other one meanwhile.
-const PATIENCE: u64 = 10;
+// How long a read or a write may wait for the other end. A connection that is kept open waits for its next request no
+// longer either, since its acceptor serves no other one meanwhile.
+const PATIENCE_SECONDS: u64 = 10;
 
 // How many connections that break before they can be served are passed over in one call.
 const MOST_BROKEN: u32 = 1_000;
 
-/// Connections to an address, a host and a port. Each call fails where the address couldn't be bound. A connection fails at its read or
-/// write where its other end lets it wait for ten seconds, and where a request and its reply take more than thirty.
+/// Connections to an address, a host and a port. Each call fails where the address couldn't be bound. A connection
+/// fails at its read or write where its other end lets it wait for ten seconds, and where a request and its reply take
+/// more than thirty.
 #[derive(Drop)]
 pub struct TcpAcceptor<R> {
     rt: R,
@@ -96,7 +97,7 @@ fn ends_of<R: Clock + Copy>(
     rt: R,
     stream: TcpStream,
 ) -> io::Result<(TcpInput<R>, TcpOutput<R>)> {
-    let patience = Some(Duration::from_secs(PATIENCE));
+    let patience = Some(Duration::from_secs(PATIENCE_SECONDS));
     stream.set_read_timeout(patience)?;
     stream.set_write_timeout(patience)?;
     stream.set_nodelay(true)?;

@@ -6,7 +6,8 @@ use std::sync::Arc;
 use std::sync::atomic::{AtomicBool, AtomicU64, Ordering};
 use std::time::Clock;
 
-// How long a request and its reply may take as a whole, from the request's first byte, in seconds. A wait that began in time is waited out.
+// How long a request and its reply may take as a whole, from the request's first byte, in seconds. A wait that began in
+// time is waited out.
 const MOST_SECONDS: u64 = 30;
 
 // What the ends know of the request that is read or answered.
@@ -18,7 +19,8 @@ struct Turn {
     is_answered: AtomicBool,
 }
 
-/// One end of a connection, over the stream that reads or writes it. It fails where a request and its reply take more than thirty seconds.
+/// One end of a connection, over the stream that reads or writes it. It fails where a request and its reply take more
+/// than thirty seconds.
 #[derive(Drop)]
 pub struct TimedEnd<S, R> {
     stream: S,
@@ -31,7 +33,8 @@ fn seconds(rt: &impl Clock) -> io::Result<u64> {
 }
 
 impl<S: Drop, R: Clock + Copy> TimedEnd<S, R> {
-    /// The two ends over these streams. They fail where there is no memory for what they share, and where the clock does.
+    /// The two ends over these streams. They fail where there is no memory for what they share, and where the clock
+    /// does.
     pub fn pair<O: Drop>(
         alloc: Global,
         rt: R,

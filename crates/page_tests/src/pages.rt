@@ -18,7 +18,8 @@ use version_core::view::VersionView;
 // The version that is read.
 const VERSION: u64 = 7;
 
-// A school that is granted, or `*` for all; a path behind the address of the hub's collections; a query; and what is told of the page.
+// A school that is granted, or `*` for all; a path behind the address of the hub's collections; a query; and what is
+// told of the page.
 type Asked = (&'static str, &'static str, &'static str, &'static str);
 
 fn schools_of(alloc: Global, text: &str) -> Result<Schools, Fail> {
@@ -61,36 +62,32 @@ fn ids_of(alloc: Global, page: &Page) -> Result<String, Fail> {
     Ok(line)
 }
 
-fn told(alloc: Global, page: Option<Page>) -> Result<String, Fail> {
+// The line that tells of a page, or that there is none.
+fn page_line(alloc: Global, page: Option<Page>) -> Result<String, Fail> {
     match page {
         Some(page) => ids_of(alloc, &page),
         None => Ok(String::from_str(alloc, "no object")?),
     }
 }
 
-fn told_of(
+// The line that tells of the page that is asked for.
+fn line_of(
     alloc: Global,
     router: &PathRouter,
     view: &VersionView<'_>,
-    asked: &Asked,
+    (schools, path, query, _): &Asked,
 ) -> Result<String, Fail> {
-    let schools = schools_of(alloc, asked.0)?;
-    let path = path_of(alloc, router, asked.1)?;
-    told(alloc, page_of(alloc, view, &schools, &path, asked.2)?)
+    let schools = schools_of(alloc, schools)?;
+    let path = path_of(alloc, router, path)?;
+    page_line(alloc, page_of(alloc, view, &schools, &path, query)?)
 }
 
 fn assert_told(rt: &impl Abort, alloc: Global, table: &Table, asks: &[Asked]) -> Result<(), Fail> {
     let router = PathRouter::new(alloc)?;
     for asked in asks {
-        let told = told_of(alloc, &router, &table.newest_rows(), asked)?;
-        assert_eq!(rt;
-            told.as_str(),
-            asked.3,
-            "{} {} {}",
-            asked.0,
-            asked.1,
-            asked.2
-        );
+        let line = line_of(alloc, &router, &table.newest_rows(), asked)?;
+        let (schools, path, query, want) = *asked;
+        assert_eq!(rt; line.as_str(), want, "{schools} {path} {query}");
     }
     Ok(())
 }
@@ -398,10 +395,10 @@ fn links_of(
     alloc: Global,
     router: &PathRouter,
     view: &VersionView<'_>,
-    asked: &Asked,
+    (_, path, query, _): &Asked,
 ) -> Result<String, Fail> {
-    let path = path_of(alloc, router, asked.1)?;
-    match page_of(alloc, view, &Schools::All, &path, asked.2)? {
+    let path = path_of(alloc, router, path)?;
+    match page_of(alloc, view, &Schools::All, &path, query)? {
         Some(page) => links_told(alloc, page.links.as_slice()),
         None => Ok(String::new(alloc)),
     }
@@ -411,7 +408,8 @@ fn assert_links(rt: &impl Abort, alloc: Global, table: &Table, asks: &[Asked]) -
     let router = PathRouter::new(alloc)?;
     for asked in asks {
         let lines = links_of(alloc, &router, &table.newest_rows(), asked)?;
-        assert_eq!(rt; lines.as_str(), asked.3, "{} {}", asked.1, asked.2);
+        let (_, path, query, want) = *asked;
+        assert_eq!(rt; lines.as_str(), want, "{path} {query}");
     }
     Ok(())
 }

@@ -1,4 +1,5 @@
-//! Verdicts on gradebook writes, by the first check that one fails, under marks, repeated, and over a keeper of which a commit fails.
+//! Verdicts on gradebook writes, by the first check that one fails, under marks, repeated, and over a keeper of which a
+//! commit fails.
 
 ghost use Rattle.hub_core.specs.Standing.{KeeperFits};
 
@@ -12,8 +13,8 @@ use std::alloc::Global;
 use std::process::Abort;
 use std::test::Fail;
 
-// A write: the token of who asks, its mark or 0, the row's path, and the body that puts it; a row with no body is deleted. Then the cause of
-// the reply, and the version that it tells.
+// A write: the token of who asks, its mark or 0, the row's path, and the body that puts it; a row with no body is
+// deleted. Then the cause of the reply, and the version that it tells.
 type Asked = (
     &'static str,
     u64,
@@ -77,7 +78,8 @@ const JUDGED: &[Asked] = &[
     ),
     // The body goes before the owner.
     ("tok-e", 0, "categories/hw", "{", Cause::BadBody, Some(3)),
-    // A class of the other school, a category that stands nowhere, a grading period of another type, and one of the type.
+    // A class of the other school, a category that stands nowhere, a grading period of another type, and one of the
+    // type.
     (
         "tok-e",
         0,
@@ -230,7 +232,8 @@ const NEXT: &[Asked] = &[
     ("tok-e", 0, "categories/c2", QUIZ, Cause::Stored, Some(4)),
 ];
 
-// The commits that fail before and after they act, 0 being none, and the writes. The first two commits are those of the rows and the grants.
+// The commits that fail before and after they act, 0 being none, and the writes. The first two commits are those of the
+// rows and the grants.
 static RUNS: [(u64, u64, &[Asked]); 7] = [
     (0, 0, JUDGED),
     (0, 0, MARKED),
@@ -250,7 +253,7 @@ fn mark_line(alloc: Global, mark: u64) -> Result<String, Fail> {
 
 // The text of the request.
 fn text_of(alloc: Global, asked: &Asked) -> Result<String, Fail> {
-    let (token, mark, path, body) = (asked.0, asked.1, asked.2, asked.3);
+    let (token, mark, path, body, _, _) = *asked;
     let (verb, length) = (if body.is_empty() { "DELETE" } else { "PUT" }, body.len());
     let mark = mark_line(alloc, mark)?;
     Ok(format!(in alloc;
@@ -273,7 +276,8 @@ fn judge<H: HubKeeper>(
     let reply = reply_to(rt, alloc, router, hub, keeper, text.as_str())?;
     let told = (reply.cause, reply.version);
     drop(reply);
-    assert_eq!(rt; told, (asked.4, asked.5), "{text}");
+    let (_, _, _, _, cause, version) = *asked;
+    assert_eq!(rt; told, (cause, version), "{text}");
     Ok(())
 }
 

@@ -36,6 +36,7 @@ abbrev pub number_passes : Predicate → Option ℤ → Option Value → Bool
 number_passes predicate wanted None = is_not_equal predicate
 number_passes predicate wanted (Some v) = numbers_pass predicate (number_in (Some v)) wanted
 
+-- the value passes the test
 abbrev pub value_test_passes : ValueTest → Option Value → Bool
 value_test_passes (IsText wanted text) v = text_passes wanted text.now v
 value_test_passes (ByNumber predicate wanted) v = number_passes predicate wanted v
@@ -49,6 +50,7 @@ Asks form predicate text test = (v : Option Value) → value_passes (manner_of f
 abbrev pub field_test_passes : FieldTest → Record → Bool
 field_test_passes test row = value_test_passes test.asked (slice_index_or (all_values row) test.place None)
 
+-- the row passes the filter
 abbrev pub ready_filter_passes : ReadyFilter → Record → Bool
 ready_filter_passes (One test) row = field_test_passes test row
 ready_filter_passes (Two first joint second) row = joined joint (field_test_passes first row) (field_test_passes second row)

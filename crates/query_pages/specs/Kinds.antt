@@ -7,6 +7,8 @@ use Rattle.reference_rules.proofs.KeyOrder.{and_first}
 use Rattle.roster_types.specs.Keys.{is_of_kind}
 use Rattle.roster_types.specs.Records.{Record}
 
-pub listed_kind : (rows : List Record) (path : PathParts) (query : Query) (row : Record) → is_listed rows path query row ≡ true → is_of_kind (kind_of_path path) row ≡ true
+-- a row that a path lists is of its kind
+pub listed_kind : (rows : List Record) (path : PathParts) (query : Query) (row : Record)
+    → is_listed rows path query row ≡ true → is_of_kind (kind_of_path path) row ≡ true
 unfolding belongs
 listed_kind rows path query row e = and_first _ _ (and_first _ _ (and_first _ _ e))

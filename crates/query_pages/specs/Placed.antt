@@ -4,9 +4,11 @@ use Rattle.query_pages.specs.declared.in_order.Placed.{Placed}
 use Rattle.roster_types.specs.Records.{Record}
 use Rattle.filter_grammar.specs.rows.Orders.{Sorting}
 
+-- the row of an item
 abbrev pub row_of : Placed → Record
 row_of placed = placed.row.now
 
+-- the rows of items, in their order
 abbrev pub rows_placed : List Placed → List Record
 rows_placed placed = map row_of placed
 

@@ -98,7 +98,7 @@ fn is_enrolled_at_school<R: Refs>(rows: &R, path: &Path, role: &str, user: &Row)
         && is_enrolled(rows, id_at(path, 1), role, user)
 }
 
-// Whether the user is of the school: named by it, or enrolled there.
+// Whether the user is of the school: it names the school, or is enrolled there.
 fn is_at_school<R: Refs>(rows: &R, school: &Id, user: &Row) -> bool
     ensures { result
         ≡ (names (codes "orgs") school.now user.now

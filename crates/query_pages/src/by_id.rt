@@ -14,7 +14,8 @@ use roster_types::row::Row;
 use row_walks::{Steps, Walk};
 use std::alloc::Global;
 
-/// The part that a query asks for of a list by id, all on a way through the rows. Rows outside of it are counted, and not copied.
+/// The part that a query asks for of a list by id, all on a way through the rows. Rows outside of it are counted, and
+/// not copied.
 pub fn part_by_id<R: Steps, T: ListTest>(
     alloc: Global,
     rows: &R,
@@ -27,7 +28,7 @@ pub fn part_by_id<R: Steps, T: ListTest>(
     ensures total { IfOk result (λ p. p.total ≡ length (filter (T.passes test.now) (R.rows rows.now))) }
     ensures order { Ascends row_key (R.rows rows.now) }
 {
-    // For the order of the rows, and so that their count doesn't wrap.
+    // Read for the order of the rows, and for the bound of their number, by which the count doesn't wrap.
     rows.ascend();
     let mut found = Vec::new(alloc);
     let mut total: u64 = 0;

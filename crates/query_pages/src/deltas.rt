@@ -33,7 +33,7 @@ fn whole_part(
 {
     let before = span.before();
     let after = span.after();
-    // For the number of their rows, and their order.
+    // Read for the number of their rows, and their order.
     let _ = before.grants();
     let _ = after.grants();
     let ids = span.changed_ids(alloc, kind)?;
@@ -45,8 +45,8 @@ fn whole_part(
     Ok(part)
 }
 
-// The part that a query asks for of what differs between the rows of a kind that a grant at these schools sees. A row may come into sight
-// that didn't change, so all are gone through.
+// The part that a query asks for of what differs between the rows of a kind that a grant at these schools sees. A row
+// may come into sight that didn't change, so all are gone through.
 fn seen_part<A: Refs, B: Refs>(
     alloc: Global,
     before: &A,
@@ -83,7 +83,7 @@ fn part(
         Schools::Listed(_) => {
             let before = span.before();
             let after = span.after();
-            // For the number of their rows.
+            // Read for the number of their rows.
             let _ = before.grants();
             let _ = after.grants();
             seen_part(alloc, before, after, schools, kind, query)
@@ -112,8 +112,8 @@ fn linked(
     })
 }
 
-/// The page that a query asks for of what differs of the rows of a path's kind between two versions, of what a grant at these schools
-/// sees of each. The links lead to the path, and name the second version by this number.
+/// The page that a query asks for of what differs of the rows of a path's kind between two versions, of what a grant at
+/// these schools sees of each. The links lead to the path, and name the second version by this number.
 pub fn delta_page(
     alloc: Global,
     span: &Span<'_>,

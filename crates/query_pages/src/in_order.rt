@@ -30,8 +30,8 @@ pub struct First<'r> {
     pub total: u64,
 }
 
-/// The first `count` rows of a list in an order, or all where there are fewer. `walk` is a way through the rows on which the whole list
-/// stands.
+/// The first `count` rows of a list in an order, or all where there are fewer. `walk` is a way through the rows on
+/// which the whole list stands.
 pub fn first_rows<'r, R: Steps, T: ListTest>(
     alloc: Global,
     rows: &'r R,
@@ -44,7 +44,7 @@ pub fn first_rows<'r, R: Steps, T: ListTest>(
     ensures rows { IfOk result (λ f. rows_placed f.rows.items ≡ first count (sorting_shown sorting.entry) (filter (T.passes test.now) (R.rows rows.now))) }
     ensures total { IfOk result (λ f. f.total ≡ length (filter (T.passes test.now) (R.rows rows.now))) }
 {
-    // For the order of the rows, and so that their count doesn't wrap.
+    // Read for the order of the rows, and for the bound of their number, by which the count doesn't wrap.
     rows.ascend();
     let mut found = Vec::new(alloc);
     let mut total: u64 = 0;
@@ -63,8 +63,8 @@ pub fn first_rows<'r, R: Steps, T: ListTest>(
     Ok(First { rows: found, total })
 }
 
-// Adds a row with its key. Whenever twice `count` rows have come, only the first `count` stay, so that a long list takes no more memory
-// than twice `count` rows do.
+// Adds a row with its key. Whenever twice `count` rows have come, only the first `count` stay, so that a long list
+// takes no more memory than twice `count` rows do.
 fn add<'r>(
     alloc: Global,
     sorting: Sorting<'_>,

@@ -78,8 +78,8 @@ fn last_offset(query: &Query, total: u64) -> u64
     total.saturating_sub(1) / query.limit * query.limit
 }
 
-/// The links of a page of a list with so many rows, in one version: to the page behind it, to the one in front of it, to the
-/// first and to the last, where there are any. Each names the version.
+/// The links of a page of a list with so many rows, in one version: to the page behind it, to the one in front of it,
+/// to the first and to the last, where there are any. Each names the version.
 pub fn links_of(
     alloc: Global,
     path: &Path,

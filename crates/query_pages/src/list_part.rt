@@ -45,7 +45,8 @@ fn part_sorted<R: Steps, T: ListTest>(
     })
 }
 
-/// The part that a query asks for of the rows that pass a test, all on a way through the rows, in the order that it asks for.
+/// The part that a query asks for of the rows that pass a test, all on a way through the rows, in the order that it
+/// asks for.
 pub fn part_of<R: Steps, T: ListTest>(
     alloc: Global,
     rows: &R,

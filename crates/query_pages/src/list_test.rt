@@ -12,10 +12,10 @@ pub trait ListTest {
     ghost use Rattle.roster_types.specs.Records.{Record};
     ghost use Rattle.roster_values.specs.declared.kind.Kind.{Kind as Kinds};
 
-    /// Whether a row stands on the list.
+    /// Whether a row stands on the list, as a clause sees it.
     ghost passes: { Self → Record → Bool };
 
-    /// The kind of the list's rows.
+    /// The kind of the list's rows, as a clause sees it.
     ghost kind_of: { Self → Kinds };
 
     /// The kind of the list's rows.
@@ -26,6 +26,6 @@ pub trait ListTest {
     fn passes(&self, alloc: Global, row: &Row) -> Result<bool, NoMemory>
         ensures { IfOk result (λ b. b ≡ passes self.now row.now) };
 
-    /// Rows of other kinds don't.
+    /// A row of another kind doesn't stand on the list.
     ghost of_kind: { (test : Self) (row : Record) → passes test row ≡ true → is_of_kind (kind_of test) row ≡ true };
 }

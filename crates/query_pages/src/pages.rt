@@ -60,8 +60,8 @@ impl<'a, R: Refs> ListTest for Listed<'a, R> {
     }
 }
 
-// The part that a query asks for of the list of a path, all on a way through the rows; nothing where an object that the path
-// names isn't among the rows.
+// The part that a query asks for of the list of a path, all on a way through the rows; nothing where an object that the
+// path names isn't among the rows.
 #[tactic(auto, unfolding(hub_spec::specs::views::Lists::list_of))]
 fn part<R: Steps>(
     alloc: Global,
@@ -149,8 +149,8 @@ fn walked_page<R: Steps>(
     page_on(alloc, rows, &walk, version, path, query)
 }
 
-/// The page that a query asks for of the list of a path among the rows of a version, which the links name; nothing where an
-/// object that the path names isn't among the rows.
+/// The page that a query asks for of the list of a path among the rows of a version, which the links name; nothing
+/// where an object that the path names isn't among the rows.
 pub fn page<R: Refs>(
     alloc: Global,
     rows: &R,
@@ -188,8 +188,8 @@ fn seen_walk<'a, R: Refs>(
     walk_of(alloc, &SeenRows::new(schools, rows), path)
 }
 
-/// The page that a query asks for of the list of a path among those rows that a grant at these schools sees; nothing where an object that
-/// the path names isn't seen.
+/// The page that a query asks for of the list of a path among those rows that a grant at these schools sees; nothing
+/// where an object that the path names isn't seen.
 pub fn seen_page<R: Refs>(
     alloc: Global,
     rows: &R,
@@ -240,8 +240,8 @@ fn whole_page(
     }
 }
 
-/// The page that a query asks for of the list of a path among the rows that a grant at these schools sees of a version, which the
-/// links name by this number; nothing where an object that the path names isn't seen.
+/// The page that a query asks for of the list of a path among the rows that a grant at these schools sees of a version,
+/// which the links name by this number; nothing where an object that the path names isn't seen.
 pub fn version_page(
     alloc: Global,
     view: &VersionView<'_>,

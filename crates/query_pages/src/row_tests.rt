@@ -23,6 +23,7 @@ fn has_word(row: &Row, field: &str, word: &str) -> bool
     }
 }
 
+// Whether the row has the type or the role that the collection asks for.
 fn is_of_type(collection: Collection, row: &Row) -> bool
     ensures { result ≡ is_of_type collection row.now }
 {
@@ -43,7 +44,7 @@ pub fn is_in(collection: Collection, row: &Row) -> bool
     row.kind().place() == collection.kind().place() && is_of_type(collection, row)
 }
 
-/// The row is one of the collection's.
+/// The test whether the row is one of the collection's.
 #[derive(Drop)]
 pub struct IsIn {
     pub collection: Collection,
@@ -57,7 +58,7 @@ impl RowTest for IsIn {
     }
 }
 
-/// The field of the row names the id.
+/// The test whether the field of the row names the id.
 #[derive(Drop)]
 pub struct Names<'a> {
     pub field: &'a str,
@@ -72,7 +73,7 @@ impl<'a> RowTest for Names<'a> {
     }
 }
 
-/// The row, an enrollment, is in the class with the role.
+/// The test whether the row, an enrollment, is in the class with the role.
 #[derive(Drop)]
 pub struct IsInClass<'a> {
     pub class: &'a Id,

@@ -148,7 +148,8 @@ fn push_paging(alloc: Global, text: &mut String, limit: u64, offset: u64) -> Res
     push_number(alloc, text, "&offset=", offset)
 }
 
-/// The version from which on a read is told what differs: a kind's collection takes one, and any other path passes it over.
+/// The version from which on a read is told what differs: a kind's collection takes one, and any other path passes it
+/// over.
 pub fn base_of(path: &Path, query: &Query) -> Option<u64>
     ensures { result ≡ spec.base_for path.now.route query.now.since }
 {

@@ -17,7 +17,8 @@ use roster_types::cell_text::cell_text;
 use roster_values::{FieldForm, ValueRef};
 use std::alloc::Global;
 
-// Whether the text of a value is this one in any case of the letters. Texts are compared where they stand, with no copies.
+// Whether the text of a value is this one in any case of the letters. Texts are compared where they stand, with no
+// copies.
 #[tactic(auto, unfolding(roster_values::specs::CellText::cell_text))]
 fn is_text(alloc: Global, value: ValueRef<'_>, text: &str) -> Result<bool, NoMemory>
     requires { has_short_year (shown value) ≡ true }

@@ -36,7 +36,7 @@ use Rattle.keeper_memory.specs.copy.Copies.{Copy, IsCopy}
 use Rattle.keeper_memory.specs.copy.HeldCopy.{HeldCopy, empty_copy}
 use Rattle.exchange_link.specs.Asked.{AsksPages}
 use Rattle.exchange_link.specs.Causes.{Caused}
-use Rattle.exchange_link.specs.Exchanges.{Told}
+use Rattle.exchange_link.specs.Exchanges.{LinkState}
 use Rattle.exchange_link.specs.SendCauses.{SendCaused}
 use Rattle.exchange_link.specs.declared.answer.SyncAnswer.{SyncAnswer}
 use Rattle.exchange_link.specs.declared.send_answer.EnterError.{EnterError}
@@ -94,7 +94,7 @@ module _ (asks more : BaseVersion → Outcome → Type 0) (f : (version : BaseVe
 -- ---- what is told of copy and link, said more weakly
 
 -- of the copy no more is told than was, and that it and the link are as they were is said more weakly
-module _ (stood stands stood_more stands_more : Copy → Type 0) (before now : ℕ) (told tells : Told → Type 0) (asked asked_now missed : ℕ) (kept : List ℕ) (failed failed_now : ℕ) (copy_same copy_more link_same link_more : Type 0)
+module _ (stood stands stood_more stands_more : Copy → Type 0) (before now : ℕ) (told tells : LinkState → Type 0) (asked asked_now missed : ℕ) (kept : List ℕ) (failed failed_now : ℕ) (copy_same copy_more link_same link_more : Type 0)
     (down : (a : Copy) → stands_more a → (b : Copy) → stood b → stood_more b) (on : (a : Copy) → stands_more a → stands a) (c : copy_same → copy_more) (l : link_same → link_more) where
   abbrev copy_old : CopyRun
   copy_old = copy_run stood stands before now copy_same
@@ -112,7 +112,7 @@ module _ (stood stands stood_more stands_more : Copy → Type 0) (before now : �
   rests-more is = (c is.0, l is.1)
 
   -- what holds of all copies and links for which both stood, where more is told
-  met : (meets : Copy → Told → Type 0) (a : Copy) → stands_more a → ((b : Copy) (t : Told) → stood_more b → told t → meets b t) → (b : Copy) (t : Told) → stood b → told t → meets b t
+  met : (meets : Copy → LinkState → Type 0) (a : Copy) → stands_more a → ((b : Copy) (t : LinkState) → stood_more b → told t → meets b t) → (b : Copy) (t : LinkState) → stood b → told t → meets b t
   met meets a s agreed b t is tell = agreed b t (down a s b is) tell
 
   -- a copy for which the keeper stood
@@ -333,7 +333,7 @@ module _ (stood stands stood_more stands_more : Copy → Type 0) (before now : �
     caused-more task.token task.limit mid.asked _ _ a is,
   )
 
-  miss_told-more : (task : Task) (s : Result ℕ Missed) (t : Told) → MissTold task link_old t s → MissTold task link_new t s
+  miss_told-more : (task : Task) (s : Result ℕ Missed) (t : LinkState) → MissTold task link_old t s → MissTold task link_new t s
   miss_told-more task (Ok version) t is = tt
   miss_told-more task (Err (miss.Delta a)) t is = is
   miss_told-more task (Err (miss.Sync a)) t is = is
@@ -343,7 +343,7 @@ module _ (stood stands stood_more stands_more : Copy → Type 0) (before now : �
   first-more token limit a s (q ∷ []) (base, (b, was, has), asks) = (base, (b, down a s b was, has), asks)
   first-more token limit a s (q ∷ earlier ∷ others) is = first-more token limit a s (earlier ∷ others) is
 
-  may-less : (token : List ℕ) (a : Copy) → stands_more a → (b : Copy) (t now : Told) → MayCatchUp token stood_more b t now → MayCatchUp token stood b t now
+  may-less : (token : List ℕ) (a : Copy) → stands_more a → (b : Copy) (t now : LinkState) → MayCatchUp token stood_more b t now → MayCatchUp token stood b t now
   may-less token a s b t now may = record { pin = may.pin; base = elim may.base [ inl none ↦ inl (λ x was. none x (down a s x was)) | inr held ↦ inr held ] }
 
   caught-more : (task : Task) (r : Result ℕ Missed) → IsCaughtUp task r copy_old link_old → IsCaughtUp task r copy_new link_new

@@ -67,8 +67,8 @@ pub record AnswersFrom (old new : KeptState → Type 0) (copy : CopyRun) (parsed
   pub link : RealLink
   pub over : AnswersOver old new copy (silent_link_run link) parsed answer
 
--- an answer to words: it leads from a state of a hub to another. Where no store is named, it leads from that of a new hub, and the
--- consumer's copy is a new one
+-- an answer to words: it leads from a state of a hub to another. Where no store is named, it leads from that of a new
+-- hub, and the consumer's copy is a new one
 pub record IsRealAnswer (parsed : Result Parsed ℕ) (answer : Answer) : Type 0 where
   pub folder : Faults
   pub keeper : Faults
@@ -88,7 +88,8 @@ Tells is status old new = (a : Answer) × is a × (status ≡ status_of a.end) �
 abbrev pub TellsPart : (Answer → Type 0) → Option (List ℕ) → Option (List ℕ) → Type 0
 TellsPart is old new = (a : Answer) × is a × AppendsPart old new (text_of a)
 
--- what a run writes, with its status: the text of an answer of which this is so, or where the sink failed a front of such a text
+-- what a run writes, with its status: the text of an answer of which this is so, or where the sink failed a front of
+-- such a text
 pub record Runs (is : Answer → Type 0) (parsed : Result Parsed ℕ) (status : ℕ) (old new : Option (List ℕ)) (faults_before faults_now : ℕ) : Type 0 where
   pub done : status ≢ 1 → Tells is status old new
   pub part : status ≡ 1 → TellsPart is old new

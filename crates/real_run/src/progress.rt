@@ -1,5 +1,5 @@
-//! What a terminal is told while a run waits: the file that is read, or the number of the request. It decides nothing, and what
-//! can't be written changes nothing.
+//! What a terminal is told while a run waits: the file that is read, or the number of the request. It decides nothing,
+//! and what can't be written changes nothing.
 
 ghost use Rattle.std.specs.Prelude.{◌≡◌};
 
@@ -9,7 +9,8 @@ use outside_ports::{Failed, FileRead, Folder, IoError};
 use std::alloc::Global;
 use std::fs;
 
-// Whether standard error is a terminal. The kit asks the system nothing of the kind, so the name of what stands there is looked at.
+// Whether standard error is a terminal. The kit asks the system nothing of the kind, so the name of what stands there
+// is looked at.
 fn is_terminal(rt: HostRuntime) -> bool {
     match fs::read_link(&rt, "/proc/self/fd/2") {
         Ok(path) => {

@@ -9,10 +9,10 @@ ghost use Rattle.roster_base.specs.Faults.{Rose};
 use crate::progress::{Progress, ShownFolder, ShownLink};
 use crate::telling::{tell_before, tell_unreached};
 use exchange_link::{Link, NoLink, SocketLink};
-use hub_cli::lines::NO_MEMORY;
 use hub_cli::{
-    Command, Spelled, keep_of, peer_of, print, read_words, root_of, run_spelled, store_of,
+    Command, Spelled, keep_of, lines, peer_of, print, read_words, root_of, run_spelled, store_of,
 };
+use hub_words::statuses::NO_MEMORY;
 use keeper_memory::{CopyKeeper, HubKeeper, MemCopy, MemHub};
 use keeper_sqlite::{ClosedStore, ItemCopy, ItemHub};
 use outside_ports::{DirFolder, Sink, SystemClock};
@@ -46,7 +46,7 @@ fn system_of(rt: HostRuntime, alloc: Global, spelled: &Spelled) -> Result<System
 }
 
 // Runs words over keepers and a link, over the real folder and clock.
-fn run_between<H: HubKeeper, C: CopyKeeper, L: Link, O: Sink>(
+fn run_over_link<H: HubKeeper, C: CopyKeeper, L: Link, O: Sink>(
     system: System,
     spelled: &Spelled,
     keeper: &mut H,
@@ -72,7 +72,7 @@ fn run_between<H: HubKeeper, C: CopyKeeper, L: Link, O: Sink>(
 }
 
 // Runs words over keepers, and over a link to no hub where the words name none.
-fn run_over<H: HubKeeper, C: CopyKeeper, O: Sink>(
+fn run_over_keepers<H: HubKeeper, C: CopyKeeper, O: Sink>(
     mut system: System,
     spelled: &Spelled,
     keeper: &mut H,
@@ -85,13 +85,13 @@ fn run_over<H: HubKeeper, C: CopyKeeper, O: Sink>(
     match system.peer.take() {
         None => {
             let mut link = NoLink::new();
-            run_between(system, spelled, keeper, copy, &mut link, out)
+            run_over_link(system, spelled, keeper, copy, &mut link, out)
         }
         Some(address) => {
             let rt = system.rt;
             let socket = SocketLink::to(system.alloc, rt, address);
             let mut link = ShownLink::new(socket, Progress::new(rt));
-            let status = run_between(system, spelled, keeper, copy, &mut link, out);
+            let status = run_over_link(system, spelled, keeper, copy, &mut link, out);
             tell_unreached(rt, status, &link);
             drop(link);
             status
@@ -106,15 +106,17 @@ fn run_in_memory<O: Sink>(system: System, spelled: &Spelled, out: &mut O) -> u8
 {
     let mut keeper = MemHub::new(system.alloc, keep_of(spelled));
     let mut copy = MemCopy::new(system.alloc);
-    let status = run_over(system, spelled, &mut keeper, &mut copy, out);
-    // The process ends with its run, and its memory with it: a roster isn't gone through once more to be let go row by row.
+    let status = run_over_keepers(system, spelled, &mut keeper, &mut copy, out);
+    // The process ends with its run, and its memory with it: a roster isn't gone through once more to be let go row by
+    // row.
     forget(keeper);
     forget(copy);
     status
 }
 
-// Runs words that name a store over keepers of its files, or over one such and one in memory that the command doesn't use.
-fn run_with<H: HubKeeper, C: CopyKeeper, O: Sink>(
+// Runs words that name a store over keepers of its files, or over one such and one in memory that the command doesn't
+// use.
+fn run_with_store<H: HubKeeper, C: CopyKeeper, O: Sink>(
     system: System,
     spelled: &Spelled,
     keeper: &mut H,
@@ -124,7 +126,8 @@ fn run_with<H: HubKeeper, C: CopyKeeper, O: Sink>(
     requires { IsSome (store_in spelled.now) }
     ensures { RunsBetween O.written O.faults out.old out.new result spelled.now (IsRealAnswer spelled.now) }
 {
-    run_over(system, spelled, keeper, copy, out)
+    // The clause of a run over a store tells nothing of its keepers.
+    run_over_keepers(system, spelled, keeper, copy, out)
 }
 
 // Runs a command of the hub over its keeper. It needs no copy.
@@ -138,12 +141,13 @@ fn run_with_hub<H: HubKeeper, O: Sink>(
     ensures { RunsBetween O.written O.faults out.old out.new result spelled.now (IsRealAnswer spelled.now) }
 {
     let mut copy = MemCopy::new(system.alloc);
-    let status = run_with(system, spelled, keeper, &mut copy, out);
+    let status = run_with_store(system, spelled, keeper, &mut copy, out);
     drop(copy);
     status
 }
 
-// Runs words over a hub's keeper and the store of a copy, which is closed then; each call of one that couldn't be opened fails.
+// Runs words over a hub's keeper and the store of a copy, which is closed then; each call of one that couldn't be
+// opened fails.
 fn run_with_copy<H: HubKeeper, S: OpenStore, O: Sink>(
     system: System,
     spelled: &Spelled,
@@ -157,13 +161,13 @@ fn run_with_copy<H: HubKeeper, S: OpenStore, O: Sink>(
     match copy {
         Some(items) => {
             let mut copy = ItemCopy::adopt(items);
-            let status = run_with(system, spelled, keeper, &mut copy, out);
+            let status = run_with_store(system, spelled, keeper, &mut copy, out);
             copy.release().close();
             status
         }
         None => {
             let mut closed = ClosedStore::new();
-            run_with(system, spelled, keeper, &mut closed, out)
+            run_with_store(system, spelled, keeper, &mut closed, out)
         }
     }
 }
@@ -301,13 +305,13 @@ fn run_stored<O: Sink>(system: System, spelled: &Spelled, folder: &str, out: &mu
         Ok(Opened::Both { hub, copy }) => run_of_both(system, spelled, hub, copy, out),
         Err(NoMemory) => {
             drop(system);
-            print(out, 17, NO_MEMORY)
+            print(out, NO_MEMORY, lines::NO_MEMORY)
         }
     }
 }
 
 // Runs what words spell, unless memory runs out before a keeper is there.
-fn run_set<O: Sink>(rt: HostRuntime, alloc: Global, spelled: &Spelled, out: &mut O) -> u8
+fn run_parsed<O: Sink>(rt: HostRuntime, alloc: Global, spelled: &Spelled, out: &mut O) -> u8
     ensures { RunsBetween O.written O.faults out.old out.new result spelled.now (IsRealAnswer spelled.now) }
 {
     match system_of(rt, alloc, spelled) {
@@ -315,7 +319,7 @@ fn run_set<O: Sink>(rt: HostRuntime, alloc: Global, spelled: &Spelled, out: &mut
             None => run_in_memory(system, spelled, out),
             Some(folder) => run_stored(system, spelled, folder.as_str(), out),
         },
-        Err(NoMemory) => print(out, 17, NO_MEMORY),
+        Err(NoMemory) => print(out, NO_MEMORY, lines::NO_MEMORY),
     }
 }
 
@@ -326,19 +330,20 @@ fn run_words<O: Sink>(rt: HostRuntime, alloc: Global, words: &[String], out: &mu
     match read_words(alloc, words) {
         Ok(spelled) => {
             tell_before(rt, alloc, &spelled);
-            let status = run_set(rt, alloc, &spelled, out);
+            let status = run_parsed(rt, alloc, &spelled, out);
             drop(spelled);
             status
         }
-        Err(NoMemory) => print(out, 17, NO_MEMORY),
+        Err(NoMemory) => print(out, NO_MEMORY, lines::NO_MEMORY),
     }
 }
 
-/// Runs the words over the folder, the clock, the store and the sockets of the system, as `run_hub` does, and gives the status of the process.
+/// Runs the words over the folder, the clock, the store and the sockets of the system, as `run_hub` does, and gives the
+/// status of the process.
 ///
-/// Where the words name a store's folder, a command of the hub finds it in the file `hub.db` there, one of the consumer its copy in
-/// `copy.db`, and `cascade` and `follow` both. Folder and files are made where they aren't there, and one that can't be opened fails. Else hub and copy
-/// are new ones in memory, and nothing of them outlasts the run.
+/// Where the words name a store's folder, a command of the hub finds it in the file `hub.db` there, one of the consumer
+/// its copy in `copy.db`, and `cascade` and `follow` both. Folder and files are made where they aren't there, and one
+/// that can't be opened fails. Else hub and copy are new ones in memory, and nothing of them outlasts the run.
 ///
 /// The consumer's hub is the one at the address that the words name; where they name none, each exchange fails.
 pub fn run_real<O: Sink>(rt: HostRuntime, alloc: Global, words: &[String], out: &mut O) -> u8
@@ -351,5 +356,6 @@ pub fn run_real<O: Sink>(rt: HostRuntime, alloc: Global, words: &[String], out: 
     ensures sink_failed { result ≡ 1 → Rose (O.faults out.old) (O.faults out.new) }
     ensures sink_stood { result ≢ 1 → O.faults out.new ≡ O.faults out.old }
 {
+    // What is said here follows from the one clause of `run_words`.
     run_words(rt, alloc, words, out)
 }

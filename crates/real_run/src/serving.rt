@@ -8,11 +8,11 @@ ghost use Rattle.outside_ports.specs.Written.{AppendsPart};
 ghost use Rattle.real_run.specs.RealServes.{FitWords, ServesBetween, serve_text};
 ghost use Rattle.roster_base.specs.Faults.{Rose};
 
-use hub_cli::lines::{NO_MEMORY, bad_word_line};
 use hub_cli::server::shared::FeedEnd;
 use hub_cli::server::{Doors, Notices, Ports};
-use hub_cli::{Options, ServeEnd, ServeWords, feed_lines, print, serve_hub, split_serve};
+use hub_cli::{Options, ServeEnd, ServeWords, feed_lines, lines, print, serve_hub, split_serve};
 use hub_words::Feed;
+use hub_words::statuses::{BAD_WORDS, NO_MEMORY};
 use hub_words::words::USUAL_KEEP;
 use keeper_memory::{HubKeeper, MemHub};
 use keeper_sqlite::{ClosedStore, ItemHub};
@@ -36,7 +36,7 @@ impl Notices for ErrorLines {
     fn fed(&self, feed: &Name, end: FeedEnd) {
         let _ = match feed_lines(self.alloc, feed, end) {
             Ok(lines) => eprint!(self.rt; "{lines}"),
-            Err(NoMemory) => eprint!(self.rt; "{NO_MEMORY}"),
+            Err(NoMemory) => eprint!(self.rt; "{}", lines::NO_MEMORY),
         };
     }
 }
@@ -54,7 +54,8 @@ fn listen(rt: HostRuntime, address: &str) -> TcpAcceptor<HostRuntime> {
     acceptor
 }
 
-// An acceptor at an address, beside the one that is there for the same address. The acceptors are those of the first addresses.
+// An acceptor at an address, beside the one that is there for the same address. The acceptors are those of the first
+// addresses.
 fn acceptor_at(
     rt: HostRuntime,
     address: &str,
@@ -229,7 +230,7 @@ fn serve_doors<R: Threads + Wait + Sync>(
         Ok(None) => serve_closed(threads, rt, alloc, words, doors),
         Err(NoMemory) => {
             drop(doors);
-            17
+            NO_MEMORY
         }
     }
 }
@@ -248,7 +249,7 @@ fn serve_words<R: Threads + Wait + Sync>(
 {
     match doors_of(rt, alloc, serve) {
         Ok(doors) => serve_doors(threads, rt, alloc, words, doors, &serve.options),
-        Err(NoMemory) => 17,
+        Err(NoMemory) => NO_MEMORY,
     }
 }
 
@@ -256,9 +257,9 @@ fn serve_words<R: Threads + Wait + Sync>(
 fn print_bad_word<O: Sink>(alloc: Global, place: usize, out: &mut O) -> u8
     ensures { (w : List (List ℕ)) → split_serve w ≡ Err place → ServesBetween O.written O.faults out.old out.new result (split_serve w) }
 {
-    match bad_word_line(alloc, place) {
-        Ok(line) => print(out, 2, line.as_str()),
-        Err(NoMemory) => print(out, 17, NO_MEMORY),
+    match lines::bad_word_line(alloc, place) {
+        Ok(line) => print(out, BAD_WORDS, line.as_str()),
+        Err(NoMemory) => print(out, NO_MEMORY, lines::NO_MEMORY),
     }
 }
 
@@ -268,8 +269,8 @@ fn print_status<O: Sink>(status: u8, out: &mut O) -> u8
     requires other { status ≢ 1 }
     ensures { (w : ServeWordsValue) → ServesBetween O.written O.faults out.old out.new result (Ok w) }
 {
-    if status == 17 {
-        print(out, 17, NO_MEMORY)
+    if status == NO_MEMORY {
+        print(out, NO_MEMORY, lines::NO_MEMORY)
     } else {
         status
     }
@@ -292,15 +293,16 @@ fn serve_any<R: Threads + Wait + Sync, O: Sink>(
             print_status(status, out)
         }
         Err(Refusal::Fault(place)) => print_bad_word(alloc, place, out),
-        Err(Refusal::NoMemory) => print(out, 17, NO_MEMORY),
+        Err(Refusal::NoMemory) => print(out, NO_MEMORY, lines::NO_MEMORY),
     }
 }
 
-/// Serves what the words say over the sockets, folders, clock and store of the system, as `serve_hub` does, and gives the status of the
-/// process.
+/// Serves what the words say over the sockets, folders, clock and store of the system, as `serve_hub` does, and gives
+/// the status of the process.
 ///
-/// An address that the words name several times has one listener, and as many connections to it are served at once. Where the words name a
-/// store's folder, the hub is the one in the file `hub.db` there, as for `run_real`; else it is a new one in memory.
+/// An address that the words name several times has one listener, and as many connections to it are served at once.
+/// Where the words name a store's folder, the hub is the one in the file `hub.db` there, as for `run_real`; else it is
+/// a new one in memory.
 ///
 /// Standard error is told of each listener, or why there is none, and of each feed.
 pub fn serve_real<R: Threads + Wait + Sync, O: Sink>(
@@ -319,5 +321,6 @@ pub fn serve_real<R: Threads + Wait + Sync, O: Sink>(
     ensures sink_failed { result ≡ 1 → Rose (O.faults out.old) (O.faults out.new) }
     ensures sink_stood { result ≢ 1 → O.faults out.new ≡ O.faults out.old }
 {
+    // What is said here follows from the one clause of `serve_any`.
     serve_any(threads, rt, alloc, words, out)
 }

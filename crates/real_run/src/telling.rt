@@ -1,10 +1,10 @@
-//! What standard error is told of a run, for people: that a folder or an address isn't there. It decides nothing, and a line that can't
-//! be written changes nothing.
+//! What standard error is told of a run, for people: that a folder or an address isn't there. It decides nothing, and a
+//! line that can't be written changes nothing.
 
 use crate::progress::ShownLink;
 use exchange_link::{Link, SocketLink};
 use hub_cli::{Command, Spelled, names_serve, peer_of, read_words, root_of, split_serve};
-use hub_words::Feed;
+use hub_words::{Feed, statuses};
 use roster_base::{NoMemory, Refusal};
 use std::alloc::Global;
 use std::path::Path;
@@ -74,16 +74,13 @@ pub fn bad_place(alloc: Global, words: &[String]) -> Option<usize> {
     }
 }
 
-/// The status of a run that didn't reach its peer.
-const INTERRUPTED: u8 = 7;
-
 /// Says behind a run why its peer wasn't reached.
 pub(crate) fn tell_unreached(
     rt: HostRuntime,
     status: u8,
     link: &ShownLink<SocketLink<HostRuntime>>,
 ) {
-    if status != INTERRUPTED {
+    if status != statuses::INTERRUPTED {
         return;
     }
     let why = match link.link().unreached() {

@@ -1,4 +1,5 @@
--- A chain of parents passes no more ids than there are rows, until it comes to one for the second time; so one that comes back does so within as many turns.
+-- A chain of parents passes no more ids than there are rows, until it comes to one for the second time; so one that
+-- comes back does so within as many turns.
 use Rattle.std.proofs.Common.{◌≡◌, ℕ, zero, suc, ◌+◌, ◌-◌, ◌<◌, ◌≤◌, Bool, true, false, cond, List, [], ◌∷◌, length}
 use Rattle.std.proofs.Common.{Option, Some, None, bytes_eq, option_and_then, refl, sym, ap, ◌∙◌, arith}
 use Rattle.std.specs.Ordering.{is_eq}

@@ -1,5 +1,5 @@
--- What a change leaves of the broken references: where the rows that stood have none, those that change keep their types and are in no cycle,
--- all that is broken anew is of them.
+-- What a change leaves of the broken references: where the rows that stood have none, those that change keep their
+-- types and are in no cycle, all that is broken anew is of them.
 use Rattle.std.proofs.Common.{◌≡◌, ℕ, zero, suc, ◌<◌, Bool, true, false, ◌&&◌, ◌||◌, not, cond, List, [], ◌∷◌, ◌++◌}
 use Rattle.std.proofs.Common.{length, get_or, codes, bytes_eq, Option, Some, None, option_and_then, refl, sym, ap}
 use Rattle.std.proofs.Common.{subst, ◌∙◌, arith}
@@ -268,7 +268,8 @@ same_type row other same kind field = λ i. option_map_or (λ word. not (has wor
     has : (word : List ℕ) → has_type row word ≡ has_type other word
     has word = word_test (field_of row (codes "type")) word ∙ ap (λ o. option_map_or (λ w. bytes_eq w word) o false) same ∙ sym (word_test (field_of other (codes "type")) word)
 
--- rows that stood without broken references, and those that are there anew: some stand in the place of what stood, with its type and in no cycle
+-- rows that stood without broken references, and those that are there anew: some stand in the place of what stood, with
+-- its type and in no cycle
 module _ (old new changed : List Record) (sound : faults_of old ≡ []) (up : Ascends row_key new) (rise : Ascends row_key changed)
     (over : (k : Key) → look_up row_key k new ≡ option_or (look_up row_key k changed) (look_up row_key k old))
     (types : (k : Key) (row stored : Record) → look_up row_key k changed ≡ Some row → look_up row_key k old ≡ Some stored → type_in row ≡ type_in stored)

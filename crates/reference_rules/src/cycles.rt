@@ -1,5 +1,5 @@
-//! Cycles of parents. A chain is followed only to an id of which an earlier chain told, so that all rows of a kind take as many steps as
-//! there are rows.
+//! Cycles of parents. A chain is followed only to an id of which an earlier chain told, so that all rows of a kind take
+//! as many steps as there are rows.
 
 ghost use Rattle.std.specs.Prelude.{◌≡◌, ◌<◌, IfOk, IsSome, OnOk, Some, bytes_eq, length, option_copied, true};
 ghost use Rattle.std.specs.List.{list_any};
@@ -27,8 +27,8 @@ struct Chain<'a> {
     end: Option<&'a Id>,
 }
 
-// Follows a chain to an id that is known, back to the first, to one that was met before, or to its end. Each power of two of turns is a
-// place to which a cycle may come back that doesn't go through the first.
+// Follows a chain to an id that is known, back to the first, to one that was met before, or to its end. Each power of
+// two of turns is a place to which a cycle may come back that doesn't go through the first.
 fn follow<'a, R: Rows>(
     alloc: Global,
     rows: &'a R,
@@ -176,8 +176,8 @@ fn came_back(chain: &Chain, id: &Id) -> bool
     }
 }
 
-// Notes an id that isn't noted yet, and the ids of its chain up to one that is known. A cycle that the chain comes to is noted before the ids that it passes,
-// so that those that aren't known then are in none.
+// Notes an id, unless it is known, and the ids of its chain up to one that is known. A cycle that the chain comes to is
+// noted before the ids that it passes, so that those that aren't known then are in none.
 fn learn<'a, R: Rows>(
     alloc: Global,
     rows: &'a R,
@@ -202,7 +202,8 @@ fn learn<'a, R: Rows>(
     note_passed(chain.passed.as_slice(), notes)
 }
 
-// Whether an id whose parent is noted is in a cycle of parents. A cycle is noted whole, so an id that isn't noted is in none.
+// Whether an id whose parent is noted is in a cycle of parents. A cycle is noted whole, so an id that isn't noted is in
+// none.
 fn known_below<'a, R: Rows>(
     rows: &R,
     kind: Kind,
@@ -219,7 +220,8 @@ fn known_below<'a, R: Rows>(
     note_unless_known(id, notes)
 }
 
-/// Whether a row is in a cycle of parents. Most have a parent that is noted: no chain is followed for them.
+/// Whether a row is in a cycle of parents. Most rows have a parent that is noted: no chain is followed for them.
+/// `turns` is the number of rows of the kind, which no cycle exceeds.
 pub fn is_in_cycle<'a, R: Rows>(
     alloc: Global,
     rows: &'a R,

@@ -1,5 +1,5 @@
-//! The broken references of rows: ids that name no row, or a row of another type than the field asks for, chains of parents
-//! that come back, and days in the wrong order.
+//! The broken references of rows: ids that name no row, or a row of another type than the field asks for, chains of
+//! parents that come back, and days in the wrong order.
 #![tactic(auto)]
 
 ghost use Rattle.std.specs.Prelude.{◌≡◌, ◌++◌, IfOk, IsTrue, List, None, OnOk, Some, map, slice_get, slice_index_or, ℕ};
@@ -107,13 +107,13 @@ fn faults_of_kinds<R: Rows>(
     Ok(found)
 }
 
-/// Every broken reference, in the order of kinds, ids, fields (as the field table has them) and places in a list. A row of
-/// whatever status may be named. At one field an id that is missing or of the wrong type goes before a cycle.
-/// Rows without broken references are sound.
+/// Every broken reference, in the order of kinds, ids, fields (as the field table has them) and places in a list. A row
+/// of whatever status may be named. At one field an id that is missing or of the wrong type goes before a cycle. Rows
+/// without broken references are sound.
 pub fn faults<R: Rows>(alloc: Global, rows: &R) -> Result<Vec<RefFault>, NoMemory>
     ensures { IfOk result (λ v. v.items ≡ faults_of (R.rows rows.now)) }
 {
-    // Counted for its clause `order`.
+    // Read for its clause `order`.
     let _ = rows.count(Kind::Orgs);
     faults_of_kinds(alloc, rows, &Kind::ALL)
 }
@@ -137,8 +137,8 @@ pub fn faults_among<'a, R: Rows, C: HasRow>(
     Ok(found)
 }
 
-/// The test by which cycles are listed is true exactly where the id is its own n-th parent, for some n from 1 to the number
-/// of rows of its kind.
+/// The test by which cycles are listed is true exactly where the id is its own n-th parent, for some n from 1 to the
+/// number of rows of its kind.
 pub fn cycles_are_found()
     ensures sound { (rows : List Record) (kind : Kinds) (id : List ℕ) → IsTrue (is_in_cycle rows kind id) → IsInCycle rows kind id }
     ensures complete { (rows : List Record) (kind : Kinds) (id : List ℕ) → IsInCycle rows kind id → IsTrue (is_in_cycle rows kind id) }

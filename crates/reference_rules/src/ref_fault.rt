@@ -21,14 +21,18 @@ pub enum Fault {
     DayOrder,
 }
 
-/// A broken reference: the row that has it, the field by its name in JSON, the id that stands there, and what is wrong.
+/// A broken reference of a row.
 #[derive(Drop)]
 pub struct RefFault {
+    /// The kind of the row that has it.
     pub kind: Kind,
+    /// The id of the row.
     pub id: Id,
+    /// The field by its name in JSON.
     pub field: Text,
-    /// Nothing where days are in the wrong order.
+    /// The id that stands in the field; nothing where days are in the wrong order.
     pub target: Option<Id>,
+    /// What is wrong.
     pub fault: Fault,
 }
 

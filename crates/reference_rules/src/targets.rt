@@ -53,6 +53,7 @@ fn type_asked(kind: Kind, field: &str) -> Option<&'static str>
     None
 }
 
+// Whether the row named by a field has another type than the field asks for.
 fn has_wrong_type(kind: Kind, field: &str, target: &Row) -> bool
     ensures { result ≡ has_wrong_type kind field.now target.now }
 {
@@ -78,6 +79,7 @@ fn fault_at(row: &Row, field: &str, target: Option<&Row>, in_cycle: bool) -> Opt
     None
 }
 
+// A copy of the id that is named, where one is.
 fn copy_target(alloc: Global, target: Option<&Id>) -> Result<Option<Id>, NoMemory>
     ensures { IfOk result (λ t. t ≡ option_copied target.entry) }
 {
@@ -87,7 +89,7 @@ fn copy_target(alloc: Global, target: Option<&Id>) -> Result<Option<Id>, NoMemor
     }
 }
 
-// Adds the fault, if there is one.
+// Adds a broken reference with the fault, if there is one.
 fn push_fault(
     row: &Row,
     field: &str,
@@ -147,7 +149,7 @@ fn add_all_faults<R: Rows>(
     Ok(())
 }
 
-// What is wrong with a day that ends others.
+// What is wrong with the day of a field, which must not be before the first day where it is the last.
 fn day_fault(row: &Row, field: &str, last: &Day) -> Option<Fault>
     ensures { result ≡ day_fault row.now field.now last.now }
 {

@@ -1,4 +1,4 @@
-//! What goes along from row to row.
+//! What is known of parents, taken along from row to row.
 
 ghost use Rattle.std.specs.Prelude.{◌≡◌, IfOk, OnOk, Some};
 ghost use Rattle.reference_rules.specs.Parents.{is_in_cycle};
@@ -14,15 +14,18 @@ use roster_values::Kind;
 use std::alloc::Global;
 use std::collections::HashMap;
 
-/// The kind of the last row that named a parent, how many rows are of it, and what is known of their ids.
+/// What is known of parents, as of the last row that named one.
 #[derive(Drop)]
 pub struct Walk<'a> {
+    /// The kind of that row.
     pub kind: Kind,
+    /// How many rows are of the kind: so many turns at most a chain takes to come back.
     pub turns: u64,
+    /// What is known of the ids of the kind.
     pub notes: Notes<'a>,
 }
 
-/// Nothing is known of the rows of a kind.
+/// The walk at the beginning of a kind, of whose rows nothing is known yet.
 pub fn begun<'a, R: Rows>(alloc: Global, rows: &R, kind: Kind) -> Walk<'a>
     ensures fits { Fits (R.rows rows.now) result }
     ensures kind { result.kind ≡ kind }
@@ -40,12 +43,13 @@ fn turn_to<'a, R: Rows>(alloc: Global, rows: &R, kind: Kind, walk: &mut Walk<'a>
     ensures fits { Fits (R.rows rows.now) walk.new }
     ensures kind { walk.new.kind ≡ kind }
 {
-    if walk.kind.place() != kind.place() {
+    if walk.kind != kind {
         *walk = begun(alloc, rows, kind);
     }
 }
 
-/// Whether a row is in a cycle of parents. One that names no parent leaves the walk as it is, so that no rows are counted for it.
+/// Whether a row is in a cycle of parents. One that names no parent leaves the walk as it is, so that no rows are
+/// counted for it.
 pub fn is_in_cycle_along<'a, R: Rows>(
     alloc: Global,
     rows: &'a R,

@@ -19,7 +19,7 @@ word_of GradingPeriods = codes "gradingPeriods"
 word_of Students = codes "students"
 word_of Teachers = codes "teachers"
 
--- the kind of its rows
+-- the kind of a collection's rows
 abbrev pub kind_in : Collection → Kind
 kind_in (Of kind) = kind
 kind_in Schools = Orgs
@@ -41,22 +41,26 @@ pub record Line : Type 0 where
   pub path : List Segment
   pub lists : Collection
 
+-- a whole collection
 abbrev pub whole : Collection → Line
 whole lists = record { path = Word (word_of lists) ∷ []; lists = lists }
 
+-- one object of a collection
 abbrev pub one : Collection → Line
 one lists = record { path = Word (word_of lists) ∷ Object lists ∷ []; lists = lists }
 
+-- what belongs to an object
 abbrev pub under : Collection → Collection → Line
 under object lists = record { path = Word (word_of object) ∷ Object object ∷ Word (word_of lists) ∷ []; lists = lists }
 
+-- what belongs to two objects
 abbrev pub under_two : Collection → Collection → Collection → Line
 under_two first second lists = record {
   path = Word (word_of first) ∷ Object first ∷ Word (word_of second) ∷ Object second ∷ Word (word_of lists) ∷ [];
   lists = lists;
 }
 
--- every route
+-- the line of each route
 abbrev pub line_of : Route → Line
 line_of (route.All c) = whole c
 line_of (route.One c) = one c

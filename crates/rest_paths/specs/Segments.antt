@@ -19,6 +19,6 @@ object_places n [] = []
 object_places n (Word word ∷ segments) = object_places (n + 1) segments
 object_places n (Object collection ∷ segments) = n ∷ object_places (n + 1) segments
 
--- an empty piece, `ims`, `oneroster` and `v1p1` stand before them
+-- the places of the ids in a route's paths: an empty piece, `ims`, `oneroster` and `v1p1` stand before its segments
 abbrev pub places_of : Route → List ℕ
 places_of route = object_places 4 (segments_of route)

@@ -14,13 +14,14 @@ pub fn no_two_routes_conflict()
     ensures { is_some table_router ≡ true }
 {}
 
-/// A law: the path of each kind's collection is read as that.
+/// A law: the path of each kind's collection is read as the route of that collection.
 pub fn collections_are_found()
     ensures { (kind : Kinds) → route_of (codes "/ims/oneroster/v1p1/" ++ plural_of kind)
         ≡ Some (route.All (collection.Of kind)) }
 {}
 
-/// A law: so is the path of each object that takes writes, whatever its last segment.
+/// A law: the path of each object that takes writes is read as the route of an object of its kind, whatever its last
+/// segment.
 pub fn gradebook_objects_are_found()
     ensures { (kind : Kinds) (b : ℕ) (t : List ℕ) → is_gradebook kind ≡ true → b < 256 → has_slash (b ∷ t) ≡ false
         → route_of (codes "/ims/oneroster/v1p1/" ++ plural_of kind ++ codes "/" ++ b ∷ t)

@@ -18,7 +18,8 @@ pub enum Collection {
     Teachers,
 }
 
-/// A route: a collection, one object of a collection, or rows that belong to objects.
+/// A route: a collection, one object of a collection, or rows that belong to objects. `SchoolClasses`, say, lists the
+/// classes of a school, and `SchoolClassStudents` the students of a class of a school.
 #[derive(Clone, Copy, Debug, PartialEq, Eq)]
 pub enum Route {
     All(Collection),
@@ -48,10 +49,10 @@ pub enum Route {
     CourseResources,
 }
 
-// A path of the hub.
+// A path of the hub, of the parts that stand behind its beginning.
 macro_rules! path {
-    ($path:literal) => {
-        concat!("/ims/oneroster/v1p1/", $path)
+    ($($part:literal),+) => {
+        concat!("/ims/oneroster/v1p1/", $($part),+)
     };
 }
 
@@ -59,24 +60,24 @@ macro_rules! path {
 macro_rules! collection_path {
     ($collection:expr, $behind:literal) => {
         match $collection {
-            Collection::Of(Kind::Orgs) => concat!("/ims/oneroster/v1p1/orgs", $behind),
-            Collection::Of(Kind::AcademicSessions) => concat!("/ims/oneroster/v1p1/academicSessions", $behind),
-            Collection::Of(Kind::Courses) => concat!("/ims/oneroster/v1p1/courses", $behind),
-            Collection::Of(Kind::Classes) => concat!("/ims/oneroster/v1p1/classes", $behind),
-            Collection::Of(Kind::Users) => concat!("/ims/oneroster/v1p1/users", $behind),
-            Collection::Of(Kind::Enrollments) => concat!("/ims/oneroster/v1p1/enrollments", $behind),
-            Collection::Of(Kind::Demographics) => concat!("/ims/oneroster/v1p1/demographics", $behind),
-            Collection::Of(Kind::Categories) => concat!("/ims/oneroster/v1p1/categories", $behind),
-            Collection::Of(Kind::LineItems) => concat!("/ims/oneroster/v1p1/lineItems", $behind),
-            Collection::Of(Kind::Results) => concat!("/ims/oneroster/v1p1/results", $behind),
-            Collection::Of(Kind::Resources) => concat!("/ims/oneroster/v1p1/resources", $behind),
-            Collection::Of(Kind::ClassResources) => concat!("/ims/oneroster/v1p1/classResources", $behind),
-            Collection::Of(Kind::CourseResources) => concat!("/ims/oneroster/v1p1/courseResources", $behind),
-            Collection::Schools => concat!("/ims/oneroster/v1p1/schools", $behind),
-            Collection::Terms => concat!("/ims/oneroster/v1p1/terms", $behind),
-            Collection::GradingPeriods => concat!("/ims/oneroster/v1p1/gradingPeriods", $behind),
-            Collection::Students => concat!("/ims/oneroster/v1p1/students", $behind),
-            Collection::Teachers => concat!("/ims/oneroster/v1p1/teachers", $behind),
+            Collection::Of(Kind::Orgs) => path!("orgs", $behind),
+            Collection::Of(Kind::AcademicSessions) => path!("academicSessions", $behind),
+            Collection::Of(Kind::Courses) => path!("courses", $behind),
+            Collection::Of(Kind::Classes) => path!("classes", $behind),
+            Collection::Of(Kind::Users) => path!("users", $behind),
+            Collection::Of(Kind::Enrollments) => path!("enrollments", $behind),
+            Collection::Of(Kind::Demographics) => path!("demographics", $behind),
+            Collection::Of(Kind::Categories) => path!("categories", $behind),
+            Collection::Of(Kind::LineItems) => path!("lineItems", $behind),
+            Collection::Of(Kind::Results) => path!("results", $behind),
+            Collection::Of(Kind::Resources) => path!("resources", $behind),
+            Collection::Of(Kind::ClassResources) => path!("classResources", $behind),
+            Collection::Of(Kind::CourseResources) => path!("courseResources", $behind),
+            Collection::Schools => path!("schools", $behind),
+            Collection::Terms => path!("terms", $behind),
+            Collection::GradingPeriods => path!("gradingPeriods", $behind),
+            Collection::Students => path!("students", $behind),
+            Collection::Teachers => path!("teachers", $behind),
         }
     };
 }
@@ -96,7 +97,7 @@ impl Collection {
         }
     }
 
-    // The collection alone.
+    // The list of this collection alone.
     fn alone(self) -> &'static [Collection]
         ensures { result.now ≡ self ∷ [] }
     {
@@ -123,7 +124,7 @@ impl Collection {
     }
 }
 
-// All rows of a kind, alone.
+// The list of the collection of all rows of a kind alone.
 fn all_of(kind: Kind) -> &'static [Collection]
     ensures { result.now ≡ Collection.Of kind ∷ [] }
 {
@@ -304,7 +305,8 @@ impl Route {
         }
     }
 
-    /// The places of the ids among the segments of the route's paths.
+    /// The places of the ids among the segments of the route's paths. The first four segments of a path are the empty
+    /// one before its first slash, `ims`, `oneroster` and `v1p1`.
     pub fn places(self) -> &'static [usize]
         ensures { result.now ≡ places_of self }
     {

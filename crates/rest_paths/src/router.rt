@@ -47,6 +47,7 @@ impl PathRouter {
     }
 }
 
+// The router over the table of all routes.
 fn table_router(alloc: Global) -> Result<Router<Route>, NoMemory>
     ensures { IfOk result (λ r. table_router ≡ Some r) }
 {
@@ -55,6 +56,7 @@ fn table_router(alloc: Global) -> Result<Router<Route>, NoMemory>
     Ok(router)
 }
 
+// Adds routes, one after another.
 fn add_all(router: &mut Router<Route>, routes: &[Route]) -> Result<(), NoMemory>
     ensures { OnOk result (with_routes routes.now router.old ≡ Some router.new) }
 {
@@ -64,7 +66,7 @@ fn add_all(router: &mut Router<Route>, routes: &[Route]) -> Result<(), NoMemory>
     Ok(())
 }
 
-// No two routes of the table conflict, so that only memory can be wanted.
+// Adds a route. No two routes of the table conflict, so that only memory can be wanting.
 fn add(router: &mut Router<Route>, route: Route) -> Result<(), NoMemory>
     ensures { OnOk result (with_route route router.old ≡ Some router.new) }
 {

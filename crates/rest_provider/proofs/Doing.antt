@@ -24,7 +24,7 @@ use Rattle.status_info.specs.declared.request.Request.{Request}
 use Rattle.version_core.specs.HubStates.{HubState}
 
 -- a reply that left the hub as it was
-pub read_did : (request : Request) (at : ℤ) (reply : Reply) (hub : HeldHub) (count : ℕ) → hub.is_open ≡ false → TakesRequest request at reply hub.kept hub.kept 0 → DidRequest request at reply hub hub count count
+pub read_did : (request : Request) (at : ℤ) (reply : Reply) (hub : HeldHub) (count : ℕ) → hub.commit_open ≡ false → TakesRequest request at reply hub.kept hub.kept 0 → DidRequest request at reply hub hub count count
 read_did request at reply hub count settled step = inl (record { made = inl (unmade hub settled); stays = refl; asked = step })
 
 -- a write that was asked for at each of its states
@@ -49,7 +49,7 @@ module _ (request : Request) (at : ℤ) (moment : IsMoment at) (path : ForSome (
 
 -- a commit is left open where the reply tells a failure
 pub did_open : (request : Request) (at : ℤ) (reply : Reply) (before after : HeldHub) (count count' : ℕ) → DidRequest request at reply before after count count'
-    → after.is_open ≡ true → (e : HubError) × (reply ≡ error_reply (wanted_by request) e)
+    → after.commit_open ≡ true → (e : HubError) × (reply ≡ error_reply (wanted_by request) e)
 did_open request at reply before after count count' (inl done) left = let shut = made_settled before after done.made in absurd (cc)
 did_open request at reply before after count count' (inr failed) left = (error.Keeper, failed.told)
 

@@ -59,7 +59,8 @@ none_kept (Some xs) kept none = rw none refl
 
 -- ---- the invariant
 
--- these requests were read and answered, by this text, none of them closes the stream, and these bytes are kept behind them
+-- these requests were read and answered, by this text, none of them closes the stream, and these bytes are kept behind
+-- them
 pub record Progress (before now : Ends) (kept : List ℕ) (requests : List Request) (text : List ℕ) (answered : ℕ) : Type 0 where
   pub read : Continues before.left (prepend_known kept now.left) requests
   pub stay : StayOpen requests

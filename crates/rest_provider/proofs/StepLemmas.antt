@@ -54,5 +54,5 @@ pub memory_step : (request : Request) (reply : Reply) (kept : KeptState) → rep
 memory_step request reply kept is at = λ state hub part. (state, hub, (λ h. h), part, WantsMemory (inl refl) (ap Replied is) refl)
 
 -- where no commit is left open, the hub's own state alone may stand
-pub own_stands : (hub : HeldHub) (after : KeptState) → hub.is_open ≡ false → IsStanding hub after → after ≡ hub.kept
+pub own_stands : (hub : HeldHub) (after : KeptState) → hub.commit_open ≡ false → IsStanding hub after → after ≡ hub.kept
 own_stands hub after settled stands = elim stands [ inl same ↦ same | inr other ↦ absurd (cc (settled, other.left_open)) ]

@@ -15,13 +15,15 @@ use Rattle.status_info.specs.Failing.{failing}
 use Rattle.status_info.specs.declared.cause.Cause.TheVariants.{Unreadable}
 use Rattle.status_info.specs.declared.request.Request.{Request}
 
--- the ends of a stream: the bytes that the source has left and those that the sink was given, where they are told, and their faults
+-- the ends of a stream: the bytes that the source has left and those that the sink was given, where they are told, and
+-- their faults
 pub record Ends : Type 0 where
   pub left : Option (List ℕ)
   pub source_faults : ℕ
   pub written : Option (List ℕ)
   pub sink_faults : ℕ
 
+-- the ends, put together
 abbrev pub ends_of : Option (List ℕ) → ℕ → Option (List ℕ) → ℕ → Ends
 ends_of left source_faults written sink_faults = record { left = left; source_faults = source_faults; written = written; sink_faults = sink_faults }
 
@@ -85,8 +87,8 @@ end_at (Some fault.End) answered kept = end.Closed (counted answered) kept
 end_at (Some fault.NoMemory) answered kept = end.NoMemory
 end_at (Some e) answered kept = end.Wire (counted (answered + 1)) e
 
--- the stream was read up to the stop, behind which these bytes were taken; each request was answered by a part of this text, and nothing
--- else was written but what tells of the stop
+-- the stream was read up to the stop, behind which these bytes were taken; each request was answered by a part of this
+-- text, and nothing else was written but what tells of the stop
 pub record IsServed (before now : Ends) (requests : List Request) (text : List ℕ) (stop : Option WireFault) (kept : List ℕ) : Type 0 where
   pub read : HasRead before.left (prepend_known kept now.left) requests stop
   pub stops : Stop stop requests
@@ -95,7 +97,8 @@ pub record IsServed (before now : Ends) (requests : List Request) (text : List �
   pub written : Appends before.written now.written (text ++ stop_text stop)
   pub sink : now.sink_faults ≡ before.sink_faults
 
--- the requests stand at the front of the bytes, one behind the other, none but the last closes the stream, and the rest follows them
+-- the requests stand at the front of the bytes, one behind the other, none but the last closes the stream, and the rest
+-- follows them
 abbrev pub StandFirst : List ℕ → List Request → List ℕ → Type 0
 StandFirst bytes [] rest = rest ≡ bytes
 StandFirst bytes (request ∷ requests) rest =

@@ -18,6 +18,7 @@ pub record Exchange : Type 0 where
   pub at : ℤ
   pub reply : Reply
 
+-- the requests of exchanges, in their order
 abbrev pub requests_of : List Exchange → List Request
 requests_of exchanges = map (λ (e : Exchange). e.request) exchanges
 
@@ -40,15 +41,16 @@ AreStepsOf [] steps = steps ≡ []
 AreStepsOf (e ∷ exchanges) [] = ⊥
 AreStepsOf (e ∷ exchanges) (step ∷ steps) = IsStepOf e step × AreStepsOf exchanges steps
 
--- a run of the hub from a state to another, which takes the requests one after another, is answered with their replies, and fails so often
--- at most
+-- a run of the hub from a state to another, which takes the requests one after another, is answered with their replies,
+-- and fails so often at most
 pub record TakesInTurn (exchanges : List Exchange) (failed : ℕ) (before after : HubState) : Type 0 where
   pub steps : List Step
   pub are : AreStepsOf exchanges steps
   pub run : Runs before steps failed
   pub end : end_of before steps ≡ after
 
--- each state of a hub of which `before` is kept leads by such a run to one of which `after` is kept, and which holds rows where the first does
+-- each state of a hub of which `before` is kept leads by such a run to one of which `after` is kept, and which holds
+-- rows where the first does
 abbrev pub TakesAll : List Exchange → ℕ → KeptState → KeptState → Type 0
 TakesAll exchanges failed before after =
     (state : HubState) → IsGranted state → IsPartOf before state

@@ -36,6 +36,7 @@ path_allowed wanted path = do
 abbrev pub path_checked : Wanted → Result Path Reply
 path_checked wanted = found_or (refused wanted cause.NoSuchPath) wanted.path >>= path_allowed wanted
 
+-- where a request goes, and who asks
 abbrev pub entry : Path → GrantRow → Entry
 entry path by = record { path = path; by = by }
 

@@ -21,8 +21,9 @@ use Rattle.version_core.specs.HubStates.{HubState}
 abbrev pub CountsFailed : ℕ → ℕ → ℕ → Type 0
 CountsFailed before now failed = ((failed ≡ 0) × (now ≡ before)) ⊎ ((failed ≡ 1) × (now ≡ min (before + 1) (2 ^ 64 - 1)))
 
--- at each state in which each caller keeps its grant and of which `before` is kept, the reply is that of a step which takes the request at
--- this moment and leads to such a state of which `after` is kept, and to one whose versions hold rows where the first one's do
+-- at each state in which each caller keeps its grant and of which `before` is kept, the reply is that of a step which
+-- takes the request at this moment and leads to such a state of which `after` is kept, and to one whose versions hold
+-- rows where the first one's do
 abbrev pub TakesRequest : Request → ℤ → Reply → KeptState → KeptState → ℕ → Type 0
 TakesRequest request at reply before after failed =
     (state : HubState) → IsGranted state → IsPartOf before state
@@ -33,11 +34,12 @@ abbrev pub error_reply : Wanted → HubError → Reply
 error_reply wanted error.Keeper = sent wanted (refused wanted cause.StoreFailed)
 error_reply wanted _ = sent wanted (refused wanted cause.NoMemory)
 
--- what an answer to a request did of a hub with no commit left open: a step of the abstract hub that didn't fail, in one commit at most; or
--- the keeper failed at a commit
+-- what an answer to a request did of a hub with no commit left open: a step of the abstract hub that didn't fail, in
+-- one commit at most; or the keeper failed at a commit
 abbrev pub DidRequest : Request → ℤ → Reply → HeldHub → HeldHub → ℕ → ℕ → Type 0
 DidRequest request at = Did (λ reply before after. TakesRequest request at reply before after 0) (error_reply (wanted_by request) error.Keeper)
 
--- and of a hub that may have one left open: the keeper is asked first what it made of it
+-- what an answer to a request did of a hub that may have a commit left open: the keeper is asked first what it made of
+-- that
 abbrev pub DidReloadRequest : Request → ℤ → Reply → HeldHub → HeldHub → ℕ → ℕ → Type 0
 DidReloadRequest request at = DidReload (λ reply before after. TakesRequest request at reply before after 0) (error_reply (wanted_by request))

@@ -35,5 +35,6 @@ Turns before now kept kept' moment (turn.Answered close) =
     (e : Exchange) × IsTaken before now kept kept' moment e × (e.request.close ≡ close) × Appends before.ends.written now.ends.written (reply_text e.reply)
     × (now.ends.sink_faults ≡ before.ends.sink_faults)
 Turns before now kept kept' moment turn.SinkFailed =
-    (e : Exchange) × IsTaken before now kept kept' moment e × AppendsPart before.ends.written now.ends.written (reply_text e.reply) × Rose before.ends.sink_faults now.ends.sink_faults
+    (e : Exchange) × IsTaken before now kept kept' moment e
+    × AppendsPart before.ends.written now.ends.written (reply_text e.reply) × Rose before.ends.sink_faults now.ends.sink_faults
 Turns before now kept kept' moment (turn.Stopped e) = IsStopped before.ends now.ends kept kept' e × IsIdle before now

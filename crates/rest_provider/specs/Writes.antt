@@ -45,8 +45,8 @@ stop_reply wanted refusal.NoMemory = out_of_memory wanted
 abbrev pub reply_of : Wanted → Written → Reply
 reply_of wanted written = told wanted (if written.kept then mark_number wanted.mark else None) written.version written.outcome
 
--- at each state of a hub of which `before` is kept, and at which this is asked, the reply is that of a step which takes the request at this
--- moment and leads to a state of a hub of which `after` is kept
+-- at each state of a hub of which `before` is kept, and at which this is asked, the reply is that of a step which takes
+-- the request at this moment and leads to a state of a hub of which `after` is kept
 abbrev pub TakesWrite : Request → ℤ → Asked → Reply → KeptState → KeptState → ℕ → Type 0
 TakesWrite request at asked reply before after failed =
     (state : HubState) → IsGranted state → IsPartOf before state → asked_in_turn state (wanted_by request) ≡ Ok asked

@@ -46,7 +46,7 @@ fn answer_settled<H: HubKeeper>(
     at: Moment,
 ) -> Reply
     requires fits { KeeperFits (H.stands_for keeper.old) hub.old }
-    requires settled { hub.old.is_open ≡ false }
+    requires settled { hub.old.commit_open ≡ false }
     ensures fits { KeeperFits (H.stands_for keeper.new) hub.new }
     ensures leads { H.leads keeper.old keeper.new }
     ensures step { (failed : ℕ) × CountsFailed (H.fault_count keeper.old) (H.fault_count keeper.new) failed
@@ -61,8 +61,8 @@ fn answer_settled<H: HubKeeper>(
     }
 }
 
-/// Answers a request at a moment, over a hub and its keeper. The keeper is asked first what it made of a commit at which it failed, where
-/// there is one. What a keeper's failure or want of memory left is told by the reply.
+/// Answers a request at a moment, over a hub and its keeper. The keeper is asked first what it made of a commit at
+/// which it failed, where there is one. What a keeper's failure or want of memory left is told by the reply.
 pub fn answer<H: HubKeeper>(
     alloc: Global,
     router: &PathRouter,
@@ -74,18 +74,19 @@ pub fn answer<H: HubKeeper>(
     requires { KeeperFits (H.stands_for keeper.old) hub.old }
     ensures fits { KeeperFits (H.stands_for keeper.new) hub.new }
     ensures leads { H.leads keeper.old keeper.new }
-    // What may stand after the call comes of what may have stood before it, by one step that takes the request and has this reply.
+    // What may stand after the call comes of what may have stood before it, by one step that takes the request and has
+    // this reply.
     ensures step { (failed : ℕ) × CountsFailed (H.fault_count keeper.old) (H.fault_count keeper.new) failed
         × ((after : KeptState) → IsStanding hub.new after → (before : KeptState) × IsStanding hub.old before × (H.stands_for keeper.new after → H.stands_for keeper.old before)
         × TakesRequest request.now at result before after failed) }
     // Over a hub with no commit left open, what it made is the last commit, if anything.
-    ensures did { hub.old.is_open ≡ false → DidRequest request.now at result hub.old hub.new (H.fault_count keeper.old) (H.fault_count keeper.new) }
+    ensures did { hub.old.commit_open ≡ false → DidRequest request.now at result hub.old hub.new (H.fault_count keeper.old) (H.fault_count keeper.new) }
     ensures reloads { DidReloadRequest request.now at result hub.old hub.new (H.fault_count keeper.old) (H.fault_count keeper.new) }
     // A commit is open after the call only where the reply tells that the store failed, or that memory is wanting.
-    ensures open { hub.new.is_open ≡ true → (fault : HubError) × (result ≡ error_reply (wanted_by request.now) fault) }
+    ensures open { hub.new.commit_open ≡ true → (fault : HubError) × (result ≡ error_reply (wanted_by request.now) fault) }
     ensures keeps { hub.new.keeps ≡ hub.old.keeps }
 {
-    // Who sees what, and what belongs to a path, is found by references.
+    // Who sees what, and what belongs to a path, is found by references, so they are indexed first.
     hub.index();
     match hub.ready(alloc, keeper) {
         Ok(()) => answer_settled(alloc, router, hub, keeper, request, at),

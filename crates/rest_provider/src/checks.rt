@@ -109,7 +109,8 @@ fn pinned(alloc: Global, request: &Request, oldest: u64, newest: u64, pin: u64) 
     }
 }
 
-/// The version that is read: the pin, where a caller with a grant since this version may read it, or the newest without one.
+/// The version that is read: the pin, where a caller with a grant since this version may read it, or the newest without
+/// one.
 pub fn version_read(
     alloc: Global,
     table: &Table,

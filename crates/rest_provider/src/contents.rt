@@ -1,4 +1,4 @@
-//! What a 200 has, beside what every reply has.
+//! What the reply to a read that succeeds has, beside what every reply has.
 
 ghost use Rattle.std.specs.Prelude.{◌≡◌, true, ℕ, IfOk, option_map};
 ghost use Rattle.hub_spec.specs.rules.Reads.{contents_of, delta_shown, object_shown, page_shown};
@@ -18,7 +18,8 @@ use status_info::LinkItem;
 use std::alloc::Global;
 use version_core::references::Refs;
 
-/// The body of a 200, the number of rows of the whole collection, and the links of the page.
+/// The body of the reply to a read that succeeds, the number of rows of the whole list, where a page is shown, and the
+/// links of that page.
 #[derive(Drop)]
 pub struct Contents {
     pub body: Text,

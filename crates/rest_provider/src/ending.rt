@@ -33,7 +33,8 @@ fn write_fault<W: Sink>(alloc: Global, sink: &mut W, fault: WireFault) -> Result
     }
 }
 
-/// Tells of the fault at which a stream stops, behind so many answered requests and with so many bytes taken, and gives its end.
+/// Tells of the fault at which a stream stops, behind so many answered requests and with so many bytes taken, and gives
+/// its end.
 pub fn stop<W: Sink>(
     alloc: Global,
     sink: &mut W,

@@ -11,6 +11,7 @@ pub fn moment_of<K: Clock>(clock: &K) -> Moment
 {
     match Moment::at(clock.now()) {
         Some(moment) => moment,
+        // What a clock gives is in the range of moments.
         None => unreachable!(),
     }
 }

@@ -37,8 +37,8 @@ use version_core::span::Span;
 use version_core::table::Table;
 use version_core::view::VersionView;
 
-/// A request for a path, who makes it, the number of the version that it reads, or that a write is told of, and that of the oldest
-/// which its caller may read.
+/// A request for a path, who makes it, the number of the version that it reads, or that a write is told of, and that of
+/// the oldest which its caller may read.
 #[derive(Clone, Copy)]
 pub struct Reading<'a> {
     pub request: &'a Request,
@@ -268,7 +268,8 @@ impl<'a> Reading<'a> {
         Ok(self.shown(alloc, query, contents))
     }
 
-    /// The reply that answers the read of the version, or the first check that it fails: scope, query, base, mark, object.
+    /// The reply that answers the read of the version, or the first check that it fails: scope, query, base, mark,
+    /// object.
     #[tactic(auto, unfolding(hub_spec::specs::rules::Reads::read_at))]
     pub fn answer(self, alloc: Global, table: &Table) -> Result<Reply, Stop>
         requires oldest { (oldest_of table.now).number ≤ self.version }

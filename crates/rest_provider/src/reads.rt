@@ -74,13 +74,14 @@ fn settled(alloc: Global, request: &Request, read: Result<Reply, Stop>) -> Reply
     }
 }
 
+// Whether the method asks for a reply without its body.
 fn is_head(verb: Verb) -> bool
     ensures { result ≡ is_head verb }
 {
     matches!(verb, Verb::Head)
 }
 
-/// The reply as it is sent.
+/// The reply as it is sent: to a HEAD without its body.
 pub fn sent(request: &Request, reply: Reply) -> Reply
     ensures { result ≡ sent (wanted_by request.now) reply }
 {
@@ -89,8 +90,8 @@ pub fn sent(request: &Request, reply: Reply) -> Reply
     reply
 }
 
-/// The hub's reply to a request that writes nothing, at the versions of the table; where memory runs out, the reply that says
-/// so.
+/// The hub's reply to a request that writes nothing, at the versions of the table; where memory runs out, the reply
+/// that says so.
 pub fn answer_read(alloc: Global, router: &PathRouter, table: &Table, request: &Request) -> Reply
     requires { is_write request.now.verb ≡ false }
     ensures { (state : HubState) → IsReadOf table.now state

@@ -49,8 +49,8 @@ fn serve<H: HubKeeper, S: Source, W: Sink, K: Clock>(
     }
 }
 
-/// Answers the requests of a source in turn, each at the clock's moment, and writes their replies, until something ends the stream. Where
-/// a request can't be read for what its bytes are, the reply that says so goes out last.
+/// Answers the requests of a source in turn, each at the clock's moment, and writes their replies, until something ends
+/// the stream. Where a request can't be read for what its bytes are, the reply that says so goes out last.
 pub fn serve_stream<H: HubKeeper, S: Source, W: Sink, K: Clock>(
     desk: &Desk<'_, K>,
     hub: &mut Hub,
@@ -61,8 +61,8 @@ pub fn serve_stream<H: HubKeeper, S: Source, W: Sink, K: Clock>(
     requires { KeeperFits (H.stands_for keeper.old) hub.old }
     ensures fits { KeeperFits (H.stands_for keeper.new) hub.new }
     ensures leads { H.leads keeper.old keeper.new }
-    // The requests are the first of the stream, however its reads are cut; what is written is the texts of their replies, and then what
-    // tells of a fault; and the replies are those of a run of the hub.
+    // The requests are the first of the stream, however its reads are cut; what is written is the texts of their
+    // replies, and then what tells of a fault; and the replies are those of a run of the hub.
     ensures served { Serves (stage_of (ends_of (S.left source.old) (S.faults source.old) (W.written sink.old) (W.faults sink.old)) (H.stands_for keeper.old) (H.fault_count keeper.old) hub.old)
         (stage_of (ends_of (S.left source.new) (S.faults source.new) (W.written sink.new) (W.faults sink.new)) (H.stands_for keeper.new) (H.fault_count keeper.new) hub.new)
         (K.moment desk.now.clock.now) result }

@@ -41,12 +41,14 @@ pub struct Asked {
     pub write: Write,
 }
 
+// Whether the method asks that a row be deleted.
 fn is_delete(verb: Verb) -> bool
     ensures { result ≡ wanting.is_delete verb }
 {
     matches!(verb, Verb::Delete)
 }
 
+// The number of a mark, where there is one.
 fn mark_number(mark: MarkField) -> Option<u64>
     ensures { result ≡ wanting.mark_number mark }
 {
@@ -71,6 +73,7 @@ fn write_of(alloc: Global, request: &Request, path: &Path) -> Result<Write, NoMe
     })
 }
 
+// The caller with its grant, copied.
 fn row_of(alloc: Global, caller: &Name, grant: &Grant) -> Result<GrantRow, NoMemory>
     ensures { IfOk result (λ row. row ≡ record { caller = caller.now; grant = grant.now }) }
 {
@@ -138,7 +141,7 @@ fn asked_in_turn(
     asked_at(alloc, table, request, &path)
 }
 
-// What tells of a check that a write fails.
+// The cause of the reply that tells of a check which a write fails.
 fn cause_of_check(check: Check) -> Cause
     ensures { result ≡ answers.cause_of (check_number check) }
 {
@@ -154,7 +157,7 @@ fn cause_of_check(check: Check) -> Cause
     }
 }
 
-// What tells of what a write came to.
+// The cause of the reply that tells what a write came to.
 fn cause_of(outcome: Outcome) -> Cause
     ensures { result ≡ answers.cause_of (outcome_number outcome) }
 {
@@ -171,6 +174,7 @@ fn reply_of(alloc: Global, request: &Request, written: Written) -> Reply
     ensures { result ≡ reply_of (wanted_by request.now) written }
 {
     let Some(outcome) = Outcome::from_number(written.outcome) else {
+        // Each number up to 9 is that of an outcome.
         unreachable!();
     };
     let mut reply = refused_at(alloc, request, written.version, cause_of(outcome));
@@ -190,7 +194,7 @@ fn answer_asked<H: HubKeeper>(
     at: Moment,
 ) -> Reply
     requires fits { KeeperFits (H.stands_for keeper.old) hub.old }
-    requires settled { hub.old.is_open ≡ false }
+    requires settled { hub.old.commit_open ≡ false }
     requires path { ForSome (wanted_by request.now).path IsPath }
     requires writes { wanting.is_write request.now.verb ≡ true }
     ensures fits { KeeperFits (H.stands_for keeper.new) hub.new }
@@ -234,7 +238,7 @@ pub fn answer_write<H: HubKeeper>(
     at: Moment,
 ) -> Reply
     requires fits { KeeperFits (H.stands_for keeper.old) hub.old }
-    requires settled { hub.old.is_open ≡ false }
+    requires settled { hub.old.commit_open ≡ false }
     requires writes { wanting.is_write request.now.verb ≡ true }
     ensures fits { KeeperFits (H.stands_for keeper.new) hub.new }
     ensures leads { H.leads keeper.old keeper.new }

@@ -11,6 +11,7 @@ use Rattle.std.specs.List.{AllByRecursion}
 use Rattle.std.specs.List.Sorted.{IsStrictlySortedBy}
 use Rattle.std.specs.Option.{unwrap_or}
 use Rattle.std.specs.Ordering.{match_ordering}
+use Rattle.roster_base.proofs.Sorting.{Below}
 use Rattle.roster_base.specs.Order.{RiseBy, in_order, is_below, placed}
 
 -- what tests as less is
@@ -48,15 +49,11 @@ stays_in_order key last (x ∷ xs) r =
 abbrev pub AllBelow : {A : Type 0} → (A → List ℕ) → List ℕ → List A → Type 0
 AllBelow key t xs = AllByRecursion (λ u. slice_cmp nat_cmp u t ≡ Less) (map key xs)
 
--- t is below these items' keys
-abbrev AllAbove : {A : Type 0} → (A → List ℕ) → List ℕ → List A → Type 0
-AllAbove key t xs = AllByRecursion (λ u. slice_cmp nat_cmp t u ≡ Less) (map key xs)
-
-above_last : {A : Type 0} (key : A → List ℕ) (t : List ℕ) (xs : List A) (y : A) → AllAbove key t (xs ++ y ∷ []) → slice_cmp nat_cmp t (key y) ≡ Less
+above_last : {A : Type 0} (key : A → List ℕ) (t : List ℕ) (xs : List A) (y : A) → Below key t (xs ++ y ∷ []) → slice_cmp nat_cmp t (key y) ≡ Less
 above_last key t [] y h = h.0
 above_last key t (x ∷ xs) y h = above_last key t xs y h.1
 
-above_push : {A : Type 0} (key : A → List ℕ) (t : List ℕ) (xs : List A) (y : A) → AllAbove key t xs → slice_cmp nat_cmp t (key y) ≡ Less → AllAbove key t (xs ++ y ∷ [])
+above_push : {A : Type 0} (key : A → List ℕ) (t : List ℕ) (xs : List A) (y : A) → Below key t xs → slice_cmp nat_cmp t (key y) ≡ Less → Below key t (xs ++ y ∷ [])
 above_push key t [] y h l = (l, tt)
 above_push key t (x ∷ xs) y h l = (h.0, above_push key t xs y h.1 l)
 
@@ -95,7 +92,8 @@ behind_last {A} key xs last y is below h =
 
 -- ---- keys that rise still do where their end, or one of them, is left out
 
-abbrev Rise : List (List ℕ) → Type 0
+-- keys in ascending order, each once
+abbrev pub Rise : List (List ℕ) → Type 0
 Rise keys = IsStrictlySortedBy (slice_cmp nat_cmp) keys
 
 all_front : (P : List ℕ → Type 0) (xs ys : List (List ℕ)) → AllByRecursion P (xs ++ ys) → AllByRecursion P xs

@@ -17,7 +17,7 @@ use Rattle.roster_base.specs.Order.{RiseBy, in_order, placed}
 pub tied : (xs ys : List ℕ) → slice_cmp nat_cmp xs ys ≡ Equal → xs ≡ ys
 tied xs ys e = (bytes_eq-Decides xs ys).0 (sym (is_eq-slice_cmp xs ys) ∙ ap is_eq e)
 
--- the key x is below each of these items' keys
+-- the key t is below each of these items' keys
 abbrev pub Below : {A : Type 0} → (A → List ℕ) → List ℕ → List A → Type 0
 Below key t xs = AllByRecursion (λ u. slice_cmp nat_cmp t u ≡ Less) (map key xs)
 

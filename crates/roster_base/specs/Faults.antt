@@ -13,11 +13,13 @@ pub record HasCause {T E : Type 0} (before now : ℕ) (result : Result T E) : Ty
   pub failed : OnErr result (Rose before now)
   pub quiet : OnOk result (now ≡ before)
 
--- a store counts a failure once, and nothing else; a count at the end of its type stays there
+-- a store that gives this error counts a failure once, and want of memory not at all; a count at the end of its type
+-- stays there
 abbrev pub CountsError : ℕ → ℕ → KeeperError → Type 0
 CountsError before now keeper.Failed = now ≡ min (before + 1) (2 ^ 64 - 1)
 CountsError before now keeper.NoMemory = now ≡ before
 
+-- the same of a call's answer: success counts nothing
 abbrev pub CountsFailure : {T : Type 0} → ℕ → ℕ → Result T KeeperError → Type 0
 CountsFailure before now (Ok x) = now ≡ before
 CountsFailure before now (Err e) = CountsError before now e

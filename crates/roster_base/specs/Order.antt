@@ -14,7 +14,7 @@ abbrev pub in_order : {A : Type 0} → (A → List ℕ) → List A → List A
 in_order key [] = []
 in_order key (x ∷ xs) = placed key x (in_order key xs)
 
--- a key that nothing or a lower key goes before
+-- whether a key is above the last one before it, if there is one
 abbrev pub is_below : Option (List ℕ) → List ℕ → Bool
 is_below None key = true
 is_below (Some last) key = is_lt (slice_cmp nat_cmp last key)

@@ -2,7 +2,7 @@
 
 use std::alloc::{AllocError, AllocFailed};
 
-/// Memory ran out. Nothing that was lent to the call has changed, unless its page says otherwise.
+/// Memory ran out. Nothing that was lent to the call has changed, unless the call's own comment says otherwise.
 #[derive(Clone, Copy, Debug, PartialEq, Eq)]
 pub struct NoMemory;
 

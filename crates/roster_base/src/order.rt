@@ -19,6 +19,7 @@ pub trait Keyed {
         ensures { result.now ≡ key_of self.now };
 }
 
+// Whether a key is above the last one, if there is one.
 fn is_below(last: Option<&str>, key: &str) -> bool
     ensures { result ≡ is_below (option_copied last.entry) key.now }
 {
@@ -42,7 +43,7 @@ fn is_in_order<T: Keyed>(items: &[T]) -> bool
     true
 }
 
-// Sorts by key; items with one key stay as they stand.
+// Sorts by key. Items with the same key stay in the order in which they stood.
 fn sort<T: Keyed>(items: &mut Vec<T>) -> Result<(), NoMemory>
     ensures moved { IsPermutation items.old.items items.new.items }
     ensures sorted { OnOk result (IsSortedByKey T.key_of (slice_cmp nat_cmp) items.new.items) }
@@ -73,7 +74,7 @@ fn keep<T: Keyed + Drop>(kept: &mut Vec<T>, item: T) -> Result<(), NoMemory>
     Ok(())
 }
 
-// The items of a sorted list, of each key the first.
+// Of each key the first item of a sorted list.
 fn firsts<T: Keyed + Drop>(alloc: Global, items: Vec<T>) -> Result<Vec<T>, NoMemory>
     requires { IsSortedByKey T.key_of (slice_cmp nat_cmp) items.items }
     ensures { IfOk result (λ v. v.items ≡ in_order T.key_of items.items) }
@@ -89,7 +90,8 @@ fn firsts<T: Keyed + Drop>(alloc: Global, items: Vec<T>) -> Result<Vec<T>, NoMem
 pub fn sorted<T: Keyed + Drop>(alloc: Global, mut items: Vec<T>) -> Result<Vec<T>, NoMemory>
     ensures value { IfOk result (λ v. v.items ≡ in_order T.key_of items.items) }
     ensures rise { IfOk result (λ v. RiseBy T.key_of v.items) }
-    ensures all { IsDistinct bytes_eq (map T.key_of items.items) → IfOk result (λ v. IsPermutation items.items v.items) }
+    ensures all { IsDistinct bytes_eq (map T.key_of items.items)
+        → IfOk result (λ v. IsPermutation items.items v.items) }
 {
     if is_in_order(&items) {
         return Ok(items);

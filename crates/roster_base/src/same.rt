@@ -1,4 +1,4 @@
-//! Values told apart.
+//! Whether two values are equal.
 
 ghost use Rattle.std.specs.Prelude.{◌≡◌};
 ghost use Rattle.std.specs.Bool.{Decides};

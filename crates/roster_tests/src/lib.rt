@@ -1,4 +1,5 @@
-//! Tests of texts, rows, files and grants against values that were made outside the program, and of the ports to the outside.
+//! Tests of texts, rows, files and grants against values that were made outside the program, and of the ports to the
+//! outside.
 #![tactic(auto)]
 
 #[cfg(test)]

@@ -12,8 +12,8 @@ use std::process::Abort;
 use std::test::Fail;
 use test_lake::file;
 
-// A file's name or what else is at fault, the number of a record, a column, and what is wrong with its value. What is read has its count
-// in place of the number.
+// A file's name or what else is at fault, the number of a record, a column, and what is wrong with its value. What is
+// read has its count in place of the number.
 type Told<'a> = (&'a str, u64, &'a str, Option<ValueFault>);
 
 fn fault_told(fault: &SetFault) -> Told<'_> {
@@ -218,7 +218,8 @@ fn rows_may_be_too_long(rt: HostRuntime) -> Result<(), Fail> {
     Ok(())
 }
 
-// The files of `lake`, one of which has another text in place of one of its texts; where that is empty, the file is taken away.
+// The files of `lake`, one of which has another text in place of one of its texts; where that is empty, the file is
+// taken away.
 fn lake(
     alloc: Global,
     changed: &str,
@@ -250,8 +251,9 @@ fn assert_set(rt: &impl Abort, read: &Result<RosterSet, SetError>, want: Told<'_
     assert_eq!(rt; told, want);
 }
 
-// The changed file, the text that is changed, what stands in its place, the number of a call of the folder that fails, and what is read
-// then. The folder is asked for the manifest, then for the size of each kind's file, then for ten files.
+// The changed file, the text that is changed, what stands in its place, the number of a call of the folder that fails,
+// and what is read then. The folder is asked for the manifest, then for the size of each kind's file, then for ten
+// files.
 static CHANGES: [(&str, &str, &str, u64, Told<'static>); 12] = [
     ("", "", "", 0, ("parts", 10, "", None)),
     (

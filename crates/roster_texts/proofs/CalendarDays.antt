@@ -51,16 +51,16 @@ told_le a b h = grind (arith, ints)
 told_lt : (a b : ℤ) → int_le a b ≡ false → b <ℤ a
 told_lt a b h = grind (arith, ints)
 
-step : (start : ℕ → ℤ) (n : ℕ) (day : ℤ) (r : Bool) → int_le (start (suc n)) day ≡ r → (day <ℤ start (suc n) → EndsAt start n day (last_start start n day))
+last_start_step : (start : ℕ → ℤ) (n : ℕ) (day : ℤ) (r : Bool) → int_le (start (suc n)) day ≡ r → (day <ℤ start (suc n) → EndsAt start n day (last_start start n day))
     → EndsAt start (suc n) day (cond r (suc n) (last_start start n day))
-step start n day true e below = end_here start n day (told_le _ _ e)
-step start n day false e below = end_below start n day _ (told_lt _ _ e) (below (told_lt _ _ e))
+last_start_step start n day true e below = end_here start n day (told_le _ _ e)
+last_start_step start n day false e below = end_below start n day _ (told_lt _ _ e) (below (told_lt _ _ e))
 
 -- where the first number's start is not after the day, the last such number is found
 pub ends : (start : ℕ → ℤ) (n : ℕ) (day : ℤ) → start 1 ≤ℤ day → EndsAt start (suc n) day (last_start start (suc n) day)
 unfolding last_start
-ends start zero day h = step start 0 day (int_le (start 1) day) refl (λ before. absurd (omega (arith, signed_arith)))
-ends start (suc n) day h = step start (suc n) day (int_le (start (suc (suc n))) day) refl (λ before. ends start n day h)
+ends start zero day h = last_start_step start 0 day (int_le (start 1) day) refl (λ before. absurd (omega (arith, signed_arith)))
+ends start (suc n) day h = last_start_step start (suc n) day (int_le (start (suc (suc n))) day) refl (λ before. ends start n day h)
 
 -- the year of a day, and where it ends
 pub record InYear (day : ℤ) (y : ℕ) : Type 0 where

@@ -123,17 +123,17 @@ midnight_good : (o : Option ℤ) → IfSome o (λ z. is_day z ≡ true) → IfSo
 midnight_good (Some z) h = midnight_in z h
 midnight_good None h = tt
 
-either : {A : Type 0} (P : A → Type 0) (r : Bool) (a b : Option A) → IfSome a P → IfSome b P → IfSome (cond r a b) P
-either P true a b h k = h
-either P false a b h k = k
+either_good : {A : Type 0} (P : A → Type 0) (r : Bool) (a b : Option A) → IfSome a P → IfSome b P → IfSome (cond r a b) P
+either_good P true a b h k = h
+either_good P false a b h k = k
 
 pub moment_good : (t : List ℕ) → IfSome (moment_of t) (λ z. is_moment z ≡ true)
 unfolding moment_of
 moment_good t =
-    either (λ z. is_moment z ≡ true) (nat_eq (length t) 10) (option_map midnight (day_of t)) (instant_of t) (midnight_good (day_of t) (day_of_good t)) (instant_good t)
+    either_good (λ z. is_moment z ≡ true) (nat_eq (length t) 10) (option_map midnight (day_of t)) (instant_of t) (midnight_good (day_of t) (day_of_good t)) (instant_good t)
 
 pub written_day_good : (t : List ℕ) → IfSome (written_day_of t) (λ z. is_day z ≡ true)
 unfolding written_day_of
 written_day_good t =
-    either (λ z. is_day z ≡ true) (nat_eq (length t) 10) (day_of t) (instant_of t some>>= (λ z. day_of (take 10 t)))
+    either_good (λ z. is_day z ≡ true) (nat_eq (length t) 10) (day_of t) (instant_of t some>>= (λ z. day_of (take 10 t)))
     (day_of_good t) (bind_some _ (instant_of t) _ (λ z. day_of_good (take 10 t)))

@@ -35,8 +35,8 @@ pub day_read : (y m d : ℕ) → y < 10000 → m < 100 → d < 100 → day_of (w
 unfolding day_of
 day_read y m d a b c = rw (digits_four y a, digits_two m b, digits_two d c) refl
 
-within : (hour minute second : ℕ) → hour ≤ 23 → minute ≤ 59 → second ≤ 59 → (nat_le hour 23 && (nat_le minute 59 && nat_le second 59)) ≡ true
-within hour minute second a b c = grind (arith, nat_tests)
+clock_in_bounds : (hour minute second : ℕ) → hour ≤ 23 → minute ≤ 59 → second ≤ 59 → (nat_le hour 23 && (nat_le minute 59 && nat_le second 59)) ≡ true
+clock_in_bounds hour minute second a b c = grind (arith, nat_tests)
 
 in_clock : (s : ℕ) → s < 86400 → clock_time (s / 3600) (s / 60 % 60) (s % 60) ≡ Some s
 unfolding clock_time
@@ -44,7 +44,7 @@ in_clock s h =
     let hours : s / 3600 ≤ 23 = omega arith in
     let minutes : s / 60 % 60 ≤ 59 = omega arith in
     let seconds : s % 60 ≤ 59 = omega arith in
-    let there : (nat_le (s / 3600) 23 && (nat_le (s / 60 % 60) 59 && nat_le (s % 60) 59)) ≡ true = within _ _ _ hours minutes seconds in
+    let there : (nat_le (s / 3600) 23 && (nat_le (s / 60 % 60) 59 && nat_le (s % 60) 59)) ≡ true = clock_in_bounds _ _ _ hours minutes seconds in
     rw there (ap (λ n. Some n) (omega arith))
 
 pub clock_read : (s : ℕ) → s < 86400 → seconds_of (clock_text s) ≡ Some s
@@ -66,8 +66,8 @@ instant_written y m d s ms day a b c e f at =
     let clock : seconds_of (codes "T" ++ two (s / 3600) ++ codes ":" ++ two (s / 60 % 60) ++ codes ":" ++ two (s % 60)) ≡ Some s = clock_read s e in
     rw (on, clock, fraction_read ms f) refl
 
-whole : (z : ℤ) → milliseconds_at (day_part z) (time_part z / 1000) (time_part z % 1000) (pos 0) ≡ z
-whole z =
+parts_make_moment : (z : ℤ) → milliseconds_at (day_part z) (time_part z / 1000) (time_part z % 1000) (pos 0) ≡ z
+parts_make_moment z =
     omega (arith, signed_arith, int_div_euclid-parts z 86400000 (omega arith), int_rem_euclid-parts z 86400000 (omega arith), unsigned_abs-parts (int_rem_euclid z (pos 86400000)))
 
 pub time_small : (z : ℤ) → time_part z < 86400000
@@ -98,14 +98,14 @@ instant_reads_back z h =
     let bounds = part_bounds (day_part z) in_days in
     instant_written (year_of_day (day_part z)) (month_of_day (day_part z)) (day_of_month (day_part z)) (time_part z / 1000) (time_part z % 1000) (day_part z)
     (omega (arith, bounds.0)) (omega (arith, bounds.1)) (omega (arith, bounds.2)) (omega (arith, time_small z)) (omega arith) (calendar_day (day_part z) in_days)
-    ∙ ap moment_at (whole z) ∙ in_moments z h
+    ∙ ap moment_at (parts_make_moment z) ∙ in_moments z h
 
-long : (z : ℤ) → moment_of (moment_text z) ≡ instant_of (moment_text z)
+moment_text_is_instant : (z : ℤ) → moment_of (moment_text z) ≡ instant_of (moment_text z)
 unfolding moment_of moment_text day_text clock_text fraction_text
-long z = refl
+moment_text_is_instant z = refl
 
 pub moment_reads_back : (z : ℤ) → IsMoment z → moment_of (moment_text z) ≡ Some z
-moment_reads_back z h = long z ∙ instant_reads_back z h
+moment_reads_back z h = moment_text_is_instant z ∙ instant_reads_back z h
 
 pub day_from : (z : ℤ) → is_day z ≡ true → IsDay z
 day_from z h = (grind (arith, ints), grind (arith, ints))
@@ -113,10 +113,10 @@ day_from z h = (grind (arith, ints), grind (arith, ints))
 pub moment_from : (z : ℤ) → is_moment z ≡ true → IsMoment z
 moment_from z h = (grind (arith, ints), grind (arith, ints))
 
-ten : (z : ℤ) → written_day_of (day_text z) ≡ day_of (day_text z)
+day_text_is_day : (z : ℤ) → written_day_of (day_text z) ≡ day_of (day_text z)
 unfolding written_day_of day_text
-ten z = refl
+day_text_is_day z = refl
 
 pub day_written : (z : ℤ) → IsDay z → written_day_of (day_text z) ≡ Some z
 unfolding written_day_of
-day_written z h = ten z ∙ day_reads_back z h
+day_written z h = day_text_is_day z ∙ day_reads_back z h

@@ -28,16 +28,16 @@ padding_small [] h = tt
 padding_small (b ∷ bytes) h = let (first, rest) = and_parts (b == 61) (is_padding bytes) h in (equals_is b first, padding_small bytes rest)
 
 -- by whether the first byte is one of a token
-choose : (t : Bool) (b : ℕ) (bytes : List ℕ) → is_token_byte b ≡ t
+plain_by_first : (t : Bool) (b : ℕ) (bytes : List ℕ) → is_token_byte b ≡ t
     → is_padding (drop (length (take (if t then 1 + prefix_len is_token_byte bytes else 0) (b ∷ bytes))) (b ∷ bytes)) ≡ true
     → (is_padding (drop (length (token_body bytes)) bytes) ≡ true → AllPlain bytes) → AllPlain (b ∷ bytes)
-choose true b bytes e h rest =
+plain_by_first true b bytes e h rest =
     let behind : is_padding (drop (length (token_body bytes)) bytes) ≡ true = rw (one-add) at h in (byte_small b e, rest behind)
-choose false b bytes e h rest = padding_small (b ∷ bytes) h
+plain_by_first false b bytes e h rest = padding_small (b ∷ bytes) h
 
-small : (bytes : List ℕ) → is_padding (drop (length (token_body bytes)) bytes) ≡ true → AllPlain bytes
-small [] h = tt
-small (b ∷ bytes) h = choose (is_token_byte b) b bytes refl h (small bytes)
+token_bytes_plain : (bytes : List ℕ) → is_padding (drop (length (token_body bytes)) bytes) ≡ true → AllPlain bytes
+token_bytes_plain [] h = tt
+token_bytes_plain (b ∷ bytes) h = plain_by_first (is_token_byte b) b bytes refl h (token_bytes_plain bytes)
 
 small_at : (bytes : List ℕ) (i : ℕ) → AllPlain bytes → slice_index bytes i < 128
 small_at [] i h = grind (arith, common_steps)
@@ -51,7 +51,7 @@ pub token_plain : (bytes : List ℕ) → is_token bytes ≡ true → (0 < length
 token_plain bytes h =
     let (some, rest) = and_parts (nat_lt 0 (length (token_body bytes))) (nat_le (length bytes) 256 && is_padding (drop (length (token_body bytes)) bytes)) h in
     let (short, padded) = and_parts (nat_le (length bytes) 256) (is_padding (drop (length (token_body bytes)) bytes)) rest in
-    (grind (arith, nat_tests, common_steps), grind (arith, nat_tests), small bytes padded)
+    (grind (arith, nat_tests, common_steps), grind (arith, nat_tests), token_bytes_plain bytes padded)
 
 pub token_is_text : (bytes : List ℕ) → is_token bytes ≡ true → IsUtf8 bytes
 token_is_text bytes h = plain_is_text bytes (token_plain bytes h).2

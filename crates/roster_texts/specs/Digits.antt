@@ -4,6 +4,7 @@ use Rattle.std.specs.Prelude.{Option, Some, None, fold, nat_le, if◌then◌else
 use Rattle.std.specs.List.{list_all}
 use Rattle.roster_texts.specs.Signs.{digit_nine, digit_zero}
 
+-- a digit of ASCII
 abbrev pub is_digit : ℕ → Bool
 is_digit b = nat_le digit_zero b && nat_le b digit_nine
 
@@ -33,7 +34,7 @@ three n = (digit_zero + n / 100) ∷ two (n % 100)
 abbrev pub four : ℕ → List ℕ
 four n = two (n / 100) ++ two (n % 100)
 
--- a number and its sign: `true` is a minus
+-- the number with this absolute value: `true` stands for a minus sign
 abbrev pub signed : Bool → ℕ → ℤ
 signed true n = neg_ℤ (pos n)
 signed false n = pos n

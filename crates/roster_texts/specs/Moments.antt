@@ -23,7 +23,8 @@ clock_time hour minute second =
 
 -- nine bytes, with 'T' and colons where Thh:mm:ss has them
 abbrev pub has_time_form : List ℕ → Bool
-has_time_form t = (length t == 9) && ((slice_index t 0 == letter_t) && ((slice_index t 3 == colon) && (slice_index t 6 == colon)))
+has_time_form t =
+    (length t == 9) && ((slice_index t 0 == letter_t) && ((slice_index t 3 == colon) && (slice_index t 6 == colon)))
 
 -- the seconds from midnight that Thh:mm:ss writes
 unfoldable pub seconds_of : List ℕ → Option ℕ
@@ -42,7 +43,7 @@ abbrev pub has_fraction_form : List ℕ → Bool
 has_fraction_form t =
     (slice_index t 0 == dot) && (nat_le 2 (length t) && (nat_le (length t) 10 && list_all is_digit (drop 1 t)))
 
--- the milliseconds that a fraction writes, or nothing at all: digits past the third are dropped
+-- the milliseconds that a fraction writes, none where it is empty: digits past the third are dropped
 unfoldable pub milliseconds_of : List ℕ → Option ℕ
 milliseconds_of t =
     if length t == 0 then Some 0
@@ -109,7 +110,7 @@ written_day_of t = if length t == 10 then day_of t else do
 abbrev pub day_part : ℤ → ℤ
 day_part ms = int_div_euclid ms (pos 86400000)
 
--- the milliseconds from its midnight
+-- the milliseconds from that day's midnight to the moment
 abbrev pub time_part : ℤ → ℕ
 time_part ms = unsigned_abs (int_rem_euclid ms (pos 86400000))
 

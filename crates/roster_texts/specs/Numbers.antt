@@ -9,11 +9,11 @@ use Rattle.roster_texts.specs.declared.fault.ValueFault.TheVariants.{BadNumber, 
 use Rattle.roster_texts.specs.Digits.{decimal_value, is_digit, signed}
 use Rattle.roster_texts.specs.Signs.{digit_zero, dot, hyphen}
 
--- a minus in front
+-- a minus sign in front
 abbrev pub is_negative : List ℕ → Bool
 is_negative t = slice_index t 0 == hyphen
 
--- what follows it
+-- the text behind the minus sign, if there is one
 abbrev pub without_sign : List ℕ → List ℕ
 without_sign t = drop (if is_negative t then 1 else 0) t
 

@@ -41,7 +41,7 @@ fn time_at(hour: u8, minute: u8, second: u8) -> Option<u32>
     }
 }
 
-/// The milliseconds that `.` and 1 to 9 digits write, or nothing: digits past the third are dropped.
+/// The milliseconds that `.` and 1 to 9 digits write, 0 where the text is empty. Digits past the third are dropped.
 #[tactic(auto, unfolding(crate::specs::Moments::milliseconds_of))]
 pub fn read_milliseconds(text: &[u8]) -> Option<u16>
     ensures { result ≡ milliseconds_of text.now }

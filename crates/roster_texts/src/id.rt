@@ -11,7 +11,8 @@ use std::marker::Model;
 use std::sync::ArcStr;
 
 /// A sourcedId: 1 to 255 bytes, no control character, no comma, and no space at either end.
-/// A clause sees its bytes. Copies share one text: those of a metadata column's key in each row, and of a row in each index.
+/// A clause sees its bytes. Copies share one text: those of a metadata column's key in each row, and of a row in each
+/// index.
 #[derive(Drop)]
 pub struct Id {
     text: ArcStr<Global>,

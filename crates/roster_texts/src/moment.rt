@@ -58,8 +58,8 @@ impl Moment {
         self.milliseconds
     }
 
-    /// The moment that a text writes, if it writes one: a day, which means its midnight in UTC, or a day, `T`, a time of day
-    /// and a zone, as ISO 8601 has them. Digits past the milliseconds are dropped.
+    /// The moment that a text writes, if it writes one: a day, which means its midnight in UTC, or a day, `T`, a time
+    /// of day and a zone, as ISO 8601 has them. Digits past the milliseconds are dropped.
     #[tactic(auto, unfolding(crate::specs::Moments::moment_of))]
     pub fn read(text: &[u8]) -> Option<Moment>
         ensures { result ≡ moment_of text.now }
@@ -103,8 +103,8 @@ impl Moment {
         Ok(Text::from_string(text))
     }
 
-    /// Writes the moment in UTC as YYYY-MM-DDThh:mm:ss.mmmZ at the end of a text. Where memory runs out, a part of it may stand
-    /// there.
+    /// Writes the moment in UTC as YYYY-MM-DDThh:mm:ss.mmmZ at the end of a text. Where memory runs out, a part of it
+    /// may stand there.
     #[tactic(auto, unfolding(crate::specs::Moments::moment_text))]
     pub fn push_to(self, text: &mut String) -> Result<(), NoMemory>
         ensures { OnOk result (string_bytes text.new ≡ string_bytes text.old ++ moment_text self) }
@@ -114,7 +114,8 @@ impl Moment {
     }
 }
 
-/// The day that a text writes, if it writes one: a day, or a moment, of which the written day counts and not the day in UTC.
+/// The day that a text writes, if it writes one: a day, or a moment, of which the written day counts and not the day in
+/// UTC.
 #[tactic(auto, unfolding(crate::specs::Moments::written_day_of))]
 pub fn read_day(text: &[u8]) -> Option<Day>
     ensures { result ≡ written_day_of text.now }
@@ -122,6 +123,7 @@ pub fn read_day(text: &[u8]) -> Option<Day>
     if text.len() == 10 {
         return Day::read(text);
     }
+    // The whole text must write a moment, though its day alone is returned.
     let _moment = read_instant(text)?;
     Day::read(&text[..10])
 }

@@ -10,8 +10,8 @@ use std::alloc::Global;
 use std::marker::Model;
 use std::str;
 
-/// A bearer token as RFC 6750 writes one: letters and digits of ASCII and `-._~+/`, at least one, and then any number of `=`,
-/// at most 256 in all. A clause sees its bytes.
+/// A bearer token as RFC 6750 writes one: letters and digits of ASCII and `-._~+/`, at least one, and then any number
+/// of `=`, at most 256 in all. A clause sees its bytes.
 #[derive(Drop)]
 pub struct Token {
     text: String,

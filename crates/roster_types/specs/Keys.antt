@@ -28,9 +28,11 @@ look_up key k xs = fin_map.find key_cmp k (keyed key xs)
 abbrev pub Ascends : {X : Type 0} → (X → Key) → List X → Type 0
 Ascends key xs = IsTrue (fin_map.is_sorted key_cmp (keyed key xs))
 
+-- the key of a row
 abbrev pub row_key : Record → Key
 row_key row = (place_of_kind row.kind, row.id)
 
+-- a row is of the kind
 abbrev pub is_of_kind : Kind → Record → Bool
 is_of_kind kind row = place_of_kind row.kind == place_of_kind kind
 

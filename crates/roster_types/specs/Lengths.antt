@@ -13,10 +13,12 @@ use Rattle.roster_values.specs.UserIds.{UserIdParts}
 use Rattle.roster_types.specs.Hrefs.{href}
 use Rattle.roster_types.specs.Records.{Record, all_values}
 
--- what a byte takes in a JSON string
+-- bytes that stand in a JSON string as a backslash and one more character: the quote, the backslash, backspace, tab,
+-- line feed, form feed and carriage return
 abbrev pub has_short_escape : ℕ → Bool
 has_short_escape b = (b == 34) || (b == 92) || (b == 8) || (b == 9) || (b == 10) || (b == 12) || (b == 13)
 
+-- what a byte takes in a JSON string: any other control character stands as six bytes
 abbrev pub escaped_length : ℕ → ℕ
 escaped_length b = if has_short_escape b then 2 else if nat_lt b 32 then 6 else 1
 
@@ -32,6 +34,7 @@ enclosed_length ns = 2 + (sum_by (λ n. n + 1) ns - 1)
 abbrev pub member_length : List ℕ → ℕ → ℕ
 member_length name value = text_length name + 1 + value
 
+-- a reference to a row, as an object
 abbrev pub reference_length : Kind → List ℕ → ℕ
 reference_length kind id = enclosed_length (
     member_length (codes "href") (text_length (href kind id))
@@ -39,11 +42,15 @@ reference_length kind id = enclosed_length (
     ∷ member_length (codes "type") (text_length (single_of kind))
     ∷ [])
 
+-- a user id, as an object
 abbrev pub user_id_length : UserIdParts → ℕ
 user_id_length u = enclosed_length (
-    member_length (codes "identifier") (text_length u.identifier) ∷ member_length (codes "type") (text_length u.form) ∷ [])
+    member_length (codes "identifier") (text_length u.identifier)
+    ∷ member_length (codes "type") (text_length u.form)
+    ∷ [])
 
--- a value: numbers stand as they are, lists in brackets, references and user ids as objects, and all else as a string of its cell's text
+-- a value: numbers stand as they are, lists in brackets, references and user ids as objects, and all else as a string
+-- of its cell's text
 unfoldable pub value_length : Form → Value → ℕ
 value_length form (Number n) = length (cell_text (Number n))
 value_length form (Texts ts) = enclosed_length (map text_length ts)
@@ -63,10 +70,11 @@ fields_length [] vs = 0
 fields_length (i ∷ is) [] = 0
 fields_length (i ∷ is) (v ∷ vs) = field_length i v + fields_length is vs
 
+-- the member of an entry of metadata
 abbrev pub entry_length : Entry → ℕ
 entry_length e = member_length e.key (text_length e.text)
 
--- the same of the metadata: where there is none, there is no member
+-- the member of all metadata with one byte more; where there is no entry, there is no member
 unfoldable pub metadata_length : List Entry → ℕ
 metadata_length [] = 0
 metadata_length (e ∷ es) = member_length (codes "metadata") (enclosed_length (map entry_length (e ∷ es))) + 1

@@ -10,6 +10,7 @@ use Rattle.roster_types.specs.Structs.{kind_of, values_of}
 abbrev pub shared_of : Inside → Shared
 shared_of a = arc_value a.shared
 
+-- the row as contracts see it
 abbrev pub record_of : Inside → Record
 record_of a = record {
   kind = kind_of (shared_of a).fields;

@@ -1,4 +1,5 @@
--- A row as contracts see it: its kind, the fields that every kind has, the values of its own fields by their places, and its metadata.
+-- A row as contracts see it: its kind, the fields that every kind has, the values of its own fields by their places,
+-- and its metadata.
 use Rattle.std.specs.Prelude.{◌≡◌, ℕ, ℤ, pos, Bool, true, List, [], ◌∷◌, Option, None, Some, codes, bytes_eq, drop}
 use Rattle.std.specs.Prelude.{is_some, option_and_then, position, slice_index_or, if◌then◌else◌}
 use Rattle.std.specs.List.{list_all}
@@ -14,6 +15,7 @@ use Rattle.roster_values.specs.Fit.{is_plain_text}
 use Rattle.roster_values.specs.Table.{Info, table}
 use Rattle.roster_types.specs.Shapes.{fits_all}
 
+-- a row
 pub record Record : Type 0 where
   pub kind : Kind
   pub id : List ℕ
@@ -22,6 +24,7 @@ pub record Record : Type 0 where
   pub values : List (Option Value)
   pub metadata : List Entry
 
+-- the standard's word for a status
 abbrev pub status_word : Status → List ℕ
 status_word Active = codes "active"
 status_word ToBeDeleted = codes "tobedeleted"
@@ -38,12 +41,15 @@ place_in infos name = position (λ i. bytes_eq i.name name) infos
 abbrev pub field_of : Record → List ℕ → Option Value
 field_of r name = option_and_then (λ i. slice_index_or (all_values r) i None) (place_in (table r.kind) name)
 
+-- the key of an entry of metadata
 abbrev pub key_of : Entry → List ℕ
 key_of e = e.key
 
+-- the text of an entry is not blank, and has no space at its ends
 abbrev pub has_plain_text : Entry → Bool
 has_plain_text e = is_plain_text e.text
 
+-- the key of an entry follows the rule of ids
 abbrev pub has_id_key : Entry → Bool
 has_id_key e = is_id e.key
 

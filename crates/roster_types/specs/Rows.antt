@@ -15,6 +15,7 @@ pub record IsRow (r : Record) : Type 0 where
   pub fitting : IsFitting r
   pub short : row_length r ≤ longest
 
+-- a row, or nothing where it is too long
 abbrev pub unless_long : Record → Option Record
 unless_long r = if nat_lt longest (row_length r) then None else Some r
 

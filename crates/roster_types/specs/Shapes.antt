@@ -10,6 +10,7 @@ use Rattle.roster_values.specs.Table.{Info, table}
 abbrev pub own_fields : Kind → List Info
 own_fields kind = drop 3 (table kind)
 
+-- a value of the shape, or nothing where none is required
 abbrev pub fits_shape : Bool → Shape → Option Value → Bool
 fits_shape required shape None = not required
 fits_shape required shape (Some v) = has_shape shape v

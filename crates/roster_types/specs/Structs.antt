@@ -163,7 +163,7 @@ course_resource_values r =
     ∷ Some (Ref r.resource)
     ∷ []
 
--- the values of any of them, and which kind it is
+-- the values of the struct of any kind
 abbrev pub values_of : Fields → List (Option Value)
 values_of (fields.Orgs r) = org_values r.value
 values_of (fields.AcademicSessions r) = academic_session_values r.value
@@ -179,6 +179,7 @@ values_of (fields.Resources r) = resource_values r.value
 values_of (fields.ClassResources r) = class_resource_values r.value
 values_of (fields.CourseResources r) = course_resource_values r.value
 
+-- the kind of any of them
 abbrev pub kind_of : Fields → Kind
 kind_of (fields.Orgs r) = kind.Orgs
 kind_of (fields.AcademicSessions r) = kind.AcademicSessions

@@ -1,4 +1,5 @@
-//! A bound on how long a row is, told without a look at the bytes of its texts: nearly every row is so short that it shows.
+//! A bound on how long a row is, told without a look at the bytes of its texts: nearly every row is so short that it
+//! shows.
 
 ghost use Rattle.std.specs.Prelude.{◌≡◌, ◌+◌, ◌-◌, ℕ, true, sum_by};
 ghost use Rattle.roster_types.specs.Bounds.{IsBound};
@@ -13,7 +14,8 @@ use roster_base::Text;
 use roster_texts::Id;
 use roster_values::{FieldForm, Kind, UserId, ValueRef};
 
-// What a moment has at most, and a day, a number, a year or a flag.
+// A bound for a moment, a day, a number, a year and a flag: the longest is a moment, of 24 bytes, each of which counts
+// as six.
 const PRINTED: u64 = 146;
 
 /// The bound of a JSON string of the text: each of its bytes takes six at most.
@@ -22,13 +24,14 @@ pub fn text_bound(text: &str) -> u64
     ensures { IsBound result (lengths.text_length text.now) }
 {
     let bytes = text.len();
+    // Of up to so many bytes the product stays below the cap.
     if bytes > 16_000 {
         return CAP;
     }
     2 + 6 * bytes as u64
 }
 
-/// What has a length in a JSON text, whatever the field.
+/// What has a bound on its length in a JSON text, whatever the field.
 pub trait Bounded {
     ghost length_of: { Self → ℕ };
 
@@ -50,6 +53,7 @@ impl Bounded for UserId {
 
     #[tactic(auto, unfolding(crate::specs::Lengths::text_length))]
     fn bound(&self) -> u64 {
+        // The two names with their quotes and colons, the comma and the braces take 23 bytes.
         add(
             add(text_bound(self.identifier()), text_bound(self.form())),
             23,
@@ -86,7 +90,8 @@ fn parts_bound<T: Bounded>(items: &[T]) -> u64
     bound
 }
 
-// The path takes three bytes for each of the id's at most, and the id itself six.
+// The bound of a reference. All but the id, the kind's two words and the path's copy of the id takes 57 bytes; of each
+// byte of the id the path has three at most, and the id's own string six.
 fn reference_bound(kind: Kind, id: &Id) -> u64
     ensures { IsBound result (lengths.reference_length kind id.now) }
 {
@@ -98,6 +103,7 @@ fn reference_bound(kind: Kind, id: &Id) -> u64
     57 + words as u64 + 9 * bytes as u64
 }
 
+// The bound of the sum of the references' lengths, each with one byte more.
 fn references_bound(kind: Kind, ids: &[Id]) -> u64
     ensures { IsBound result (sum_by (λ t. lengths.reference_length kind t + 1) ids.now) }
 {

@@ -1,4 +1,4 @@
-//! The fields that the demographics of a user has beside the common ones, by their places in the field table.
+//! The fields that the demographics of a user have beside the common ones, by their places in the field table.
 
 ghost use Rattle.std.specs.Prelude.{◌≡◌, ◌<◌, true, None, option_map, slice_index_or};
 ghost use Rattle.roster_types.specs.Shapes.{own_fields, shapes_fit};
@@ -11,14 +11,15 @@ use roster_base::Text;
 use roster_texts::Day;
 use roster_values::{Kind, Value, ValueRef, Word};
 
-/// What the demographics of a user says of itself beside its id, its status and its moment.
+/// What the demographics of a user say of themselves beside their id, their status and their moment.
 #[derive(Drop)]
 pub struct Demographic {
     /// The day of birth.
     pub birth_date: Option<Day>,
     /// The sex.
     pub sex: Option<Word>,
-    /// Whether the user is American Indian or Alaska Native. This flag and the six below it are the standard's on race and ethnicity.
+    /// Whether the user is American Indian or Alaska Native. This flag and the six below it are the standard's on race
+    /// and ethnicity.
     pub american_indian_or_alaska_native: Option<bool>,
     /// Whether the user is Asian.
     pub asian: Option<bool>,

@@ -25,19 +25,22 @@ pub fn add(total: u64, more: u64) -> u64
     (total + more).min(CAP)
 }
 
+// What a byte takes in a JSON string.
 fn escaped_length(byte: u8) -> u64
     ensures { result ≡ lengths.escaped_length byte }
 {
     if byte == b'"' || byte == b'\\' {
         return 2;
     }
+    // Backspace, tab, line feed, form feed and carriage return have a letter of their own behind the backslash.
     if byte == 8 || byte == 9 || byte == 10 || byte == 12 || byte == 13 {
         return 2;
     }
+    // Any other control character stands as a backslash, `u` and four digits.
     if byte < 32 { 6 } else { 1 }
 }
 
-/// A JSON string of the text.
+/// The length of a JSON string of the text.
 #[tactic(auto, unfolding(crate::specs::Lengths::text_length))]
 pub fn text_length(text: &str) -> u64
     ensures { result ≡ min (lengths.text_length text.now) CAP }
@@ -49,7 +52,7 @@ pub fn text_length(text: &str) -> u64
     length
 }
 
-/// A member of that name, whose value has a length.
+/// The length of a member of that name, whose value has a length.
 pub fn member_length(name: &str, value: u64) -> u64
     requires { value ≤ CAP }
     ensures { result ≡ min (lengths.text_length name.now + 1 + value) CAP }
@@ -57,7 +60,7 @@ pub fn member_length(name: &str, value: u64) -> u64
     add(add(text_length(name), 1), value)
 }
 
-/// An array or an object, from the sum of its parts, each counted with one byte more.
+/// The length of an array or an object, from the sum of its parts, each counted with one byte more.
 pub fn enclosed_length(parts: u64) -> u64
     requires { parts ≤ CAP }
     ensures { result ≡ min (2 + (parts - 1)) CAP }
@@ -131,7 +134,7 @@ fn references_length(alloc: Global, kind: Kind, ids: &[Id]) -> Result<u64, NoMem
     Ok(length)
 }
 
-/// The value of a field.
+/// The length of the value of a field.
 #[tactic(auto, unfolding(crate::specs::Lengths::value_length, roster_values::specs::CellText::cell_text))]
 pub fn value_length(alloc: Global, form: FieldForm, value: ValueRef<'_>) -> Result<u64, NoMemory>
     requires { fits_form (form_of form) (shown value) ≡ true }

@@ -60,6 +60,7 @@ fn take_last(values: &mut Vec<Option<Value>>) -> Option<Value>
     values.pop().flatten()
 }
 
+// The id that stands in a record's own field.
 fn id_of(value: Option<Value>) -> Id
     requires { fits_parts IdForm true value ≡ true }
     ensures { result ≡ id_in value }
@@ -90,12 +91,9 @@ fn status_of(value: Option<Value>) -> Status
 fn moment_of(value: Option<Value>) -> Moment
     ensures { result ≡ moment_in value }
 {
-    match value {
-        Some(value) => match value {
-            Value::Moment(moment) => moment,
-            _ => Moment::epoch(),
-        },
-        None => Moment::epoch(),
+    match &value {
+        Some(Value::Moment(moment)) => *moment,
+        _ => Moment::epoch(),
     }
 }
 
@@ -114,6 +112,7 @@ impl RowParts {
         let modified = moment_of(take_last(values));
         let status = status_of(take_last(values));
         let id = id_of(take_last(values));
+        // Read for its clause `order`: the metadata is in order.
         let _ = metadata.entries();
         let shared = Shared::new(alloc, fields, metadata)?;
         Ok(RowParts {
@@ -172,7 +171,8 @@ impl RowParts {
     /// The value of the field at a place in the field table, as it were with this status.
     pub fn value_with(&self, status: Status, place: usize) -> Option<ValueRef<'_>>
         requires { place < length (all_values self.now) }
-        ensures { option_map shown result ≡ slice_index_or (all_values (record self.now { status = status })) place None }
+        ensures { option_map shown result ≡ slice_index_or
+            (all_values (record self.now { status = status })) place None }
     {
         match place {
             0 => Some(ValueRef::Id(&self.id)),
@@ -186,6 +186,7 @@ impl RowParts {
     pub fn changed(self, status: Status, at: Moment) -> RowParts
         ensures { result ≡ record self { status = status; modified = at } }
     {
+        // Read for its clause `range`: a moment is one of the years 1 to 9999.
         let _ = at.milliseconds();
         let RowParts {
             kind,
@@ -206,8 +207,10 @@ impl RowParts {
     // The length of the member of a field, with one byte more, and nothing where the field is absent.
     fn field_length(&self, alloc: Global, place: usize, info: &FieldInfo) -> Result<u64, NoMemory>
         requires { slice_get (table self.now.kind) place ≡ Some (info_of info.now) }
-        ensures { IfOk result (λ n. n ≡ min (field_length (info_of info.now) (slice_index_or (all_values (record self.now { status = Status.ToBeDeleted })) place None)) CAP) }
+        ensures { IfOk result (λ n. n ≡ min (field_length (info_of info.now)
+            (slice_index_or (all_values (record self.now { status = Status.ToBeDeleted })) place None)) CAP) }
     {
+        // Read for the invariant: each value may stand in its field.
         let _ = &self.shared;
         match self.value_with(Status::ToBeDeleted, place) {
             Some(value) => {
@@ -220,7 +223,8 @@ impl RowParts {
 
     // The sum of those lengths, with the longest status.
     fn members_length(&self, alloc: Global) -> Result<u64, NoMemory>
-        ensures { IfOk result (λ n. n ≡ min (fields_length (table self.now.kind) (all_values (record self.now { status = Status.ToBeDeleted }))) CAP) }
+        ensures { IfOk result (λ n. n ≡ min (fields_length (table self.now.kind)
+            (all_values (record self.now { status = Status.ToBeDeleted }))) CAP) }
     {
         let infos = fields(self.kind());
         let mut length = 0;
@@ -259,8 +263,10 @@ impl RowParts {
     #[tactic(auto, unfolding(crate::specs::Lengths::field_length))]
     fn field_bound(&self, place: usize, info: &FieldInfo) -> u64
         requires { slice_get (table self.now.kind) place ≡ Some (info_of info.now) }
-        ensures { IsBound result (field_length (info_of info.now) (slice_index_or (all_values (record self.now { status = Status.ToBeDeleted })) place None)) }
+        ensures { IsBound result (field_length (info_of info.now)
+            (slice_index_or (all_values (record self.now { status = Status.ToBeDeleted })) place None)) }
     {
+        // Read for the invariant: each value may stand in its field.
         let _ = &self.shared;
         let value = self.value_with(Status::ToBeDeleted, place);
         match value {
@@ -269,8 +275,10 @@ impl RowParts {
         }
     }
 
+    // The bound of the sum of those lengths, with the longest status.
     fn members_bound(&self) -> u64
-        ensures { IsBound result (fields_length (table self.now.kind) (all_values (record self.now { status = Status.ToBeDeleted }))) }
+        ensures { IsBound result (fields_length (table self.now.kind)
+            (all_values (record self.now { status = Status.ToBeDeleted }))) }
     {
         let infos = fields(self.kind());
         let mut bound = 0;
@@ -280,13 +288,16 @@ impl RowParts {
         bound
     }
 
+    // The bound of the metadata's member, with one byte more.
     #[tactic(auto, using(crate::proofs::BoundLaws::metadata_most))]
     fn metadata_bound(&self) -> u64
         ensures { IsBound result (metadata_length self.now.metadata) }
     {
+        // The name `metadata` with its quotes, its colon and one byte more take 12.
         add(list_bound(self.metadata().entries()), 12)
     }
 
+    // The bound of the row's length.
     #[tactic(auto, unfolding(crate::specs::Lengths::object_length))]
     fn bound(&self) -> u64
         ensures { IsBound result (row_length self.now) }

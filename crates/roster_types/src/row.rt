@@ -56,8 +56,8 @@ impl Row {
         Row::take_from(alloc, kind, &mut values, metadata)
     }
 
-    /// The row that the values of all its fields give, in the order of the field table; nothing where it is too long. The values are taken
-    /// from a vector that is filled again for the next row.
+    /// The row that the values of all its fields give, in the order of the field table; nothing where it is too long.
+    /// The values are taken from a vector that is filled again for the next row.
     pub fn take_from(
         alloc: Global,
         kind: Kind,
@@ -172,6 +172,7 @@ impl Row {
         ensures row { result ≡ record self { status = status; modified = at } }
         ensures length { row_length result ≡ row_length self }
     {
+        // Read for its clause `range`: a moment is one of the years 1 to 9999.
         let _ = at.milliseconds();
         Row {
             parts: self.parts.changed(status, at),

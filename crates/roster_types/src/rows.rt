@@ -4,7 +4,8 @@ use crate::row::Row;
 use roster_texts::Id;
 use roster_values::Kind;
 
-/// Rows of all kinds as a finite map, read by kind and id and in ascending order of the ids' bytes. No call takes memory.
+/// Rows of all kinds as a finite map, read by kind and id and in ascending order of the ids' bytes. No call takes
+/// memory.
 pub trait Rows {
     ghost use Rattle.std.specs.Prelude.{◌≡◌, List, option_copied};
     ghost use Rattle.roster_types.specs.Keys.{Ascends, count_of, look_up, next_of, row_key};

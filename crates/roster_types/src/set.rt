@@ -18,8 +18,8 @@ pub struct SetPart {
     pub rows: Items<SetRow>,
 }
 
-/// What a feed publishes at once. Each kind has one part at most, and the parts stand in the order of kinds. The rows of a
-/// part are of its kind, and their ids differ; a row that brings no date carries the moment 0.
+/// What a feed publishes at once. Each kind has one part at most, and the parts stand in the order of kinds. The rows
+/// of a part are of its kind, and their ids differ; a row that brings no date carries the moment 0.
 #[derive(Drop)]
 pub struct RosterSet {
     feed: Name,

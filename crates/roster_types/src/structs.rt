@@ -107,7 +107,8 @@ impl Fields {
         true
     }
 
-    /// The struct of a kind, made of the values of its own fields. They stand behind those of the common fields, which are left.
+    /// The struct of a kind, made of the values of its own fields. They stand behind those of the common fields, which
+    /// are left.
     pub fn take_from(
         alloc: Global,
         kind: Kind,

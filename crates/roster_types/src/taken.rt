@@ -1,4 +1,4 @@
-//! The values of a row's fields, taken out of a row of values that is filled again for the next.
+//! The values of a row's fields, each taken out of its place in a list that is filled again for the next row.
 
 ghost use Rattle.std.specs.Prelude.{◌≡◌, ◌∷◌, ◌+◌, ◌<◌, false, true, Some, drop, length, option_map};
 ghost use Rattle.roster_types.specs.Shapes.{begins_with};

@@ -10,6 +10,7 @@ use Rattle.roster_texts.specs.Texts.{is_id}
 use Rattle.roster_texts.specs.Trim.{trimmed}
 use Rattle.roster_values.specs.UserIds.{inner, is_braced, user_id_from, UserIdParts}
 
+-- a comma, which stands between the items of a list
 abbrev pub is_comma : ℕ → Bool
 is_comma b = b == comma
 
@@ -44,6 +45,7 @@ id_of t =
 unfoldable pub ids_of : List ℕ → Result (List (List ℕ)) ValueFault
 ids_of t = read_all id_of (items_of t)
 
+-- a colon, which stands behind the type of a user id
 abbrev pub is_colon : ℕ → Bool
 is_colon b = b == colon
 

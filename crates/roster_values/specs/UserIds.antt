@@ -14,7 +14,7 @@ pub record UserIdParts : Type 0 where
 abbrev pub is_identifier_byte : ℕ → Bool
 is_identifier_byte b = not (b == comma) && (not (b == open_brace) && not (b == close_brace))
 
--- and no colon
+-- no comma, no brace and no colon
 abbrev pub is_type_byte : ℕ → Bool
 is_type_byte b = not (b == colon) && is_identifier_byte b
 

@@ -63,7 +63,7 @@ macro_rules! needed {
     };
 }
 
-// One that a record may lack.
+// A field that a record may lack, by its column, its name and its form.
 macro_rules! optional {
     ($column:expr, $name:expr, $form:expr) => {
         FieldInfo {

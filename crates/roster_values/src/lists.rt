@@ -16,7 +16,8 @@ pub type Texts = Items<Text>;
 /// A list of ids. A clause sees the list of their bytes.
 pub type Ids = Items<Id>;
 
-/// The items of a list: what stands between commas, without the spaces at the ends. Items of which nothing is left are dropped.
+/// The items of a list: what stands between commas, without the spaces at the ends. Items of which nothing is left are
+/// dropped.
 pub fn read_items(alloc: Global, text: &str) -> Result<Texts, NoMemory>
     ensures { IfOk result (λ ts. ts ≡ items_of text.now) }
 {

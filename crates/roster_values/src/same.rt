@@ -1,4 +1,4 @@
-//! Values told apart.
+//! Whether two values of fields are equal.
 
 ghost use Rattle.std.specs.Prelude.{◌≡◌, option_map};
 ghost use Rattle.std.specs.Bool.{Decides};

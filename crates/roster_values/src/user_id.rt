@@ -112,8 +112,8 @@ fn has_identifier_bytes(bytes: &[u8]) -> bool
     bytes.iter().all(|&b| b != b',' && b != b'{' && b != b'}')
 }
 
-/// The user id that a text writes as `{type:identifier}`, cut at the first colon, without the spaces at the ends of either part.
-/// Any other text is `BadList`.
+/// The user id that a text writes as `{type:identifier}`, cut at the first colon, without the spaces at the ends of
+/// either part. Any other text is `BadList`.
 #[tactic(auto, unfolding(crate::specs::Lists::user_id_of))]
 pub fn read_user_id(alloc: Global, text: &str) -> Result<UserId, ValueError>
     ensures { Gives (λ u. u) result (user_id_of text.now) }

@@ -11,7 +11,7 @@ use Rattle.roster_types.specs.Records.{Record}
 use Rattle.roster_values.specs.declared.kind.Kind.{Kind}
 use Rattle.row_deltas.proofs.DeltaLemmas.{Ascends-delta, gone_keys, kept_of, key_of, look_up-delta, put_keys}
 use Rattle.version_core.proofs.LookUps.{below_kept, none_above, same_below}
-use Rattle.row_deltas.specs.Deltas.{AreOf, delta_of, difference, entry_key, gone_entry, is_lacking, stands_in}
+use Rattle.row_deltas.specs.Deltas.{AreOf, delta_of, difference, entry_key, gone_entry, is_lacking, passed, stands_in}
 use Rattle.row_deltas.specs.Sameness.{same_row}
 use Rattle.row_deltas.specs.declared.entry.DeltaEntry.TheVariants.{Put, Gone}
 use Rattle.version_core.proofs.OrderLemmas.{same_from_look_up}
@@ -27,9 +27,16 @@ module _ {X : Type 0} (key : X → Key) (k : Key) where
         | Greater ↦ and_from _ _ (and_first _ _ above) (below_put x ys less (and_second _ _ above))
       ]
 
-  below_overlaid : (base changes : List X) → entries.below_all key_cmp k (keyed key base) ≡ true → entries.below_all key_cmp k (keyed key changes) ≡ true → entries.below_all key_cmp k (keyed key (overlaid key base changes)) ≡ true
+  -- what is below all of two lists is below all of the second over the first
+  pub below_overlaid : (base changes : List X) → entries.below_all key_cmp k (keyed key base) ≡ true → entries.below_all key_cmp k (keyed key changes) ≡ true → entries.below_all key_cmp k (keyed key (overlaid key base changes)) ≡ true
   below_overlaid base [] above more = above
   below_overlaid base (x ∷ changes) above more = below_put x (overlaid key base changes) (and_first _ _ more) (below_overlaid base changes above (and_second _ _ more))
+
+-- rows that are left stand in order
+pub passed_up : (is_passed : Bool) (rows : List Record) → Ascends row_key rows → Ascends row_key (passed is_passed rows)
+passed_up true [] up = refl
+passed_up true (row ∷ rows) up = and_second _ _ up
+passed_up false rows up = up
 
 module _ (kind : Kind) where
   -- what is below all rows is below all that differs of them

@@ -1,6 +1,6 @@
 -- What differs between two lists of the rows of a kind.
 use Rattle.std.specs.Prelude.{ℕ, Bool, false, not, List, [], ◌∷◌, ◌++◌, Option, Some, None, bytes_eq, filter}
-use Rattle.std.specs.Prelude.{if◌then◌else◌, is_none, map}
+use Rattle.std.specs.Prelude.{drop, if◌then◌else◌, is_none, map}
 use Rattle.std.specs.List.{AllByRecursion, list_any}
 use Rattle.std.specs.Option.{option_map_or, option_to_list}
 use Rattle.roster_types.specs.Keys.{Key, is_of_kind, look_up, row_key}
@@ -30,11 +30,12 @@ stands_in rows row = option_map_or (same_row row) (look_up row_key (row_key row)
 abbrev pub is_lacking : List Record → Record → Bool
 is_lacking rows row = is_none (look_up row_key (row_key row) rows)
 
+-- the entry for a row that is gone
 abbrev pub gone_entry : Record → DeltaEntry
 gone_entry row = Gone row.id
 
--- in order of id, an entry for each row of the new list that the old one lacks or has otherwise, and one for the id of each row of the
--- old list that the new one lacks
+-- in order of id, an entry for each row of the new list that the old one lacks or has otherwise, and one for the id of
+-- each row of the old list that the new one lacks
 unfoldable pub delta_of : Kind → List Record → List Record → List DeltaEntry
 delta_of kind old new =
     overlaid (entry_key kind) (map Put (filter (λ row. not (stands_in old row)) new)) (map gone_entry (filter (is_lacking new) old))
@@ -46,6 +47,7 @@ difference None (Some new) = Some (Put new)
 difference (Some old) None = Some (Gone old.id)
 difference (Some old) (Some new) = if same_row new old then None else Some (Put new)
 
+-- the key of the row of a kind that has the id
 abbrev pub id_key : Kind → List ℕ → Key
 id_key kind id = (place_of_kind kind, id)
 
@@ -59,10 +61,15 @@ entries_at kind old new (id ∷ ids) =
 abbrev pub Cover : Kind → List Record → List Record → List (List ℕ) → Type 0
 Cover kind old new ids = (k : Key) → look_up (id_key kind) k ids ≡ None → look_up row_key k old ≡ look_up row_key k new
 
+-- the rows that are left of a list, of which the first is passed or not
+abbrev pub passed : Bool → List Record → List Record
+passed is_passed rows = if is_passed then drop 1 rows else rows
+
 -- the rows without one that has the id
 abbrev pub without : List ℕ → List Record → List Record
 without id rows = filter (λ row. not (bytes_eq row.id id)) rows
 
+-- what one entry makes of rows
 abbrev pub applied_entry : DeltaEntry → List Record → List Record
 applied_entry (Put row) rows = put row_key row rows
 applied_entry (Gone id) rows = without id rows
@@ -72,12 +79,13 @@ abbrev pub applied : List DeltaEntry → List Record → List Record
 applied [] rows = rows
 applied (entry ∷ entries) rows = applied_entry entry (applied entries rows)
 
--- the rows that are put, and the ids that are gone
+-- the rows that are put
 abbrev pub rows_put : List DeltaEntry → List Record
 rows_put [] = []
 rows_put (Put row ∷ entries) = row ∷ rows_put entries
 rows_put (Gone id ∷ entries) = rows_put entries
 
+-- the ids that are gone
 abbrev pub ids_gone : List DeltaEntry → List (List ℕ)
 ids_gone [] = []
 ids_gone (Put row ∷ entries) = ids_gone entries

@@ -12,14 +12,17 @@ use Rattle.roster_values.specs.declared.value.Value.{Value}
 use Rattle.roster_values.specs.declared.value.Value.TheVariants.{Text, Id, Day, Moment, Number, Year, Flag, Word, Texts}
 use Rattle.roster_values.specs.declared.value.Value.TheVariants.{UserIds, Ref, Refs}
 
+-- the flags are one
 abbrev pub same_flag : Bool → Bool → Bool
 same_flag true other = other
 same_flag false true = false
 same_flag false false = true
 
+-- the user ids are one
 abbrev pub same_user_id : UserIdParts → UserIdParts → Bool
 same_user_id one other = bytes_eq one.form other.form && bytes_eq one.identifier other.identifier
 
+-- the values are of one form, and are one
 unfoldable pub same_value : Value → Value → Bool
 same_value (Text one) (Text other) = bytes_eq one other
 same_value (Id one) (Id other) = bytes_eq one other
@@ -35,15 +38,18 @@ same_value (Ref one) (Ref other) = bytes_eq one other
 same_value (Refs one) (Refs other) = pointwise bytes_eq one other
 same_value _ _ = false
 
+-- both fields have one value, or neither has one
 abbrev pub same_field : Option Value → Option Value → Bool
 same_field None None = true
 same_field None (Some other) = false
 same_field (Some one) None = false
 same_field (Some one) (Some other) = same_value one other
 
+-- the entries of metadata are one
 abbrev pub same_entry : Entry → Entry → Bool
 same_entry one other = bytes_eq one.key other.key && bytes_eq one.text other.text
 
+-- the statuses are one
 abbrev pub same_status : Status → Status → Bool
 same_status Active Active = true
 same_status Active ToBeDeleted = false

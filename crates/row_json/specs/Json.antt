@@ -26,7 +26,8 @@ reference_data kind id = object (
 abbrev pub user_id_data : UserIdParts → Data
 user_id_data u = object (put (codes "type") (string u.form) (put (codes "identifier") (string u.identifier) no_members))
 
--- a value: a number as it is, lists as arrays, references and user ids as objects, and all else as a string of its cell's text
+-- a value: a number as it is, lists as arrays, references and user ids as objects, and all else as a string of its
+-- cell's text
 unfoldable pub value_data : Form → Value → Data
 value_data form (Number n) = number (of_integer n)
 value_data form (Texts ts) = array (items_of (map string ts))

@@ -19,7 +19,8 @@ use Rattle.row_json.specs.Json.{is_named, value_data, with_entries}
 abbrev pub data_tokens : Data → List Token
 data_tokens d = json_tokens (outline d)
 
--- the places of a kind's fields in the order of their JSON names, among them that of the metadata, which is past the fields
+-- the places of a kind's fields in the order of their JSON names, among them that of the metadata, which is past the
+-- fields
 abbrev pub order_of : Kind → List ℕ
 order_of Orgs = 2 ∷ 5 ∷ 7 ∷ 3 ∷ 6 ∷ 0 ∷ 1 ∷ 4 ∷ []
 order_of AcademicSessions = 2 ∷ 6 ∷ 9 ∷ 7 ∷ 8 ∷ 0 ∷ 5 ∷ 1 ∷ 3 ∷ 4 ∷ []

@@ -1,13 +1,12 @@
 //! What a JSON value says in a field, as the text of a cell that says the same.
 
-ghost use Rattle.std.specs.Prelude.{◌≡◌, ◌++◌, Some, IfOk, OnOk, string_bytes};
+ghost use Rattle.std.specs.Prelude.{◌≡◌, ◌++◌, Some, OnOk, string_bytes};
 ghost use Rattle.std.specs.List.{list_all};
 ghost use Rattle.serde_json.specs.Find.{as_array, get};
 ghost use Rattle.serde_json.specs.View.{items_view, number_view, view};
 ghost use Rattle.serde_json.specs.Written.{comma_if};
 ghost use Rattle.roster_base.specs.Reading.{Gives};
 ghost use Rattle.roster_texts.specs.declared.fault.ValueFault.TheVariants as fault;
-ghost use Rattle.roster_values.specs.CellText.{user_id_text};
 ghost use Rattle.roster_values.specs.Fit.{is_no_comma};
 ghost use Rattle.roster_values.specs.Table.{form_of};
 ghost use Rattle.row_json.specs.CellTexts.{in_user_id, item_text, list_text, listed_id, listed_reference, part_or};
@@ -16,13 +15,14 @@ ghost use Rattle.row_json.specs.CellTexts.{reference_text, scalar_or, text_of, u
 use roster_base::{NoMemory, Refusal};
 use roster_texts::ValueFault;
 use roster_texts::trim::trim_spaces;
+use roster_types::cell_text::user_id_text;
 use roster_types::cells::flag_text;
 use roster_values::lists::read_id;
 use roster_values::{FieldForm, UserId, ValueError};
 use serde_json::{Number, Value};
 use std::alloc::Global;
 
-// The digits of a whole number. `serde_json` reads those of 64 bits as whole, and all others as floats.
+// The digits of a whole number. `serde_json` reads whole numbers of 64 bits as such, and all others as floats.
 fn whole_text(alloc: Global, number: &Number) -> Result<String, ValueError>
     ensures { Gives string_bytes result (whole_text (number_view number.now)) }
 {
@@ -35,7 +35,7 @@ fn whole_text(alloc: Global, number: &Number) -> Result<String, ValueError>
     }
 }
 
-// The text that a scalar stands for. What is no scalar is the fault.
+// The text that a scalar stands for. A value that is none has the fault.
 fn scalar_text(alloc: Global, value: &Value, fault: ValueFault) -> Result<String, ValueError>
     ensures { Gives string_bytes result (scalar_or fault (view value.now)) }
 {
@@ -70,19 +70,7 @@ fn reference_text(alloc: Global, value: &Value) -> Result<String, ValueError>
     part_text(alloc, value, "sourcedId", ValueFault::BadId)
 }
 
-// A user id as `{type:identifier}`.
-fn braced(alloc: Global, user_id: &UserId) -> Result<String, NoMemory>
-    ensures { IfOk result (λ s. string_bytes s ≡ user_id_text user_id.now) }
-{
-    let mut text = String::from_str(alloc, "{")?;
-    text.push_str(user_id.form())?;
-    text.push(':')?;
-    text.push_str(user_id.identifier())?;
-    text.push('}')?;
-    Ok(text)
-}
-
-// A part of a user id.
+// The part of a user id that has this name. Whatever is wrong with it, the list is bad.
 fn user_id_word(alloc: Global, value: &Value, name: &str) -> Result<String, ValueError>
     ensures { Gives string_bytes result (in_user_id (part_or fault.BadList (get name.now (view value.now)))) }
 {
@@ -103,7 +91,7 @@ fn user_id_part(alloc: Global, value: &Value) -> Result<String, ValueError>
     let form = trim_spaces(form.as_str());
     let identifier = trim_spaces(identifier.as_str());
     match UserId::read(alloc, form, identifier)? {
-        Some(user_id) => Ok(braced(alloc, &user_id)?),
+        Some(user_id) => Ok(user_id_text(alloc, &user_id)?),
         None => Err(Refusal::Fault(ValueFault::BadList)),
     }
 }
@@ -119,6 +107,7 @@ fn without_comma(text: String, fault: ValueFault) -> Result<String, ValueError>
     Err(Refusal::Fault(fault))
 }
 
+// Whether no comma is among the bytes.
 fn has_no_comma(bytes: &[u8]) -> bool
     ensures { result ≡ list_all is_no_comma bytes.now }
 {

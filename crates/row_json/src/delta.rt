@@ -22,6 +22,9 @@ use roster_values::Kind;
 use serde_json::Value;
 use std::alloc::Global;
 
+// The name of the member with the ids that are gone.
+const GONE: &str = "hubGone";
+
 // The items of an array of rows.
 fn push_rows(out: &mut Writer, buffer: &mut String, rows: &[Row]) -> Result<(), NoMemory>
     ensures before { OnOk result (out.new.before ≡ out.old.before) }
@@ -66,7 +69,7 @@ fn write_gone(out: &mut Writer, gone: &[Id]) -> Result<(), NoMemory>
     ensures before { OnOk result (out.new.before ≡ out.old.before) }
     ensures tokens { OnOk result (out.new.tokens ≡ out.old.tokens ++ spec.gone_tokens gone.now) }
 {
-    out.key("hubGone")?;
+    out.key(GONE)?;
     out.begin_array()?;
     push_ids(out, gone)?;
     out.end_array()?;
@@ -77,7 +80,7 @@ fn write_gone(out: &mut Writer, gone: &[Id]) -> Result<(), NoMemory>
 fn are_gone_first(kind: Kind) -> bool
     ensures { result ≡ spec.are_gone_first kind }
 {
-    "hubGone".cmp(kind.plural()).is_lt()
+    GONE.cmp(kind.plural()).is_lt()
 }
 
 // Both members in the order of their names.
@@ -100,6 +103,7 @@ fn write_members(
     }
 }
 
+// The object with both members.
 fn write_delta(
     out: &mut Writer,
     buffer: &mut String,
@@ -116,7 +120,8 @@ fn write_delta(
     Ok(())
 }
 
-/// The object with the rows of a kind that are put under the kind's plural key, and the ids that are gone under `hubGone`.
+/// The object with the rows of a kind that are put under the kind's plural key, and the ids that are gone under
+/// `hubGone`.
 pub fn delta_text(alloc: Global, kind: Kind, rows: &[Row], gone: &[Id]) -> Result<String, NoMemory>
     ensures { IfOk result (λ t. string_bytes t ≡ spec.delta_text kind rows.now gone.now) }
 {
@@ -140,6 +145,7 @@ fn read_item(alloc: Global, item: &Value) -> Result<Id, JsonError>
     }
 }
 
+// The ids that items say, in their order.
 fn read_items(alloc: Global, items: &[Value]) -> Result<Vec<Id>, JsonError>
     ensures { Gives (λ v. v.items) result (each spec.gone_item (items_view items.now)) }
 {
@@ -151,11 +157,12 @@ fn read_items(alloc: Global, items: &[Value]) -> Result<Vec<Id>, JsonError>
     Ok(ids)
 }
 
+// The ids that an object says are gone.
 #[tactic(auto, unfolding(crate::specs::Deltas::gone_in))]
 fn read_ids(alloc: Global, value: &Value) -> Result<Vec<Id>, JsonError>
     ensures { Gives (λ v. v.items) result (spec.gone_in (view value.now)) }
 {
-    match value.get("hubGone").and_then(Value::as_array) {
+    match value.get(GONE).and_then(Value::as_array) {
         Some(items) => read_items(alloc, items.as_slice()),
         None => Err(Refusal::Fault(JsonFault::Shape)),
     }

@@ -1,7 +1,7 @@
 //! Guesses of rows from the tokens of a text, without a tree of it.
 //!
-//! A guess follows the order in which `members.rt` writes a row, and gives up at anything else. No clause says that it is
-//! right: `written.rt` takes a row only where its own text is the one that was read.
+//! A guess follows the order in which `members.rt` writes a row, and gives up at anything else. No clause says that it
+//! is right: `written.rt` takes a row only where its own text is the one that was read.
 
 ghost use Rattle.std.specs.Prelude.{◌≡◌, ◌<◌, ◌∷◌, ◌++◌, [], true, IfOk, IfSome, length, map};
 ghost use Rattle.std.specs.List.{All};
@@ -50,6 +50,7 @@ fn next_member<'a>(reader: &mut Reader<'a>, name: &str) -> Option<&'a str>
     }
 }
 
+// Takes the beginning of an object, if it comes next.
 fn begin_object(reader: &mut Reader<'_>) -> Option<()>
     ensures { IfSome result (λ _. length reader.new < length reader.old) }
 {
@@ -59,6 +60,7 @@ fn begin_object(reader: &mut Reader<'_>) -> Option<()>
     }
 }
 
+// Takes the end of an object, if it comes next.
 fn end_object(reader: &mut Reader<'_>) -> Option<()>
     ensures { IfSome result (λ _. length reader.new < length reader.old) }
 {
@@ -68,6 +70,7 @@ fn end_object(reader: &mut Reader<'_>) -> Option<()>
     }
 }
 
+// Takes the beginning of an array, if it comes next.
 fn begin_array(reader: &mut Reader<'_>) -> Option<()>
     ensures { IfSome result (λ _. length reader.new < length reader.old) }
 {
@@ -100,15 +103,22 @@ fn next_reference<'a>(reader: &mut Reader<'a>) -> Option<&'a str>
     Some(id)
 }
 
-// The identifier and the type of a user id.
-fn next_user_id<'a>(reader: &mut Reader<'a>) -> Option<(&'a str, &'a str)>
+// The texts of a user id's members.
+#[derive(Clone, Copy)]
+struct UserIdTexts<'a> {
+    identifier: &'a str,
+    form: &'a str,
+}
+
+// The next value's texts, if it is a user id.
+fn next_user_id<'a>(reader: &mut Reader<'a>) -> Option<UserIdTexts<'a>>
     ensures { IfSome result (λ _. length reader.new < length reader.old) }
 {
     begin_object(reader)?;
     let identifier = next_member(reader, "identifier")?;
     let form = next_member(reader, "type")?;
     end_object(reader)?;
-    Some((identifier, form))
+    Some(UserIdTexts { identifier, form })
 }
 
 // Adds a user id as `{type:identifier}`.
@@ -130,10 +140,10 @@ fn push_item(
     ensures { IfOk result (λ o. IfSome o (λ _. length reader.new < length reader.old)) }
 {
     if let FieldForm::UserIds = form {
-        let Some((identifier, form)) = next_user_id(reader) else {
+        let Some(user_id) = next_user_id(reader) else {
             return Ok(None);
         };
-        push_user_id(cell, identifier, form)?;
+        push_user_id(cell, user_id.identifier, user_id.form)?;
         return Ok(Some(()));
     }
     let item = match form {
@@ -259,6 +269,7 @@ fn blank_cells<'a>(alloc: Global, count: usize) -> Result<Vec<Cell<'a>>, NoMemor
     Ok(cells)
 }
 
+// Puts a cell in its place, if there is such a place.
 fn put_cell<'a>(cells: &mut Vec<Cell<'a>>, place: usize, cell: Cell<'a>) {
     if place < cells.len() {
         cells[place] = cell;
@@ -320,6 +331,7 @@ fn fill_cells<'a>(
     }
 }
 
+// The text of a cell.
 fn cell_text<'a>(cell: &'a Cell<'_>) -> &'a str {
     match cell {
         Cell::Lent(text) => text,
@@ -368,6 +380,7 @@ fn next_row(alloc: Global, reader: &mut Reader<'_>, kind: Kind) -> Result<Option
     }
 }
 
+// Takes the beginning of an object and its first key, if this is the name.
 fn begin_under(reader: &mut Reader<'_>, name: &str) -> Option<()> {
     begin_object(reader)?;
     match reader.next()? {

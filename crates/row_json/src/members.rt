@@ -15,6 +15,7 @@ use roster_types::row::Row;
 use roster_values::FieldInfo;
 use roster_values::fields::fields;
 
+// Whether a name is one of these.
 fn is_named(names: &[Text], name: &str) -> bool
     ensures { result ≡ is_named names.now name.now }
 {
@@ -48,6 +49,7 @@ fn write_field(
     if !is_chosen(only, info.name) {
         return Ok(());
     }
+    // Read for its clause `row`, by which the row has as many values as its kind has fields.
     let _ = row.kind();
     match row.value(place) {
         Some(value) => {
@@ -125,7 +127,8 @@ fn write_slots(
     Ok(())
 }
 
-/// Writes the object of a row: of the members that it has those that the choice leaves. The buffer is for parts of values.
+/// Writes the object of a row: of the members that it has those that the choice leaves. The buffer is for parts of
+/// values.
 #[tactic(auto, using(crate::proofs::Slots::row_tokens))]
 pub fn write_row(
     out: &mut Writer,

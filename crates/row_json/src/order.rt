@@ -31,8 +31,8 @@ static CLASS_RESOURCES: [usize; 7] = [4, 2, 6, 5, 0, 1, 3];
 
 static COURSE_RESOURCES: [usize; 7] = [4, 2, 6, 5, 0, 1, 3];
 
-/// The places of a kind's fields in the order of their JSON names. Among them is the place past the fields, which stands for the
-/// metadata.
+/// The places of a kind's fields in the order of their JSON names. Among them is the place past the fields, which
+/// stands for the metadata.
 pub fn name_order(kind: Kind) -> &'static [usize]
     ensures { result.now ≡ order_of kind }
 {

@@ -58,7 +58,7 @@ fn all_values(
     let mut values = Vec::new(alloc);
     values.push(Some(FieldValue::Id(id.copy(alloc)?)))?;
     values.push(status)?;
-    // Read for what they keep.
+    // Read for the invariants of their types.
     let _ = id.as_str();
     let _ = at.milliseconds();
     values.push(Some(FieldValue::Moment(at)))?;
@@ -97,7 +97,8 @@ fn unless_other(id: &Id, named: Option<FieldValue>, row: Row) -> Result<Row, Jso
     Ok(row)
 }
 
-// The row that an object says: the id of the path, active where it says no status, and always with the date of the write.
+// The row that an object says: the id of the path, active where it says no status, and always with the date of the
+// write.
 #[tactic(auto, unfolding(crate::specs::Puts::put_in))]
 fn put_object(alloc: Global, kind: Kind, id: &Id, at: Moment, row: &Value) -> Result<Row, JsonError>
     ensures { Gives (λ r. r) result (put_in kind id.now at (view row.now)) }
@@ -129,13 +130,13 @@ fn put_single(
 
 /// Reads the row that the body of a PUT puts under an id, at a moment.
 ///
-/// The id is that of the path, the date the moment, and the status active where the text says none. The text may name the
-/// id, and then that one.
+/// The id is that of the path, the date the moment, and the status active where the text says none. The text may name
+/// the id, and then that one.
 ///
 /// # Errors
 ///
-/// The first fault: `NotJson`, then `Shape`, then of the id and the status, of the kind's own fields in their order, of the
-/// metadata and of the row's length, then `OtherId`.
+/// The first fault: `NotJson`, then `Shape`, then of the id and the status, of the kind's own fields in their order, of
+/// the metadata and of the row's length, then `OtherId`.
 #[tactic(auto, unfolding(crate::specs::Puts::put_of))]
 pub fn read_put(
     alloc: Global,

@@ -62,6 +62,7 @@ pub fn read_member(
     }
 }
 
+// The fault of a member, under its name.
 fn bad_member(alloc: Global, name: &str, fault: ValueFault) -> Result<JsonFault, NoMemory>
     ensures { IfOk result (λ f. f ≡ json.Field name.now fault) }
 {
@@ -111,6 +112,7 @@ fn read_entry(alloc: Global, name: &str, value: &Value) -> Result<Option<Entry>,
     }))
 }
 
+// The entries that the members of the metadata say.
 fn read_entries(alloc: Global, members: &Map<String, Value>) -> Result<Metadata, ValueError>
     ensures { Gives (λ m. m) result (entries_in (members_view members.now.entries)) }
 {
@@ -189,6 +191,7 @@ fn read_single(alloc: Global, mode: Mode, kind: Kind, value: &Value) -> Result<R
     }
 }
 
+// Whether all values are objects.
 fn are_objects(values: &[Value]) -> bool
     ensures { result ≡ are_objects (items_view values.now) }
 {
@@ -200,6 +203,7 @@ fn are_objects(values: &[Value]) -> bool
     true
 }
 
+// The rows that objects say, in their order.
 fn read_objects(
     alloc: Global,
     mode: Mode,
@@ -249,12 +253,13 @@ pub fn read_data(alloc: Global, bytes: &[u8]) -> Result<Value, JsonError>
 
 /// Reads the row of a single text, as OneRoster 1.1 gives a row under the single word of its kind.
 ///
-/// `sourcedId`, `status` and `dateLastModified` are required, whatever else the kind requires. Of two members of one name
-/// the last counts, unknown members are passed over, and spaces at the ends of strings are dropped.
+/// `sourcedId`, `status` and `dateLastModified` are required, whatever else the kind requires. Of two members of one
+/// name the last counts, unknown members are passed over, and spaces at the ends of strings are dropped.
 ///
 /// # Errors
 ///
-/// The first fault: `NotJson`, then `Shape`, then of the fields in their order, of the metadata, and of the row's length.
+/// The first fault: `NotJson`, then `Shape`, then of the fields in their order, of the metadata, and of the row's
+/// length.
 #[tactic(auto, unfolding(crate::specs::Reading::row_of))]
 pub fn read_row(alloc: Global, kind: Kind, bytes: &[u8]) -> Result<Row, JsonError>
     ensures row { Gives (λ r. r) result (row_of kind bytes.now) }

@@ -31,6 +31,7 @@ pub fn write_member(out: &mut Writer, name: &str, text: &str) -> Result<(), NoMe
     Ok(())
 }
 
+// A reference: where the row is found, its id and its type.
 fn write_reference(
     out: &mut Writer,
     buffer: &mut String,
@@ -50,6 +51,7 @@ fn write_reference(
     Ok(())
 }
 
+// A user id: its identifier and its type.
 fn write_user_id(out: &mut Writer, id: &UserId) -> Result<(), NoMemory>
     ensures before { OnOk result (out.new.before ≡ out.old.before) }
     ensures tokens { OnOk result (out.new.tokens ≡ out.old.tokens ++ data_tokens (user_id_data id.now)) }
@@ -99,6 +101,7 @@ fn push_references(
     Ok(())
 }
 
+// An array of texts.
 fn write_texts(out: &mut Writer, texts: &[Text]) -> Result<(), NoMemory>
     ensures before { OnOk result (out.new.before ≡ out.old.before) }
     ensures tokens { OnOk result (out.new.tokens ≡ out.old.tokens ++ data_tokens (json.array (items_of (map json.string texts.now)))) }
@@ -109,6 +112,7 @@ fn write_texts(out: &mut Writer, texts: &[Text]) -> Result<(), NoMemory>
     Ok(())
 }
 
+// An array of user ids.
 fn write_user_ids(out: &mut Writer, ids: &[UserId]) -> Result<(), NoMemory>
     ensures before { OnOk result (out.new.before ≡ out.old.before) }
     ensures tokens { OnOk result (out.new.tokens ≡ out.old.tokens ++ data_tokens (json.array (items_of (map user_id_data ids.now)))) }
@@ -119,6 +123,7 @@ fn write_user_ids(out: &mut Writer, ids: &[UserId]) -> Result<(), NoMemory>
     Ok(())
 }
 
+// An array of references to rows of a kind.
 fn write_references(
     out: &mut Writer,
     buffer: &mut String,
@@ -134,6 +139,7 @@ fn write_references(
     Ok(())
 }
 
+// A text.
 fn write_text(out: &mut Writer, text: &str) -> Result<(), NoMemory>
     ensures before { OnOk result (out.new.before ≡ out.old.before) }
     ensures tokens { OnOk result (out.new.tokens ≡ out.old.tokens ++ string text.now ∷ []) }
@@ -141,6 +147,7 @@ fn write_text(out: &mut Writer, text: &str) -> Result<(), NoMemory>
     Ok(out.string(text)?)
 }
 
+// A day as its text.
 fn write_day(out: &mut Writer, buffer: &mut String, day: Day) -> Result<(), NoMemory>
     ensures before { OnOk result (out.new.before ≡ out.old.before) }
     ensures tokens { OnOk result (out.new.tokens ≡ out.old.tokens ++ string (day_text day) ∷ []) }
@@ -150,6 +157,7 @@ fn write_day(out: &mut Writer, buffer: &mut String, day: Day) -> Result<(), NoMe
     write_text(out, buffer.as_str())
 }
 
+// A moment as its text.
 fn write_moment(out: &mut Writer, buffer: &mut String, moment: Moment) -> Result<(), NoMemory>
     ensures before { OnOk result (out.new.before ≡ out.old.before) }
     ensures tokens { OnOk result (out.new.tokens ≡ out.old.tokens ++ string (moment_text moment) ∷ []) }
@@ -159,6 +167,7 @@ fn write_moment(out: &mut Writer, buffer: &mut String, moment: Moment) -> Result
     write_text(out, buffer.as_str())
 }
 
+// A year as its four digits.
 fn write_year(out: &mut Writer, buffer: &mut String, year: u16) -> Result<(), NoMemory>
     requires { year ≤ 9999 }
     ensures before { OnOk result (out.new.before ≡ out.old.before) }
@@ -169,6 +178,7 @@ fn write_year(out: &mut Writer, buffer: &mut String, year: u16) -> Result<(), No
     write_text(out, buffer.as_str())
 }
 
+// A number as it is.
 fn write_number(out: &mut Writer, number: i64) -> Result<(), NoMemory>
     ensures before { OnOk result (out.new.before ≡ out.old.before) }
     ensures tokens { OnOk result (out.new.tokens ≡ out.old.tokens ++ data_tokens (json.number (of_integer number))) }

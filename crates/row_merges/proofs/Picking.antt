@@ -6,27 +6,14 @@ use Rattle.std.specs.FinMap.Entries as entries
 use Rattle.std.specs.Ordering.{is_lt, ordering_reverse}
 use Rattle.std.specs.declared.cmp.Ordering.TheVariants.{Equal, Greater, Less}
 use Rattle.reference_rules.proofs.KeyOrder.{and_first, and_second, key_exact, key_total, less_from_is_lt}
-use Rattle.roster_types.specs.Keys.{Ascends, Key, key_cmp, keyed, row_key}
+use Rattle.roster_types.specs.Keys.{Ascends, key_cmp, keyed, row_key}
 use Rattle.roster_types.specs.Records.{Record}
 use Rattle.version_core.proofs.LookUps.{below_kept, below_trans}
 use Rattle.version_core.proofs.Places.{greater_from_less, less_from_greater}
-use Rattle.row_deltas.specs.Deltas.{merged}
+use Rattle.row_deltas.proofs.StepLemmas.{below_overlaid}
+use Rattle.row_deltas.specs.Deltas.{merged, passed}
 use Rattle.version_core.specs.Order.{by_order, overlaid, put}
-use Rattle.row_merges.specs.Picks.{Pick, is_gone, kept_of, passed, pick_of, pick_of_both}
-
--- (as in row_deltas' StepLemmas)
-below_put : (k : Key) (x : Record) (xs : List Record) → is_lt (key_cmp k (row_key x)) ≡ true → entries.below_all key_cmp k (keyed row_key xs) ≡ true → entries.below_all key_cmp k (keyed row_key (put row_key x xs)) ≡ true
-below_put k x [] less above = and_from _ _ less above
-below_put k x (y ∷ ys) less above =
-    elim (key_cmp (row_key x) (row_key y)) as (λ o. entries.below_all key_cmp k (keyed row_key (by_order o (x ∷ y ∷ ys) (x ∷ ys) (y ∷ put row_key x ys))) ≡ true) [
-      | Less ↦ and_from _ _ less above
-      | Equal ↦ and_from _ _ less (and_second _ _ above)
-      | Greater ↦ and_from _ _ (and_first _ _ above) (below_put k x ys less (and_second _ _ above))
-    ]
-
-below_overlaid : (k : Key) (base changes : List Record) → entries.below_all key_cmp k (keyed row_key base) ≡ true → entries.below_all key_cmp k (keyed row_key changes) ≡ true → entries.below_all key_cmp k (keyed row_key (overlaid row_key base changes)) ≡ true
-below_overlaid k base [] above more = above
-below_overlaid k base (x ∷ changes) above more = below_put k x (overlaid row_key base changes) (and_first _ _ more) (below_overlaid k base changes above (and_second _ _ more))
+use Rattle.row_merges.specs.Picks.{Pick, is_gone, kept_of, pick_of, pick_of_both}
 
 -- a row below all is put in front
 put-first : (row : Record) (rows : List Record) → entries.below_all key_cmp (row_key row) (keyed row_key rows) ≡ true → put row_key row rows ≡ row ∷ rows
@@ -63,7 +50,7 @@ module _ (gone : List (List ℕ)) where
   unfolding merged
   put_front p held puts below below' =
       put-first p (overlaid row_key (filter (λ row. not (is_gone gone row)) held) puts)
-      (below_overlaid (row_key p) (filter (λ row. not (is_gone gone row)) held) puts (below_kept row_key (row_key p) (λ row. not (is_gone gone row)) held below) below')
+      (below_overlaid row_key (row_key p) (filter (λ row. not (is_gone gone row)) held) puts (below_kept row_key (row_key p) (λ row. not (is_gone gone row)) held below) below')
 
   -- a row that is put in place of the first
   put_over : (h p : Record) (held puts : List Record) → row_key h ≡ row_key p → entries.below_all key_cmp (row_key h) (keyed row_key held) ≡ true → entries.below_all key_cmp (row_key p) (keyed row_key puts) ≡ true
@@ -73,7 +60,7 @@ module _ (gone : List (List ℕ)) where
       let rest = filter (λ row. not (is_gone gone row)) held in
       elim (is_gone gone h) as (λ b. put row_key p (overlaid row_key (cond (not b) (h ∷ rest) rest) puts) ≡ p ∷ overlaid row_key rest puts) [
         | true ↦ put-first p (overlaid row_key rest puts)
-            (below_overlaid (row_key p) rest puts (below_kept row_key (row_key p) (λ row. not (is_gone gone row)) held (subst (λ k. entries.below_all key_cmp k (keyed row_key held) ≡ true) same below)) below')
+            (below_overlaid row_key (row_key p) rest puts (below_kept row_key (row_key p) (λ row. not (is_gone gone row)) held (subst (λ k. entries.below_all key_cmp k (keyed row_key held) ≡ true) same below)) below')
         | false ↦
             ap (put row_key p) (overlaid-first h rest puts (subst (λ k. entries.below_all key_cmp k (keyed row_key puts) ≡ true) (sym same) below'))
             ∙ ap (λ o. by_order o (p ∷ h ∷ overlaid row_key rest puts) (p ∷ overlaid row_key rest puts) (h ∷ put row_key p (overlaid row_key rest puts))) equal
@@ -112,11 +99,6 @@ module _ (gone : List (List ℕ)) where
   pick_ends (h ∷ held) [] e = cc
   pick_ends [] (p ∷ puts) e = cc
   pick_ends (h ∷ held) (p ∷ puts) e = cc
-
-pub passed_up : (is_passed : Bool) (rows : List Record) → Ascends row_key rows → Ascends row_key (passed is_passed rows)
-passed_up true [] up = refl
-passed_up true (row ∷ rows) up = and_second _ _ up
-passed_up false rows up = up
 
 shorter : (rows : List Record) → length (drop 1 rows) ≤ length rows
 shorter [] = omega arith

@@ -1,5 +1,5 @@
 -- The first row of two lists.
-use Rattle.std.specs.Prelude.{ℕ, ◌&&◌, Bool, true, false, List, [], ◌∷◌, bytes_eq, drop, Option, None, Some}
+use Rattle.std.specs.Prelude.{ℕ, ◌&&◌, Bool, true, false, List, [], ◌∷◌, bytes_eq, Option, None, Some}
 use Rattle.std.specs.Prelude.{if◌then◌else◌}
 use Rattle.std.specs.List.{list_any}
 use Rattle.roster_types.specs.Keys.{key_cmp, row_key}
@@ -14,23 +14,23 @@ pub record Pick : Type 0 where
   pub in_held : Bool
   pub in_puts : Bool
 
+-- the pick that the code's value stands for
 abbrev pub pick_shown : Picked → Pick
 pick_shown picked = record { row = picked.row.now; is_held = picked.is_held; in_held = picked.in_held; in_puts = picked.in_puts }
 
+-- the first of two rows; the one that is put where both have one id
 abbrev pub pick_of_both : Record → Record → Pick
 pick_of_both held put = by_order (key_cmp (row_key held) (row_key put))
     (record { row = held; is_held = true; in_held = true; in_puts = false })
     (record { row = put; is_held = false; in_held = true; in_puts = true })
     (record { row = put; is_held = false; in_held = false; in_puts = true })
 
+-- the first of the rows in front of both lists, where there are any
 abbrev pub pick_of : Option Record → Option Record → Option Pick
 pick_of None None = None
 pick_of (Some row) None = Some (record { row = row; is_held = true; in_held = true; in_puts = false })
 pick_of None (Some row) = Some (record { row = row; is_held = false; in_held = false; in_puts = true })
 pick_of (Some held) (Some put) = Some (pick_of_both held put)
-
-abbrev pub passed : Bool → List Record → List Record
-passed is_passed rows = if is_passed then drop 1 rows else rows
 
 -- the id is among these
 abbrev pub is_gone : List (List ℕ) → Record → Bool

@@ -11,8 +11,8 @@ pub trait Steps: Refs {
     ghost use Rattle.std.specs.Prelude.{◌≡◌, option_copied};
     ghost use Rattle.roster_types.specs.Keys.{next_of};
 
-    /// As `next`, where `near` is what the call for the row before left there: begin with 0. Any other value is as right, and only
-    /// slower.
+    /// As `next`, where `near` is what the call for the row before left there: begin with 0. Any other value is as
+    /// right, and only slower.
     fn next_near(&self, kind: Kind, after: Option<&Id>, near: &mut usize) -> Option<&Row>
         ensures { option_copied result ≡ next_of kind (option_copied after.entry) (Self.rows self.now) };
 }

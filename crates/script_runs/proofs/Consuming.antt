@@ -22,13 +22,13 @@ use Rattle.script_runs.specs.Plays.{EntersWrite, SendStep, Sound, Synchronises, 
 use Rattle.script_runs.specs.Plays.{said_taken, told_entered}
 use Rattle.script_runs.specs.Sayings.{said_text}
 use Rattle.script_runs.specs.declared.play.Play.{Play}
-use Rattle.script_runs.specs.declared.play.Told.{Told}
+use Rattle.script_runs.specs.declared.play.Synced.{Synced}
 use Rattle.sync_world.specs.Links.{HeldLink}
 use Rattle.sync_world.specs.Traffic.{LinkLeads}
 use Rattle.version_core.specs.declared.mark.Write.{Write}
 
--- over exchanges from the link of one world to `mid`, none of which wanted memory, and behind which what was told of others is taken; and
--- the line of the answer
+-- over exchanges from the link of one world to `mid`, none of which wanted memory, and behind which what was told of
+-- others is taken; and the line of the answer
 module _ {E : Type 0} (r : Result (String Global) E) (old new : Play) (copy : HeldCopy) (mid : HeldLink) (line : List ℕ) (sound : Sound old) (leads : LinkLeads old.link mid) (whole : mid.wanted ≡ false)
     (calls : CallsLead old.copy.plan copy.plan) (text : IfOk r (λ t. string_bytes t ≡ said_text mid.said ++ line)) (taken : IfOk r (λ _. new ≡ record { link = said_taken mid; copy = copy })) where
   pub sent : (task : Sending) (a : SendAnswer) → a ≢ send.NoMemory → IsSendOf task a (copies_between old.copy copy) (links_between old.link mid) → line ≡ send_text a
@@ -53,7 +53,7 @@ module _ {E : Type 0} (r : Result (String Global) E) (old new : Play) (copy : He
       steps (Err e) text taken = tt
 
 -- the answer and what is printed of it
-pub synced : {E : Type 0} (r : Result Told E) (old new : Play) (copy : HeldCopy) (mid : HeldLink) (task : Task) (a : SyncAnswer) → Sound old → a ≢ sync.NoMemory → LinkLeads old.link mid → mid.wanted ≡ false
+pub synced : {E : Type 0} (r : Result Synced E) (old new : Play) (copy : HeldCopy) (mid : HeldLink) (task : Task) (a : SyncAnswer) → Sound old → a ≢ sync.NoMemory → LinkLeads old.link mid → mid.wanted ≡ false
     → CallsLead old.copy.plan copy.plan → IsSyncOf task a (copies_between old.copy copy) (links_between old.link mid) → IsHub mid.hub → IsCopy copy.copy → IfOk r (λ t. t.answer ≡ a)
     → IfOk r (λ t. string_bytes t.text ≡ said_text mid.said ++ sync_text a) → IfOk r (λ _. new ≡ record { link = said_taken mid; copy = copy })
     → IfOk r (λ t. Synchronises task t.answer old new (string_bytes t.text))

@@ -14,7 +14,7 @@ use Rattle.made_districts.specs.Districts.{made_files}
 use Rattle.outside_ports.specs.Files.{Stored}
 use Rattle.script_runs.specs.Makings.{CopiesEnd, IsMakeAnswer, MakesDistrict, MakesIn, Publishes, grant_line, set_line}
 use Rattle.script_runs.specs.Plays.{HubStep}
-use Rattle.script_runs.specs.Runs.{Opens}
+use Rattle.script_runs.specs.Runs.{Opens, usual_keep}
 use Rattle.script_runs.specs.declared.play.Play.{Play}
 use Rattle.world_scripts.specs.declared.script.HubLine.{HubLine}
 
@@ -57,10 +57,10 @@ make_done count done NoMemory is zero = absurd (cc zero)
 make_done count done end is zero = absurd is
 
 -- the three steps, one behind another
-made_end : (count : ℕ) (begin granted : Play) (done : List ℕ) (end : End) → Opens 10_000 begin → Publishes count begin granted → CopiesEnd count granted done end → IsMakeAnswer count done end
+made_end : (count : ℕ) (begin granted : Play) (done : List ℕ) (end : End) → Opens usual_keep begin → Publishes count begin granted → CopiesEnd count granted done end → IsMakeAnswer count done end
 made_end count begin granted done (Synced a) opens publishes copied = record { begin = begin; opens = opens; granted = granted; publishes = publishes; copied = copied }
 made_end count begin granted done end opens publishes copied = absurd copied
 
-pub made_in : {E : Type 0} (r : Result Answer E) (count : ℕ) (begin : Play) → Opens 10_000 begin → IfOk r (MakesIn count begin) → IfOk r (λ a. IsMakeAnswer count a.done a.end)
+pub made_in : {E : Type 0} (r : Result Answer E) (count : ℕ) (begin : Play) → Opens usual_keep begin → IfOk r (MakesIn count begin) → IfOk r (λ a. IsMakeAnswer count a.done a.end)
 made_in (Ok a) count begin opens makes = made_end count begin makes.0 a.done a.end opens makes.1 makes.2
 made_in (Err e) count begin opens makes = tt

@@ -1,7 +1,7 @@
 -- Hub and copy agree behind each line.
 use Rattle.std.proofs.Common.{◌≡◌, ℕ, true, false, List, Option, Result, Ok, Err, inl, inr, refl, ap, subst, sym}
 use Rattle.std.specs.Prelude.{IfOk, nat_lt, if◌then◌else◌, ◌++◌, ◌∷◌, []}
-use Rattle.exchange_link.specs.Exchanges.{Told}
+use Rattle.exchange_link.specs.Exchanges.{LinkState}
 use Rattle.exchange_link.specs.Marks.{Agree}
 use Rattle.exchange_link.specs.Synchronised.{HeldTold}
 use Rattle.exchange_link.specs.declared.answer.SyncAnswer.{SyncAnswer}
@@ -18,7 +18,7 @@ use Rattle.script_runs.specs.Plays.{BecomesLink, EntersWrite, HubStep, IsExact, 
 use Rattle.script_runs.specs.Plays.{Synchronises, copies_between, links_between}
 use Rattle.script_runs.specs.declared.play.Play.{Play}
 use Rattle.sync_world.proofs.AgreeingLemmas.{agree_walks}
-use Rattle.sync_world.specs.Links.{HeldLink, told_by, with_event}
+use Rattle.sync_world.specs.Links.{HeldLink, link_state, with_event}
 use Rattle.sync_world.specs.declared.traffic.Happening.{Happening}
 use Rattle.version_core.specs.declared.mark.Write.{Write}
 use Rattle.world_scripts.specs.declared.script.HubLine.{HubLine}
@@ -26,7 +26,7 @@ use Rattle.world_scripts.specs.declared.script.Line.{Line}
 use Rattle.world_scripts.specs.declared.script.Line.TheVariants as line
 
 abbrev Agrees : Play → Type 0
-Agrees world = Agree world.copy.copy (told_by world.link)
+Agrees world = Agree world.copy.copy (link_state world.link)
 
 -- ---- over one call
 
@@ -34,7 +34,7 @@ Agrees world = Agree world.copy.copy (told_by world.link)
 pub agreed : (old : Play) (copy : HeldCopy) (mid : HeldLink) → Agrees old → AgreedAll (copies_between old.copy copy) (links_between old.link mid)
 agreed old copy mid agree c t stood told = subst (λ (k : Copy). Agree k t) (sym stood.0) (subst (Agree old.copy.copy) (sym told.0) agree)
 
-exact_of : (token : List ℕ) (a : SyncAnswer) (before after : Copy) (told tells : Told) → HeldTold token a before told after tells → IsExact token a after tells.hub
+exact_of : (token : List ℕ) (a : SyncAnswer) (before after : Copy) (told tells : LinkState) → HeldTold token a before told after tells → IsExact token a after tells.hub
 exact_of token (sync.Complete version) before after told tells held = held.held
 exact_of token a before after told tells held = tt
 
@@ -42,28 +42,28 @@ exact_of token a before after told tells held = tt
 pub is_exact : (task : Task) (a : SyncAnswer) (old : Play) (copy : HeldCopy) (mid : HeldLink) → AgreedAll (copies_between old.copy copy) (links_between old.link mid)
     → IsSyncOf task a (copies_between old.copy copy) (links_between old.link mid) → IsHub mid.hub → IsCopy copy.copy → IsExact task.token a copy.copy mid.hub
 is_exact task a old copy mid agree is hub is_copy =
-    let (before, told, stood, tells, done) = is.told (λ c t stood tells. (agree c t stood tells).stage) copy.copy (told_by mid) (refl, is_copy) (refl, hub) in
-    exact_of task.token a before copy.copy told (told_by mid) done.held
+    let (before, told, stood, tells, done) = is.told (λ c t stood tells. (agree c t stood tells).stage) copy.copy (link_state mid) (refl, is_copy) (refl, hub) in
+    exact_of task.token a before copy.copy told (link_state mid) done.held
 
 -- ---- behind one line
 
 sync_agrees : (task : Task) (a : SyncAnswer) (old new : Play) (text : List ℕ) → IsHub new.link.hub → IsCopy new.copy.copy → Synchronises task a old new text → Agrees new
 sync_agrees task a old new text hub copy step =
     let hub' = subst (λ (l : HeldLink). IsHub l.hub) step.link hub in
-    let (before, told, stood, tells, done) = step.is.told (λ c t stood tells. (step.agreed c t stood tells).stage) new.copy.copy (told_by step.mid) (refl, copy) (refl, hub') in
-    let marks = step.is.marks (λ c t stood tells. (step.agreed c t stood tells).marks) new.copy.copy (told_by step.mid) (refl, copy) (refl, hub') in
-    subst (λ (l : HeldLink). Agree new.copy.copy (told_by l)) (sym step.link) (record { stage = done.agree; marks = marks })
+    let (before, told, stood, tells, done) = step.is.told (λ c t stood tells. (step.agreed c t stood tells).stage) new.copy.copy (link_state step.mid) (refl, copy) (refl, hub') in
+    let marks = step.is.marks (λ c t stood tells. (step.agreed c t stood tells).marks) new.copy.copy (link_state step.mid) (refl, copy) (refl, hub') in
+    subst (λ (l : HeldLink). Agree new.copy.copy (link_state l)) (sym step.link) (record { stage = done.agree; marks = marks })
 
 send_agrees : (task : Sending) (old new : Play) (text : List ℕ) → IsHub new.link.hub → IsCopy new.copy.copy → (a : SendAnswer) × Sends task a old new text → Agrees new
 send_agrees task old new text hub copy (a, step) =
     let hub' = subst (λ (l : HeldLink). IsHub l.hub) step.link hub in
-    let (before, told, stood, tells, done) = step.is.told step.agreed new.copy.copy (told_by step.mid) (refl, copy) (refl, hub') in
-    subst (λ (l : HeldLink). Agree new.copy.copy (told_by l)) (sym step.link) done.agree
+    let (before, told, stood, tells, done) = step.is.told step.agreed new.copy.copy (link_state step.mid) (refl, copy) (refl, hub') in
+    subst (λ (l : HeldLink). Agree new.copy.copy (link_state l)) (sym step.link) done.agree
 
 enter_agrees : (old new : Play) (text : List ℕ) (write : Write) → IsCopy new.copy.copy → EntersWrite write old new text → Agrees old → Agrees new
 enter_agrees old new text write copy (r, memory, calls, is, link, told) agree =
-    subst (λ (l : HeldLink). Agree new.copy.copy (told_by l)) (sym link)
-    (is.agree (told_by old.link) (λ c stood. subst (λ (k : Copy). Agree k (told_by old.link)) (sym stood.0) agree) new.copy.copy (refl, copy))
+    subst (λ (l : HeldLink). Agree new.copy.copy (link_state l)) (sym link)
+    (is.agree (link_state old.link) (λ c stood. subst (λ (k : Copy). Agree k (link_state old.link)) (sym stood.0) agree) new.copy.copy (refl, copy))
 
 act_agrees : (files : Option (List Stored)) (l : HubLine) (old new : Play) (text : List ℕ) → HubStep files l old new text → Agrees old → Agrees new
 act_agrees files l old new text (act, is, (mid, (acted, rest), same, told)) agree =
@@ -71,19 +71,19 @@ act_agrees files l old new text (act, is, (mid, (acted, rest), same, told)) agre
     let mid_agrees = agree_walks old.copy.copy old.link mid (record { steps = acted.done.steps; by = acted.by }) sent agree in
     subst Agrees (sym same) mid_agrees
 
-becomes_agrees : (link : HeldLink) (old new : Play) (text : List ℕ) → told_by link ≡ told_by old.link → BecomesLink link old new text → Agrees old → Agrees new
+becomes_agrees : (link : HeldLink) (old new : Play) (text : List ℕ) → link_state link ≡ link_state old.link → BecomesLink link old new text → Agrees old → Agrees new
 becomes_agrees link old new text same (becomes, silent) agree = subst Agrees (sym becomes) (subst (Agree old.copy.copy) (sym same) agree)
 
-event_told : (exchange : ℕ) (happening : Happening) (link : HeldLink) → told_by (with_event exchange happening link) ≡ told_by link
+event_told : (exchange : ℕ) (happening : Happening) (link : HeldLink) → link_state (with_event exchange happening link) ≡ link_state link
 event_told exchange happening link =
-    elim (nat_lt link.asked exchange) as (λ b. told_by (if b then record link { events = link.events ++ record { exchange = exchange; happening = happening } ∷ [] } else link) ≡ told_by link) [
+    elim (nat_lt link.asked exchange) as (λ b. link_state (if b then record link { events = link.events ++ record { exchange = exchange; happening = happening } ∷ [] } else link) ≡ link_state link) [
       | true ↦ refl
       | false ↦ refl
     ]
 
 read_agrees : (read : List ℕ) (old new : Play) (text : List ℕ) → ReadStep read old new text → Agrees old → Agrees new
 read_agrees read old new text (link, copy, calls, told) agree =
-    subst (λ (l : HeldLink). Agree new.copy.copy (told_by l)) (sym link) (subst (λ (c : Copy). Agree c (told_by old.link)) (sym copy) agree)
+    subst (λ (l : HeldLink). Agree new.copy.copy (link_state l)) (sym link) (subst (λ (c : Copy). Agree c (link_state old.link)) (sym copy) agree)
 
 line_agrees : (files : Option (List Stored)) (l : Line) (old new : Play) (text : List ℕ) → IsHub new.link.hub → IsCopy new.copy.copy → LineStep files l old new text → Agrees old → Agrees new
 line_agrees files (line.Keep keep) old new text hub copy (same, silent) agree = subst Agrees (sym same) agree

@@ -36,7 +36,7 @@ use Rattle.script_runs.specs.Acting.{IsActOf}
 use Rattle.script_runs.specs.Sayings.{said_text}
 use Rattle.script_runs.specs.declared.play.Play.{Play}
 use Rattle.sync_world.specs.Acts.{Acted, IsAct}
-use Rattle.sync_world.specs.Links.{HeldLink, told_by, with_event, with_failure, with_fate, world_of}
+use Rattle.sync_world.specs.Links.{HeldLink, link_state, with_event, with_failure, with_fate, world_of}
 use Rattle.sync_world.specs.Traffic.{Rounds}
 use Rattle.sync_world.specs.declared.acts.HubAct.{HubAct}
 use Rattle.sync_world.specs.declared.traffic.Fate.TheVariants as fate
@@ -51,19 +51,21 @@ use Rattle.world_scripts.specs.declared.script.Line.TheVariants as line
 pub record Sound (world : Play) : Type 0 where
   pub hub : IsHub world.link.hub
   pub copy : IsCopy world.copy.copy
-  pub agree : Agree world.copy.copy (told_by world.link)
+  pub agree : Agree world.copy.copy (link_state world.link)
 
 -- ---- lines that only plan, and print nothing
 
+-- only the link changes, into this one
 abbrev pub BecomesLink : HeldLink → Play → Play → List ℕ → Type 0
 BecomesLink link old new text = (new ≡ record old { link = link }) × (text ≡ [])
 
+-- only the copy changes, into this one
 abbrev pub BecomesCopy : HeldCopy → Play → Play → List ℕ → Type 0
 BecomesCopy copy old new text = (new ≡ record old { copy = copy }) × (text ≡ [])
 
 -- ---- what others do
 
--- what is told of what others did is printed, and told no more
+-- the link once what is told of what others did was printed
 abbrev pub said_taken : HeldLink → HeldLink
 said_taken link = record link { said = [] }
 
@@ -73,33 +75,37 @@ IsActed act old new =
     Acted (IsAct act old.clock) (world_of old) (world_of new) old.said new.said
     × (new ≡ record old { hub = new.hub; hub_faults = new.hub_faults; plan = new.plan; said = new.said })
 
--- it is done now, by the files as they are
+-- an act is done now, and what is told of it is printed
 abbrev pub ActStep : HubAct → Play → Play → List ℕ → Type 0
 ActStep act old new text = (mid : HeldLink) × IsActed act old.link mid × (new ≡ record old { link = said_taken mid }) × (text ≡ said_text mid.said)
 
+-- what a line says is done to the hub now, by the files as they are
 abbrev pub HubStep : Option (List Stored) → HubLine → Play → Play → List ℕ → Type 0
 HubStep files l old new text = (act : HubAct) × IsActOf files l act × ActStep act old new text
 
--- it is to be done just before an exchange, by the files as they are now
+-- what a line says is to be done to the hub just before an exchange, by the files as they are now
 abbrev pub AtStep : Option (List Stored) → ℕ → HubLine → Play → Play → List ℕ → Type 0
 AtStep files exchange l old new text = (act : HubAct) × IsActOf files l act × BecomesLink (with_event exchange (happening.Act act) old.link) old new text
 
 -- ---- the consumer
 
+-- what was done to the copy
 abbrev pub copies_between : HeldCopy → HeldCopy → CopyRun
 copies_between old new = copy_run (λ c. (c ≡ old.copy) × IsCopy c) (λ c. (c ≡ new.copy) × IsCopy c) old.plan.faults new.plan.faults (new ≡ old)
 
+-- what was done to the link
 abbrev pub links_between : HeldLink → HeldLink → LinkRun
 links_between old new =
-    link_run (λ t. (t ≡ told_by old) × IsHub t.hub) (λ t. (t ≡ told_by new) × IsHub t.hub) old.asked new.asked new.missed new.kept old.faults new.faults (new ≡ old)
+    link_run (λ t. (t ≡ link_state old) × IsHub t.hub) (λ t. (t ≡ link_state new) × IsHub t.hub) old.asked new.asked new.missed new.kept old.faults new.faults (new ≡ old)
 
 -- what a synchronisation that is complete leaves: exactly that version of the hub, cut to what the token sees
 abbrev pub IsExact : List ℕ → SyncAnswer → Copy → HubState → Type 0
 IsExact token (sync.Complete version) copy hub = copy.held ≡ Some (held_at version token hub)
 IsExact token a copy hub = ⊤
 
--- a synchronisation, of which all holds that is promised of one between a copy and a link that agree, by exchanges and by calls of the
--- copy's keeper, one behind another, none of which wanted memory: what others did at the exchanges is printed, and then its line
+-- a synchronisation, of which all holds that is promised of one between a copy and a link that agree, by exchanges and
+-- by calls of the copy's keeper, one behind another, none of which wanted memory: what others did at the exchanges is
+-- printed, and then its line
 pub record Synchronises (task : Task) (a : SyncAnswer) (old new : Play) (text : List ℕ) : Type 0 where
   pub mid : HeldLink
   pub other : a ≢ sync.NoMemory
@@ -111,10 +117,12 @@ pub record Synchronises (task : Task) (a : SyncAnswer) (old new : Play) (text : 
   pub link : new.link ≡ said_taken mid
   pub told : text ≡ said_text mid.said ++ sync_text a
 
+-- a synchronisation, with some answer
 abbrev pub SyncStep : Task → Play → Play → List ℕ → Type 0
 SyncStep task old new text = (a : SyncAnswer) × Synchronises task a old new text
 
--- the same of sending what waits
+-- a sending of what waits, of which all holds that is promised of one between a copy and a link that agree, as of a
+-- synchronisation
 pub record Sends (task : Sending) (a : SendAnswer) (old new : Play) (text : List ℕ) : Type 0 where
   pub mid : HeldLink
   pub other : a ≢ send.NoMemory
@@ -125,6 +133,7 @@ pub record Sends (task : Sending) (a : SendAnswer) (old new : Play) (text : List
   pub link : new.link ≡ said_taken mid
   pub told : text ≡ said_text mid.said ++ send_text a
 
+-- a sending, with some answer
 abbrev pub SendStep : Sending → Play → Play → List ℕ → Type 0
 SendStep task old new text = (a : SendAnswer) × Sends task a old new text
 
@@ -156,6 +165,7 @@ TellsRead (Ok read) text = text ≡ string_bytes read
 TellsRead (Err keeper.Failed) text = text ≡ copy_failed
 TellsRead (Err keeper.NoMemory) text = ⊥
 
+-- the line that tells how many exchanges were made
 abbrev pub exchanges_text : ℕ → List ℕ
 exchanges_text asked = codes "exchanges " ++ decimal asked ++ codes "\n"
 

@@ -20,15 +20,16 @@ IsScriptOf files file lines = (bytes : List ℕ) × IsBytesOf files file (Ok byt
 abbrev pub PrintsFirst : Option (List Stored) → List Line → List ℕ → Type 0
 PrintsFirst files lines done = (count : ℕ) × (count ≤ length lines) × (run : RunsFirst files lines count) × (done ≡ printed run.stages)
 
--- how a run ends, and what is printed before its line: a run over all lines, or over those before the one at which the folder failed or
--- memory ran out
+-- how a run ends, and what is printed before its line: a run over all lines, or over those before the one at which the
+-- folder failed or memory ran out
 abbrev pub RunEnds : Option (List Stored) → Faults → List Line → List ℕ → End → Type 0
 RunEnds files folder lines done Done = (run : RunsFirst files lines (length lines)) × (done ≡ printed run.stages) × HaveStood folder
 RunEnds files folder lines done FolderFailed = PrintsFirst files lines done × HaveRisen folder
 RunEnds files folder lines done NoMemory = PrintsFirst files lines done
 RunEnds files folder lines done _ = ⊥
 
--- how no line comes to be run: the file isn't there, has too many bytes or is no script, the folder fails, or memory runs out
+-- how no line comes to be run: the file isn't there, has too many bytes or is no script, the folder fails, or memory
+-- runs out
 abbrev pub StopsRehearsing : Option (List Stored) → Faults → List ℕ → End → Type 0
 StopsRehearsing files folder file (MissingFile name) = IsBytesOf files file (Err (MissingFile name)) × HaveStood folder
 StopsRehearsing files folder file (FileTooLarge name) = IsBytesOf files file (Err (FileTooLarge name)) × HaveStood folder
@@ -37,13 +38,14 @@ StopsRehearsing files folder file FolderFailed = HaveRisen folder
 StopsRehearsing files folder file NoMemory = ⊤
 StopsRehearsing files folder file _ = ⊥
 
+-- no line was run, or the file is a script, and its run ended so
 abbrev pub IsRehearseAnswer : Option (List Stored) → Faults → List ℕ → List ℕ → End → Type 0
 IsRehearseAnswer files folder file done end =
     ((done ≡ []) × StopsRehearsing files folder file end) ⊎ ((lines : List Line) × IsScriptOf files file lines × RunEnds files folder lines done end)
 
 -- ---- what the steps give
 
--- the same of the bytes of a file
+-- what is answered once the bytes of the file are read
 abbrev pub RehearsesBytes : Option (List Stored) → Faults → List ℕ → List ℕ → End → Type 0
 RehearsesBytes files folder bytes done (ScriptRefused line) = (done ≡ []) × (script_of bytes ≡ Err line) × HaveStood folder
 RehearsesBytes files folder bytes done NoMemory = (done ≡ []) ⊎ ((lines : List Line) × (script_of bytes ≡ Ok lines) × PrintsFirst files lines done)

@@ -21,10 +21,14 @@ use Rattle.world_scripts.specs.declared.script.Line.TheVariants as line
 
 -- ---- how a world begins
 
--- how many versions the hub keeps beside the newest
+-- how many versions a hub keeps beside the newest where nothing says so
+abbrev pub usual_keep : ℕ
+usual_keep = 10_000
+
+-- how many versions the hub of a script keeps beside the newest
 abbrev pub keep_in : List Line → ℕ
 keep_in (line.Keep keep ∷ lines) = keep
-keep_in lines = 10_000
+keep_in lines = usual_keep
 
 -- 2024-08-01T12:00:00.000Z
 abbrev pub first_moment : ℤ
@@ -62,8 +66,8 @@ pub record RunsFirst (files : Option (List Stored)) (lines : List Line) (count :
 
 -- ---- how a script ends
 
--- what is written by its end: what a run over all lines prints; what a run prints over the lines before that at which the folder failed or
--- memory ran out; and where the sink failed, a front of what a run over the first lines prints
+-- what is written by its end: what a run over all lines prints; what a run prints over the lines before that at which
+-- the folder failed or memory ran out; and where the sink failed, a front of what a run over the first lines prints
 abbrev pub Writes : Option (List Stored) → List Line → Option (List ℕ) → Option (List ℕ) → ScriptEnd → Type 0
 Writes files lines old new end.Done = (run : RunsFirst files lines (length lines)) × Appends old new (printed run.stages)
 Writes files lines old new end.Folder = (count : ℕ) × (count < length lines) × (run : RunsFirst files lines count) × Appends old new (printed run.stages)

@@ -16,6 +16,7 @@ abbrev pub made_text : List ℕ → Result Published HubError → List ℕ
 made_text name (Ok answer) = told_text name answer
 made_text name (Err error) = end_text (end_of_error error)
 
+-- the version, or `-` where there is none
 abbrev pub version_text : Option ℕ → List ℕ
 version_text None = codes "-"
 version_text (Some version) = decimal version
@@ -24,6 +25,7 @@ version_text (Some version) = decimal version
 unfoldable pub replied_text : ℕ → Option ℕ → List ℕ
 replied_text status version = decimal status ++ codes " " ++ version_text version ++ codes "\n"
 
+-- the lines of a saying
 unfoldable pub saying_text : Saying → List ℕ
 saying_text (saying.Published name answer) = made_text name answer
 saying_text (saying.Granted answer) = made_text (codes "grants") answer
@@ -33,5 +35,6 @@ saying_text (saying.AfterClose request) = request_text request AfterClose
 saying_text (saying.Lines lines) = lines
 saying_text saying.NotOpened = hub_failed
 
+-- the lines that tell what others did
 abbrev pub said_text : List Saying → List ℕ
 said_text said = flat_map saying_text said

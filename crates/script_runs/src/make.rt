@@ -4,7 +4,7 @@ ghost use Rattle.std.specs.Prelude.{◌≡◌, ◌++◌, ◌≤◌, ℕ, IfOk, L
 ghost use Rattle.script_runs.specs.Makings as makings;
 ghost use Rattle.script_runs.specs.Plays.{HubStep, Sound};
 
-use crate::play::{Play, Told, exchanges_line, with_line};
+use crate::play::{Play, Synced, exchanges_line, with_line};
 use exchange_link::SyncAnswer;
 use hub_commands::{Answer, End};
 use hub_words::words::USUAL_KEEP;
@@ -20,6 +20,12 @@ use world_scripts::HubLine;
 // The token of the caller that copies the district.
 const TOKEN: &str = "make";
 
+// How many rows a page of the copy has.
+const PAGE_ROWS: u32 = 1_000;
+
+// How often each page is asked for: no exchange of a fresh link is lost.
+const TRIES: u32 = 1;
+
 // The line that publishes the district's set.
 fn set_line(alloc: Global) -> Result<HubLine, NoMemory>
     ensures { IfOk result (λ l. l ≡ makings.set_line) }
@@ -33,6 +39,7 @@ fn set_line(alloc: Global) -> Result<HubLine, NoMemory>
     })
 }
 
+// The line that grants what the district's file of grants asks for.
 fn grant_line(alloc: Global) -> Result<HubLine, NoMemory>
     ensures { IfOk result (λ l. l ≡ makings.grant_line) }
 {
@@ -40,17 +47,23 @@ fn grant_line(alloc: Global) -> Result<HubLine, NoMemory>
     Ok(HubLine::Grant { file })
 }
 
+// The synchronisation that copies the district.
 fn task(alloc: Global) -> Result<SyncTask, NoMemory>
     ensures { IfOk result (λ t. t ≡ makings.made_task) }
 {
     match Token::read(alloc, TOKEN)? {
-        Some(token) => Ok(SyncTask::new(token, 1000, 1)),
+        Some(token) => Ok(SyncTask::new(token, PAGE_ROWS, TRIES)),
         None => Err(NoMemory),
     }
 }
 
-// Does what a line says.
-fn go(alloc: Global, play: &mut Play, line: HubLine, folder: &mut MemFolder) -> Result<(), NoMemory>
+// Does what a line says to the hub, and lets go of what is printed of it.
+fn carry_out(
+    alloc: Global,
+    play: &mut Play,
+    line: HubLine,
+    folder: &mut MemFolder,
+) -> Result<(), NoMemory>
     requires { Sound play.old }
     ensures sound { OnOk result (Sound play.new) }
     ensures step { OnOk result ((text : List ℕ) × HubStep (Some folder.old.files) line play.old play.new text) }
@@ -68,6 +81,7 @@ fn go(alloc: Global, play: &mut Play, line: HubLine, folder: &mut MemFolder) -> 
     }
 }
 
+// The line of a kind and how many rows of it are held.
 fn count_line(alloc: Global, kind: Kind, count: usize) -> Result<String, NoMemory>
     ensures { IfOk result (λ t. string_bytes t ≡ makings.counted_line kind count) }
 {
@@ -87,6 +101,7 @@ fn with_count(alloc: Global, text: String, play: &mut Play, kind: Kind) -> Resul
     with_line(text, line)
 }
 
+// The line that tells how many schools were made.
 fn schools_line(alloc: Global, count: u16) -> Result<String, NoMemory>
     ensures { IfOk result (λ t. string_bytes t ≡ makings.schools_line count) }
 {
@@ -112,8 +127,8 @@ fn publish(alloc: Global, count: u16, play: &mut Play) -> Result<(), NoMemory>
     ensures sound { OnOk result (Sound play.new) }
 {
     let mut folder = made_folder(alloc, count)?;
-    go(alloc, play, set_line(alloc)?, &mut folder)?;
-    go(alloc, play, grant_line(alloc)?, &mut folder)
+    carry_out(alloc, play, set_line(alloc)?, &mut folder)?;
+    carry_out(alloc, play, grant_line(alloc)?, &mut folder)
 }
 
 // Copies the district, and sums up what came of it.
@@ -121,7 +136,7 @@ fn copy(alloc: Global, count: u16, play: &mut Play) -> Result<Answer, NoMemory>
     requires { Sound play.old }
     ensures { IfOk result (makings.Copies count play.old) }
 {
-    let Told { answer, text } = play.synchronise(alloc, &task(alloc)?)?;
+    let Synced { answer, text } = play.synchronise(alloc, &task(alloc)?)?;
     drop(text);
     let done = Text::from_string(summary(alloc, count, play)?);
     match answer {
@@ -134,6 +149,7 @@ fn copy(alloc: Global, count: u16, play: &mut Play) -> Result<Answer, NoMemory>
     }
 }
 
+// Makes a district in a world that holds nothing.
 fn make_in(alloc: Global, count: u16, play: &mut Play) -> Result<Answer, NoMemory>
     requires count { count ≤ 200 }
     requires sound { Sound play.old }
@@ -143,6 +159,7 @@ fn make_in(alloc: Global, count: u16, play: &mut Play) -> Result<Answer, NoMemor
     copy(alloc, count, play)
 }
 
+// Makes a district in a world of its own, or finds no memory for it.
 fn made(alloc: Global, count: u16) -> Result<Answer, NoMemory>
     requires { count ≤ 200 }
     ensures { IfOk result (λ a. makings.IsMakeAnswer count a.done a.end) }

@@ -47,12 +47,12 @@ pub struct Play {
 
 /// The answer of a synchronisation, and what is printed of it.
 #[derive(Drop)]
-pub struct Told {
+pub struct Synced {
     pub answer: SyncAnswer,
     pub text: String,
 }
 
-// 2024-08-01T12:00:00.000Z.
+// The moment at which a world begins: 2024-08-01T12:00:00.000Z.
 fn first_moment() -> Moment
     ensures { result ≡ first_moment }
 {
@@ -62,6 +62,7 @@ fn first_moment() -> Moment
     }
 }
 
+// A clock that stands at this moment.
 fn clock_at(moment: Moment) -> FixedClock
     ensures { result ≡ moment }
 {
@@ -79,6 +80,7 @@ fn read_text(alloc: Global, read: Result<String, KeeperError>) -> Result<String,
     }
 }
 
+// The line that tells that the copy's keeper failed.
 fn copy_failed(alloc: Global) -> Result<String, NoMemory>
     ensures { IfOk result (λ t. string_bytes t ≡ copy_failed) }
 {
@@ -102,6 +104,7 @@ pub(crate) fn exchanges_line(alloc: Global, asked: u64) -> Result<String, NoMemo
     Ok(format!(in alloc; "exchanges {asked}\n")?)
 }
 
+// The line of a write that was entered, or why it wasn't.
 fn entered_text(alloc: Global, entered: Result<u64, EnterError>) -> Result<String, NoMemory>
     ensures { IfOk result (λ t. (entered ≢ Err enter_error.NoMemory) × (string_bytes t ≡ plays.told_entered entered)) }
 {
@@ -112,6 +115,7 @@ fn entered_text(alloc: Global, entered: Result<u64, EnterError>) -> Result<Strin
     }
 }
 
+// How many rows there are, which are let go.
 fn len_of(rows: Items<Row>) -> usize
     ensures { result ≡ length rows }
 {
@@ -152,7 +156,7 @@ impl Play {
         Ok(play)
     }
 
-    // The lines that tell what others did, and which are told no more.
+    // The lines that tell what others did, which isn't told again.
     fn take_said(&mut self, alloc: Global) -> Result<String, NoMemory>
         ensures text { IfOk result (λ t. string_bytes t ≡ said_text self.old.link.said) }
         ensures taken { self.new ≡ record self.old { link = plays.said_taken self.old.link } }
@@ -186,18 +190,18 @@ impl Play {
     }
 
     // What is printed of a synchronisation with this answer.
-    fn told_sync(&mut self, alloc: Global, answer: SyncAnswer) -> Result<Told, NoMemory>
+    fn told_sync(&mut self, alloc: Global, answer: SyncAnswer) -> Result<Synced, NoMemory>
         ensures answer { IfOk result (λ t. t.answer ≡ answer) }
         ensures text { IfOk result (λ t. string_bytes t.text ≡ said_text self.old.link.said ++ sync_text answer) }
         ensures taken { IfOk result (λ _. self.new ≡ record self.old { link = plays.said_taken self.old.link }) }
     {
         let line = sync_line(alloc, answer)?;
         let text = self.said_with(alloc, line)?;
-        Ok(Told { answer, text })
+        Ok(Synced { answer, text })
     }
 
     /// Synchronises the copy with the hub, and gives the answer and what is printed of it.
-    pub fn synchronise(&mut self, alloc: Global, task: &SyncTask) -> Result<Told, NoMemory>
+    pub fn synchronise(&mut self, alloc: Global, task: &SyncTask) -> Result<Synced, NoMemory>
         requires { plays.Sound self.old }
         ensures { IfOk result (λ t. plays.Synchronises task.now t.answer self.old self.new (string_bytes t.text)) }
     {
@@ -210,14 +214,16 @@ impl Play {
         }
     }
 
+    // Synchronises the copy with the hub, and gives what is printed of it.
     fn sync(&mut self, alloc: Global, task: &SyncTask) -> Result<String, NoMemory>
         requires { plays.Sound self.old }
         ensures { IfOk result (λ t. plays.SyncStep task.now self.old self.new (string_bytes t)) }
     {
-        let Told { answer: _, text } = self.synchronise(alloc, task)?;
+        let Synced { answer: _, text } = self.synchronise(alloc, task)?;
         Ok(text)
     }
 
+    // Sends the entries that wait, and gives what is printed of it.
     fn send(&mut self, alloc: Global, task: &SendTask) -> Result<String, NoMemory>
         requires { plays.Sound self.old }
         ensures { IfOk result (λ t. plays.SendStep task.now self.old self.new (string_bytes t)) }
@@ -229,7 +235,7 @@ impl Play {
         }
     }
 
-    // A write is entered, or not.
+    // Enters a write, and gives the line that tells of it.
     fn enter_write(&mut self, alloc: Global, write: Write) -> Result<String, NoMemory>
         requires { IsOutWrite write }
         ensures { IfOk result (λ t. plays.EntersWrite write self.old self.new (string_bytes t)) }
@@ -237,6 +243,7 @@ impl Play {
         entered_text(alloc, enter_write(alloc, write, &mut self.copy))
     }
 
+    // Enters the write of a task, by the file of its body, and gives what is printed of it.
     fn enter<F: Folder>(
         &mut self,
         alloc: Global,
@@ -273,6 +280,7 @@ impl Play {
         }
     }
 
+    // Has others do something to the hub now, and gives what is printed of it.
     fn act(&mut self, alloc: Global, act: HubAct) -> Result<String, NoMemory>
         ensures { IfOk result (λ t. plays.ActStep act self.old self.new (string_bytes t)) }
     {
@@ -280,7 +288,7 @@ impl Play {
         self.take_said(alloc)
     }
 
-    // Done just before an exchange.
+    // Has others do something to the hub just before an exchange, by the files as they are now.
     fn at<F: Folder>(
         &mut self,
         alloc: Global,
@@ -299,6 +307,7 @@ impl Play {
         }
     }
 
+    // Sets the clock of the link.
     fn clock(&mut self, alloc: Global, at: Moment) -> Result<String, NoMemory>
         ensures { IfOk result (λ t. plays.BecomesLink (record self.old.link { clock = at }) self.old self.new (string_bytes t)) }
     {
@@ -306,6 +315,7 @@ impl Play {
         Ok(String::new(alloc))
     }
 
+    // Has something happen just before an exchange.
     fn plan(
         &mut self,
         alloc: Global,
@@ -317,24 +327,28 @@ impl Play {
         silent(alloc, self.link.plan(exchange, happening))
     }
 
+    // Has this become of an exchange.
     fn meet(&mut self, alloc: Global, exchange: u64, fate: Fate) -> Result<String, NoMemory>
         ensures { IfOk result (λ t. plays.BecomesLink (with_fate exchange fate self.old.link) self.old self.new (string_bytes t)) }
     {
         silent(alloc, self.link.meet(exchange, fate))
     }
 
+    // Lists one commit more of the hub's keeper that fails.
     fn fail_hub(&mut self, alloc: Global, acted: bool, commit: u64) -> Result<String, NoMemory>
         ensures { IfOk result (λ t. plays.BecomesLink (with_failure acted commit self.old.link) self.old self.new (string_bytes t)) }
     {
         silent(alloc, self.link.list_commit(acted, commit))
     }
 
+    // Lists one commit more of the copy's keeper that fails.
     fn fail_copy(&mut self, alloc: Global, acted: bool, commit: u64) -> Result<String, NoMemory>
         ensures { IfOk result (λ t. plays.BecomesCopy (record self.old.copy { plan = with_listed acted commit self.old.copy.plan }) self.old self.new (string_bytes t)) }
     {
         silent(alloc, self.copy.list_commit(acted, commit))
     }
 
+    // The rows of a kind that the copy holds.
     fn list(&mut self, alloc: Global, kind: Kind) -> Result<String, NoMemory>
         ensures { IfOk result (λ t. plays.ReadStep (listed_text kind (held_list self.old.copy.copy kind)) self.old self.new (string_bytes t)) }
     {
@@ -345,6 +359,7 @@ impl Play {
         read_text(alloc, read)
     }
 
+    // The entries of the copy's outbox.
     fn outbox(&mut self, alloc: Global) -> Result<String, NoMemory>
         ensures { IfOk result (λ t. plays.ReadStep (flat_map entry_text self.old.copy.copy.entries) self.old self.new (string_bytes t)) }
     {
@@ -373,8 +388,8 @@ impl Play {
         }
     }
 
-    /// Goes through a line, by the files of the root folder, and gives what it prints. Hub and copy agree again.
-    pub fn go<F: Folder>(
+    /// Does what a line says, by the files of the root folder, and gives what it prints. Hub and copy agree again.
+    pub fn run_line<F: Folder>(
         &mut self,
         alloc: Global,
         line: &Line,
@@ -392,6 +407,7 @@ impl Play {
         text
     }
 
+    // What a line makes of hub, link and copy, and what it prints.
     fn step<F: Folder>(
         &mut self,
         alloc: Global,

@@ -66,9 +66,9 @@ fn rehearse_bytes<F: Folder, O: Sink>(
     }
 }
 
-/// Runs the script of a file in the root folder, in a world of its own, and writes what its lines print as they are run. Gives the status of
-/// the process: 0 where all lines were run, 1 where the sink failed, 3 where the folder failed, 4 where the file is refused, 17 where memory
-/// ran out.
+/// Runs the script of a file in the root folder, in a world of its own, and writes what its lines print as they are
+/// run. Gives the status of the process: 0 where all lines were run, 1 where the sink failed, 3 where the folder
+/// failed, 4 where the file is refused, 17 where memory ran out.
 pub fn rehearse<F: Folder, O: Sink>(alloc: Global, file: &Text, folder: &mut F, out: &mut O) -> u8
     ensures { WritesBetween O.written O.faults out.old out.new result
         (λ a. rehearsals.IsRehearseAnswer (F.files folder.old) (faults_between F.faults folder.old folder.new) file.now a.done a.end) }

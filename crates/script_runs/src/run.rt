@@ -37,6 +37,7 @@ fn keep_in(lines: &[Line]) -> u32
     }
 }
 
+// How the run of a script ends where a line ends it.
 fn end_of(stop: Stop) -> ScriptEnd
     ensures { result ≡ runs.end_of stop }
 {
@@ -75,7 +76,7 @@ fn run_lines<F: Folder, O: Sink>(
     ensures files { F.files folder.new ≡ F.files folder.old }
 {
     for line in lines {
-        let text = match play.go(alloc, line, folder) {
+        let text = match play.run_line(alloc, line, folder) {
             Ok(text) => text,
             Err(stop) => return end_of(stop),
         };
@@ -86,7 +87,8 @@ fn run_lines<F: Folder, O: Sink>(
     ScriptEnd::Done
 }
 
-/// Runs a script in a world of its own, which begins with an empty hub and an empty copy, and writes what its lines print.
+/// Runs a script in a world of its own, which begins with an empty hub and an empty copy, and writes what its lines
+/// print.
 pub fn run_script<F: Folder, O: Sink>(
     alloc: Global,
     folder: &mut F,

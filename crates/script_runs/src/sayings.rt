@@ -13,6 +13,7 @@ use std::alloc::Global;
 use sync_world::Saying;
 use sync_world::provider::RequestFault;
 
+// The lines that tell what the hub made of a set of this name, or of grants.
 fn made_line(
     alloc: Global,
     name: &str,
@@ -26,6 +27,7 @@ fn made_line(
     }
 }
 
+// The line of a reply's status, and of the version that it names.
 #[tactic(auto, unfolding(crate::specs::Sayings::replied_text))]
 fn reply_line(alloc: Global, status: u16, version: Option<u64>) -> Result<String, NoMemory>
     ensures { IfOk result (λ s. string_bytes s ≡ replied_text status version) }
@@ -58,6 +60,7 @@ fn saying_line(alloc: Global, saying: Saying) -> Result<String, NoMemory>
     }
 }
 
+// The text with the lines of one more saying.
 fn push_saying(alloc: Global, text: String, saying: Saying) -> Result<String, NoMemory>
     ensures { IfOk result (λ t. string_bytes t ≡ string_bytes text ++ saying_text saying) }
 {
@@ -66,7 +69,7 @@ fn push_saying(alloc: Global, text: String, saying: Saying) -> Result<String, No
     Ok(text)
 }
 
-/// The lines that tell all of it.
+/// The lines that tell what others did.
 pub fn said_lines(alloc: Global, said: Vec<Saying>) -> Result<String, NoMemory>
     ensures { IfOk result (λ t. string_bytes t ≡ said_text said.items) }
 {

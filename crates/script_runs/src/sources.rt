@@ -58,7 +58,7 @@ pub fn end_lines(alloc: Global, end: End) -> Result<String, Stop>
     }
 }
 
-// A file that is refused, or what ends the script.
+// What is told of a file that is refused, or how it ends the script.
 fn refused(alloc: Global, end: End) -> Result<HubAct, Stop>
     ensures { Tells (λ text a. a ≡ Tell text) end result }
 {
@@ -66,6 +66,7 @@ fn refused(alloc: Global, end: End) -> Result<HubAct, Stop>
     Ok(HubAct::Tell { lines })
 }
 
+// Reads the set of a feed.
 fn set<F: Folder>(alloc: Global, feed: &Feed, folder: &mut F) -> Result<HubAct, Stop>
     ensures reads { ReadsAct (F.files folder.old) (faults_between F.faults folder.old folder.new) (line.Set feed.now) result }
     ensures files { F.files folder.new ≡ F.files folder.old }
@@ -77,6 +78,7 @@ fn set<F: Folder>(alloc: Global, feed: &Feed, folder: &mut F) -> Result<HubAct, 
     }
 }
 
+// Reads a file of grants.
 fn grant<F: Folder>(alloc: Global, file: &Text, folder: &mut F) -> Result<HubAct, Stop>
     ensures reads { ReadsAct (F.files folder.old) (faults_between F.faults folder.old folder.new) (line.Grant file.now) result }
     ensures files { F.files folder.new ≡ F.files folder.old }
@@ -87,6 +89,7 @@ fn grant<F: Folder>(alloc: Global, file: &Text, folder: &mut F) -> Result<HubAct
     }
 }
 
+// Reads a file of requests.
 fn ask<F: Folder>(alloc: Global, file: &Text, folder: &mut F) -> Result<HubAct, Stop>
     ensures reads { ReadsAct (F.files folder.old) (faults_between F.faults folder.old folder.new) (line.Ask file.now) result }
     ensures files { F.files folder.new ≡ F.files folder.old }

@@ -12,7 +12,7 @@ use Rattle.version_core.specs.declared.hub_tables.HubTables.{HubTables}
 use Rattle.hub_format.specs.Format.{grants_under, of_changes, own_grants, own_version, version_entry}
 use Rattle.hub_format.proofs.Acts.{Act, Map, both, next, put_act, put_map, puts_act, puts_map}
 use Rattle.hub_format.proofs.Adding.{of_changes-push, own_differ}
-use Rattle.hub_format.proofs.Finds.{filled_is}
+use Rattle.hub_format.proofs.EntryMaps.{filled_is}
 use Rattle.span_format.specs.Edits.{added}
 use Rattle.span_format.specs.Format.{Span, items_in, own_names, own_spans, span_entry}
 use Rattle.span_format.proofs.Areas.{by_areas}

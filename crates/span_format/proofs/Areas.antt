@@ -8,7 +8,7 @@ use Rattle.item_maps.specs.Items.{bytes_cmp, is_between}
 use Rattle.item_maps.specs.declared.item.Edit.TheVariants.{Clear}
 use Rattle.hub_format.specs.Format.{Entry}
 use Rattle.hub_format.proofs.Acts.{Act, Map}
-use Rattle.hub_format.proofs.Finds.{Alike, found}
+use Rattle.hub_format.proofs.EntryMaps.{Alike, found}
 
 abbrev pub cleared_map : ℕ → List ℕ → List ℕ → ℕ → Map → Map
 cleared_map k from to area m = if area == k then retain_keys m (λ label. not (is_between from to label)) else m

@@ -15,11 +15,11 @@ use Rattle.version_core.specs.declared.change.Change.{Change}
 use Rattle.version_core.specs.declared.hub_tables.HubTables.{HubTables}
 use Rattle.version_core.specs.declared.mark.MarkRow.{MarkRow}
 use Rattle.version_core.specs.declared.row_change.RowChange.{RowChange}
-use Rattle.hub_format.specs.Format.{Entry, of_changes, own_version, state_entry}
+use Rattle.hub_format.specs.Format.{Entry, of_changes, own_version, state_entry, where_label}
 use Rattle.hub_format.specs.Pieces.{key_label}
 use Rattle.hub_format.proofs.Acts.{Act, Map, both, clear_act, clear_map, next, put_act, put_map}
-use Rattle.hub_format.proofs.Finds.{Alike, alike_map, found, found-append, or_else, retained, where-append, where_all}
-use Rattle.hub_format.proofs.Finds.{where_label}
+use Rattle.hub_format.proofs.EntryMaps.{Alike, alike_map, found, found-append, or_else, retained, where-append}
+use Rattle.hub_format.proofs.EntryMaps.{where_all}
 use Rattle.hub_format.proofs.Folding.{IsOf, Later, cleared, grants_moved, moved_act, moved_in}
 use Rattle.span_format.specs.Edits.{folded, hidden_by, spans_after}
 use Rattle.span_format.specs.Format.{AreSpans, HasPlainId, HasPlainIds, Span, items_in, name_entry, own_names}

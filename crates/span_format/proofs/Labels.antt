@@ -15,10 +15,10 @@ use Rattle.version_core.specs.declared.row_change.RowChange.{RowChange}
 use Rattle.hub_format.specs.Format.{Entry}
 use Rattle.hub_format.specs.Pieces.{HasNoZero, key_label, number}
 use Rattle.hub_format.proofs.Endings.{ended}
-use Rattle.hub_format.proofs.Finds.{Differ, found}
+use Rattle.hub_format.proofs.EntryMaps.{Differ, found}
 use Rattle.hub_format.proofs.Labels.{ordered}
 use Rattle.hub_format.proofs.Marking.{same_parts}
-use Rattle.hub_format.proofs.Back.{same_ends}
+use Rattle.hub_format.proofs.Decoding.{same_ends}
 use Rattle.hub_format.proofs.Orders.{greater_is, grouped, number_order}
 use Rattle.span_format.specs.Format.{name_entry, row_span, span_entry, span_label, spans_from}
 

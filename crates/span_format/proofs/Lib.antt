@@ -6,11 +6,11 @@ pub mod Folding
 pub mod Marking
 pub mod Keeping
 pub mod Turning
-pub mod Told
+pub mod SpanListings
 pub mod Unique
 pub mod Ids
 pub mod Steps
 pub mod Moving
 pub mod Planning
-pub mod Left
+pub mod SpanReading
 pub mod Naming

@@ -8,7 +8,7 @@ use Rattle.hub_format.specs.Edits.{clear_version, moved, put_at, puts}
 use Rattle.hub_format.specs.Format.{Entry, grant_entry, grants_under}
 use Rattle.hub_format.specs.Moves.{all_moved, grants_moved}
 use Rattle.hub_format.specs.Pieces.{change_body, has_grants, moment, number}
-use Rattle.hub_format.proofs.Back.{same_ends}
+use Rattle.hub_format.proofs.Decoding.{same_ends}
 use Rattle.span_format.specs.Edits.{folded, hidden_by, hidden_names}
 use Rattle.span_format.specs.Format.{name_entry, own_names}
 

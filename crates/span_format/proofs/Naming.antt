@@ -14,12 +14,12 @@ use Rattle.version_core.specs.Version.{last_version}
 use Rattle.version_core.specs.declared.change.Change.{Change}
 use Rattle.version_core.specs.declared.hub_tables.HubTables.{HubTables}
 use Rattle.version_core.specs.declared.row_change.RowChange.{RowChange}
-use Rattle.hub_format.specs.Format.{of_changes}
+use Rattle.hub_format.specs.Format.{of_changes, where_label}
 use Rattle.hub_format.specs.Pieces.{key_label, number}
-use Rattle.hub_format.proofs.Finds.{where-append, where_all, where_label}
+use Rattle.hub_format.proofs.EntryMaps.{where-append, where_all}
 use Rattle.hub_format.proofs.Labels.{ordered}
 use Rattle.hub_format.proofs.Listing.{all_of, listed_where, none_there}
-use Rattle.hub_format.proofs.Told.{small_from}
+use Rattle.hub_format.proofs.TableListings.{small_from}
 use Rattle.span_format.specs.Format.{Span, items_in, name_entry, own_names}
 use Rattle.span_format.proofs.Folding.{names_are_of}
 

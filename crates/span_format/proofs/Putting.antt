@@ -16,9 +16,9 @@ use Rattle.version_core.specs.Order.{by_order, overlaid, put}
 use Rattle.version_core.specs.declared.row_change.RowChange.{RowChange}
 use Rattle.version_core.proofs.OrderLemmas.{Ascends-overlaid}
 use Rattle.version_core.proofs.Places.{greater_from_less}
-use Rattle.hub_format.specs.Format.{Entry}
+use Rattle.hub_format.specs.Format.{Entry, where_label}
 use Rattle.hub_format.specs.Pieces.{HasNoZero, row_body}
-use Rattle.hub_format.proofs.Finds.{Alike, found, turned, where-append, where_all, where_label}
+use Rattle.hub_format.proofs.EntryMaps.{Alike, found, turned, where-append, where_all}
 use Rattle.hub_format.proofs.Orders.{less_is}
 use Rattle.roster_base.proofs.Rising.{is_less}
 use Rattle.span_format.specs.Format.{HasPlainId, Span, span_entry, span_key, span_label, spans_from}

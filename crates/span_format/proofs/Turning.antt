@@ -15,12 +15,12 @@ use Rattle.version_core.specs.declared.change.Change.{Change}
 use Rattle.version_core.specs.declared.hub_tables.HubTables.{HubTables}
 use Rattle.version_core.specs.declared.row_change.RowChange.{RowChange}
 use Rattle.version_core.proofs.TableLemmas.{base_meets}
-use Rattle.hub_format.specs.Format.{Entry, Keep, format_entry, items_of, of_changes, own_rows, rows_under}
+use Rattle.hub_format.specs.Format.{Entry, Keep, format_entry, items_of, of_changes, own_rows, rows_under, where_label}
 use Rattle.hub_format.specs.Pieces.{key_label, number}
 use Rattle.hub_format.proofs.Acts.{Act, Map, both, next, put_act, put_map, puts_act, puts_map}
-use Rattle.hub_format.proofs.Finds.{alike_map, filled_is, retained, where-append, where_label, where_none}
+use Rattle.hub_format.proofs.EntryMaps.{alike_map, filled_is, retained, where-append, where_none}
 use Rattle.hub_format.proofs.Orders.{less_is}
-use Rattle.hub_format.proofs.Told.{row_below}
+use Rattle.hub_format.proofs.TableListings.{row_below}
 use Rattle.span_format.specs.Edits.{brought, turn_edits}
 use Rattle.span_format.specs.Format.{FitSpans, KeepSpans, items_in, own_names, own_spans, span_entry, spans_from}
 use Rattle.span_format.proofs.Areas.{by_areas, cleared_act, cleared_map, replaced}

@@ -10,6 +10,8 @@ use Rattle.version_core.specs.declared.change.BaseVersion.{BaseVersion}
 use Rattle.version_core.specs.declared.change.Change.{Change}
 use Rattle.version_core.specs.declared.hub_tables.HubTables.{HubTables}
 use Rattle.version_core.specs.declared.row_change.RowChange.{RowChange}
+use Rattle.hub_format.specs.Areas.{base_rows_area, change_rows_area, format_area, grants_area, names_area, spans_area}
+use Rattle.hub_format.specs.Areas.{state_area, versions_area}
 use Rattle.hub_format.specs.Edits.{clear_version, mark_edits, moved, put_at, puts}
 use Rattle.hub_format.specs.Format.{Entry, format_entry, own_grants, state_entry, version_entry}
 use Rattle.hub_format.specs.Pieces.{key_label, number}
@@ -17,15 +19,16 @@ use Rattle.span_format.specs.Format.{Span, own_names, own_spans, span_entry, spa
 
 -- the format, and the state of version 0
 abbrev pub first_edits : ℕ → List Edit
-first_edits keep = put_at 0 (format_entry 2) ∷ put_at 1 (state_entry keep empty_version) ∷ []
+first_edits keep = put_at format_area (format_entry 2) ∷ put_at state_area (state_entry keep empty_version) ∷ []
 
 -- one change more
 abbrev pub added : Change → List Edit
-added change = put_at 3 (version_entry change) ∷ puts 7 (own_spans change) ++ puts 8 (own_names change) ++ puts 5 (own_grants change)
+added change = put_at versions_area (version_entry change) ∷ puts spans_area (own_spans change)
+    ++ puts names_area (own_names change) ++ puts grants_area (own_grants change)
 
 -- takes away what the key of this label had before a version
 abbrev pub hidden_under : ℕ → List ℕ → Edit
-hidden_under version key = Clear 7 (key ++ 0 ∷ number 0) (key ++ 0 ∷ number version)
+hidden_under version key = Clear spans_area (key ++ 0 ∷ number 0) (key ++ 0 ∷ number version)
 
 abbrev pub hidden_by : ℕ → RowChange → Edit
 hidden_by version row = hidden_under version (key_label (change_key row))
@@ -37,10 +40,11 @@ hidden_names version names = map (λ e. hidden_under version (drop 8 e.0)) names
 -- the oldest change goes into the base: no row is put anew
 abbrev pub folded : ℕ → BaseVersion → Change → List Edit
 folded keep base oldest =
-    put_at 1 (state_entry keep (after base oldest))
+    put_at state_area (state_entry keep (after base oldest))
     ∷ map (hidden_by oldest.version) oldest.rows
     ++ moved oldest.version base.grants oldest.grants
-    ++ clear_version 3 oldest.version ∷ clear_version 8 oldest.version ∷ clear_version 5 base.number ∷ []
+    ++ clear_version versions_area oldest.version ∷ clear_version names_area oldest.version
+    ∷ clear_version grants_area base.number ∷ []
 
 -- the spans of the base once that change is in it
 abbrev pub spans_after : List Span → Change → List Span
@@ -60,9 +64,12 @@ edits t commit = change_edits t commit.change ++ mark_edits commit.mark
 -- the spans and the names of changes, the oldest first
 abbrev pub brought : List Change → List Edit
 brought [] = []
-brought (change ∷ changes) = (puts 7 (own_spans change) ++ puts 8 (own_names change)) ++ brought changes
+brought (change ∷ changes) =
+    (puts spans_area (own_spans change) ++ puts names_area (own_names change)) ++ brought changes
 
--- a store of format 1 becomes one of format 2: the base's rows came with the base, and the areas that held rows are left empty
+-- a store of format 1 becomes one of format 2: the base's rows came with the base, and the areas that held rows are
+-- left empty
 abbrev pub turn_edits : HubTables → List Edit
 turn_edits t =
-    put_at 0 (format_entry 2) ∷ Clear 2 [] (255 ∷ []) ∷ Clear 4 [] (255 ∷ []) ∷ puts 7 (map span_entry (spans_from t.base.number t.base.rows)) ++ brought t.changes
+    put_at format_area (format_entry 2) ∷ Clear base_rows_area [] (255 ∷ []) ∷ Clear change_rows_area [] (255 ∷ [])
+    ∷ puts spans_area (map span_entry (spans_from t.base.number t.base.rows)) ++ brought t.changes

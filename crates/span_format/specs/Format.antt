@@ -1,4 +1,5 @@
--- The items of a hub's state in format 2: each row from the version in which it came until the next one of its kind and id.
+-- The items of a hub's state in format 2: each row from the version in which it came until the next one of its kind and
+-- id.
 use Rattle.std.specs.Prelude.{◌≡◌, ◌≤◌, ◌==◌, ℕ, List, [], ◌∷◌, ◌++◌, map, if◌then◌else◌}
 use Rattle.std.specs.FinMap.{from_entries}
 use Rattle.std.specs.List.{AllByRecursion}
@@ -13,6 +14,8 @@ use Rattle.version_core.specs.declared.change.BaseVersion.{BaseVersion}
 use Rattle.version_core.specs.declared.change.Change.{Change}
 use Rattle.version_core.specs.declared.hub_tables.HubTables.{HubTables}
 use Rattle.version_core.specs.declared.row_change.RowChange.{RowChange}
+use Rattle.hub_format.specs.Areas.{format_area, grants_area, marks_area, names_area, spans_area, state_area}
+use Rattle.hub_format.specs.Areas.{versions_area}
 use Rattle.hub_format.specs.Format.{Entry, Fit, FitsCommit, format_entry, grants_under, mark_entry, of_changes}
 use Rattle.hub_format.specs.Format.{own_grants, own_version, state_entry}
 use Rattle.hub_format.specs.Pieces.{HasNoZero, key_label, number, row_body}
@@ -52,13 +55,13 @@ own_names change = map (name_entry change.version) change.rows
 -- the entries of each area, by the spans of the base's rows
 abbrev pub area_in : List Span → HubTables → ℕ → List Entry
 area_in base t area =
-    if area == 0 then format_entry 2 ∷ []
-    else if area == 1 then state_entry t.keep t.base ∷ []
-    else if area == 3 then of_changes own_version t.changes
-    else if area == 5 then of_changes own_grants t.changes ++ grants_under t.base.number t.base.grants
-    else if area == 6 then map mark_entry t.marks
-    else if area == 7 then of_changes own_spans t.changes ++ map span_entry base
-    else if area == 8 then of_changes own_names t.changes
+    if area == format_area then format_entry 2 ∷ []
+    else if area == state_area then state_entry t.keep t.base ∷ []
+    else if area == versions_area then of_changes own_version t.changes
+    else if area == grants_area then of_changes own_grants t.changes ++ grants_under t.base.number t.base.grants
+    else if area == marks_area then map mark_entry t.marks
+    else if area == spans_area then of_changes own_spans t.changes ++ map span_entry base
+    else if area == names_area then of_changes own_names t.changes
     else []
 
 abbrev pub items_in : List Span → HubTables → Items

@@ -1,7 +1,6 @@
 -- In which version a span came, read off its label.
-use Rattle.std.specs.Prelude.{◌-◌, ◌<◌, ◌^◌, ◌&&◌, ℕ, Bool, List, drop, filter, length, nat_le}
+use Rattle.std.specs.Prelude.{◌-◌, ◌<◌, ◌^◌, ◌&&◌, ℕ, Bool, List, drop, length, nat_le}
 use Rattle.std.specs.Int.{w64, from_be_bytes}
-use Rattle.hub_format.specs.Format.{Entry}
 use Rattle.hub_format.specs.Pieces.{IsReadBack}
 use Rattle.span_format.specs.Format.{Span}
 
@@ -12,10 +11,6 @@ came label = from_be_bytes w64 (drop (length label - 8) label)
 -- it came in one of these versions
 abbrev pub came_within : ℕ → ℕ → List ℕ → Bool
 came_within low high label = nat_le low (came label) && nat_le (came label) high
-
--- the entries whose labels pass a test
-abbrev pub where_label : (List ℕ → Bool) → List Entry → List Entry
-where_label test entries = filter (λ e. test e.0) entries
 
 -- a span that is read back from its entry
 pub record FitsSpan (s : Span) : Type 0 where

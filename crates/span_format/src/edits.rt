@@ -3,6 +3,7 @@
 ghost use Rattle.std.specs.Prelude.{◌≡◌, ◌++◌, ◌∷◌, [], IfOk, OnOk};
 ghost use Rattle.std.specs.List.{AllByRecursion};
 ghost use Rattle.item_maps.specs.declared.item.Edit.TheVariants.{Clear};
+ghost use Rattle.hub_format.specs.Areas.{base_rows_area, change_rows_area, format_area, names_area, spans_area};
 ghost use Rattle.hub_format.specs.Edits.{put_at, puts};
 ghost use Rattle.hub_format.specs.Format.{FitsChange, format_entry};
 ghost use Rattle.span_format.specs.Edits.{added, brought, turn_edits};
@@ -32,7 +33,9 @@ pub(crate) fn added_edits(alloc: Global, change: &Change) -> Result<Vec<Edit>, N
 
 // Adds the edits that store the spans and the names of a change. Its rows are dropped as they are written.
 fn bring(alloc: Global, edits: &mut Vec<Edit>, change: Change) -> Result<(), NoMemory>
-    ensures edits { OnOk result (edits.new.items ≡ edits.old.items ++ (puts 7 (own_spans change) ++ puts 8 (own_names change))) }
+    ensures edits { OnOk result
+        (edits.new.items ≡ edits.old.items
+        ++ (puts spans_area (own_spans change) ++ puts names_area (own_names change))) }
     ensures plain { OnOk result (HasPlainIds change) }
 {
     let Change { version, rows, .. } = change;
@@ -43,7 +46,7 @@ fn bring(alloc: Global, edits: &mut Vec<Edit>, change: Change) -> Result<(), NoM
     Ok(())
 }
 
-// The same for changes, the oldest first.
+// Adds the edits that store the spans and the names of changes, those of the oldest first.
 fn bring_all(alloc: Global, edits: &mut Vec<Edit>, changes: Items<Change>) -> Result<(), NoMemory>
     ensures edits { OnOk result (edits.new.items ≡ edits.old.items ++ brought changes) }
     ensures plain { OnOk result (AllByRecursion HasPlainIds changes) }
@@ -65,9 +68,12 @@ fn clear_rows(alloc: Global, area: u32) -> Result<Edit, NoMemory>
     })
 }
 
-// The edits that put 2 in place of 1 as the number of the format, and take away the rows of both areas that format 1 has for them.
+// The edits that put 2 in place of 1 as the number of the format, and take away the rows of both areas that format 1
+// has for them.
 fn format_edits(alloc: Global) -> Result<Vec<Edit>, NoMemory>
-    ensures { IfOk result (λ edits. edits.items ≡ put_at 0 (format_entry 2) ∷ Clear 2 [] (255 ∷ []) ∷ Clear 4 [] (255 ∷ []) ∷ []) }
+    ensures { IfOk result (λ edits. edits.items
+        ≡ put_at format_area (format_entry 2) ∷ Clear base_rows_area [] (255 ∷ [])
+        ∷ Clear change_rows_area [] (255 ∷ []) ∷ []) }
 {
     let mut edits = Vec::new(alloc);
     edits.push(put_format(alloc, WRITTEN_FORMAT)?)?;
@@ -76,8 +82,8 @@ fn format_edits(alloc: Global) -> Result<Vec<Edit>, NoMemory>
     Ok(edits)
 }
 
-/// The edits by which a store of format 1 with these tables becomes one of format 2. The rows of the tables are dropped as they are
-/// written, so that tables and edits don't stand in memory side by side.
+/// The edits by which a store of format 1 with these tables becomes one of format 2. The rows of the tables are dropped
+/// as they are written, so that tables and edits don't stand in memory side by side.
 pub fn turn_edits(alloc: Global, tables: HubTables) -> Result<Vec<Edit>, NoMemory>
     ensures edits { IfOk result (λ edits. edits.items ≡ turn_edits tables) }
     ensures plain { OnOk result (FitSpans tables) }

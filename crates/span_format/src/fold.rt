@@ -4,6 +4,7 @@ ghost use Rattle.std.specs.Prelude.{◌≡◌, ◌++◌, ◌∷◌, [], ◌+◌,
 ghost use Rattle.item_maps.specs.Edits.{entry_of};
 ghost use Rattle.version_core.specs.declared.change.BaseVersion.{BaseVersion};
 ghost use Rattle.version_core.specs.declared.change.Change.{Change as ChangeValue};
+ghost use Rattle.hub_format.specs.Areas.{grants_area, names_area, versions_area};
 ghost use Rattle.hub_format.specs.Edits.{clear_version};
 ghost use Rattle.hub_format.specs.Format.{grants_under};
 ghost use Rattle.hub_format.specs.Moves.{grants_moved};
@@ -32,6 +33,7 @@ fn hide(alloc: Global, version: u64, key: &[u8]) -> Result<Edit, NoMemory>
     })
 }
 
+// The same for a name, whose key stands behind a version's number.
 fn hide_name(alloc: Global, version: u64, name: &Item) -> Result<Edit, NoMemory>
     ensures { IfOk result (λ edit. edit ≡ hidden_under version (drop 8 (entry_of name.now).0)) }
 {
@@ -53,6 +55,7 @@ fn push_hidden(
     Ok(())
 }
 
+// The same for the key of a row.
 fn hide_row(alloc: Global, version: u64, row: &RowChange) -> Result<Edit, NoMemory>
     ensures { IfOk result (λ edit. edit ≡ hidden_by version row.now) }
 {
@@ -75,10 +78,13 @@ fn push_hidden_rows(
     Ok(())
 }
 
-// Adds the edits that take away what stands behind the base's number and the next.
+// Adds the edits that take away what the base has taken in: the version and the names behind the next number, and its
+// old grants.
 fn push_clears(alloc: Global, edits: &mut Vec<Edit>, base: u64) -> Result<(), NoMemory>
     requires { base + 2 < 2 ^ 64 }
-    ensures { OnOk result (edits.new.items ≡ edits.old.items ++ (clear_version 3 (base + 1) ∷ clear_version 8 (base + 1) ∷ clear_version 5 base ∷ [])) }
+    ensures { OnOk result (edits.new.items
+        ≡ edits.old.items ++ (clear_version versions_area (base + 1) ∷ clear_version names_area (base + 1)
+        ∷ clear_version grants_area base ∷ [])) }
 {
     edits.push(clear_version(alloc, HubArea::Versions, base + 1)?)?;
     edits.push(clear_version(alloc, HubArea::Names, base + 1)?)?;
@@ -86,18 +92,22 @@ fn push_clears(alloc: Global, edits: &mut Vec<Edit>, base: u64) -> Result<(), No
     Ok(())
 }
 
-// Adds the edits by which the base's grants go along, and those that take away what the base has taken in.
+// Adds the edits by which the base's grants go along, where the flag is 0, and those that take away what the base has
+// taken in.
 fn push_rest(edits: &mut Vec<Edit>, base: u64, flag: u8, grants: &[Item]) -> Result<(), NoMemory>
     requires { base + 2 < 2 ^ 64 }
-    ensures { OnOk result (edits.new.items ≡ (edits.old.items ++ grants_moved flag (base + 1) (map entry_of grants.now)) ++ (clear_version 3 (base + 1) ∷ clear_version 8 (base + 1) ∷ clear_version 5 base ∷ [])) }
+    ensures { OnOk result (edits.new.items
+        ≡ (edits.old.items ++ grants_moved flag (base + 1) (map entry_of grants.now))
+        ++ (clear_version versions_area (base + 1) ∷ clear_version names_area (base + 1)
+        ∷ clear_version grants_area base ∷ [])) }
 {
     let alloc = *edits.allocator();
     push_grants(alloc, edits, flag, base + 1, grants)?;
     push_clears(alloc, edits, base)
 }
 
-/// Adds the edits by which the change behind the base goes into it, from the body of the change's version, its rows' names and the
-/// base's grants. False where the body is none of a version.
+/// Adds the edits by which the change behind the base goes into it, from the body of the change's version, its rows'
+/// names and the base's grants. False where the body is none of a version.
 pub(crate) fn push_folded(
     edits: &mut Vec<Edit>,
     keep: u64,
@@ -107,8 +117,10 @@ pub(crate) fn push_folded(
     grants: &[Item],
 ) -> Result<bool, NoMemory>
     requires { base + 2 < 2 ^ 64 }
-    ensures { (was : BaseVersion) (oldest : ChangeValue) → base ≡ was.number → oldest.version ≡ base + 1 → body.now ≡ change_body oldest → map entry_of names.now ≡ own_names oldest
-        → map entry_of grants.now ≡ grants_under base was.grants → IfOk result (λ done. IsTrue done → edits.new.items ≡ edits.old.items ++ folded keep was oldest) }
+    ensures { (was : BaseVersion) (oldest : ChangeValue) → base ≡ was.number → oldest.version ≡ base + 1
+        → body.now ≡ change_body oldest → map entry_of names.now ≡ own_names oldest
+        → map entry_of grants.now ≡ grants_under base was.grants
+        → IfOk result (λ done. IsTrue done → edits.new.items ≡ edits.old.items ++ folded keep was oldest) }
 {
     let alloc = *edits.allocator();
     let Some((at, flag)) = change_parts(body) else {
@@ -120,8 +132,8 @@ pub(crate) fn push_folded(
     Ok(true)
 }
 
-/// Adds the edits by which a change that isn't stored yet goes into the base, from the base's grants. It is so where no version
-/// is kept beside the newest.
+/// Adds the edits by which a change that isn't stored yet goes into the base, from the base's grants: such a change is
+/// the oldest where no version is kept beside the newest. False where its body is none of a version.
 pub(crate) fn push_folded_change(
     edits: &mut Vec<Edit>,
     keep: u64,
@@ -130,7 +142,8 @@ pub(crate) fn push_folded_change(
     grants: &[Item],
 ) -> Result<bool, NoMemory>
     requires { base + 2 < 2 ^ 64 }
-    ensures { (was : BaseVersion) → base ≡ was.number → change.now.version ≡ base + 1 → map entry_of grants.now ≡ grants_under base was.grants
+    ensures { (was : BaseVersion) → base ≡ was.number → change.now.version ≡ base + 1
+        → map entry_of grants.now ≡ grants_under base was.grants
         → IfOk result (λ done. IsTrue done → edits.new.items ≡ edits.old.items ++ folded keep was change.now) }
 {
     let alloc = *edits.allocator();

@@ -1,5 +1,5 @@
-//! The items in which a hub's state is kept in format 2: its rows as spans, written and read, and the edits of a commit and of the
-//! change from format 1.
+//! The items in which a hub's state is kept in format 2: its rows as spans, written and read, and the edits of a commit
+//! and of the change from format 1.
 #![tactic(auto)]
 
 mod edits;

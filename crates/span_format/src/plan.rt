@@ -23,8 +23,8 @@ use roster_base::NoMemory;
 use std::alloc::Global;
 use version_core::change::Change;
 
-/// What a store has of the oldest versions that it keeps: the items of the base's grants, and those of the version and of the
-/// rows' names of the change behind it, where one is stored.
+/// What a store has of the oldest versions that it keeps: the items of the base's grants, and those of the version and
+/// of the rows' names of the change behind it, where one is stored.
 #[derive(Drop)]
 pub struct Oldest {
     pub grants: Vec<Item>,
@@ -32,16 +32,16 @@ pub struct Oldest {
     pub names: Vec<Item>,
 }
 
-// Adds the edits by which a change that is stored goes into the base.
+// Adds the edits by which a change that is stored goes into the base. False where its items are none of a version.
 fn push_stored(
-    alloc: Global,
     edits: &mut Vec<Edit>,
     keep: u64,
     base: u64,
     oldest: &Oldest,
 ) -> Result<bool, NoMemory>
     requires { base + 2 < 2 ^ 64 }
-    ensures { (t : HubTables) (first : ChangeValue) (rest : List ChangeValue) → base ≡ t.base.number → first.version ≡ base + 1 → t.changes ≡ first ∷ rest
+    ensures { (t : HubTables) (first : ChangeValue) (rest : List ChangeValue) → base ≡ t.base.number
+        → first.version ≡ base + 1 → t.changes ≡ first ∷ rest
         → AreOldest t oldest.now.grants.items oldest.now.version.items oldest.now.names.items
         → IfOk result (λ done. IsTrue done → edits.new.items ≡ edits.old.items ++ folded keep t.base first) }
 {
@@ -58,9 +58,9 @@ fn push_stored(
     }
 }
 
-// Adds the edits by which the oldest change goes into the base.
+// Adds the edits by which the oldest change goes into the base: the new one itself where no other is stored. False
+// where the items of a stored one are none of a version.
 fn push_oldest(
-    alloc: Global,
     edits: &mut Vec<Edit>,
     keep: u64,
     base: u64,
@@ -68,18 +68,21 @@ fn push_oldest(
     change: &Change,
 ) -> Result<bool, NoMemory>
     requires { base + 2 < 2 ^ 64 }
-    ensures { (t : HubTables) → AreTables t → base ≡ t.base.number → nat_lt keep (change.now.version - base) ≡ true → CanLead (versions_from t.base t.changes) change.now
+    ensures { (t : HubTables) → AreTables t → base ≡ t.base.number → nat_lt keep (change.now.version - base) ≡ true
+        → CanLead (versions_from t.base t.changes) change.now
         → AreOldest t oldest.now.grants.items oldest.now.version.items oldest.now.names.items
-        → IfOk result (λ done. IsTrue done → edits.new.items ≡ edits.old.items ++ let_go keep t.base (t.changes ++ change.now ∷ [])) }
+        → IfOk result (λ done. IsTrue done
+        → edits.new.items ≡ edits.old.items ++ let_go keep t.base (t.changes ++ change.now ∷ [])) }
 {
     if change.version == base + 1 {
         push_folded_change(edits, keep, base, change, oldest.grants.as_slice())
     } else {
-        push_stored(alloc, edits, keep, base, oldest)
+        push_stored(edits, keep, base, oldest)
     }
 }
 
-// The edits of a change: they add it, and let the oldest go where it is one too many.
+// The edits of a change: they add it, and let the oldest go where it is one too many. None where the items of the
+// oldest are none of a version.
 fn change_edits(
     alloc: Global,
     keep: u64,
@@ -88,8 +91,10 @@ fn change_edits(
     change: &Change,
 ) -> Result<Option<Vec<Edit>>, NoMemory>
     requires { base + 2 < 2 ^ 64 }
-    ensures edits { (t : HubTables) → AreTables t → keep ≡ t.keep → base ≡ t.base.number → CanLead (versions_from t.base t.changes) change.now
-        → (nat_lt keep (change.now.version - base) ≡ true → AreOldest t oldest.now.grants.items oldest.now.version.items oldest.now.names.items)
+    ensures edits { (t : HubTables) → AreTables t → keep ≡ t.keep → base ≡ t.base.number
+        → CanLead (versions_from t.base t.changes) change.now
+        → (nat_lt keep (change.now.version - base) ≡ true
+        → AreOldest t oldest.now.grants.items oldest.now.version.items oldest.now.names.items)
         → IfOk result (λ o. IfSome o (λ edits. edits.items ≡ change_edits t (Some change.now))) }
     ensures fits { OnOk result (FitsChange change.now) }
     ensures plain { OnOk result (HasPlainIds change.now) }
@@ -98,13 +103,14 @@ fn change_edits(
     if !lets_go(keep, base, change.version) {
         return Ok(Some(edits));
     }
-    if push_oldest(alloc, &mut edits, keep, base, oldest, change)? {
+    if push_oldest(&mut edits, keep, base, oldest, change)? {
         Ok(Some(edits))
     } else {
         Ok(None)
     }
 }
 
+// The edits of a change, where there is one.
 fn some_change_edits(
     alloc: Global,
     keep: u64,
@@ -113,7 +119,8 @@ fn some_change_edits(
     change: &Option<Change>,
 ) -> Result<Option<Vec<Edit>>, NoMemory>
     requires { base + 2 < 2 ^ 64 }
-    ensures edits { (t : HubTables) → AreTables t → keep ≡ t.keep → base ≡ t.base.number → ForSome change.now (CanLead (versions_from t.base t.changes))
+    ensures edits { (t : HubTables) → AreTables t → keep ≡ t.keep → base ≡ t.base.number
+        → ForSome change.now (CanLead (versions_from t.base t.changes))
         → AreOldestFor t keep base change.now oldest.now.grants.items oldest.now.version.items oldest.now.names.items
         → IfOk result (λ o. IfSome o (λ edits. edits.items ≡ change_edits t change.now)) }
     ensures fits { OnOk result (ForSome change.now FitsChange) }
@@ -125,8 +132,8 @@ fn some_change_edits(
     }
 }
 
-/// The edits of a commit, by which the items of a state become those of the state after it. What a store has of its oldest
-/// versions is asked only where the change lets the oldest go. None where the items are none of a state.
+/// The edits of a commit, by which the items of a state become those of the state after it. What a store has of its
+/// oldest versions is asked only where the change lets the oldest go. None where the items are none of a state.
 pub fn commit_edits(
     alloc: Global,
     keep: u64,
@@ -135,8 +142,10 @@ pub fn commit_edits(
     commit: &HubCommit,
 ) -> Result<Option<Vec<Edit>>, NoMemory>
     requires { base + 2 < 2 ^ 64 }
-    ensures edits { (t : HubTables) → AreTables t → keep ≡ t.keep → base ≡ t.base.number → CanCommit (kept_by t) commit.now
-        → AreOldestFor t keep base commit.now.change oldest.now.grants.items oldest.now.version.items oldest.now.names.items
+    ensures edits { (t : HubTables) → AreTables t → keep ≡ t.keep → base ≡ t.base.number
+        → CanCommit (kept_by t) commit.now
+        → AreOldestFor t keep base commit.now.change
+        oldest.now.grants.items oldest.now.version.items oldest.now.names.items
         → IfOk result (λ o. IfSome o (λ edits. edits.items ≡ edits_of t commit.now)) }
     ensures fits { IfOk result (λ o. IfSome o (λ _. FitsSpanCommit commit.now)) }
 {

@@ -2,6 +2,7 @@
 
 ghost use Rattle.std.specs.Prelude.{◌≡◌, ◌++◌, IfOk, OnOk, map};
 ghost use Rattle.std.specs.List.{AllByRecursion};
+ghost use Rattle.hub_format.specs.Areas.{names_area, spans_area};
 ghost use Rattle.hub_format.specs.Edits.{put_at, puts};
 ghost use Rattle.hub_format.specs.Pieces.{IsReadBack};
 ghost use Rattle.span_format.specs.Edits.{first_edits};
@@ -26,7 +27,7 @@ pub fn first_edits(alloc: Global, keep: u32) -> Result<Vec<Edit>, NoMemory>
 }
 
 fn put_span(alloc: Global, first: u64, row: &RowChange) -> Result<Edit, NoMemory>
-    ensures edit { IfOk result (λ edit. edit ≡ put_at 7 (row_span first row.now)) }
+    ensures edit { IfOk result (λ edit. edit ≡ put_at spans_area (row_span first row.now)) }
     ensures back { OnOk result (IsReadBack row.now) }
     ensures plain { OnOk result (HasPlainId row.now) }
 {
@@ -44,7 +45,8 @@ pub(crate) fn put_spans(
     first: u64,
     rows: &[RowChange],
 ) -> Result<(), NoMemory>
-    ensures edits { OnOk result (edits.new.items ≡ edits.old.items ++ puts 7 (map span_entry (spans_from first rows.now))) }
+    ensures edits { OnOk result
+        (edits.new.items ≡ edits.old.items ++ puts spans_area (map span_entry (spans_from first rows.now))) }
     ensures back { OnOk result (AllByRecursion IsReadBack rows.now) }
     ensures plain { OnOk result (AllByRecursion HasPlainId rows.now) }
 {
@@ -61,7 +63,8 @@ pub(crate) fn move_spans(
     first: u64,
     rows: SortedRows,
 ) -> Result<(), NoMemory>
-    ensures edits { OnOk result (edits.new.items ≡ edits.old.items ++ puts 7 (map span_entry (spans_from first rows))) }
+    ensures edits { OnOk result
+        (edits.new.items ≡ edits.old.items ++ puts spans_area (map span_entry (spans_from first rows))) }
     ensures plain { OnOk result (AllByRecursion HasPlainId rows) }
 {
     for row in rows.into_vec() {
@@ -71,7 +74,7 @@ pub(crate) fn move_spans(
 }
 
 fn put_name(alloc: Global, version: u64, row: &RowChange) -> Result<Edit, NoMemory>
-    ensures { IfOk result (λ edit. edit ≡ put_at 8 (name_entry version row.now)) }
+    ensures { IfOk result (λ edit. edit ≡ put_at names_area (name_entry version row.now)) }
 {
     Ok(Edit::Put {
         area: HubArea::Names.number(),
@@ -87,7 +90,7 @@ pub(crate) fn put_names(
     version: u64,
     rows: &[RowChange],
 ) -> Result<(), NoMemory>
-    ensures { OnOk result (edits.new.items ≡ edits.old.items ++ puts 8 (map (name_entry version) rows.now)) }
+    ensures { OnOk result (edits.new.items ≡ edits.old.items ++ puts names_area (map (name_entry version) rows.now)) }
 {
     for row in rows {
         edits.push(put_name(alloc, version, row)?)?;

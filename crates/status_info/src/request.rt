@@ -3,7 +3,7 @@
 use roster_base::{Bytes, Text};
 use roster_texts::Token;
 
-/// What a request does.
+/// The method of a request.
 #[derive(Clone, Copy, Debug, PartialEq, Eq)]
 pub enum Verb {
     Get,

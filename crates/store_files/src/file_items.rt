@@ -14,8 +14,8 @@ pub trait OpenStore: StoredItems {
 
 /// The items in the database of a file of the system.
 ///
-/// It has no type parameters: a call of a function over any store that may be sent to a thread can be proved at such a type, and can't at
-/// `SqlItems<FileStore<..>>`.
+/// It has no type parameters: a call of a function over any store that may be sent to a thread can be proved at such a
+/// type, and can't at `SqlItems<FileStore<..>>`.
 #[derive(Drop)]
 pub struct FileItems {
     items: SqlItems<FileStore<File>>,

@@ -17,7 +17,8 @@ pub const HUB_FILE: &str = "hub.db";
 /// The file of a consumer's copy in the folder of its store.
 pub const COPY_FILE: &str = "copy.db";
 
-// How often the file of a store is tried that another process uses, and the milliseconds between two tries: two seconds in all.
+// How often the file of a store is tried that another process uses, and the milliseconds between two tries: two seconds
+// in all.
 const TRIES: u32 = 20;
 
 const PAUSE: u64 = 100;
@@ -58,8 +59,8 @@ fn tell_unopened(rt: HostRuntime, path: &str, error: Error) {
     };
 }
 
-// The items of a file, which is made where it isn't there. Nothing where it can't be opened. Standard error is told why it can't, or that
-// it is new, so that a mistyped name is seen.
+// The items of a file, which is made where it isn't there. Nothing where it can't be opened. Standard error is told why
+// it can't, or that it is new, so that a mistyped name is seen.
 fn open_file(rt: HostRuntime, path: &str) -> Result<Option<FileItems>, NoMemory> {
     let is_new = !Path::new(path).exists(&rt);
     match open_soon(rt, path) {

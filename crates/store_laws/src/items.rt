@@ -33,7 +33,8 @@ pub fn read_back(
     to: &[u8],
 ) -> Result<Vec<Item>, KeeperError>
     requires { StandsFor (state over_memory store.old.connection) no_items }
-    ensures { IfOk result (λ items. map entry_of items.items ≡ take 1000 (listed area from.now to.now (after edits.now no_items))) }
+    ensures { IfOk result (λ items. map entry_of items.items
+        ≡ take 1000 (listed area from.now to.now (after edits.now no_items))) }
 {
     store.commit(edits)?;
     store.range(alloc, area, from, to, 1000)
@@ -63,9 +64,11 @@ pub fn reopen<D: Disk + Drop>(
     conn: Connection<FileStore<D>>,
     options: Options,
 ) -> Option<Connection<FileStore<D>>>
-    ensures same { (m : Items) → StandsFor (file_state conn) m → IfSome result (λ again. StandsFor (file_state again) m) }
+    ensures same { (m : Items) → StandsFor (file_state conn) m
+        → IfSome result (λ again. StandsFor (file_state again) m) }
     ensures is_open { IfSome result (λ again. HasCleanDisk (file_state again) → IsTrue (file_state again).is_open) }
 {
+    // Read for its clause `live`: what is closed is a database.
     let _schema = conn.schema();
     let files = match conn.close_files() {
         Ok(files) => files,
@@ -82,5 +85,6 @@ pub fn one_map<S: Alter>(conn: &Connection<S>)
     ensures { (m n : Items) → HasCleanDisk (state S.Store conn.now) → IsTrue (state S.Store conn.now).is_open
         → StandsFor (state S.Store conn.now) m → StandsFor (state S.Store conn.now) n → m ≡ n }
 {
+    // The contract alone speaks of it.
     let _ = conn;
 }

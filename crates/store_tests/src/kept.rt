@@ -1,5 +1,5 @@
-//! What is kept in files that are closed and opened again behind each step: by hubs and copies, in the items of the formats, and by a
-//! program with ten kinds.
+//! What is kept in files that are closed and opened again behind each step: by hubs and copies, in the items of the
+//! formats, and by a program with ten kinds.
 
 use crate::replies::{
     CHANGED_ORG, CHANGES_LEFT, CREATED, DELETED, FIRST_ORG, LATER_ROWS, OTHER_ROWS, SHUT,
@@ -57,7 +57,8 @@ static FIRST_VERSION: [(Step, &str); 3] = [
     (Step::Areas, ""),
 ];
 
-// A stage outlasts its run; one under another token is let go. Each whole copy stands on the other side, which has no rows of before.
+// A stage outlasts its run; one under another token is let go. Each whole copy stands on the other side, which has no
+// rows of before.
 static TURNS: [(Step, &str); 19] = [
     (
         Step::Copy(Turn("enter put categories c2 c2.json", 0, &[])),

@@ -1,5 +1,5 @@
-//! Tests of the keepers over a database, of a hub and of a copy: what is kept is found again, stores that are broken or cut off, and those
-//! in the system's folder.
+//! Tests of the keepers over a database, of a hub and of a copy: what is kept is found again, stores that are broken or
+//! cut off, and those in the system's folder.
 #![tactic(auto)]
 
 #[cfg(test)]

@@ -1,12 +1,13 @@
 //! Runs over the real folder, clock and store.
 
-use crate::words::{FILES, words_of};
+use crate::words::FILES;
 use outside_ports::MemSink;
 use real_run::run_real;
 use std::path::PathBuf;
 use std::process::Abort;
 use std::test::Fail;
 use std::{env, fs, process};
+use test_lake::words_of;
 
 // A new folder of the system's for temporary files.
 fn new_folder(rt: HostRuntime) -> Result<PathBuf, Fail> {

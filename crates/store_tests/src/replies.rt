@@ -1,5 +1,5 @@
-//! Replies that a hub gives to a copy: to its writes, to a synchronisation of version 2, and to one of version 5 and its changes in
-//! version 6.
+//! Replies that a hub gives to a copy: to its writes, to a synchronisation of version 2, and to one of version 5 and
+//! its changes in version 6.
 
 use crate::steps::Reply;
 

@@ -1,5 +1,5 @@
-//! Steps over a store: words over a hub, words over a consumer's copy with the replies to their exchanges, which are given beforehand, and
-//! what is done to its items.
+//! Steps over a store: words over a hub, words over a consumer's copy with the replies to their exchanges, which are
+//! given beforehand, and what is done to its items.
 
 use crate::stored::{areas_told, put_told};
 use crate::ten_kinds_items::Kept;

@@ -36,8 +36,8 @@ const MORE_ITEMS: &[Kept] = &[
     },
 ];
 
-// Steps that are taken before, the step that is cut off and what it tells, and the steps that show what a store holds, with what they tell
-// before and then.
+// Steps that are taken before, the step that is cut off and what it tells, and the steps that show what a store holds,
+// with what they tell before and then.
 struct Case {
     before: &'static [Step],
     step: Step,
@@ -47,7 +47,8 @@ struct Case {
     then: &'static str,
 }
 
-// Items, a change that lets a hub's version go, and what differs of the next version of a copy: each is one change of what is shown.
+// Items, a change that lets a hub's version go, and what differs of the next version of a copy: each is one change of
+// what is shown.
 static CASES: [Case; 3] = [
     Case {
         before: &[Step::Put(ITEMS)],
@@ -91,7 +92,8 @@ fn told_in(
     Ok(text)
 }
 
-// What the step tells over files that stop at that call of the log or of the database file, and what the files show once they are back.
+// What the step tells over files that stop at that call of the log or of the database file, and what the files show
+// once they are back.
 fn cut_off(
     alloc: Global,
     case: &Case,
@@ -121,8 +123,8 @@ fn place(at: u64, in_log: bool) -> (u64, u64) {
 // More than the calls of a step.
 const CALLS: u64 = 1_000;
 
-// How many calls of the log, or of the database file, the step makes: each stops it in turn. The files show what they showed before, or
-// what they are to show then, and the latter where the answer was that it was done.
+// How many calls of the log, or of the database file, the step makes: each stops it in turn. The files show what they
+// showed before, or what they are to show then, and the latter where the answer was that it was done.
 fn calls_of(rt: &impl Abort, alloc: Global, case: &Case, in_log: bool) -> Result<u64, Fail> {
     for at in 0..CALLS {
         let (told, held) = cut_off(alloc, case, place(at, in_log))?;

@@ -6,9 +6,7 @@ use outside_ports::{FixedClock, MemFolder, MemSink};
 use real_run::run_hub;
 use roster_base::NoMemory;
 use std::alloc::Global;
-
-// 2024-08-01T12:00:00.000Z
-const NOON: i64 = 1_722_513_600_000;
+use test_lake::{NOON, file, words_of};
 
 const ALL_ORGS: &str =
     "propertyName,value\nmanifest.version,1.0\noneroster.version,1.1\nfile.orgs,bulk\nfile.academicSessions,absent\n\
@@ -22,7 +20,8 @@ const SOME_ORGS: &str =
 /// A file by its folder and name, with its text.
 pub type File = (&'static str, &'static str, &'static str);
 
-/// The set of all orgs, two sets of some, two files of grants, the body of a category, a set of resources, a grant of these, and requests.
+/// The set of all orgs, two sets of some, two files of grants, the body of a category, a set of resources, a grant of
+/// these, and requests.
 pub static FILES: [File; 18] = [
     ("lake", "manifest.csv", ALL_ORGS),
     (
@@ -102,32 +101,12 @@ s2,active,2024-09-01T00:00:00.000Z,West High,school\ns3,active,2024-09-01T00:00:
     ),
 ];
 
-fn push_file(
-    alloc: Global,
-    files: &mut Vec<(String, String, Vec<u8>)>,
-    (folder, name, text): &File,
-) -> Result<(), NoMemory> {
-    let folder = String::from_str(alloc, folder)?;
-    let name = String::from_str(alloc, name)?;
-    files.push((folder, name, text.as_bytes().to_vec(alloc)?))?;
-    Ok(())
-}
-
 fn folder(alloc: Global) -> Result<MemFolder, NoMemory> {
     let mut files = Vec::new(alloc);
-    for file in &FILES {
-        push_file(alloc, &mut files, file)?;
+    for (dir, name, text) in &FILES {
+        files.push(file(alloc, dir, name, text)?)?;
     }
     Ok(MemFolder::new(files, Vec::new(alloc)))
-}
-
-/// The words between spaces.
-pub fn words_of(alloc: Global, line: &str) -> Result<Vec<String>, NoMemory> {
-    let mut words = Vec::new(alloc);
-    for word in line.split_whitespace() {
-        words.push(String::from_str(alloc, word)?)?;
-    }
-    Ok(words)
 }
 
 // Runs the words over a hub, a copy and a link, and tells the status and what is printed.

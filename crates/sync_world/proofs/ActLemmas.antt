@@ -10,7 +10,7 @@ use Rattle.hub_core.specs.declared.hub_error.HubError.{HubError}
 use Rattle.hub_core.specs.declared.hub_error.HubError.TheVariants as error
 use Rattle.hub_core.specs.declared.published.Published.{Published}
 use Rattle.hub_core.specs.declared.published.Published.TheVariants as published
-use Rattle.hub_spec.proofs.Growing.{step_goes}
+use Rattle.hub_spec.proofs.Growing.{step_grows}
 use Rattle.hub_spec.proofs.Keeping.{step_keeps}
 use Rattle.hub_spec.proofs.Versions.{newest_has, reads_kept, some_version}
 use Rattle.hub_spec.specs.rules.Runs.{Acts, Answer, Command, Does, Fails, KeeperFailed, Made, OutOfMemory, Publish}
@@ -90,10 +90,10 @@ module _ (command : Command) (asks : BaseVersion → Outcome → Type 0) (m : Is
         omega (arith, longer, number, reach)
 
     pub whole_after : IsWhole gone kept'
-    whole_after = whole_next gone kept kept' whole after hub_after part_after (step_goes command state (Made (Leads next)) after 0 led).grew within
+    whole_after = whole_next gone kept kept' whole after hub_after part_after (step_grows command state (Made (Leads next)) after 0 led).grew within
 
     pub same_after : whole_state gone kept' ≡ after
-    same_after = is_next gone kept kept' whole after hub_after part_after (step_goes command state (Made (Leads next)) after 0 led).grew within
+    same_after = is_next gone kept kept' whole after hub_after part_after (step_grows command state (Made (Leads next)) after 0 led).grew within
 
   rested : (kept' : KeptState) → kept' ≡ kept → (given : Result Published HubError) (answer : Answer) (failed : ℕ) → CountsFailed faults faults' failed → Steps command state answer state failed → IsMade given answer state
       → Came command given state gone kept' faults faults'

@@ -21,7 +21,7 @@ use Rattle.sync_world.specs.declared.acts.HubAct.TheVariants as act
 use Rattle.sync_world.specs.declared.acts.Saying.{Saying}
 use Rattle.sync_world.specs.declared.acts.Saying.TheVariants as saying
 
--- where it is done, it is so
+-- what a call that is done leaves has what follows from it
 pub if_done : {A B : Type 0} {E : Type 0} (result : Result (Unit {0}) E) → (A → B) → OnOk result A → OnOk result B
 if_done (Ok done) each here = each here
 if_done (Err e) each here = tt

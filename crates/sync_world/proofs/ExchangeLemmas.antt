@@ -2,7 +2,7 @@
 use Rattle.std.proofs.Common.{◌≡◌, ℕ, ℤ, ◌⊎◌, inl, inr, Bool, true, false, List, [], ◌∷◌, ◌++◌, Result, Ok, Err, IfOk}
 use Rattle.std.proofs.Common.{OnOk, reverse, refl, sym, ap, subst, ◌∙◌, arith}
 use Rattle.std.proofs.lemmas.List.{map-append, reverse-append}
-use Rattle.exchange_link.specs.Exchanges.{Carries, Exchanged, IsOwn, Told}
+use Rattle.exchange_link.specs.Exchanges.{Carries, Exchanged, IsOwn, LinkState}
 use Rattle.http_wire.proofs.WrittenLemmas.{written_is_read}
 use Rattle.http_wire.specs.Answers.{IsReplyText}
 use Rattle.http_wire.specs.Seen.{seen_of}
@@ -17,7 +17,7 @@ use Rattle.rest_provider.specs.Steps.{CountsFailed}
 use Rattle.roster_base.specs.Faults.{Rose}
 use Rattle.status_info.specs.declared.reply.Reply.{Reply}
 use Rattle.status_info.specs.declared.request.Request.{Request}
-use Rattle.sync_world.specs.Links.{HeldLink, told_world, world_of}
+use Rattle.sync_world.specs.Links.{HeldLink, world_state, world_of}
 use Rattle.sync_world.specs.Deliveries.{Carried}
 use Rattle.sync_world.specs.Planned.{fate_at}
 use Rattle.sync_world.specs.Traffic.{Counts, Keeps, LinkLeads, Round}
@@ -42,7 +42,7 @@ rises before now failed (inr (one, more)) once = omega (arith, more)
 
 -- the text of the reply of a step is the hub's own
 pub is_own : (request : Request) (at : ℤ) (reply : Reply) (text : List ℕ) (before after : HeldWorld) (failed : ℕ) (xs ys : List Request) → CanSend request → IsHub before.state → IsOwnText reply text
-    → Steps (Take (wanted_by request) at) before.state (Replied reply) after.state failed → CountsFailed before.faults after.faults failed → IsOwn (told_world xs before) (told_world ys after) request text
+    → Steps (Take (wanted_by request) at) before.state (Replied reply) after.state failed → CountsFailed before.faults after.faults failed → IsOwn (world_state xs before) (world_state ys after) request text
 is_own request at reply text before after failed xs ys can hub own step counts = let good = step_readable request can before.state hub at reply after.state failed step in record {
   reply = reply;
   text_is = own.text_is;
@@ -61,7 +61,7 @@ is_own request at reply text before after failed xs ys can hub own step counts =
 }
 
 -- and has the request's number
-pub own_carries : (before after : HeldWorld) (q : Request) (text : List ℕ) → IsOwn (told_world [] before) (told_world [] after) q text → Carries text q.echo
+pub own_carries : (before after : HeldWorld) (q : Request) (text : List ℕ) → IsOwn (world_state [] before) (world_state [] after) q text → Carries text q.echo
 own_carries before after q text own = (seen_of own.reply, subst (λ (t : List ℕ). IsReplyText t (seen_of own.reply)) (sym own.text_is) (written_is_read own.reply own.read), own.echo)
 
 -- the request that was sent last stands first
@@ -73,17 +73,17 @@ on_ok A B (Ok done) here = inl here
 on_ok A B (Err e) here = tt
 
 -- what came is an exchange
-pub exchanged : (q : Request) (result : Result (Unit {0}) IoError) (rose : Type 0) (kept : List ℕ) (sent sent' : List Request) (before now : HeldWorld) (after : Told) → Walks before now
-    → (sent' ≡ q ∷ sent) ⊎ ((result ≡ Err io_error.NoMemory) × (sent' ≡ sent)) → OnOk result (IsOwn (told_world sent before) (told_world sent' now) q kept ⊎ (rose × IsLate sent kept))
-    → after ≡ told_world sent' now → Exchanged q result rose kept (told_world sent before) after
+pub exchanged : (q : Request) (result : Result (Unit {0}) IoError) (rose : Type 0) (kept : List ℕ) (sent sent' : List Request) (before now : HeldWorld) (after : LinkState) → Walks before now
+    → (sent' ≡ q ∷ sent) ⊎ ((result ≡ Err io_error.NoMemory) × (sent' ≡ sent)) → OnOk result (IsOwn (world_state sent before) (world_state sent' now) q kept ⊎ (rose × IsLate sent kept))
+    → after ≡ world_state sent' now → Exchanged q result rose kept (world_state sent before) after
 exchanged q result rose kept sent sent' before now after walks sends replies same =
-    subst (Exchanged q result rose kept (told_world sent before)) (sym same) (record { grew = walk_grew before now walks; sent = sends; counts = walks.by.counts; replies = replies })
+    subst (Exchanged q result rose kept (world_state sent before)) (sym same) (record { grew = walk_grew before now walks; sent = sends; counts = walks.by.counts; replies = replies })
 
 -- ---- what others did before
 
 -- an own reply after more has come to pass
 pub own_from : (xs ys : List Request) (first before after : HeldWorld) (q : Request) (text : List ℕ) → Walks first before
-    → IsOwn (told_world xs before) (told_world ys after) q text → IsOwn (told_world xs first) (told_world ys after) q text
+    → IsOwn (world_state xs before) (world_state ys after) q text → IsOwn (world_state xs first) (world_state ys after) q text
 own_from xs ys first before after q text walks own = record {
   reply = own.reply;
   text_is = own.text_is;
@@ -127,7 +127,7 @@ given_noted past past' made more given here =
     (AllByRecursion-push (IsGiven (made.request ∷ requests_in past)) past made (given_more (requests_in past) made.request past given) here))
 
 -- an own reply is one to a request that was sent
-pub own_late : (xs : List Request) (before after : HeldWorld) (q : Request) (sent : List Request) (text : List ℕ) → CanSend q → IsOwn (told_world xs before) (told_world xs after) q text → IsLate (q ∷ sent) text
+pub own_late : (xs : List Request) (before after : HeldWorld) (q : Request) (sent : List Request) (text : List ℕ) → CanSend q → IsOwn (world_state xs before) (world_state xs after) q text → IsLate (q ∷ sent) text
 own_late xs before after q sent text can own = by_echo q.echo refl can.echo
   where
     by_echo : (echo : Option Echo) → q.echo ≡ echo → IsSomeAnd echo IsSentEcho → IsLate (q ∷ sent) text
@@ -136,7 +136,7 @@ own_late xs before after q sent text can own = by_echo q.echo refl can.echo
 
 -- a reply that came, or would have come, is one to a request that was sent
 pub reply_late : {V E : Type 0} (items : V → List ℕ) (r : Result V E) (stale : Bool) (xs : List Request) (before after : HeldWorld) (q : Request) (sent : List Request) → CanSend q
-    → (stale ≡ false → IfOk r (λ v. IsOwn (told_world xs before) (told_world xs after) q (items v))) → (stale ≡ true → IfOk r (λ v. IsLate sent (items v))) → IfOk r (λ v. IsLate (q ∷ sent) (items v))
+    → (stale ≡ false → IfOk r (λ v. IsOwn (world_state xs before) (world_state xs after) q (items v))) → (stale ≡ true → IfOk r (λ v. IsLate sent (items v))) → IfOk r (λ v. IsLate (q ∷ sent) (items v))
 reply_late items (Ok v) stale xs before after q sent can own late =
     elim stale as (λ b. stale ≡ b → IsLate (q ∷ sent) (items v)) [
       | true ↦ λ e. late_more sent q (items v) (late e)

@@ -2,7 +2,6 @@ pub mod AskLemmas
 pub mod DoneLemmas
 pub mod ExchangeLemmas
 pub mod ListLemmas
-pub mod ReadingLemmas
 pub mod RowLemmas
 pub mod StepLemmas
 pub mod SyncLemmas

@@ -10,7 +10,7 @@ use Rattle.hub_core.specs.Errors.{error_of_keeper}
 use Rattle.hub_core.specs.Standing.{HeldHub, IsStanding, KeeperFits}
 use Rattle.hub_core.specs.declared.hub_error.HubError.{HubError}
 use Rattle.hub_spec.specs.requests.Requests.{wanted_by}
-use Rattle.hub_spec.proofs.Growing.{step_goes}
+use Rattle.hub_spec.proofs.Growing.{step_grows}
 use Rattle.hub_spec.proofs.Versions.{some_version}
 use Rattle.hub_spec.specs.rules.Growth.{Grew}
 use Rattle.hub_spec.specs.rules.Runs.{Fails, Replied, Steps, Take, WantsMemory}
@@ -174,7 +174,7 @@ module _ (request : Request) (at : ℤ) (reply : Reply) (gone : List BaseVersion
   led : (next : HubState) → IsHub next → IsPartOf kept' next → Steps (Take (wanted_by request) at) (whole_state gone kept) (Replied reply) next failed → oldest_number next ≤ length gone
       → Led request at reply (whole_state gone kept) gone kept' failed
   led next is part step within =
-      let grew = (step_goes (Take (wanted_by request) at) (whole_state gone kept) (Replied reply) next failed step).grew in
+      let grew = (step_grows (Take (wanted_by request) at) (whole_state gone kept) (Replied reply) next failed step).grew in
       record {
         whole = whole_next gone kept kept' whole next is part grew within;
         step = subst (λ (s : HubState). Steps (Take (wanted_by request) at) (whole_state gone kept) (Replied reply) s failed) (sym (is_next gone kept kept' whole next is part grew within)) step;
@@ -197,7 +197,7 @@ module _ (request : Request) (at : ℤ) (reply : Reply) (gone : List BaseVersion
       let (next, _, holds, part, step) = takes state (record { state = whole.hub.state; grants = whole.hub.grants }) whole.part in
       let is = holds whole.hub in
       let few = step_adds (wanted_by request) at state next reply failed step in
-      let keep = (step_goes (Take (wanted_by request) at) state (Replied reply) next failed step).grew.keep in
+      let keep = (step_grows (Take (wanted_by request) at) state (Replied reply) next failed step).grew.keep in
       let number = oldest_is state whole.hub.state kept whole.part in
       led next is part step (omega (arith, few, keep, number, reach))
 

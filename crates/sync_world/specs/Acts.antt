@@ -63,6 +63,7 @@ replied reply = saying.Replied (status_of reply.cause) reply.version
 abbrev pub taken : Request → ℤ → Reply → HubState → Done
 taken request at reply after = once (Take (wanted_by request) at) (Replied reply) after (replied reply ∷ [])
 
+-- a request was taken, with some reply, which is told
 abbrev pub IsTaken : Request → ℤ → Done → Type 0
 IsTaken request at done = (reply : Reply) × (after : HubState) × (done ≡ taken request at reply after)
 
@@ -79,11 +80,12 @@ tells_fault number wire.End = []
 tells_fault number wire.Cut = saying.Stopped number wire.Cut ∷ []
 tells_fault number fault = saying.Replied (status_of Unreadable) None ∷ saying.Stopped number fault ∷ []
 
--- and of bytes that stand there, behind a request that closes the stream
+-- what is told of bytes that stand in its place, behind a request that closes the stream
 abbrev pub tells_left : ℕ → List ℕ → List Saying
 tells_left number [] = []
 tells_left number (byte ∷ rest) = saying.AfterClose number ∷ []
 
+-- what is told of where the reading stopped: at a fault, or behind a request that closes the stream
 abbrev pub tells_stop : Option WireFault → ℕ → List ℕ → List Saying
 tells_stop None number rest = tells_left number rest
 tells_stop (Some fault) number rest = tells_fault number fault
@@ -118,7 +120,7 @@ IsAct (act.Ask bytes) at done = Asks bytes at done
 IsAct (act.Tell lines) at done = done ≡ record { steps = []; said = saying.Lines lines ∷ [] }
 IsAct act.Restart at done = (answer : Answer) × (after : HubState) × (said : List Saying) × IsOpened answer said × (done ≡ once Reopen answer after said)
 
--- it was done to a world, and told behind what was told before
+-- what `Is` allows was done to a world, and told behind what was told before
 pub record Acted (Is : Done → Type 0) (before after : HeldWorld) (said said' : List Saying) : Type 0 where
   pub done : Done
   pub is : Is done

@@ -12,6 +12,7 @@ use Rattle.sync_world.specs.declared.asking.Turn.TheVariants as turn
 abbrev pub bytes_left : List ℕ → Ends
 bytes_left bytes = ends_of (Some bytes) 0 None 0
 
+-- what a turn takes from the bytes, makes of a world and tells
 abbrev pub Turns : ℤ → List ℕ → List ℕ → List ℕ → List ℕ → Turn → HeldWorld → HeldWorld → List Saying → List Saying → Type 0
 Turns at left left' kept kept' (turn.Answered close) before after said said' =
     (request : Request) × IsRead (bytes_left left) (bytes_left left') kept kept' request × (request.close ≡ close) × Acted (IsTaken request at) before after said said'

@@ -39,13 +39,14 @@ abbrev pub coming : Fate → Option (List ℕ) → Option (List ℕ)
 coming fate.ReplyLost would = None
 coming _ would = would
 
+-- an exchange was made and noted: the reply that comes, or would come, and whether it does
 pub record Delivered (fate : Fate) (number : ℕ) (request : Request) (at : ℤ) (past past' : List Past) (before after : HeldWorld) (came : Option (List ℕ)) : Type 0 where
   pub would : Option (List ℕ)
   pub becomes : Becomes fate past request at before after would
   pub noted : Notes number request would past past'
   pub comes : came ≡ coming fate would
 
--- what was planned came to pass before that
+-- what was planned for an exchange came to pass, and then it was made
 pub record Carried (fate : Fate) (number : ℕ) (request : Request) (at : ℤ) (past past' : List Past) (events events' : List Event) (before after : HeldWorld) (said said' : List Saying) (came : Option (List ℕ)) : Type 0 where
   pub mid : HeldWorld
   pub passed : Passed past at (events_at number events) before mid said said'

@@ -32,13 +32,15 @@ AreHappenings past at [] dones = dones ≡ []
 AreHappenings past at (event ∷ events) [] = ⊥
 AreHappenings past at (event ∷ events) (done ∷ dones) = IsHappening past at event.happening done × AreHappenings past at events dones
 
+-- the steps of all that was done
 abbrev pub steps_of : List Done → List Step
 steps_of dones = flat_map (λ (done : Done). done.steps) dones
 
+-- what is told of all that was done
 abbrev pub said_of : List Done → List Saying
 said_of dones = flat_map (λ (done : Done). done.said) dones
 
--- they came to pass, in their order, and are told
+-- events came to pass, in their order, and are told
 pub record Passed (past : List Past) (at : ℤ) (events : List Event) (before after : HeldWorld) (said said' : List Saying) : Type 0 where
   pub dones : List Done
   pub are : AreHappenings past at events dones

@@ -1,6 +1,6 @@
 -- What a link to a world holds and tells.
 use Rattle.std.specs.Prelude.{ℕ, ℤ, Bool, false, List, [], ◌∷◌, ◌++◌, nat_lt, if◌then◌else◌}
-use Rattle.exchange_link.specs.Exchanges.{Told}
+use Rattle.exchange_link.specs.Exchanges.{LinkState}
 use Rattle.keeper_memory.specs.Failures.{FailurePlan, with_listed}
 use Rattle.status_info.specs.declared.request.Request.{Request}
 use Rattle.version_core.specs.HubStates.{HubState}
@@ -14,10 +14,11 @@ use Rattle.sync_world.specs.declared.traffic.Happening.{Happening}
 use Rattle.sync_world.specs.declared.traffic.Planned.{Planned}
 use Rattle.sync_world.specs.declared.world_link.WorldLink.TheInside.{Inside}
 
--- the hub's state, the count of its keeper's faults, the calls that the keeper has met and those that are to fail, the clock, the requests that were handed to the link, the newest first, the answer
--- that is kept, how many exchanges were made, how many of them since the last without a fault and how many with one; the exchanges that
--- were made, the oldest first; what is planned for exchanges, and what is to become of them; what is told of what others did; and whether
--- an exchange wanted memory
+-- of the hub its state, the count of its keeper's faults, and the calls that the keeper has met and those that are to
+-- fail; the clock; the requests that were handed to the link, the newest first; the answer that is kept; how many
+-- exchanges were made, how many in a row up to the last one had a fault, and how many had one in all; the exchanges
+-- that were made, the oldest first; what is planned for exchanges, and what is to become of them; what is told of what
+-- others did; and whether an exchange wanted memory
 pub record HeldLink : Type 0 where
   pub hub : HubState
   pub hub_faults : ℕ
@@ -34,6 +35,7 @@ pub record HeldLink : Type 0 where
   pub said : List Saying
   pub wanted : Bool
 
+-- what a clause sees of a link
 abbrev pub link_in : Inside → HeldLink
 link_in link = record {
   hub = link.world.state;
@@ -62,11 +64,12 @@ fresh_link clock hub hub_faults plan =
     record { hub = hub; hub_faults = hub_faults; plan = plan; clock = clock; sent = []; kept = []; asked = 0; missed = 0; faults = 0; past = []; events = []; fates = []; said = []; wanted = false }
 
 -- what a world tells beside the requests that were sent
-abbrev pub told_world : List Request → HeldWorld → Told
-told_world sent world = record { hub = world.state; sent = sent; hub_faults = world.faults }
+abbrev pub world_state : List Request → HeldWorld → LinkState
+world_state sent world = record { hub = world.state; sent = sent; hub_faults = world.faults }
 
-abbrev pub told_by : HeldLink → Told
-told_by link = record { hub = link.hub; sent = link.sent; hub_faults = link.hub_faults }
+-- what a link tells
+abbrev pub link_state : HeldLink → LinkState
+link_state link = record { hub = link.hub; sent = link.sent; hub_faults = link.hub_faults }
 
 -- the world of a link
 abbrev pub world_of : HeldLink → HeldWorld

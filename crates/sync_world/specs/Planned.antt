@@ -8,21 +8,24 @@ use Rattle.sync_world.specs.declared.traffic.Fate.{Fate}
 use Rattle.sync_world.specs.declared.traffic.Fate.TheVariants as fate
 use Rattle.sync_world.specs.declared.traffic.Planned.{Planned}
 
--- what is to become of an exchange: what was planned last, or else that it is whole
+-- what is to become of an exchange: what was planned last, or else this
 abbrev pub fate_from : Fate → List Planned → ℕ → Fate
 fate_from fate [] exchange = fate
 fate_from fate (plan ∷ plans) exchange = fate_from (if plan.exchange == exchange then plan.fate else fate) plans exchange
 
+-- what is to become of an exchange: what was planned last, or else that it is whole
 abbrev pub fate_at : List Planned → ℕ → Fate
 fate_at plans exchange = fate_from fate.Whole plans exchange
 
+-- the event is one of this exchange
 abbrev pub is_at : ℕ → Event → Bool
 is_at exchange event = event.exchange == exchange
 
--- the events of an exchange, in the order in which they were planned, and those of others
+-- the events of an exchange, in the order in which they were planned
 abbrev pub events_at : ℕ → List Event → List Event
 events_at exchange events = filter (is_at exchange) events
 
+-- the events of other exchanges
 abbrev pub events_aside : ℕ → List Event → List Event
 events_aside exchange events = filter (λ event. not (is_at exchange event)) events
 
@@ -36,10 +39,12 @@ abbrev pub past_at : ℕ → List Past → Option Past
 past_at exchange [] = None
 past_at exchange (made ∷ past) = if made.exchange == exchange then Some made else past_at exchange past
 
+-- the request of an exchange that was made
 abbrev pub request_of : Option Past → Option Request
 request_of None = None
 request_of (Some made) = Some made.request
 
+-- the reply of an exchange that was made, where there was one
 abbrev pub reply_of : Option Past → Option (List ℕ)
 reply_of None = None
 reply_of (Some made) = option_map (λ text. text.items) made.reply

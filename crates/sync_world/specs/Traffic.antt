@@ -40,6 +40,7 @@ abbrev pub RoundsBy : List HeldLink → HeldLink → HeldLink → Type 0
 RoundsBy [] old new = new ≡ old
 RoundsBy (next ∷ links) old new = Round old next × RoundsBy links next new
 
+-- by some exchanges, one behind another
 abbrev pub Rounds : HeldLink → HeldLink → Type 0
 Rounds old new = (links : List HeldLink) × RoundsBy links old new
 

@@ -8,7 +8,8 @@ use Rattle.rest_provider.specs.Exchanges.{CountsFailures}
 use Rattle.version_core.specs.HubStates.{HubState}
 use Rattle.sync_world.specs.Worlds.{HeldWorld}
 
--- these steps lead from one world to the other, of which so many fail; the keeper's calls go on, and its count rises with each that failed
+-- these steps lead from one world to the other, of which so many fail; the keeper's calls go on, and its count rises
+-- with each that failed
 pub record WalksBy (steps : List Step) (before after : HeldWorld) : Type 0 where
   pub failed : ℕ
   pub run : Runs before.state steps failed
@@ -17,7 +18,7 @@ pub record WalksBy (steps : List Step) (before after : HeldWorld) : Type 0 where
   pub counts : before.faults ≤ after.faults
   pub calls : CallsLead before.plan after.plan
 
--- some steps do
+-- some steps lead from one world to the other
 pub record Walks (before after : HeldWorld) : Type 0 where
   pub steps : List Step
   pub by : WalksBy steps before after

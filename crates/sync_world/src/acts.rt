@@ -63,16 +63,19 @@ pub enum Saying {
     NotOpened,
 }
 
+// Adds what is told.
 fn say(said: &mut Vec<Saying>, saying: Saying) -> Result<(), NoMemory>
     ensures { OnOk result (said.new.items ≡ said.old.items ++ saying ∷ []) }
 {
     Ok(said.push(saying)?)
 }
 
+// Whether the hub found no memory for it, of which nothing is told.
 fn is_out_of_memory(answer: &Result<Published, HubError>) -> bool {
     matches!(answer, Err(HubError::NoMemory))
 }
 
+// Publishes a set, and adds what the hub made of it.
 fn set(
     alloc: Global,
     world: &mut World,
@@ -95,6 +98,7 @@ fn set(
     say(said, Saying::Published { name, answer })
 }
 
+// Gives each caller of a list what it asks for, and adds what the hub made of it.
 fn grant(
     alloc: Global,
     world: &mut World,
@@ -116,6 +120,7 @@ fn grant(
     say(said, Saying::Granted { answer })
 }
 
+// Opens the hub again from its keeper, and adds that it failed where it did.
 fn restart(alloc: Global, world: &mut World, said: &mut Vec<Saying>) -> Result<(), NoMemory>
     ensures walks { Walks world.old world.new }
     ensures acted { (at : ℤ) → OnOk result (Acted (IsAct HubAct.Restart at) world.old world.new said.old.items said.new.items) }
@@ -132,7 +137,7 @@ fn restart(alloc: Global, world: &mut World, said: &mut Vec<Saying>) -> Result<(
     }
 }
 
-/// Does it to the hub of a world at a moment, and adds what is told of it.
+/// Does what others do to the hub of a world at a moment, and adds what is told of it.
 pub fn act(
     alloc: Global,
     world: &mut World,

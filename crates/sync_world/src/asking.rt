@@ -25,9 +25,11 @@ pub enum Turn {
     Answered { close: bool },
     /// No request could be read.
     Stopped(WireFault),
+    /// Memory ran out.
     NoMemory,
 }
 
+// Adds what is told of a reply.
 fn say_reply(said: &mut Vec<Saying>, reply: &Reply) -> Result<(), NoMemory>
     ensures { OnOk result (said.new.items ≡ said.old.items ++ replied reply.now ∷ []) }
 {
@@ -95,7 +97,7 @@ fn say_left(said: &mut Vec<Saying>, request: u64, kept: u64, left: u64) -> Resul
     Ok(said.push(Saying::AfterClose { request })?)
 }
 
-// The reply to what can't be read.
+// Adds what is told of the reply to what can't be read, and where the stream stops.
 fn say_unreadable(said: &mut Vec<Saying>, fault: WireFault, request: u64) -> Result<(), NoMemory>
     ensures { OnOk result (said.new.items ≡ said.old.items ++ Saying.Replied (status_of Unreadable) None ∷ Saying.Stopped request fault ∷ []) }
 {
@@ -118,8 +120,8 @@ fn say_stop(said: &mut Vec<Saying>, fault: WireFault, request: u64) -> Result<()
     }
 }
 
-/// Has the hub of a world take the requests of some bytes in turn, at a moment, and adds what is told of their replies, and of what
-/// stands behind them.
+/// Has the hub of a world take the requests of some bytes in turn, at a moment, and adds what is told of their replies,
+/// and of what stands behind them.
 pub fn ask(
     alloc: Global,
     world: &mut World,

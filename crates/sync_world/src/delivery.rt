@@ -8,15 +8,15 @@ ghost use Rattle.outside_ports.specs.declared.failed.IoError.TheVariants as io_e
 ghost use Rattle.status_info.specs.declared.request.Request.{Request as Asked};
 ghost use Rattle.sync_world.specs.Deliveries.{Becomes, Delivered, Gives, IsCome, Notes, OnCome, coming};
 ghost use Rattle.sync_world.specs.Given.{AreGiven, is_stale, requests_in};
-ghost use Rattle.sync_world.specs.Links.{told_world};
+ghost use Rattle.sync_world.specs.Links.{world_state};
 ghost use Rattle.sync_world.specs.Planned.{IsLost, MayFail, past_at, reply_of};
 ghost use Rattle.sync_world.specs.Walks.{Walks};
 
 use crate::own_text::own_text;
 use crate::past::{Past, reply_at};
-use crate::reading::request_of;
 use crate::traffic::Fate;
 use crate::world::World;
+use exchange_link::request_of;
 use outside_ports::IoError;
 use roster_base::NoMemory;
 use roster_texts::Moment;
@@ -33,7 +33,7 @@ fn answered(
     requires { CanSend request.now }
     ensures walks { Walks world.old world.new }
     ensures gives { IfOk result (λ text. Gives request.now at world.old world.new text.items) }
-    ensures own { (xs ys : List Asked) → IfOk result (λ text. IsOwn (told_world xs world.old) (told_world ys world.new) request.now text.items) }
+    ensures own { (xs ys : List Asked) → IfOk result (λ text. IsOwn (world_state xs world.old) (world_state ys world.new) request.now text.items) }
 {
     // Read for what it keeps.
     let _ = world.faults();
@@ -68,7 +68,7 @@ fn reply_to(
     requires given { AreGiven past.now }
     requires can { CanSend request.now }
     ensures walks { Walks world.old world.new }
-    ensures own { is_stale fate ≡ false → (xs ys : List Asked) → IfOk result (λ text. IsOwn (told_world xs world.old) (told_world ys world.new) request.now text.items) }
+    ensures own { is_stale fate ≡ false → (xs ys : List Asked) → IfOk result (λ text. IsOwn (world_state xs world.old) (world_state ys world.new) request.now text.items) }
     ensures late { is_stale fate ≡ true → IfOk result (λ text. IsLate (requests_in past.now) text.items) }
     ensures lost { fate ≡ Fate.RequestLost → IsErr result × (world.new ≡ world.old) }
     ensures exact { result ≡ Err io_error.Failed → MayFail fate past.now }
@@ -104,6 +104,7 @@ fn comes(reply: Vec<u8>, fate: Fate) -> Result<Vec<u8>, IoError>
     }
 }
 
+// A copy of the bytes.
 fn copy_of(alloc: Global, bytes: &[u8]) -> Result<Vec<u8>, NoMemory>
     ensures { IfOk result (λ copy. copy.items ≡ bytes.now) }
 {
@@ -182,7 +183,7 @@ pub fn deliver(
     ensures walks { Walks world.old world.new }
     ensures given { AreGiven past.new.items }
     ensures sent { (q : Asked) → IsTextOf q text.now → (requests_in past.new.items ≡ q ∷ requests_in past.old.items) ⊎ ((result ≡ Err io_error.NoMemory) × (past.new.items ≡ past.old.items)) }
-    ensures own { is_stale fate ≡ false → (q : Asked) → IsTextOf q text.now → (xs ys : List Asked) → IfOk result (λ reply. IsOwn (told_world xs world.old) (told_world ys world.new) q reply.items) }
+    ensures own { is_stale fate ≡ false → (q : Asked) → IsTextOf q text.now → (xs ys : List Asked) → IfOk result (λ reply. IsOwn (world_state xs world.old) (world_state ys world.new) q reply.items) }
     ensures late { is_stale fate ≡ true → IfOk result (λ reply. IsLate (requests_in past.old.items) reply.items) }
     ensures lost { IsLost fate → IsErr result }
     ensures exact { result ≡ Err io_error.Failed → MayFail fate past.old.items }

@@ -1,4 +1,5 @@
-//! A link to a hub in the same program, which tells all of it, with all that others do to that hub, and the calls of the consumer over it.
+//! A link to a hub in the same program, which tells all of it, with all that others do to that hub, and the calls of
+//! the consumer over it.
 #![tactic(auto)]
 
 pub mod acts;
@@ -7,7 +8,6 @@ mod delivery;
 mod gone;
 mod own_text;
 pub mod past;
-mod reading;
 mod rows;
 pub mod sending;
 pub mod syncing;

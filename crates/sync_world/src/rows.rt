@@ -11,6 +11,7 @@ use version_core::change::Change;
 use version_core::hub_tables::HubTables;
 use version_core::row_change::RowChange;
 
+// Reads rows that are held.
 fn read_rows(rows: &[RowChange])
     ensures { AreRows rows.now }
 {
@@ -19,6 +20,7 @@ fn read_rows(rows: &[RowChange])
     }
 }
 
+// Reads the rows that changes bring.
 fn read_changes(changes: &[Change])
     ensures { BringRows changes.now }
 {
@@ -27,6 +29,7 @@ fn read_changes(changes: &[Change])
     }
 }
 
+// Reads the rows that a set lists of a kind.
 fn read_part(rows: &[SetRow])
     ensures { AreListed rows.now }
 {
@@ -35,6 +38,7 @@ fn read_part(rows: &[SetRow])
     }
 }
 
+// Reads the rows that a set lists.
 fn read_parts(parts: &[SetPart])
     ensures { AllByRecursion (λ part. AreListed part.rows) parts.now }
 {

@@ -13,7 +13,7 @@ ghost use Rattle.exchange_link.specs.Completeness.{IsDone, StandsAt, first_pin};
 ghost use Rattle.exchange_link.specs.Marks.{Agree, MarksTold};
 ghost use Rattle.exchange_link.specs.Synchronised.{Synchronised, held_at, own_state};
 ghost use Rattle.roster_base.specs.Faults.{Rose};
-ghost use Rattle.sync_world.specs.Links.{fresh_link, told_by};
+ghost use Rattle.sync_world.specs.Links.{fresh_link, link_state};
 ghost use Rattle.version_core.specs.HubStates.{HubState};
 
 use crate::world_link::WorldLink;
@@ -23,7 +23,8 @@ use keeper_memory::{CopyKeeper, LAST, MemCopy};
 use roster_texts::Token;
 use std::alloc::Global;
 
-/// Copies what the token sees of the world's newest version into a copy in memory, or goes on with the stage that stands under the token.
+/// Copies what the token sees of the world's newest version into a copy in memory, or goes on with the stage that
+/// stands under the token.
 pub fn sync_over(
     alloc: Global,
     copy: &mut MemCopy,
@@ -34,9 +35,9 @@ pub fn sync_over(
 ) -> SyncAnswer
     requires limit { (0 < limit) × (limit ≤ 1000) }
     requires tries { (0 < tries) × (tries ≤ 100) }
-    requires agree { StageAgrees copy.old.copy (told_by link.old) }
+    requires agree { StageAgrees copy.old.copy (link_state link.old) }
     // Copy and world agree again, and the copy has become what a synchronisation promises.
-    ensures synchronised { Synchronised token.now result copy.old.copy (told_by link.old) copy.new.copy (told_by link.new) }
+    ensures synchronised { Synchronised token.now result copy.old.copy (link_state link.old) copy.new.copy (link_state link.new) }
     // `Complete` leaves exactly what the token sees of that version of the hub.
     ensures exact { (version : ℕ) → result ≡ SyncAnswer.Complete version → copy.new.copy.held ≡ Some (held_at version token.now link.new.hub) }
     // Where nothing fails, and pin and token stand, nothing but want of memory keeps it from being complete.
@@ -47,11 +48,12 @@ pub fn sync_over(
         × Bounded n tries limit token.now (own_state token.now (stage_of copy.old.copy)) (λ version. IsCallPin result copy.new.copy link.new.sent version) link.new.hub }
     // All requests are for pages of this token and limit, each under the next number of the run.
     ensures asks { AsksPages token.now limit tries (λ c. c ≡ copy.new.copy) link.old.asked link.new.asked result link.old.sent link.new.sent }
-    // Where the copy's keeper failed, a stage under this token ends at the swap alone, or where the hub says that its pin isn't kept.
+    // Where the copy's keeper failed, a stage under this token ends at the swap alone, or where the hub says that its
+    // pin isn't kept.
     ensures faulted { result ≡ SyncAnswer.KeeperFault → FaultLaw token.now link.new.kept copy.old.copy copy.new.copy }
-    ensures cause { ToldCause token.now (told_by link.old) (told_by link.new) result }
+    ensures cause { ToldCause token.now (link_state link.old) (link_state link.new) result }
     // What the entries of the copy and the marks of the hub agree on stays so.
-    ensures marks { MarksTold copy.old.copy (told_by link.old) → MarksTold copy.new.copy (told_by link.new) }
+    ensures marks { MarksTold copy.old.copy (link_state link.old) → MarksTold copy.new.copy (link_state link.new) }
 {
     let answer = sync(alloc, copy, link, token, limit, tries);
     // Read for what they keep.
@@ -62,5 +64,5 @@ pub fn sync_over(
 
 /// An empty copy agrees with a link over which nothing was sent.
 pub fn nothing_sent_agrees()
-    ensures { (clock : ℤ) (hub : HubState) (hub_faults : ℕ) (plan : FailurePlan) → Agree empty_copy (told_by (fresh_link clock hub hub_faults plan)) }
+    ensures { (clock : ℤ) (hub : HubState) (hub_faults : ℕ) (plan : FailurePlan) → Agree empty_copy (link_state (fresh_link clock hub hub_faults plan)) }
 {}

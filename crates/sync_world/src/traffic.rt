@@ -37,7 +37,7 @@ pub enum Fate {
     Whole,
     /// It fails before the hub takes the request.
     RequestLost,
-    /// It fails behind that.
+    /// It fails once the hub has taken the request.
     ReplyLost,
     /// The hub doesn't take the request, and the reply of this exchange comes.
     Stale { reply: u64 },
@@ -105,6 +105,7 @@ fn happen(
     }
 }
 
+// The place of the first event of an exchange.
 fn place_of(events: &[Event], exchange: u64) -> Option<usize>
     ensures { result ≡ position (is_at exchange) events.now }
 {
@@ -122,7 +123,8 @@ fn next_event(events: &mut Vec<Event>, exchange: u64) -> Option<Event>
     Some(events.remove(place))
 }
 
-/// Has the events of an exchange come to pass, in the order in which they were planned, and adds the lines that tell them.
+/// Has the events of an exchange come to pass, in the order in which they were planned, and adds the lines that tell
+/// them.
 pub fn come_to_pass(
     world: &mut World,
     past: &[Past],

@@ -32,8 +32,8 @@ use std::mem::replace;
 use version_core::change::BaseVersion;
 use version_core::hub_tables::tables_stand_for_states;
 
-/// A hub over its keeper in memory, and copies of the versions that the keeper lets go. A clause sees the state with all versions that
-/// were ever published, and how many calls of the keeper failed.
+/// A hub over its keeper in memory, and copies of the versions that the keeper lets go. A clause sees the state with
+/// all versions that were ever published, and how many calls of the keeper failed.
 #[derive(Drop)]
 pub struct World {
     router: PathRouter,
@@ -173,7 +173,8 @@ impl World {
         }
     }
 
-    /// Drops the hub, and opens it again from its keeper, which leaves the state. Where that fails, the hub goes on as it was.
+    /// Drops the hub, and opens it again from its keeper, which leaves the state. Where that fails, the hub goes on as
+    /// it was.
     pub fn reopen(&mut self, alloc: Global) -> Result<(), HubError>
         ensures state { self.new.state ≡ self.old.state }
         ensures cause { CountsFault self.old.faults self.new.faults result }
@@ -204,6 +205,7 @@ impl World {
         ensures faults { result ≡ self.now.faults }
         ensures hub { IsHub self.now.state }
     {
+        // Read for what it keeps.
         let _ = &self.gone;
         self.keeper.faults()
     }

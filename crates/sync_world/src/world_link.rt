@@ -2,7 +2,8 @@
 
 ghost use Rattle.std.specs.Prelude.{◌≡◌, ◌⊎◌, ◌≤◌, ◌∷◌, ◌+◌, ◌-◌, ◌^◌, [], List, min, IfOk, IsErr, OnErr, OnOk, Err};
 ghost use Rattle.std.specs.Prelude.{false, true};
-ghost use Rattle.exchange_link.specs.Exchanges.{Carries, Exchanged, IsLate, IsOwn, IsSentText, IsTextOf, Misses, Told};
+ghost use Rattle.exchange_link.specs.Exchanges.{Carries, Exchanged, IsLate, IsOwn, IsSentText, IsTextOf, Misses};
+ghost use Rattle.exchange_link.specs.Exchanges.{LinkState};
 ghost use Rattle.hub_spec.specs.rules.States.{IsHub};
 ghost use Rattle.keeper_memory.specs.Calls.{CallsLead};
 ghost use Rattle.keeper_memory.specs.Failures.{one_more};
@@ -14,7 +15,7 @@ ghost use Rattle.status_info.specs.declared.request.Request.{Request as Asked};
 ghost use Rattle.sync_world.specs.Acts.{Acted, IsAct};
 ghost use Rattle.sync_world.specs.Deliveries.{Carried, OnCome};
 ghost use Rattle.sync_world.specs.Given.{AreGiven, is_stale, requests_in};
-ghost use Rattle.sync_world.specs.Links.{fresh_link, told_by, told_world, with_event, with_failure, with_fate};
+ghost use Rattle.sync_world.specs.Links.{fresh_link, link_state, world_state, with_event, with_failure, with_fate};
 ghost use Rattle.sync_world.specs.Links.{world_of};
 ghost use Rattle.sync_world.specs.Planned.{IsLost, MayFail, fate_at};
 ghost use Rattle.sync_world.specs.Worlds.{all_of};
@@ -35,8 +36,8 @@ use std::alloc::Global;
 use std::marker::Model;
 use std::mem::replace;
 
-/// A link to a hub in the same program, its clock, what is to come to pass at exchanges, and what is told of it. It tells the hub's whole
-/// state and all requests that were handed to it.
+/// A link to a hub in the same program, its clock, what is to come to pass at exchanges, and what is told of it. It
+/// tells the hub's whole state and all requests that were handed to it.
 #[derive(Drop)]
 pub struct WorldLink {
     world: World,
@@ -77,7 +78,7 @@ fn carry(
     ensures walks { Walks world.old world.new }
     ensures given { AreGiven past.new.items }
     ensures sent { (q : Asked) → IsTextOf q request.now → (requests_in past.new.items ≡ q ∷ requests_in past.old.items) ⊎ ((result ≡ Err io_error.NoMemory) × (past.new.items ≡ past.old.items)) }
-    ensures own { is_stale exchange.now.fate ≡ false → (q : Asked) → IsTextOf q request.now → (xs ys : List Asked) → IfOk result (λ reply. IsOwn (told_world xs world.old) (told_world ys world.new) q reply.items) }
+    ensures own { is_stale exchange.now.fate ≡ false → (q : Asked) → IsTextOf q request.now → (xs ys : List Asked) → IfOk result (λ reply. IsOwn (world_state xs world.old) (world_state ys world.new) q reply.items) }
     ensures late { is_stale exchange.now.fate ≡ true → IfOk result (λ reply. IsLate (requests_in past.old.items) reply.items) }
     ensures lost { IsLost exchange.now.fate → IsErr result }
     ensures exact { result ≡ Err io_error.Failed → MayFail exchange.now.fate past.old.items }
@@ -225,7 +226,7 @@ impl WorldLink {
 impl Link for WorldLink {
     ghost use Rattle.hub_spec.specs.rules.States.{IsHub};
     ghost use Rattle.std.specs.Prelude.{◌≡◌};
-    ghost use Rattle.sync_world.specs.Links.{told_by};
+    ghost use Rattle.sync_world.specs.Links.{link_state};
     ghost use Rattle.sync_world.specs.Traffic.{LinkLeads, link_leads_on, link_stays};
 
     ghost asked = { λ link. link.asked };
@@ -236,7 +237,7 @@ impl Link for WorldLink {
 
     ghost fault_count = { λ link. link.faults };
 
-    ghost tells = { λ link told. (told ≡ told_by link) × IsHub told.hub };
+    ghost tells = { λ link told. (told ≡ link_state link) × IsHub told.hub };
 
     ghost is_hub = { λ link told tells. tells.1 };
 
@@ -255,14 +256,16 @@ impl Link for WorldLink {
         ensures failed { result ≡ Err io_error.Failed → Rose self.old.faults self.new.faults }
         ensures kept { OnErr result (self.new.kept ≡ []) }
         ensures own { (q : Asked) → IsTextOf q request.now → OnOk result (Carries self.new.kept q.echo ⊎ Rose self.old.faults self.new.faults) }
-        ensures told { (q : Asked) → IsTextOf q request.now → (after : Told) → (after ≡ told_by self.new) × IsHub after.hub
-            → (before : Told) × ((before ≡ told_by self.old) × IsHub before.hub)
+        ensures told { (q : Asked) → IsTextOf q request.now → (after : LinkState) → (after ≡ link_state self.new) × IsHub after.hub
+            → (before : LinkState) × ((before ≡ link_state self.old) × IsHub before.hub)
             × Exchanged q result (Rose self.old.faults self.new.faults) self.new.kept before after }
-        // What was planned for it comes of it: it fails where something is lost, and only there or where no other reply is there.
+        // What was planned for it comes of it: it fails where something is lost, and only there or where no other reply
+        // is there.
         ensures lost { IsLost (fate_at self.old.fates (one_more self.old.asked)) → IsErr result }
         ensures exact { result ≡ Err io_error.Failed → MayFail (fate_at self.old.fates (one_more self.old.asked)) self.old.past }
         ensures quiet { OnOk result (is_stale (fate_at self.old.fates (one_more self.old.asked)) ≡ false → self.new.faults ≡ self.old.faults) }
     {
+        // Read for what it keeps.
         let _ = self.world.faults();
         let number = self.tally.asked.saturating_add(1);
         let fate = fate_of(self.fates.as_slice(), number);
@@ -310,6 +313,7 @@ impl Link for WorldLink {
         ensures faults { result ≡ self.now.faults }
         ensures hub { IsHub self.now.hub }
     {
+        // Read for what it keeps.
         let _ = self.world.faults();
         self.tally.faults
     }

@@ -1,5 +1,5 @@
-//! What a set that a feed publishes, and a list of grants, make of the newest version; and whether a keeper's tables stand for a
-//! state of a hub.
+//! What a set that a feed publishes, and a list of grants, make of the newest version; and whether a keeper's tables
+//! stand for a state of a hub.
 #![tactic(auto)]
 
 pub mod grants;

@@ -20,7 +20,7 @@ use Rattle.std.specs.Prelude.{option_and_then, slice_index_or}
 use Rattle.roster_values.specs.Kinds.{place_of_kind}
 use Rattle.roster_values.specs.Table.{table}
 use Rattle.roster_values.specs.declared.kind.Kind.{Kind}
-use Rattle.version_core.specs.RefIndex.{AllOf, AllUpTo, AreIndexed, FirstOf, IsNotBelow, is_of, passes_at, says}
+use Rattle.version_core.specs.RefIndex.{AllOf, AllUpTo, AreIndexed, FirstOf, IsNotBelow, is_of, passes_at, is_entry_of}
 use Rattle.version_core.specs.References.{is_one_of, names, next_referring, refers, refs_in}
 use Rattle.version_core.specs.declared.ref_index.RefEntry.{RefEntry}
 use Rattle.version_core.proofs.NamingLemmas.{lt_reverse}
@@ -95,9 +95,9 @@ module _ (kind : Kind) (place : ℕ) (name target : List ℕ) (after : Option (L
   entry_of P G row stands passes all found =
       let same : row.kind ≡ kind = kind_from_place row.kind kind (kind_is row passes) in
       let there = indexed row stands name target place (ap (λ k. place_in (table k) name) same ∙ field) (and_second _ _ (and_first _ _ passes)) in
-      let here : list_any (list_any (says key row.id)) runs ≡ true = ap (λ n. list_any (list_any (says (n, place, target) row.id)) runs) (sym (kind_is row passes)) ∙ there in
-      held (list_any (says key row.id)) (λ entries. AllOf entries P) G runs here all (λ entries any all_of.
-      held (says key row.id) P G entries any all_of (λ entry said is. found entry (and_first _ _ said) ((bytes_eq-Decides entry.id row.id).0 (and_second _ _ said)) is))
+      let here : list_any (list_any (is_entry_of key row.id)) runs ≡ true = ap (λ n. list_any (list_any (is_entry_of (n, place, target) row.id)) runs) (sym (kind_is row passes)) ∙ there in
+      held (list_any (is_entry_of key row.id)) (λ entries. AllOf entries P) G runs here all (λ entries any all_of.
+      held (is_entry_of key row.id) P G entries any all_of (λ entry said is. found entry (and_first _ _ said) ((bytes_eq-Decides entry.id row.id).0 (and_second _ _ said)) is))
 
   passes_there : (row : Record) (id : List ℕ) → id ≡ row.id → look_up row_key (row_key row) rows ≡ Some row → test row ≡ true → passes_at test rows (place_of_kind kind, id) ≡ true
   passes_there row id same stands passes =

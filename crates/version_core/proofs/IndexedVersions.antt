@@ -14,7 +14,7 @@ use Rattle.version_core.specs.Changes.{change_key, rows_of}
 use Rattle.version_core.specs.Order.{overlaid}
 use Rattle.version_core.specs.History.{Past, past_of, pasts_of, rows_at}
 use Rattle.version_core.specs.Since.{standing}
-use Rattle.version_core.specs.RefIndex.{AreIndexed, AreSaid, IsIndexed, Keeps, StayIndexed, says}
+use Rattle.version_core.specs.RefIndex.{AreIndexed, ArePastsIndexed, IsIndexed, Keeps, StayIndexed, is_entry_of}
 use Rattle.version_core.specs.VersionLog.{IsVersionIndexed, versions_at}
 use Rattle.version_core.specs.declared.change.BaseVersion.{BaseVersion}
 use Rattle.version_core.specs.declared.grant_row.GrantRow.{GrantRow}
@@ -61,7 +61,7 @@ standing_row P version (entry ∷ past) change all at =
     first false is = cc
 
 module _ (runs : List (List RefEntry)) where
-  pasts_indexed : (version : ℕ) (histories : List History) → AreSaid runs histories → (k : Key) (row : Record) → look_up row_key k (rows_of (rows_at version (pasts_of histories))) ≡ Some row → IsIndexed runs row
+  pasts_indexed : (version : ℕ) (histories : List History) → ArePastsIndexed runs histories → (k : Key) (row : Record) → look_up row_key k (rows_of (rows_at version (pasts_of histories))) ≡ Some row → IsIndexed runs row
   pasts_indexed version [] all k row at = cc
   pasts_indexed version (history ∷ histories) all k row at =
       let rest = pasts_indexed version histories (λ i d low lt. all (suc i) d (omega arith) (omega arith)) k row in
@@ -76,13 +76,13 @@ module _ (runs : List (List RefEntry)) where
       ] refl at
 
   -- versions that are read from histories whose rows are all indexed
-  pub said_versions : (histories : List History) → AreSaid runs histories → (grants : List (Since (List GrantRow))) (number : ℕ) (moments : List ℤ) → AllByRecursion (IsVersionIndexed runs) (versions_at number moments (pasts_of histories) grants)
+  pub said_versions : (histories : List History) → ArePastsIndexed runs histories → (grants : List (Since (List GrantRow))) (number : ℕ) (moments : List ℤ) → AllByRecursion (IsVersionIndexed runs) (versions_at number moments (pasts_of histories) grants)
   said_versions histories all grants number [] = tt
   said_versions histories all grants number (moment ∷ moments) = ((λ row stands. pasts_indexed number histories all (row_key row) row stands), said_versions histories all grants (number + 1) moments)
 
 module _ (old new : List (List RefEntry)) (keeps : Keeps old new) where
   rows_stay : (rows : List Record) → AreIndexed old rows → AreIndexed new rows
-  rows_stay rows are = λ row stands name target place at named. keeps (says (place_of_kind row.kind, place, target) row.id) (are row stands name target place at named)
+  rows_stay rows are = λ row stands name target place at named. keeps (is_entry_of (place_of_kind row.kind, place, target) row.id) (are row stands name target place at named)
 
   pub versions_stay : (versions : List BaseVersion) → AllByRecursion (IsVersionIndexed old) versions → AllByRecursion (IsVersionIndexed new) versions
   versions_stay versions all = all_weaken (IsVersionIndexed old) (IsVersionIndexed new) versions (λ v. rows_stay (rows_of v.rows)) all

@@ -18,7 +18,7 @@ use Rattle.roster_values.specs.Kinds.{place_of_kind}
 use Rattle.roster_values.specs.Table.{table}
 use Rattle.version_core.specs.Changes.{rows_of}
 use Rattle.version_core.specs.History.{ArePasts, Past, past_key, rows_at}
-use Rattle.version_core.specs.RefIndex.{AreKept, IsKept, Named, StayIndexed, is_kept, is_of, says}
+use Rattle.version_core.specs.RefIndex.{AreKept, IsKept, Named, StayIndexed, is_kept, is_of, is_entry_of}
 use Rattle.version_core.specs.References.{is_one_of, names, names_at, refs_in}
 use Rattle.version_core.specs.Since.{first_from, some_from, standing}
 use Rattle.version_core.specs.declared.ref_index.RefEntry.{RefEntry}
@@ -104,7 +104,7 @@ module _ {A : Type 0} (oldest : ℕ) (p : A → Bool) where
       none_from (Some x) is = let impossible : false ≡ true = is in cc
 
 -- an entry that says so has these parts
-said_parts : (named : Named) (id : List ℕ) (entry : RefEntry) → says named id entry ≡ true → (place_of_kind entry.kind ≡ named.0) × (entry.place ≡ named.1) × (entry.target ≡ named.2) × (entry.id ≡ id)
+said_parts : (named : Named) (id : List ℕ) (entry : RefEntry) → is_entry_of named id entry ≡ true → (place_of_kind entry.kind ≡ named.0) × (entry.place ≡ named.1) × (entry.target ≡ named.2) × (entry.id ≡ id)
 unfolding is_of
 said_parts named id entry said =
     let tied = equal_from_is_eq _ (and_first _ _ said) in
@@ -137,7 +137,7 @@ module _ (oldest : ℕ) (pasts : List Past) (are : ArePasts pasts) where
                 from_standing oldest (λ change. names_at place target change.row) version past change le at (ap (names_at place target) one ∙ named)
           ] refl
 
-  entry_kept : (version : ℕ) → oldest ≤ version → (row : Record) (name target : List ℕ) (place : ℕ) → look_up row_key (row_key row) (rows_of (rows_at version pasts)) ≡ Some row → place_in (table row.kind) name ≡ Some place → names name target row ≡ true → (entry : RefEntry) → says (place_of_kind row.kind, place, target) row.id entry ≡ true → is_kept oldest pasts entry ≡ true
+  entry_kept : (version : ℕ) → oldest ≤ version → (row : Record) (name target : List ℕ) (place : ℕ) → look_up row_key (row_key row) (rows_of (rows_at version pasts)) ≡ Some row → place_in (table row.kind) name ≡ Some place → names name target row ≡ true → (entry : RefEntry) → is_entry_of (place_of_kind row.kind, place, target) row.id entry ≡ true → is_kept oldest pasts entry ≡ true
   entry_kept version le row name target place stands at named entry said =
       let parts = said_parts (place_of_kind row.kind, place, target) row.id entry said in
       let here : names_at place target row ≡ true = ap (λ o. is_one_of (refs_in (option_and_then (λ i. slice_index_or (all_values row) i None) o)) target) (sym at) ∙ named in
@@ -146,7 +146,7 @@ module _ (oldest : ℕ) (pasts : List Past) (are : ArePasts pasts) where
   -- what rows name stays indexed
   pub kept_stay : (runs : List (List RefEntry)) → StayIndexed oldest pasts runs (map (filter (is_kept oldest pasts)) runs)
   kept_stay runs = λ version le indexed row stands name target place at named.
-      runs_any (is_kept oldest pasts) (says (place_of_kind row.kind, place, target) row.id) runs (entry_kept version le row name target place stands at named) (indexed row stands name target place at named)
+      runs_any (is_kept oldest pasts) (is_entry_of (place_of_kind row.kind, place, target) row.id) runs (entry_kept version le row name target place stands at named) (indexed row stands name target place at named)
 
   named_by_row : (entry : RefEntry) → is_kept oldest pasts entry ≡ true → IsKept oldest pasts entry
   named_by_row entry kept =

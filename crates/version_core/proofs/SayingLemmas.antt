@@ -18,7 +18,7 @@ use Rattle.std.specs.Ordering.{is_eq, nat_cmp, ordering_then}
 use Rattle.std.specs.declared.cmp.Ordering.{Ordering}
 use Rattle.std.specs.declared.cmp.Ordering.TheVariants.{Less, Equal, Greater}
 use Rattle.version_core.specs.RefIndex.{IsIndexed, IsNameIndexed, Named, is_of, named_by, named_cmp, naming_cmp}
-use Rattle.version_core.specs.RefIndex.{naming_of, says}
+use Rattle.version_core.specs.RefIndex.{naming_of, is_entry_of}
 use Rattle.version_core.specs.declared.ref_index.RefEntry.{RefEntry}
 
 -- one that passes is among them
@@ -37,7 +37,7 @@ second_tied Less s e = cc
 second_tied Equal s e = e
 second_tied Greater s e = cc
 
-pub said : (named : Named) (id : List ℕ) (entry : RefEntry) → naming_cmp (naming_of entry) (named, id) ≡ Equal → says named id entry ≡ true
+pub said : (named : Named) (id : List ℕ) (entry : RefEntry) → naming_cmp (naming_of entry) (named, id) ≡ Equal → is_entry_of named id entry ≡ true
 unfolding naming_cmp is_of
 said named id entry tied =
     let one = first_tied (named_cmp (named_by entry) named) (slice_cmp nat_cmp entry.id id) tied in

@@ -54,7 +54,8 @@ module _ {A : Type 0} (version : ℕ) where
       hidden None true is = refl
       hidden None false is = cc
 
--- at two versions that are no older than any entry the same stands
+-- where an entry is no younger than one of two versions exactly where it is no younger than the other, the same stands
+-- at both
 pub standing-same : {A : Type 0} (v w : ℕ) (entries : List (Since A)) → ((entry : Since A) → leb entry.version v ≡ leb entry.version w) → standing v entries ≡ standing w entries
 standing-same v w [] same = refl
 standing-same v w (entry ∷ entries) same = λ i. option_or (standing-same v w entries same i) (if same entry i then Some entry.value else None)

@@ -11,7 +11,7 @@ use Rattle.version_core.specs.Changes.{change_key}
 use Rattle.version_core.specs.Order.{overlaid, put}
 use Rattle.version_core.specs.Since.{standing}
 use Rattle.version_core.specs.declared.history.History.{History}
-use Rattle.version_core.specs.declared.history.Place.{Place}
+use Rattle.version_core.specs.declared.history.FreshEntries.{FreshEntries}
 use Rattle.version_core.specs.declared.row_change.RowChange.{RowChange}
 use Rattle.version_core.specs.declared.since.Since.{Since}
 
@@ -65,7 +65,8 @@ pub record IsAt (k : Key) (histories : List History) (place : ℕ) : Type 0 wher
   pub bound : place < length histories
   pub same : (default : History) → key_cmp (history_key (get_or histories place default)) k ≡ Equal
 
--- the histories before the gap don't stand after all keys of the kind at a place up to the id `after`, and those from it on do
+-- the histories before the gap don't stand after all keys of the kind at a place up to the id `after`, and those from
+-- it on do
 pub record IsGap (place : ℕ) (after : Option (List ℕ)) (histories : List History) (gap : ℕ) : Type 0 where
   pub bound : gap ≤ length histories
   pub before : AllWithin (λ history. is_beyond_key place after (history_key history) ≡ false) histories 0 gap
@@ -79,7 +80,7 @@ AreBefore version pasts = AllByRecursion (λ past. AllByRecursion (λ entry. ent
 abbrev pub parts_of : List History → List History → List Past
 parts_of histories spare = pasts_of histories ++ pasts_of (reverse spare)
 
--- the row is below all of them
+-- the row is below all of the histories
 abbrev pub AreAbove : RowChange → List History → Type 0
 AreAbove change histories = AllByRecursion (λ history. key_cmp (change_key change) (history_key history) ≡ Less) histories
 
@@ -87,9 +88,9 @@ AreAbove change histories = AllByRecursion (λ history. key_cmp (change_key chan
 abbrev pub HaveRoom : RowChange → List History → Type 0
 HaveRoom change histories = AllByRecursion (λ history. history_key history ≡ change_key change → vec_len history.entries < vec_capacity history.entries) histories
 
--- empty, with room
-abbrev pub AreFresh : List Place → Type 0
-AreFresh places = AllByRecursion (λ place. (place.entries.items ≡ []) × (vec_len place.entries < vec_capacity place.entries)) places
+-- each is empty, and has room
+abbrev pub AreFresh : List FreshEntries → Type 0
+AreFresh all = AllByRecursion (λ fresh. (fresh.entries.items ≡ []) × (vec_len fresh.entries < vec_capacity fresh.entries)) all
 
 -- the row stands from its version on, and what stood before stands as before
 pub record PutsRow (version : ℕ) (change : RowChange) (old new : List Past) : Type 0 where

@@ -28,7 +28,7 @@ named_by entry = (place_of_kind entry.kind, entry.place, entry.target)
 abbrev pub named_cmp : Named → Named → Ordering
 named_cmp a b = ordering_then (ordering_then (nat_cmp a.0 b.0) (nat_cmp a.1 b.1)) (slice_cmp nat_cmp a.2 b.2)
 
--- with the id of the row that names it
+-- what is named, with the id of the row that names it
 abbrev pub Naming : Type 0
 Naming = Named × List ℕ
 
@@ -62,7 +62,7 @@ passes_at test rows key = option_map_or test (look_up row_key key rows) false
 abbrev pub Fails : (Record → Bool) → List Record → Named → RefEntry → Type 0
 Fails test rows named entry = is_of named entry ≡ true → passes_at test rows (named.0, entry.id) ≡ false
 
--- or one whose id isn't below another
+-- an entry of a named id has no row that passes, or one whose id isn't below another
 abbrev pub IsNotBelow : (Record → Bool) → List Record → Named → List ℕ → RefEntry → Type 0
 IsNotBelow test rows named id entry =
     is_of named entry ≡ true → passes_at test rows (named.0, entry.id) ≡ true → is_lt (slice_cmp nat_cmp entry.id id) ≡ false
@@ -78,14 +78,15 @@ abbrev pub FirstOf : (Record → Bool) → List Record → Named → ((RefEntry 
 FirstOf test rows named all None = all (Fails test rows named)
 FirstOf test rows named all (Some row) = IsFirst test rows named all row
 
+-- each of the entries has a property
 abbrev pub AllOf : List RefEntry → (RefEntry → Type 0) → Type 0
 AllOf entries P = AllWithin P entries 0 (length entries)
 
 -- an entry says that the row names the id in the field at the place
-abbrev pub says : Named → List ℕ → RefEntry → Bool
-says named id entry = is_of named entry && bytes_eq entry.id id
+abbrev pub is_entry_of : Named → List ℕ → RefEntry → Bool
+is_entry_of named id entry = is_of named entry && bytes_eq entry.id id
 
--- those of the first runs
+-- each entry of the first runs has a property
 abbrev pub AllUpTo : List (List RefEntry) → ℕ → (RefEntry → Type 0) → Type 0
 AllUpTo runs count P = AllWithin (λ entries. AllOf entries P) runs 0 count
 
@@ -99,7 +100,7 @@ lesser (Some one) (Some other) = if is_lt (slice_cmp nat_cmp other.id one.id) th
 abbrev pub IsNameIndexed : List (List RefEntry) → Record → List ℕ → Type 0
 IsNameIndexed runs row name =
     (target : List ℕ) (place : ℕ) → place_in (table row.kind) name ≡ Some place → names name target row ≡ true
-    → list_any (list_any (says (place_of_kind row.kind, place, target) row.id)) runs ≡ true
+    → list_any (list_any (is_entry_of (place_of_kind row.kind, place, target) row.id)) runs ≡ true
 
 -- each id that a field of the row names has its entry
 abbrev pub IsIndexed : List (List RefEntry) → Record → Type 0
@@ -109,19 +110,19 @@ IsIndexed runs row = (name : List ℕ) → IsNameIndexed runs row name
 abbrev pub Keeps : List (List RefEntry) → List (List RefEntry) → Type 0
 Keeps old new = (p : RefEntry → Bool) → list_any (list_any p) old ≡ true → list_any (list_any p) new ≡ true
 
--- each row is indexed
+-- each of the rows is indexed
 abbrev pub AreIndexed : List (List RefEntry) → List Record → Type 0
 AreIndexed runs rows = (row : Record) → look_up row_key (row_key row) rows ≡ Some row → IsIndexed runs row
 
 -- each row of histories is indexed
-abbrev pub AreSaid : List (List RefEntry) → List History → Type 0
-AreSaid runs histories = AllWithin (λ history. AllWithin (λ entry. IsIndexed runs entry.value.row) (past_of history) 0 (length (past_of history))) histories 0 (length histories)
+abbrev pub ArePastsIndexed : List (List RefEntry) → List History → Type 0
+ArePastsIndexed runs histories = AllWithin (λ history. AllWithin (λ entry. IsIndexed runs entry.value.row) (past_of history) 0 (length (past_of history))) histories 0 (length histories)
 
 -- a row that stands at a version from this one on names what the entry says
 abbrev pub is_kept : ℕ → List Past → RefEntry → Bool
 is_kept oldest pasts entry = option_map_or (some_from oldest (λ change. names_at entry.place entry.target change.row)) (look_up past_key (place_of_kind entry.kind, entry.id) pasts) false
 
--- the same, with the version and the row
+-- the same as a proposition, with the version and the row
 abbrev pub IsKept : ℕ → List Past → RefEntry → Type 0
 IsKept oldest pasts entry =
     (version : ℕ) × (row : Record) × (oldest ≤ version) × (look_up row_key (place_of_kind entry.kind, entry.id) (rows_of (rows_at version pasts)) ≡ Some row) × (names_at entry.place entry.target row ≡ true)

@@ -32,7 +32,8 @@ abbrev pub versions_from : BaseVersion → List Change → List BaseVersion
 versions_from base [] = base ∷ []
 versions_from base (change ∷ changes) = base ∷ versions_from (after base change) changes
 
--- the kept versions, from the oldest to the newest; how many are kept beside the newest; for rows of which kinds and ids room is reserved
+-- the kept versions, from the oldest to the newest; how many are kept beside the newest; for rows of which kinds and
+-- ids room is reserved
 pub record Versions : Type 0 where
   pub keep : ℕ
   pub versions : List BaseVersion

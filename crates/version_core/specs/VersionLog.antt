@@ -51,7 +51,8 @@ pub record HasRoom (log : Inside) (keys : List Key) : Type 0 where
 abbrev pub IsVersionIndexed : List (List RefEntry) → BaseVersion → Type 0
 IsVersionIndexed runs version = AreIndexed runs (rows_of version.rows)
 
--- versions that are sound, read from histories in their order, with room as was told, and where it is said so, an index of all that their rows name
+-- versions that are sound, read from histories in their order, with room for the rows that it is reserved for, and where
+-- the log is indexed, with an index of all that their rows name
 pub record IsLog (log : Inside) : Type 0 where
   pub versions : AllByRecursion IsVersion (kept_of log)
   pub pasts : ArePasts (pasts_of log.histories.items)

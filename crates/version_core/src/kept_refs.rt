@@ -1,4 +1,4 @@
-//! What an index says that rows still name.
+//! Entries of an index of references that rows still bear out.
 
 ghost use Rattle.std.specs.Prelude.{◌≡◌, ◌<◌, drop, length};
 ghost use Rattle.version_core.specs.History.{ArePasts, pasts_of};
@@ -42,7 +42,7 @@ fn names_from(rows: &[Since<RowChange>], at: usize, version: u64, place: u64, ta
     standing(&rows[at + 1..], since.version.max(version)).is_none()
 }
 
-// Whether one of the rows does.
+// Whether one of the rows stands at some version from this one on, and names the target in the field at a place.
 fn some_names_from(rows: &[Since<RowChange>], version: u64, place: u64, target: &Id) -> bool
     ensures { result ≡ some_from version (λ change. references.names_at place target.now change.row) rows.now }
 {
@@ -54,7 +54,7 @@ fn some_names_from(rows: &[Since<RowChange>], version: u64, place: u64, target: 
     false
 }
 
-/// Whether a row that stands at some version from the oldest on names what the entry says.
+/// Whether a row that stands at some version from the oldest on names what the entry says that it names.
 pub fn is_kept(histories: &[History], oldest: u64, entry: &RefEntry) -> bool
     requires { ArePasts (pasts_of histories.now) }
     ensures { result ≡ spec.is_kept oldest (pasts_of histories.now) entry.now }

@@ -16,8 +16,8 @@ use std::alloc::Global;
 use std::cmp::Ordering;
 use std::marker::Model;
 
-/// A finite map from a caller and a number to a write and what was kept of it. A clause sees the marks in the order of callers and
-/// numbers, and whether there is room for one more.
+/// A finite map from a caller and a number to a write and what was kept of it. A clause sees the marks in the order of
+/// callers and numbers, and whether there is room for one more.
 #[derive(Drop)]
 pub struct Marks {
     marks: Vec<MarkRow>,
@@ -116,8 +116,8 @@ impl Marks {
     }
 }
 
-/// A mark that isn't held may be added: the marks stay marks, it is found under its caller and number, and what is found under others
-/// stays.
+/// A mark that isn't held may be added: the marks stay marks, it is found under its caller and number, and what is
+/// found under others stays.
 pub fn marks_are_a_map()
     ensures marks { (newest : ℕ) (marks : List Mark) (mark : Mark) → AreMarks newest marks → CanMark newest marks mark → AreMarks newest (with_mark mark marks) }
     ensures found { (key : List ℕ × ℕ) (marks : List Mark) (mark : Mark) → mark_at (mark_key mark) marks ≡ None → mark_at key (with_mark mark marks) ≡ (if same_mark key (mark_key mark) then Some mark else mark_at key marks) }

@@ -24,17 +24,21 @@ use roster_values::{Kind, ValueRef};
 use std::cmp::Ordering;
 use std::marker::Model;
 
-/// That a row of a kind names an id in the field at a place of the field table.
+/// An entry of the index: it says that the row of a kind and an id names another id in one of its fields.
 #[derive(Drop)]
 pub struct RefEntry {
+    /// The kind of the row that names the target.
     pub kind: Kind,
+    /// The place of the field in the field table.
     pub place: u64,
+    /// The id that the field names.
     pub target: Id,
+    /// The id of the row itself.
     pub id: Id,
 }
 
 impl RefEntry {
-    // How what is named stands to other.
+    // How the kind, the field and the target stand to others, in this order.
     fn compare_named(&self, kind: Kind, place: u64, target: &Id) -> Ordering
         ensures { result ≡ spec.named_cmp (spec.named_by self.now) (place_of_kind kind, place, target.now) }
     {
@@ -43,7 +47,8 @@ impl RefEntry {
         fields.then(self.target.as_str().cmp(target.as_str()))
     }
 
-    // How the entry stands to a row that names something.
+    // How the entry stands to that by which the row of this id names the target: first by what they name, then by the
+    // ids.
     #[tactic(auto, unfolding(crate::specs::RefIndex::naming_cmp))]
     fn compare(&self, kind: Kind, place: u64, target: &Id, id: &Id) -> Ordering
         ensures { result ≡ spec.naming_cmp (spec.naming_of self.now) ((place_of_kind kind, place, target.now), id.now) }
@@ -52,7 +57,7 @@ impl RefEntry {
             .then(self.id.as_str().cmp(id.as_str()))
     }
 
-    // Whether the entry is one of a named id.
+    // Whether the entry says that the field at a place names the target.
     #[tactic(auto, unfolding(crate::specs::RefIndex::is_of))]
     fn is_of(&self, kind: Kind, place: u64, target: &Id) -> bool
         ensures { result ≡ spec.is_of (place_of_kind kind, place, target.now) self.now }
@@ -60,7 +65,8 @@ impl RefEntry {
         self.compare_named(kind, place, target).is_eq()
     }
 
-    // Whether the entry stands at a named id or above, and there above the id `after`.
+    // Whether the entry stands with those that say that the field at a place names the target, above the id `after`, or
+    // behind them all.
     #[tactic(auto, unfolding(crate::specs::RefIndex::is_from, crate::specs::RefIndex::naming_cmp))]
     fn is_from(&self, kind: Kind, place: u64, target: &Id, after: Option<&Id>) -> bool
         ensures { result ≡ spec.is_from (place_of_kind kind, place, target.now) (option_copied after.entry) self.now }
@@ -95,7 +101,7 @@ fn naming_at<'a>(
     }
 }
 
-/// Rows that are asked for: those of a kind whose field of this name names an id.
+/// The rows that are asked for: those of a kind whose field of this name names the target.
 #[derive(Clone, Copy)]
 pub struct Naming<'n, 't> {
     pub kind: Kind,
@@ -103,8 +109,7 @@ pub struct Naming<'n, 't> {
     pub target: &'t Id,
 }
 
-// The row with the least id above `after`, of those entries that say that the field at a place names the target, whose field of
-// that name does.
+// The row with the least id above `after` whose field names the target, among the rows that the entries name for it.
 fn first_naming<'a>(
     histories: &'a [History],
     version: u64,
@@ -160,7 +165,7 @@ impl RefRun {
     }
 }
 
-// The row with the lesser id.
+// Of two rows the one with the lesser id.
 fn lesser<'a>(one: Option<&'a Row>, other: Option<&'a Row>) -> Option<&'a Row>
     ensures { option_copied result ≡ spec.lesser (option_copied one.entry) (option_copied other.entry) }
 {
@@ -177,8 +182,8 @@ fn lesser<'a>(one: Option<&'a Row>, other: Option<&'a Row>) -> Option<&'a Row>
     }
 }
 
-// The row with the least id above `after`, of the entries of all runs that say that the field at a place names the target, whose field
-// of that name does.
+// The row with the least id above `after` whose field names the target, among the rows that the entries of all runs
+// name for it.
 fn first_of_runs<'a>(
     histories: &'a [History],
     version: u64,
@@ -218,8 +223,8 @@ pub fn indexed<'a>(
 
 impl RefRun {
     // Whether an entry says that the row of this id names the target in the field at the place.
-    fn says(&self, kind: Kind, place: u64, target: &Id, id: &Id) -> bool
-        ensures { result ≡ true → list_any (spec.says (place_of_kind kind, place, target.now) id.now) self.now ≡ true }
+    fn has_entry(&self, kind: Kind, place: u64, target: &Id, id: &Id) -> bool
+        ensures { result ≡ true → list_any (spec.is_entry_of (place_of_kind kind, place, target.now) id.now) self.now ≡ true }
     {
         match self
             .entries()
@@ -231,53 +236,59 @@ impl RefRun {
     }
 }
 
-/// Whether an entry of one of the runs says so.
-pub fn one_says(runs: &[RefRun], kind: Kind, place: u64, target: &Id, id: &Id) -> bool
-    ensures { result ≡ true → list_any (list_any (spec.says (place_of_kind kind, place, target.now) id.now)) runs.now ≡ true }
+/// Whether an entry of one of the runs says that the row of this id names the target in the field at the place.
+pub fn one_has_entry(runs: &[RefRun], kind: Kind, place: u64, target: &Id, id: &Id) -> bool
+    ensures { result ≡ true → list_any (list_any (spec.is_entry_of (place_of_kind kind, place, target.now) id.now)) runs.now ≡ true }
 {
     for run in runs {
-        if run.says(kind, place, target, id) {
+        if run.has_entry(kind, place, target, id) {
             return true;
         }
     }
     false
 }
 
-// Whether entries say so of each of these targets.
-fn all_said(runs: &[RefRun], kind: Kind, place: u64, targets: &[Id], id: &Id) -> bool
-    ensures { result ≡ true → (target : List ℕ) → is_one_of targets.now target ≡ true → list_any (list_any (spec.says (place_of_kind kind, place, target) id.now)) runs.now ≡ true }
+// Whether entries of the runs say that the row of this id names each of these targets in the field at the place.
+fn all_have_entries(runs: &[RefRun], kind: Kind, place: u64, targets: &[Id], id: &Id) -> bool
+    ensures { result ≡ true → (target : List ℕ) → is_one_of targets.now target ≡ true → list_any (list_any (spec.is_entry_of (place_of_kind kind, place, target) id.now)) runs.now ≡ true }
 {
     for target in targets {
-        if !one_says(runs, kind, place, target, id) {
+        if !one_has_entry(runs, kind, place, target, id) {
             return false;
         }
     }
     true
 }
 
-// Whether entries say all that the field of that name names in a row.
-fn name_is_said(runs: &[RefRun], row: &Row, name: &str) -> bool
+// Whether entries say all that the field of this name names in a row.
+fn is_name_indexed(runs: &[RefRun], row: &Row, name: &str) -> bool
     ensures { result ≡ true → spec.IsNameIndexed runs.now row.now name.now }
 {
     let Some(place) = place_of(row.kind(), name) else {
         return true;
     };
     match row.named(name) {
-        Some(ValueRef::Ref(target)) => one_says(runs, row.kind(), place as u64, target, row.id()),
+        Some(ValueRef::Ref(target)) => one_has_entry(
+            runs,
+            row.kind(),
+            place as u64,
+            target,
+            row.id(),
+        ),
         Some(ValueRef::Refs(targets)) => {
-            all_said(runs, row.kind(), place as u64, targets.as_slice(), row.id())
+            all_have_entries(runs, row.kind(), place as u64, targets.as_slice(), row.id())
         }
         _ => true,
     }
 }
 
 // Whether entries say all that a row names.
-fn row_is_said(runs: &[RefRun], row: &Row) -> bool
+fn is_row_indexed(runs: &[RefRun], row: &Row) -> bool
     ensures { result ≡ true → spec.IsIndexed runs.now row.now }
 {
     let infos = fields(row.kind());
     for info in infos {
-        if !name_is_said(runs, row, info.name) {
+        if !is_name_indexed(runs, row, info.name) {
             return false;
         }
     }
@@ -285,11 +296,11 @@ fn row_is_said(runs: &[RefRun], row: &Row) -> bool
 }
 
 // Whether entries say all that these rows name.
-fn are_said(runs: &[RefRun], changes: &[RowChange]) -> bool
+fn are_rows_indexed(runs: &[RefRun], changes: &[RowChange]) -> bool
     ensures { result ≡ true → AllWithin (λ change. spec.IsIndexed runs.now change.row) changes.now 0 (length changes.now) }
 {
     for change in changes {
-        if !row_is_said(runs, &change.row) {
+        if !is_row_indexed(runs, &change.row) {
             return false;
         }
     }
@@ -297,11 +308,11 @@ fn are_said(runs: &[RefRun], changes: &[RowChange]) -> bool
 }
 
 // Whether entries say all that the rows of a history name.
-fn past_is_said(runs: &[RefRun], rows: &[Since<RowChange>]) -> bool
+fn is_past_indexed(runs: &[RefRun], rows: &[Since<RowChange>]) -> bool
     ensures { result ≡ true → AllWithin (λ entry. spec.IsIndexed runs.now entry.value.row) rows.now 0 (length rows.now) }
 {
     for since in rows {
-        if !row_is_said(runs, &since.value.row) {
+        if !is_row_indexed(runs, &since.value.row) {
             return false;
         }
     }
@@ -309,25 +320,26 @@ fn past_is_said(runs: &[RefRun], rows: &[Since<RowChange>]) -> bool
 }
 
 /// Whether entries say all that the rows of histories name.
-pub fn pasts_are_said(runs: &[RefRun], histories: &[History]) -> bool
-    ensures { result ≡ true → spec.AreSaid runs.now histories.now }
+pub fn are_pasts_indexed(runs: &[RefRun], histories: &[History]) -> bool
+    ensures { result ≡ true → spec.ArePastsIndexed runs.now histories.now }
 {
     for history in histories {
-        if !past_is_said(runs, history.rows()) {
+        if !is_past_indexed(runs, history.rows()) {
             return false;
         }
     }
     true
 }
 
-/// Whether entries said all before, and say all that these rows name too.
-pub fn stay_said(before: bool, runs: &[RefRun], changes: &[RowChange]) -> bool
+/// Whether entries said all `before`, and say all that these rows name too.
+pub fn stay_indexed(before: bool, runs: &[RefRun], changes: &[RowChange]) -> bool
     ensures before { result ≡ true → before ≡ true }
     ensures now { result ≡ true → AllWithin (λ change. spec.IsIndexed runs.now change.row) changes.now 0 (length changes.now) }
 {
-    before && are_said(runs, changes)
+    before && are_rows_indexed(runs, changes)
 }
 
+// How two entries stand to each other: first by what they name, then by the ids of their rows.
 fn compare_entries(one: &RefEntry, other: &RefEntry) -> Ordering
     ensures { result ≡ spec.naming_cmp (spec.naming_of one.now) (spec.naming_of other.now) }
 {
@@ -341,7 +353,7 @@ pub fn in_order(mut entries: Vec<RefEntry>) -> RefRun {
 }
 
 impl RefRun {
-    /// Takes the entries of another run. Where memory is wanting both stay.
+    /// Takes the entries of another run, which is empty then. Where memory is wanting both stay.
     pub fn take(&mut self, other: &mut RefRun) -> Result<(), NoMemory>
         ensures keeps { Keeps (self.old ∷ other.old ∷ []) (self.new ∷ other.new ∷ []) }
         ensures none { OnOk result (other.new ≡ []) }

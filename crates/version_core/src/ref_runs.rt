@@ -6,7 +6,7 @@ ghost use Rattle.version_core.specs.RefIndex.{AreKept, Keeps, StayIndexed, is_ke
 
 use crate::history::History;
 use crate::kept_refs::names_at;
-use crate::ref_index::{RefEntry, RefRun, in_order, one_says};
+use crate::ref_index::{RefEntry, RefRun, in_order, one_has_entry};
 use crate::row_change::RowChange;
 use crate::since::Since;
 use roster_base::{NoMemory, TryCopy};
@@ -16,7 +16,7 @@ use roster_values::ValueRef;
 use roster_values::fields::fields;
 use std::alloc::Global;
 
-// What needs no entry: what runs say, and what the row names that stood before under the same kind and id.
+// What needs no entry any more: what the runs say, and what the row named that stood before under the same kind and id.
 #[derive(Drop)]
 struct Known<'a> {
     runs: &'a [RefRun],
@@ -24,17 +24,18 @@ struct Known<'a> {
 }
 
 impl<'a> Known<'a> {
+    // Whether it is known that the row names the target in the field at a place.
     fn has(&self, row: &Row, place: u64, target: &Id) -> bool {
         if let Some(before) = self.before {
             if names_at(before, place, target) {
                 return true;
             }
         }
-        one_says(self.runs, row.kind(), place, target, row.id())
+        one_has_entry(self.runs, row.kind(), place, target, row.id())
     }
 }
 
-// Adds an entry, where it isn't known.
+// Adds the entry by which a row names a target in the field at a place, unless that is known.
 fn push_entry(
     alloc: Global,
     known: &Known<'_>,
@@ -82,6 +83,7 @@ fn push_field(
     }
 }
 
+// Adds the entries of the targets that the field at a place of a row lists.
 fn push_targets(
     alloc: Global,
     known: &Known<'_>,
@@ -119,7 +121,7 @@ fn run_of(alloc: Global, runs: &[RefRun], changes: &[RowChange]) -> Result<RefRu
     Ok(in_order(entries))
 }
 
-// Adds the entries of the rows of a history, each reference once where a row keeps it.
+// Adds the entries of the rows of a history: a reference that a row has from the one before it gets one entry for both.
 fn push_history(
     alloc: Global,
     entries: &mut Vec<RefEntry>,
@@ -184,7 +186,7 @@ fn join_long(runs: &mut Vec<RefRun>) -> Result<(), NoMemory>
     Ok(())
 }
 
-// Adds what these rows name. Where memory is wanting, what runs say stays.
+// Adds what these rows name. Where memory is wanting, what the runs say stays.
 fn add_run(alloc: Global, runs: &mut Vec<RefRun>, changes: &[RowChange]) -> Result<(), NoMemory>
     ensures { Keeps runs.old.items runs.new.items }
 {
@@ -196,7 +198,7 @@ fn add_run(alloc: Global, runs: &mut Vec<RefRun>, changes: &[RowChange]) -> Resu
     join_long(runs)
 }
 
-/// Adds what these rows name, where runs are to say all. Where memory is wanting, what runs say stays.
+/// Adds what these rows name, where there is an index. Where memory is wanting, what the runs say stays.
 pub fn note(
     alloc: Global,
     runs: &mut Vec<RefRun>,
@@ -237,7 +239,7 @@ fn are_above(runs: &[RefRun], limit: usize) -> bool
     false
 }
 
-/// Twice as many entries as there are, and a few more: up to so many, those that no row says may be among them.
+/// How many entries the runs may have before those that no row says are let go: twice as many as now, and a few more.
 pub fn limit_of(runs: &[RefRun]) -> usize
     ensures { result ≤ 2 * size runs.now + 16 }
 {
@@ -249,8 +251,9 @@ pub fn limit_of(runs: &[RefRun]) -> usize
     limit
 }
 
-/// Where there are more entries than the limit, lets those go that no row of the versions from the oldest on says, and answers the next
-/// limit: the look at an entry is paid by one that was added. No memory is taken.
+/// Where there are more entries than the limit, lets those go that no row of the versions from the oldest on says, and
+/// answers the next limit. The limit is twice the number of entries that stay, so each look at an entry is paid by one
+/// that was added since. No memory is taken.
 pub fn sweep(runs: &mut Vec<RefRun>, limit: usize, histories: &[History], oldest: u64) -> usize
     requires { ArePasts (pasts_of histories.now) }
     ensures stay { StayIndexed oldest (pasts_of histories.now) runs.old.items runs.new.items }

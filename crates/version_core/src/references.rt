@@ -16,13 +16,13 @@ pub trait Refs: Rows {
     ghost use Rattle.roster_values.specs.declared.kind.Kind.{Kind as Kinds};
     ghost use Rattle.version_core.specs.References.{next_referring};
 
-    /// The row of this kind with the least id above `after`, or with the least of all, whose field `name` names the target.
-    /// `name` is a JSON name; a field that holds no references names nothing.
+    /// The row of this kind with the least id above `after`, or with the least of all, whose field `name` names the
+    /// target. `name` is a JSON name; a field that holds no references names nothing.
     fn referring(&self, kind: Kind, name: &str, target: &Id, after: Option<&Id>) -> Option<&Row>
         ensures next { option_copied result ≡ next_referring kind name.now target.now (option_copied after.entry) (Self.rows self.now) }
         ensures order { Ascends row_key (Self.rows self.now) };
 
-    /// The rows ascend, and a `u64` counts those of each kind. Nothing is done.
+    /// The rows ascend, and a `u64` counts those of each kind. Nothing is done: the call is for its clauses.
     fn ascend(&self)
         ensures order { Ascends row_key (Self.rows self.now) }
         ensures few { (kind : Kinds) → count_of kind (Self.rows self.now) < 18446744073709551616 };
@@ -35,7 +35,7 @@ pub fn is_one_of(ids: &[Id], id: &Id) -> bool
     ids.iter().any(|other| other.as_str() == id.as_str())
 }
 
-/// Whether the field of a row names the id.
+/// Whether the field of this name in a row names the id.
 pub fn names(row: &Row, name: &str, id: &Id) -> bool
     ensures { result ≡ spec.names name.now id.now row.now }
 {

@@ -7,7 +7,7 @@ ghost use Rattle.version_core.specs.Room.{key_of};
 ghost use Rattle.version_core.specs.declared.row_change.RowChange.{RowChange as RowChangeValue};
 
 use crate::grant_row::GrantRow;
-use crate::history::{History, Place};
+use crate::history::{FreshEntries, History};
 use crate::row_change::RowChange;
 use crate::since::Since;
 use roster_base::{Items, NoMemory, TryCopy};
@@ -22,7 +22,7 @@ pub struct RowKey {
     pub id: Id,
 }
 
-// The kind and id of a row.
+// A copy of a row's kind and id.
 fn key_of(alloc: Global, change: &RowChange) -> Result<RowKey, NoMemory>
     ensures { IfOk result (λ key. key_of key ≡ change_key change.now) }
 {
@@ -43,27 +43,31 @@ pub fn keys_of(alloc: Global, changes: &[RowChange]) -> Result<Vec<RowKey>, NoMe
     Ok(keys)
 }
 
-// Room for one entry.
-fn place(alloc: Global) -> Result<Place, NoMemory>
-    ensures { IfOk result (λ place. (place.entries.items ≡ []) × (vec_len place.entries < vec_capacity place.entries)) }
+// Room for the first entry of a history.
+fn fresh_entries(alloc: Global) -> Result<FreshEntries, NoMemory>
+    ensures { IfOk result (λ fresh. (fresh.entries.items ≡ []) × (vec_len fresh.entries < vec_capacity fresh.entries)) }
 {
     let entries = Vec::with_capacity(alloc, 1)?;
-    Ok(Place { entries })
+    Ok(FreshEntries { entries })
 }
 
-/// Makes room for the first entries of as many histories.
-pub fn reserve_places(alloc: Global, fresh: &mut Vec<Place>, count: usize) -> Result<(), NoMemory>
+/// Makes room for the first entries of so many new histories.
+pub fn reserve_fresh(
+    alloc: Global,
+    fresh: &mut Vec<FreshEntries>,
+    count: usize,
+) -> Result<(), NoMemory>
     requires { AreFresh fresh.old.items }
     ensures fresh { AreFresh fresh.new.items }
     ensures some { OnOk result (count ≤ vec_len fresh.new) }
 {
     while fresh.len() < count {
-        fresh.push(place(alloc)?)?;
+        fresh.push(fresh_entries(alloc)?)?;
     }
     Ok(())
 }
 
-/// Makes room in the history of each row, where it has one.
+/// Makes room for one more entry in the history of each row, where it has one.
 pub fn reserve_entries(histories: &mut Vec<History>, changes: &[RowChange]) -> Result<(), NoMemory>
     requires { ArePasts (pasts_of histories.old.items) }
     ensures same { pasts_of histories.new.items ≡ pasts_of histories.old.items }
@@ -76,7 +80,7 @@ pub fn reserve_entries(histories: &mut Vec<History>, changes: &[RowChange]) -> R
     Ok(())
 }
 
-// Makes room in the history of a row, where it has one.
+// Makes room for one more entry in the history of a row, where it has one.
 fn reserve_entry(histories: &mut Vec<History>, change: &RowChange) -> Result<(), NoMemory>
     requires { ArePasts (pasts_of histories.old.items) }
     ensures same { pasts_of histories.new.items ≡ pasts_of histories.old.items }
@@ -91,13 +95,14 @@ fn reserve_entry(histories: &mut Vec<History>, change: &RowChange) -> Result<(),
     }
 }
 
-/// Makes room for one version more, with these rows.
+/// Makes room for one version more, with these rows: for its moment, its grants, and what its rows add to the
+/// histories.
 pub fn make_room(
     moments: &mut Vec<Moment>,
     grants: &mut Vec<Since<Items<GrantRow>>>,
     histories: &mut Vec<History>,
     spare: &mut Vec<History>,
-    fresh: &mut Vec<Place>,
+    fresh: &mut Vec<FreshEntries>,
     changes: &[RowChange],
 ) -> Result<(), NoMemory>
     requires pasts { ArePasts (pasts_of histories.old.items) }
@@ -118,7 +123,7 @@ pub fn make_room(
     let count = changes.len();
     moments.reserve(1)?;
     grants.reserve(1)?;
-    reserve_places(*fresh.allocator(), fresh, count)?;
+    reserve_fresh(*fresh.allocator(), fresh, count)?;
     reserve_entries(histories, changes)?;
     histories.reserve(count)?;
     let all = histories.len().checked_add(count).ok_or(NoMemory)?;

@@ -12,15 +12,15 @@ use roster_values::Kind;
 use std::alloc::Global;
 use std::marker::Model;
 
-/// Two versions of a table, the second no older than the first. Which rows changed between them is told by their histories: the rows
-/// aren't read. A clause sees both versions.
+/// Two versions of a table, the second no older than the first. Which rows changed between them is told by their
+/// histories: the rows aren't read. A clause sees both versions.
 #[derive(Drop)]
 pub struct Span<'a> {
     pub(crate) first: VersionView<'a>,
     pub(crate) last: VersionView<'a>,
-    /// The number of the first.
+    /// The number of the first version.
     pub(crate) from: u64,
-    /// The number of the last.
+    /// The number of the last version.
     pub(crate) to: u64,
     pub(crate) histories: &'a [History],
 }
@@ -45,14 +45,15 @@ impl<'a> Span<'a> {
         &self.first
     }
 
-    /// The second.
+    /// The second of the versions.
     pub fn after(&self) -> &VersionView<'a>
         ensures { result.now ≡ self.now.after }
     {
         &self.last
     }
 
-    /// The ids of the rows of a kind that changed, in their order: under every other id both versions have the same row, or none.
+    /// The ids of the rows of a kind that changed, in their order: under every other id both versions have the same
+    /// row, or none.
     pub fn changed_ids(&self, alloc: Global, kind: Kind) -> Result<Vec<&'a Id>, NoMemory>
         ensures order { IfOk result (λ v. Ascends (key_in kind) (map (λ id. id.now) v.items)) }
         ensures beside { IfOk result (λ v. AreSameBeside kind (map (λ id. id.now) v.items) self.now.before.rows self.now.after.rows) }

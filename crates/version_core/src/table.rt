@@ -15,8 +15,8 @@ use roster_base::{NoMemory, TryCopy};
 use std::alloc::Global;
 use std::marker::Model;
 
-/// The versions of a roster from the oldest that is kept to the newest. A clause sees the versions, how many are kept beside the
-/// newest, and for which rows room is reserved.
+/// The versions of a roster from the oldest that is kept to the newest. A clause sees the versions, how many are kept
+/// beside the newest, and for which rows room is reserved.
 #[derive(Drop)]
 pub struct Table {
     // How many versions are kept beside the newest.
@@ -63,7 +63,7 @@ impl Table {
         })
     }
 
-    /// A table of the same versions.
+    /// A table of the same versions, in which no room is reserved.
     pub fn copy(&self, alloc: Global) -> Result<Table, NoMemory>
         ensures { IfOk result (λ t. t ≡ record { keep = self.now.keep; versions = self.now.versions; room = None }) }
     {
@@ -118,8 +118,8 @@ impl Table {
         self.log.newest_rows()
     }
 
-    /// Has look-ups by reference find rows by an index from now on, which each further change keeps whole. No call needs it: without the
-    /// index, or where memory for it is wanting, they go through the rows of a kind.
+    /// Builds an index by which look-ups by reference find rows from now on, and which each further change keeps whole.
+    /// No call needs it: without the index, or where memory for it is wanting, look-ups go through the rows of a kind.
     pub fn index(&mut self)
         ensures { self.new ≡ self.old }
     {
@@ -131,12 +131,13 @@ impl Table {
         ensures ok { OnOk result (self.new ≡ record self.old { room = Some (map change_key change.now.rows) }) }
         ensures err { OnErr result (self.new ≡ record self.old { room = None }) }
     {
-        // Here and not in `add`, so that what a change named that was never added goes too.
+        // The index is swept here and not in `add`, so that the entries of a change that was never added go too.
         self.log.sweep();
         self.log.reserve(change)
     }
 
-    /// Adds the newest version, and lets the oldest go where more than `keep` stand beside the newest. No memory is taken.
+    /// Adds the newest version, and lets the oldest go where more than `keep` stand beside the newest. No memory is
+    /// taken.
     pub fn add(&mut self, change: Change)
         requires room { self.old.room ≡ Some (map change_key change.rows) }
         requires next { change.version ≡ (newest_of self.old).number + 1 }

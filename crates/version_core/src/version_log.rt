@@ -12,10 +12,10 @@ use crate::change::{BaseVersion, Change};
 use crate::copies::copied;
 use crate::grant_row::GrantRow;
 use crate::histories::{put_rows, trim_share};
-use crate::history::{History, Place};
-use crate::ref_index::{RefRun, pasts_are_said, stay_said};
+use crate::history::{FreshEntries, History};
+use crate::ref_index::{RefRun, are_pasts_indexed, stay_indexed};
 use crate::ref_runs::{limit_of, note, runs_of, sweep};
-use crate::reserved::{RowKey, keys_of, make_room, reserve_places};
+use crate::reserved::{RowKey, keys_of, make_room, reserve_fresh};
 use crate::row_change::RowChange;
 use crate::since::{Since, standing, trim};
 use crate::span::Span;
@@ -25,8 +25,8 @@ use roster_texts::Moment;
 use std::alloc::Global;
 use std::marker::Model;
 
-/// Versions, each the next of the one before: the rows of each kind and id with the versions from which they stand. A clause sees
-/// the versions, and for which rows room is reserved.
+/// Versions, each the next of the one before: the rows of each kind and id with the versions from which they stand. A
+/// clause sees the versions, and for which rows room is reserved.
 #[derive(Drop)]
 pub struct VersionLog {
     alloc: Global,
@@ -40,17 +40,19 @@ pub struct VersionLog {
     // Where histories move while new ones are put before them: empty, and its room is what `reserve` made.
     spare: Vec<History>,
     // Room for the first entries of new histories.
-    fresh: Vec<Place>,
-    // For the rows of which kinds and ids there is room.
+    fresh: Vec<FreshEntries>,
+    // The kinds and ids of the rows for which room is reserved, where any is.
     room: Option<Vec<RowKey>>,
-    // What rows name, in runs whose number is at most logarithmic in that of the entries. Nothing is noted before `index` is called.
+    // What rows name, in runs whose number is at most logarithmic in that of the entries. Nothing is noted before
+    // `index` is called.
     refs: Vec<RefRun>,
-    // Up to how many entries they may have some that no row of the versions says.
+    // How many entries the runs may have before those that no row of the versions says are let go.
     limit: usize,
     // Whether `refs` has all that the rows of the versions name.
     is_indexed: bool,
-    // From which history on a retirement goes through them, and through how many: twice as many as rows changed since, four times as
-    // many as went the last time, and some more, so that none is left behind for long.
+    // At which history the next retirement begins to let rows go, and through how many it goes: twice as many as rows
+    // changed since the last one, four times as many as rows went then, and some more, so that none is left behind for
+    // long.
     swept: usize,
     share: usize,
 }
@@ -231,8 +233,8 @@ impl VersionLog {
         Ok(())
     }
 
-    /// Notes what the rows of the versions name, where that isn't done. Where memory is wanting, it isn't done either, and look-ups by
-    /// reference go through the rows.
+    /// Builds an index of what the rows of the versions name, where there is none. Where memory is wanting there is
+    /// still none, and look-ups by reference go through the rows.
     pub fn index(&mut self)
         ensures { self.new ≡ self.old }
     {
@@ -242,12 +244,13 @@ impl VersionLog {
         let Ok(refs) = runs_of(self.alloc, &self.histories) else {
             return;
         };
-        self.is_indexed = pasts_are_said(&refs, &self.histories);
+        self.is_indexed = are_pasts_indexed(&refs, &self.histories);
         self.limit = limit_of(&refs);
         self.refs = refs;
     }
 
-    /// Lets go what the index has and no row of the versions says, where that may be as much as the rest. No memory is taken.
+    /// Lets the entries of the index go that no row of the versions says, where they may be as many as the others. No
+    /// memory is taken.
     pub fn sweep(&mut self)
         ensures { self.new ≡ self.old }
     {
@@ -269,7 +272,7 @@ impl VersionLog {
             rows,
             grants,
         } = change;
-        self.is_indexed = stay_said(self.is_indexed, &self.refs, rows.as_slice());
+        self.is_indexed = stay_indexed(self.is_indexed, &self.refs, rows.as_slice());
         self.share = share_after(self.share, rows.as_slice().len());
         put_rows(
             &mut self.histories,
@@ -282,8 +285,8 @@ impl VersionLog {
         self.moments.push_reserved(moment);
     }
 
-    /// Lets the oldest version go, with the grants that stand in no later one, and rows that stand in none. These go bit by bit, so that
-    /// a retirement takes no longer than the changes before it. No memory is taken.
+    /// Lets the oldest version go, with the grants that stand in no later one, and rows that stand in none. These go
+    /// bit by bit, so that a retirement takes no longer than the changes before it. No memory is taken.
     pub fn retire(&mut self)
         requires { 2 ≤ length self.old.versions }
         ensures { self.new ≡ record { versions = drop 1 self.old.versions; room = None } }
@@ -292,22 +295,28 @@ impl VersionLog {
         self.moment = self.moments.remove(0);
         self.number += 1;
         trim(&mut self.grants, self.number);
-        let (swept, gone) = trim_share(&mut self.histories, self.swept, self.share, self.number);
-        self.swept = swept;
+        let swept = trim_share(&mut self.histories, self.swept, self.share, self.number);
+        self.swept = swept.end;
         // Where many went, more wait.
-        self.share = gone.saturating_mul(4);
+        self.share = swept.gone.saturating_mul(FOR_EACH_GONE);
     }
 }
+
+// How many histories a retirement goes through besides, however few rows changed.
+const LEAST_SHARE: usize = 8;
+
+// Through how many histories the next retirement goes for each row that went in the last one.
+const FOR_EACH_GONE: usize = 4;
 
 // Through how many histories the next retirement goes, once so many rows more have changed.
 fn share_after(share: usize, changed: usize) -> usize {
     share
         .saturating_add(changed)
         .saturating_add(changed)
-        .saturating_add(8)
+        .saturating_add(LEAST_SHARE)
 }
 
-// The moment of the version so many after the oldest.
+// The moment of a version, which stands at this place behind the oldest.
 fn moment_at(moment: Moment, moments: &[Moment], place: usize) -> Moment
     requires { place ≤ length moments.now }
     ensures { slice_get (moment ∷ moments.now) place ≡ Some result }
@@ -340,7 +349,7 @@ fn first_grants(alloc: Global, base: &BaseVersion) -> Result<Vec<Since<Items<Gra
     Ok(grants)
 }
 
-// Puts the grants of a change, where it has any, as they stand from its version on.
+// Adds the grants of a change, where it has any: they stand from its version on. No memory is taken.
 fn put_grants(
     grants: &mut Vec<Since<Items<GrantRow>>>,
     version: u64,
@@ -368,7 +377,7 @@ fn histories_of(
     let mut histories = Vec::with_capacity(alloc, changes.len())?;
     let mut spare = Vec::with_capacity(alloc, changes.len())?;
     let mut fresh = Vec::new(alloc);
-    reserve_places(alloc, &mut fresh, changes.len())?;
+    reserve_fresh(alloc, &mut fresh, changes.len())?;
     let rows = copied(alloc, changes)?;
     put_rows(&mut histories, &mut spare, &mut fresh, version, rows);
     Ok(histories)

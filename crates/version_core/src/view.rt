@@ -29,7 +29,8 @@ use roster_values::Kind;
 use std::cmp::Ordering;
 use std::marker::Model;
 
-/// One version of a table: the rows of the histories that stand at it, and its grants. No call takes memory. A clause sees the version.
+/// One version of a table: the rows of the histories that stand at it, and its grants. No call takes memory. A clause
+/// sees the version.
 #[derive(Drop)]
 pub struct VersionView<'a> {
     pub(crate) version: u64,
@@ -38,9 +39,9 @@ pub struct VersionView<'a> {
     pub(crate) newest: bool,
     pub(crate) histories: &'a [History],
     pub(crate) grants: &'a [GrantRow],
-    /// What the rows name.
+    /// The index of what the rows name.
     pub(crate) refs: &'a [RefRun],
-    /// Whether all that they name is there.
+    /// Whether the index has all that they name.
     pub(crate) is_indexed: bool,
 }
 
@@ -56,7 +57,7 @@ impl<'a> Model for VersionView<'a> {
     ghost invariant = { IsView };
 }
 
-/// The one that comes first, and the change where both have one kind and id.
+/// Of a change and a row the one that comes first by kind and id, and the change where both have the same.
 pub fn earlier<'a>(
     change: Option<&'a RowChange>,
     row: Option<&'a RowChange>,
@@ -131,7 +132,8 @@ fn row_of_each(histories: &[History], version: u64, place: u64) -> Option<&Row>
     standing_row(&histories[place as usize], version)
 }
 
-// The same where some histories have none, gone through one after another.
+// The row before which so many stand at a version, where histories may have none that stands: they are gone through one
+// by one.
 fn row_of_some(histories: &[History], version: u64, place: u64) -> Option<&Row>
     ensures { option_copied result ≡ slice_get (rows_of (rows_at version (pasts_of histories.now))) place }
 {
@@ -193,8 +195,8 @@ impl<'a> VersionView<'a> {
         found(self.histories, self.version, kind, id)
     }
 
-    /// As `change`, where `near` is the place at which the last look-up ended: begin with 0. Of rows asked for in their order each
-    /// is found in one step. Any other value is as right, and only slower.
+    /// As `change`, where `near` is the place at which the last look-up ended: begin with 0. Of rows asked for in their
+    /// order each is found in one step. Any other value is as right, and only slower.
     pub fn change_near(&self, kind: Kind, id: &Id, near: &mut usize) -> Option<&RowChange>
         ensures { option_copied result ≡ look_up change_key (place_of_kind kind, id.now) self.now.rows }
     {
@@ -209,8 +211,8 @@ impl<'a> VersionView<'a> {
         following(self.histories, self.version, kind, after)
     }
 
-    /// As `next_change`, where `near` is the place at which the last look-up ended: begin with 0. Where `after` is the row found
-    /// last, the next is found in one step. Any other value is as right, and only slower.
+    /// As `next_change`, where `near` is the place at which the last look-up ended: begin with 0. Where `after` is the
+    /// row found last, the next is found in one step. Any other value is as right, and only slower.
     pub fn next_change_near(
         &self,
         kind: Kind,

@@ -1,4 +1,5 @@
-//! Tests of broken references, and of sets and grants that are published one after another over a keeper of which calls fail.
+//! Tests of broken references, and of sets and grants that are published one after another over a keeper of which calls
+//! fail.
 #![tactic(auto)]
 
 #[cfg(test)]

@@ -45,9 +45,10 @@ fn faults_told(alloc: Global, broken: &[RefFault]) -> Result<String, Fail> {
     Ok(told)
 }
 
+// What is made of a set: the change to the next version, or why there is none.
 type Made = Result<Option<Change>, Refusal<PublishFault>>;
 
-fn told(alloc: Global, made: &Made) -> Result<String, Fail> {
+fn made_line(alloc: Global, made: &Made) -> Result<String, Fail> {
     match made {
         Ok(Some(_)) => Ok(String::from_str(alloc, "sound")?),
         Err(Refusal::Fault(PublishFault::Unsound(broken))) => faults_told(alloc, broken.as_slice()),
@@ -56,14 +57,14 @@ fn told(alloc: Global, made: &Made) -> Result<String, Fail> {
 }
 
 // What is told of a set that is published first.
-fn told_of(alloc: Global, set: RosterSet) -> Result<String, Fail> {
+fn first_line(alloc: Global, set: RosterSet) -> Result<String, Fail> {
     let at = Moment::at(1_000).ok_or("a moment")?;
     let table = Table::new(alloc, 1);
     let made = set_change(alloc, &table, set, at);
     drop(table);
-    let told = told(alloc, &made);
+    let line = made_line(alloc, &made);
     drop(made);
-    told
+    line
 }
 
 // A file, the text that is changed, what stands in its place, and what is told.
@@ -128,8 +129,8 @@ static CHANGES: [(&str, &str, &str, &str); 9] = [
 #[test]
 fn broken_references(rt: HostRuntime) -> Result<(), Fail> {
     for (file, old, new, want) in &CHANGES {
-        let told = told_of(rt.alloc(), changed(rt.alloc(), file, old, new)?)?;
-        assert_eq!(rt; told.as_str(), *want);
+        let line = first_line(rt.alloc(), changed(rt.alloc(), file, old, new)?)?;
+        assert_eq!(rt; line.as_str(), *want);
     }
     Ok(())
 }

@@ -173,9 +173,9 @@ fn told<H: HubKeeper>(
     Ok(told)
 }
 
-/// What is told over a keeper in memory that keeps so many versions beside the newest: the answers to all turns, what is kept then, and how
-/// many calls of the keeper failed. The plan has the numbers, from 1, of the commit that fails before it acts, of the one that fails after it
-/// has acted, and of the load that fails; 0 is none.
+/// What is told over a keeper in memory that keeps so many versions beside the newest: the answers to all turns, what
+/// is kept then, and how many calls of the keeper failed. The plan has the numbers, from 1, of the commit that fails
+/// before it acts, of the one that fails after it has acted, and of the load that fails; 0 is none.
 pub fn told_over(
     rt: &impl Abort,
     alloc: Global,

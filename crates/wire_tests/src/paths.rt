@@ -1,4 +1,4 @@
-//! Paths as the worked requests have them, and texts that are none.
+//! Paths that are read, and texts that are none.
 
 use rest_paths::{Collection, Path, PathRouter, Route};
 use roster_base::NoMemory;

@@ -1,4 +1,4 @@
-//! Queries as the worked requests have them, and the first fault of some that are none.
+//! Queries that are read, and the first fault of some that are none.
 
 use filter_grammar::{
     Comparison, Filter, Joint, Order, Predicate, Query, QueryFault, pin_of, read_query,

@@ -190,9 +190,9 @@ fn sent(alloc: Global, length: usize, failing: u64) -> Result<(bool, usize), Fai
     Ok((is_sent, sink.written().len()))
 }
 
-// The length of a body, the number of the call that fails, whether the reply is sent, and how many bytes are written then. The head has 186
-// bytes. A body of up to 65,536 bytes goes out in one piece with it, a longer one in a piece of its own; of a piece that fails the first half
-// is written.
+// The length of a body, the number of the call that fails, whether the reply is sent, and how many bytes are written
+// then. The head has 186 bytes. A body of up to 65,536 bytes goes out in one piece with it, a longer one in a piece of
+// its own; of a piece that fails the first half is written.
 static PIECES: [(usize, u64, (bool, usize)); 4] = [
     (65_536, 1, (false, 32_861)),
     (65_536, 2, (true, 65_722)),

@@ -15,7 +15,7 @@ static TWO: &str =
 static WRITTEN: &str =
     "PUT /a/b?x=1?y HTTP/1.1\r\nHost: hub\r\nAuthorization: Bearer tok-e\r\nX-Hub-Mark: 7\r\nX-Hub-Exchange: 1.20\r\nContent-Length: 5\r\n\r\nhelloGET /c HTTP/1.1\r\nHost: hub\r\n\r\n";
 
-// The stream of two requests, whose first read fails.
+// The stream of two requests in pieces of so many bytes, whose first read fails.
 fn cut_source(alloc: Global, cut: usize) -> Result<MemSource, Fail> {
     let bytes = TWO.as_bytes().to_vec(alloc)?;
     let cuts = vec![in alloc; cut; 150]?;

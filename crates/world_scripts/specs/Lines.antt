@@ -31,6 +31,7 @@ all_three _ = None
 
 -- ---- what others do to the hub
 
+-- the line of a feed, where there is one
 abbrev pub set_of : Option Feed → Option HubLine
 set_of None = None
 set_of (Some feed) = Some (hub.Set feed)
@@ -40,6 +41,7 @@ abbrev pub set_line : Option (List ℕ × List ℕ) → Option HubLine
 set_line None = None
 set_line (Some words) = set_of (feed_in words.0 words.1)
 
+-- the line of a word that may name a file
 abbrev pub if_file : (List ℕ → HubLine) → List ℕ → Option HubLine
 if_file of word = if is_file_word word then Some (of word) else None
 
@@ -53,6 +55,7 @@ abbrev pub restart_line : Option (List ℕ) → Option HubLine
 restart_line None = None
 restart_line (Some word) = if bytes_eq word (codes "hub") then Some hub.Restart else None
 
+-- the line of what others do to the hub
 abbrev pub hub_line : List (List ℕ) → Option HubLine
 hub_line [] = None
 hub_line (word ∷ words) =
@@ -62,10 +65,12 @@ hub_line (word ∷ words) =
     else if bytes_eq word (codes "restart") then restart_line (only words)
     else None
 
+-- what others do now
 abbrev pub now_line : Option HubLine → Option Line
 now_line None = None
 now_line (Some l) = Some (line.Hub l)
 
+-- what others do just before an exchange
 abbrev pub at_exchange : Option ℕ → Option HubLine → Option Line
 at_exchange None l = None
 at_exchange (Some exchange) None = None
@@ -78,6 +83,7 @@ at_line (word ∷ words) = at_exchange (count_in word) (hub_line words)
 
 -- ---- what becomes of exchanges and commits
 
+-- the line of a number of versions, where there is one
 abbrev pub keep_of : Option ℕ → Option Line
 keep_of None = None
 keep_of (Some keep) = Some (line.Keep keep)
@@ -87,6 +93,7 @@ abbrev pub keep_line : Option (List ℕ) → Option Line
 keep_line None = None
 keep_line (Some word) = keep_of (number_to largest_keep word)
 
+-- the line of a moment, where there is one
 abbrev pub clock_of : Option ℤ → Option Line
 clock_of None = None
 clock_of (Some at) = Some (line.Clock at)
@@ -96,6 +103,7 @@ abbrev pub clock_line : Option (List ℕ) → Option Line
 clock_line None = None
 clock_line (Some word) = clock_of (moment_of word)
 
+-- by what is lost, and of which exchange
 abbrev pub lose_of : List ℕ → Option ℕ → Option Line
 lose_of what None = None
 lose_of what (Some exchange) =
@@ -119,6 +127,7 @@ abbrev pub pair_line : (ℕ → ℕ → Line) → Option (List ℕ × List ℕ) 
 pair_line of None = None
 pair_line of (Some words) = rising of (count_in words.0) (count_in words.1)
 
+-- by when a commit fails, and which
 abbrev pub fails_of : (Bool → ℕ → Line) → List ℕ → Option ℕ → Option Line
 fails_of of when None = None
 fails_of of when (Some commit) =
@@ -149,6 +158,7 @@ of_command command.Outbox = Some line.Outbox
 of_command (command.ListHeld kind) = Some (line.ListHeld kind)
 of_command _ = None
 
+-- the line of a command, where the words spell one
 abbrev pub command_line : Result Command ℕ → Option Line
 command_line (Ok c) = of_command c
 command_line (Err place) = None

@@ -1,6 +1,6 @@
-//! Three hubs in a row, the district's, a region's and a library's: the lower two follow the one above them, and the district publishes
-//! anew. Exchanges are lost and commits fail on the way, and the same words once more bring a reader of the library what the grants above
-//! leave of the district's rows.
+//! Three hubs in a row, the district's, a region's and a library's: the lower two follow the one above them, and the
+//! district publishes anew. Exchanges are lost and commits fail on the way, and the same words once more bring a reader
+//! of the library what the grants above leave of the district's rows.
 
 use crate::hubs::Fault::{Exchange, Hub, Nothing};
 use crate::hubs::Place::{District, Library, Reader, Region};

@@ -1,5 +1,5 @@
-//! Incremental synchronisations behind a whole one and the writes of another consumer: each of their exchanges is lost, and each of their
-//! commits fails, and what they leave in the end is what a whole synchronisation leaves.
+//! Incremental synchronisations behind a whole one and the writes of another consumer: each of their exchanges is lost,
+//! and each of their commits fails, and what they leave in the end is what a whole synchronisation leaves.
 
 use crate::hubs::Fault::{Copy, Exchange, Nothing};
 use crate::hubs::Place::{District, Other, Region};
@@ -9,8 +9,8 @@ use std::process::Abort;
 use std::test::Fail;
 use sync_world::Fate::{ReplyLost, RequestLost};
 
-// The copy of the region is at version 2, and the other consumer makes version 4. The whole copy takes sixteen commits: of a run, a stage, a
-// page of each kind and the swap.
+// The copy of the region is at version 2, and the other consumer makes version 4. The whole copy takes sixteen commits:
+// of a run, a stage, a page of each kind and the swap.
 #[rattlefmt::skip]
 static BEGUN: [Step; 8] = [
     (District, Nothing, "publish sis=lake", 0, "sis version 1\n"),

@@ -12,9 +12,7 @@ use std::process::Abort;
 use std::test::Fail;
 use sync_world::world::keeps_all;
 use sync_world::{Fate, WorldLink};
-
-// 2024-08-01T12:00:00.000Z
-const NOON: i64 = 1_722_513_600_000;
+use test_lake::{NOON, words_of};
 
 // A hub's keeper, and a copy of the hub above it.
 #[derive(Drop)]
@@ -23,8 +21,8 @@ struct Kept {
     copy: MemCopy,
 }
 
-/// The files of all; a district, a region that copies it, a library that copies the region, a reader who copies the library, and another
-/// consumer of the district.
+/// The files of all; a district, a region that copies it, a library that copies the region, a reader who copies the
+/// library, and another consumer of the district.
 #[derive(Drop)]
 pub struct Hubs {
     pub folder: MemFolder,
@@ -45,8 +43,8 @@ pub enum Place {
     Other,
 }
 
-/// What fails in a run: an exchange, by its number in the run, or a commit of the copy or of the hub, by its number among all of them,
-/// before it acts or behind that.
+/// What fails in a run: an exchange, by its number in the run, or a commit of the copy or of the hub, by its number
+/// among all of them, before it acts or behind that.
 #[derive(Clone, Copy)]
 pub enum Fault {
     Nothing,
@@ -103,14 +101,6 @@ fn plan(lower: &mut Kept, link: &mut WorldLink, fault: Fault) -> Result<(), Fail
     }
 }
 
-fn words_of(alloc: Global, line: &str) -> Result<Vec<String>, Fail> {
-    let mut words = Vec::new(alloc);
-    for word in line.split_whitespace() {
-        words.push(String::from_str(alloc, word)?)?;
-    }
-    Ok(words)
-}
-
 // The status of words, with a link to the hub above.
 fn run_words(
     alloc: Global,
@@ -141,7 +131,8 @@ fn run_linked(
     Ok((status, sink))
 }
 
-fn run_between(
+// The status of words at a hub or a copy below another hub, and what they write.
+fn run_below(
     rt: &impl Abort,
     alloc: Global,
     folder: &mut MemFolder,
@@ -155,7 +146,8 @@ fn run_between(
     told
 }
 
-/// The status of the words between spaces at a place, in which this fails, and what they write. Those of the district ask no other hub.
+/// The status of the words between spaces at a place, in which this fails, and what they write. Those of the district
+/// ask no other hub.
 pub fn run(
     rt: &impl Abort,
     alloc: Global,
@@ -174,11 +166,11 @@ pub fn run(
     } = hubs;
     let turn = (fault, line);
     match place {
-        Place::District => run_between(rt, alloc, folder, district, &mut other.hub, turn),
-        Place::Region => run_between(rt, alloc, folder, region, &mut district.hub, turn),
-        Place::Library => run_between(rt, alloc, folder, library, &mut region.hub, turn),
-        Place::Reader => run_between(rt, alloc, folder, reader, &mut library.hub, turn),
-        Place::Other => run_between(rt, alloc, folder, other, &mut district.hub, turn),
+        Place::District => run_below(rt, alloc, folder, district, &mut other.hub, turn),
+        Place::Region => run_below(rt, alloc, folder, region, &mut district.hub, turn),
+        Place::Library => run_below(rt, alloc, folder, library, &mut region.hub, turn),
+        Place::Reader => run_below(rt, alloc, folder, reader, &mut library.hub, turn),
+        Place::Other => run_below(rt, alloc, folder, other, &mut district.hub, turn),
     }
 }
 

@@ -48,6 +48,7 @@ pub fn joined(joint: Joint, first: bool, second: bool) -> bool
     }
 }
 
+// Whether a row passes a comparison.
 #[tactic(auto, unfolding(crate::specs::rows::Filters::comparison_passes))]
 fn comparison_passes(alloc: Global, row: &Row, comparison: &Comparison) -> Result<bool, NoMemory>
     ensures { IfOk result (λ b. b ≡ spec.comparison_passes comparison.now row.now) }
@@ -58,6 +59,7 @@ fn comparison_passes(alloc: Global, row: &Row, comparison: &Comparison) -> Resul
     }
 }
 
+// Whether a row passes a comparison of what the field's name means.
 fn subject_passes(
     alloc: Global,
     row: &Row,
@@ -124,6 +126,7 @@ pub fn is_not_equal(predicate: Predicate) -> bool
     matches!(predicate, Predicate::NotEqual)
 }
 
+// Whether a day, a moment or a number passes. A part is looked for in its text, as it is given.
 fn number_passes(
     alloc: Global,
     form: FieldForm,
@@ -146,7 +149,7 @@ fn number_passes(
     }
 }
 
-/// What a predicate says of two numbers; nothing passes where one isn't there.
+/// Whether a predicate holds of two numbers. Where one isn't there, none does.
 pub fn numbers_pass(predicate: Predicate, number: Option<i64>, given: Option<i64>) -> bool
     ensures { result ≡ spec.numbers_pass predicate number given }
 {

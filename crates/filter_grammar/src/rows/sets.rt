@@ -16,8 +16,8 @@ use roster_values::lists::read_items;
 use roster_values::{UserId, ValueRef};
 use std::alloc::Global;
 
-/// Whether a list, as a set of texts in lower case, is the given set (`=`), isn't (`!=`), or has a member in common with it (`~`). No list
-/// passes another predicate.
+/// Whether a list, as a set of texts in lower case, is the given set (`=`), isn't (`!=`), or has a member in common
+/// with it (`~`). No list passes another predicate.
 pub(crate) fn set_passes(
     alloc: Global,
     predicate: Predicate,
@@ -33,6 +33,7 @@ pub(crate) fn set_passes(
     Ok(are_related(predicate, items.as_slice(), folded.as_slice()))
 }
 
+// Whether two sets of texts stand to each other as the predicate says.
 fn are_related(predicate: Predicate, items: &[Text], given: &[Text]) -> bool
     ensures { result ≡ spec.set_passes predicate items.now given.now }
 {
@@ -45,18 +46,21 @@ fn are_related(predicate: Predicate, items: &[Text], given: &[Text]) -> bool
     }
 }
 
+// Whether two lists have a member in common.
 fn have_common(items: &[Text], given: &[Text]) -> bool
     ensures { result ≡ list_any (spec.is_one_of given.now) items.now }
 {
     items.iter().any(|item| is_one_of(given, item.as_str()))
 }
 
+// Whether a text is one of these.
 fn is_one_of(items: &[Text], item: &str) -> bool
     ensures { result ≡ spec.is_one_of items.now item.now }
 {
     items.iter().any(|other| other.as_str() == item)
 }
 
+// Whether all texts of a list are in another.
 fn are_among(some: &[Text], all: &[Text]) -> bool
     ensures { result ≡ spec.are_among some.now all.now }
 {
@@ -75,12 +79,14 @@ fn folded_members(alloc: Global, value: Option<ValueRef<'_>>) -> Result<Items<Te
     }
 }
 
+// Adds a text in lower case.
 fn push_folded(items: &mut Items<Text>, alloc: Global, text: &str) -> Result<(), NoMemory>
     ensures { OnOk result (items.new ≡ items.old ++ spec.folded text.now ∷ []) }
 {
     items.push(Text::from_string(folded(alloc, text)?))
 }
 
+// The texts in lower case.
 fn folded_texts(alloc: Global, texts: &[Text]) -> Result<Items<Text>, NoMemory>
     ensures { IfOk result (λ ts. ts ≡ map spec.folded texts.now) }
 {
@@ -91,6 +97,7 @@ fn folded_texts(alloc: Global, texts: &[Text]) -> Result<Items<Text>, NoMemory>
     Ok(items)
 }
 
+// The ids as texts in lower case.
 fn folded_ids(alloc: Global, ids: &[Id]) -> Result<Items<Text>, NoMemory>
     ensures { IfOk result (λ ts. ts ≡ map spec.folded ids.now) }
 {
@@ -101,6 +108,7 @@ fn folded_ids(alloc: Global, ids: &[Id]) -> Result<Items<Text>, NoMemory>
     Ok(items)
 }
 
+// The user ids as texts in lower case.
 fn folded_user_ids(alloc: Global, ids: &[UserId]) -> Result<Items<Text>, NoMemory>
     ensures { IfOk result (λ ts. ts ≡ map spec.folded (map user_id_text ids.now)) }
 {

@@ -25,8 +25,8 @@ pub enum SortKey {
 }
 
 impl SortKey {
-    /// The key of a row by a field: days, moments and numbers by their numbers, the row's own id by its bytes, all else by its text
-    /// in lower case.
+    /// The key of a row by a field: days, moments and numbers by their numbers, the row's own id by its bytes, all else
+    /// by its text in lower case.
     pub fn of(alloc: Global, row: &Row, subject: Subject<'_>) -> Result<SortKey, NoMemory>
         ensures { IfOk result (λ k. k ≡ spec.value_key (subject_value (subject_shown subject.entry) row.now)) }
     {
@@ -52,6 +52,7 @@ impl SortKey {
     }
 }
 
+// The key of a value.
 fn value_key(alloc: Global, value: ValueRef<'_>) -> Result<SortKey, NoMemory>
     requires { has_short_year (shown value) ≡ true }
     ensures { IfOk result (λ k. k ≡ spec.value_key (Some (shown value.entry))) }

@@ -34,7 +34,8 @@ pub(crate) fn folded_value(alloc: Global, value: ValueRef<'_>) -> Result<String,
     Ok(folded)
 }
 
-/// Whether a predicate holds of two things that stand so to each other in order. `Contains` asks for no order, and never holds.
+/// Whether a predicate holds of two things that stand so to each other in order. `Contains` asks for no order, and
+/// never holds.
 pub(crate) fn holds(predicate: Predicate, order: Ordering) -> bool
     ensures { result ≡ spec.holds predicate order }
 {
@@ -56,7 +57,8 @@ pub(crate) fn stands_in(part: &str, text: &str) -> bool
     text.contains(part)
 }
 
-// Which of two texts comes first, whatever the case of their letters. They are compared where they stand, with no copies.
+// Which of two texts comes first, whatever the case of their letters. They are compared where they stand, with no
+// copies.
 fn folded_cmp(text: &[u8], other: &[u8]) -> Ordering
     ensures { result ≡ slice_cmp nat_cmp (spec.folded text.now) (spec.folded other.now) }
 {
@@ -89,7 +91,8 @@ fn begins(part: &[u8], text: &[u8]) -> bool
     part.len() <= text.len() && text[..part.len()].eq_ignore_ascii_case(part)
 }
 
-// Whether a text stands somewhere in another, whatever the case of their letters. They are compared where they stand, with no copies.
+// Whether a text stands somewhere in another, whatever the case of their letters. They are compared where they stand,
+// with no copies.
 #[tactic(auto, unfolding(crate::specs::rows::Filters::stands_in))]
 fn stands_folded_in(part: &[u8], text: &[u8]) -> bool
     ensures { result ≡ spec.stands_in (spec.folded part.now) (spec.folded text.now) }

@@ -30,6 +30,7 @@ pub record IsShown (state : HubState) (caller : List ℕ) (entry : OutEntry) (se
   pub status : settled.status ≡ kept_status mark.kept.outcome
   pub version : settled.version ≡ mark.kept.version
 
+-- each settled entry says what is kept under its mark
 abbrev pub AllShown : HubState → List ℕ → List OutEntry → Type 0
 AllShown state caller entries = AllByRecursion (λ entry. IfSome entry.settled (IsShown state caller entry)) entries
 
@@ -44,11 +45,12 @@ pub record IsCarried (state : HubState) (caller : List ℕ) (entries : List OutE
   pub number : marked.number ≤ last
   pub token : GivesOnly state under caller
 
+-- each marked request that was sent carries the write of such an entry
 abbrev pub AllCarried : HubState → List ℕ → List OutEntry → ℕ → List Request → Type 0
 AllCarried state caller entries last sent =
     AllByRecursion (λ request. IfSome (marked_by request) (IsCarried state caller entries last request.token)) sent
 
--- for one caller
+-- the agreement for one caller: what settled entries show, and what marked requests carried
 pub record MarksAgreeFor (caller : List ℕ) (entries : List OutEntry) (last : ℕ) (state : HubState) (sent : List Request) : Type 0 where
   pub shown : AllShown state caller entries
   pub carried : AllCarried state caller entries last sent

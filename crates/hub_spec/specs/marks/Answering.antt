@@ -30,16 +30,16 @@ pub record ShowsMark (kept : MarkRow) (marked : Marked) (reply : Reply) : Type 0
   pub status : status_of reply.cause ≡ kept_status kept.kept.outcome
   pub version : reply.version ≡ Some kept.kept.version
 
--- the answer at a state, which leaves the next: no caller has the token; its grant doesn't open the access; the mark is held with
--- another write; or what is kept under the mark is shown. The mark is shown only in the last
-pub data SaysWrite (state : HubState) (token : Option (List ℕ)) (marked : Marked) (reply : Reply) (next : HubState) : Type 0 where
-  Stranger : grant_in state token ≡ None → reply.cause ≡ cause.NoKnownToken → reply.mark ≡ None → SaysWrite state token marked reply next
+-- the answer at a state, which leaves the next: no grant has the token; its grant doesn't open the access; the mark is
+-- held with another write; or what is kept under the mark is shown. The mark is shown only in the last
+pub data IsWriteReply (state : HubState) (token : Option (List ℕ)) (marked : Marked) (reply : Reply) (next : HubState) : Type 0 where
+  Stranger : grant_in state token ≡ None → reply.cause ≡ cause.NoKnownToken → reply.mark ≡ None → IsWriteReply state token marked reply next
   Shut : (by : GrantRow) → grant_in state token ≡ Some by → opens by.grant.scopes marked.write.kind (access_to marked.write) ≡ false
-      → reply.cause ≡ cause.ScopeMissing → reply.mark ≡ None → SaysWrite state token marked reply next
+      → reply.cause ≡ cause.ScopeMissing → reply.mark ≡ None → IsWriteReply state token marked reply next
   Taken : (by : GrantRow) (kept : MarkRow) → grant_in state token ≡ Some by → mark_at (by.caller, marked.number) state.marks ≡ Some kept → kept.write ≢ marked.write
-      → reply.cause ≡ cause.MarkOfAnotherWrite → reply.mark ≡ None → SaysWrite state token marked reply next
+      → reply.cause ≡ cause.MarkOfAnotherWrite → reply.mark ≡ None → IsWriteReply state token marked reply next
   Shown : (by : GrantRow) (kept : MarkRow) → grant_in state token ≡ Some by → mark_at (by.caller, marked.number) next.marks ≡ Some kept
-      → ShowsMark kept marked reply → SaysWrite state token marked reply next
+      → ShowsMark kept marked reply → IsWriteReply state token marked reply next
 
 -- the write may be sent under the grant: it opens the access, and the mark isn't held with another write
 pub record CanSendWrite (state : HubState) (by : GrantRow) (marked : Marked) : Type 0 where

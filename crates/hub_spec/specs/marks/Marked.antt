@@ -17,6 +17,7 @@ pub record Marked : Type 0 where
 abbrev pub mark_of : OutEntry → Marked
 mark_of entry = record { number = entry.number; write = entry.write }
 
+-- the marked write of a request, once its mark and its path are read
 abbrev pub marked_at : Wanted → Option ℕ → Option Path → Option Marked
 marked_at wanted None path = None
 marked_at wanted (Some number) None = None

@@ -9,10 +9,11 @@ use Rattle.status_info.specs.declared.request.Verb.TheVariants.{Delete, Put}
 use Rattle.version_core.specs.declared.mark.Write.{Write}
 use Rattle.hub_spec.specs.marks.Marked.{Marked}
 
+-- the method that asks for a write
 abbrev pub verb_of : Write → Verb
 verb_of write = if write.delete then Delete else Put
 
--- under the number of its exchange, or still without one
+-- the request, under the number of its exchange, or still without one
 abbrev pub write_request : List ℕ → Marked → Option Echo → Request
 write_request token marked echo = record {
   verb = verb_of marked.write;

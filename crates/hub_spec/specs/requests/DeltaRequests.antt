@@ -7,6 +7,7 @@ use Rattle.status_info.specs.declared.request.MarkField.TheVariants.{Nothing}
 use Rattle.status_info.specs.declared.request.Request.{Request}
 use Rattle.status_info.specs.declared.request.Verb.TheVariants.{Get}
 
+-- the query for a page of what differs from a base on
 unfoldable pub delta_query : ℕ → ℕ → ℕ → Option ℕ → List ℕ
 delta_query limit offset base pin =
     codes "limit=" ++ (decimal limit ++ (codes "&offset=" ++ (decimal offset ++ (codes "&hubSince=" ++ (decimal base ++ pin_text pin)))))

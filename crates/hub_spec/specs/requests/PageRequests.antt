@@ -8,13 +8,16 @@ use Rattle.status_info.specs.declared.request.MarkField.TheVariants.{Nothing}
 use Rattle.status_info.specs.declared.request.Request.{Request}
 use Rattle.status_info.specs.declared.request.Verb.TheVariants.{Get}
 
+-- the path of all rows of a kind
 unfoldable pub page_path : Kind → List ℕ
 page_path kind = codes "/ims/oneroster/v1p1/" ++ plural_of kind
 
+-- the parameter for the pin, where there is one
 abbrev pub pin_text : Option ℕ → List ℕ
 pin_text None = []
 pin_text (Some pin) = codes "&hubVersion=" ++ decimal pin
 
+-- the query for a page
 unfoldable pub page_query : ℕ → ℕ → Option ℕ → List ℕ
 page_query limit offset pin = codes "limit=" ++ (decimal limit ++ (codes "&offset=" ++ (decimal offset ++ pin_text pin)))
 
@@ -31,7 +34,7 @@ page_request token ask echo = record {
   body = [];
 }
 
--- numbers that a query may have
+-- numbers that a query may have: a limit up to the greatest that is given, and others of 18 digits at most
 pub record CanAsk (ask : Asking) : Type 0 where
   pub some : 1 ≤ ask.limit
   pub limit : ask.limit ≤ 1000

@@ -14,6 +14,7 @@ use Rattle.status_info.specs.declared.reply.Reply.{Reply}
 use Rattle.status_info.specs.declared.request.Request.{Request}
 use Rattle.version_core.specs.HubStates.{HubState}
 
+-- the query, or the cause of the reply to its first fault
 abbrev pub query_or_cause : Result Query QueryFault → Result Query Cause
 query_or_cause (Ok query) = Ok query
 query_or_cause (Err fault) = Err (cause_of fault)

@@ -32,6 +32,7 @@ causes =
     cause.Stored ∷ cause.MarkOfAnotherWrite ∷ cause.BadBody ∷ cause.NoSuchObject ∷ cause.OwnedByAnother
     ∷ cause.ReferenceOutsideGrant ∷ cause.ReferenceOfWrongType ∷ cause.TooManyRows ∷ cause.LastVersion ∷ cause.Deleted ∷ []
 
+-- the cause of the reply that tells an outcome
 abbrev pub cause_of : ℕ → Cause
 cause_of outcome = slice_index_or causes outcome cause.Stored
 
@@ -39,6 +40,7 @@ cause_of outcome = slice_index_or causes outcome cause.Stored
 abbrev pub told : Wanted → Option ℕ → ℕ → ℕ → Reply
 told wanted mark version outcome = record (refused_at wanted version (cause_of outcome)) { mark = mark }
 
+-- the reply that tells the verdict on a write
 abbrev pub reply_to_write : HubState → Wanted → Write → Verdict → Reply
 reply_to_write state wanted write (Leads version) = told wanted (mark_number wanted.mark) (newest_after state (Leads version)) (done_of write)
 reply_to_write state wanted write Same = told wanted (mark_number wanted.mark) (newest_number state) (done_of write)
@@ -50,6 +52,7 @@ reply_to_write state wanted write (Refused number) =
 abbrev pub sent : Wanted → Reply → Reply
 sent wanted reply = record reply { headless = is_head wanted.verb }
 
+-- the reply of checks: the one that answers, or the one that refuses
 abbrev pub either : Result Reply Reply → Reply
 either (Ok reply) = reply
 either (Err reply) = reply
@@ -58,6 +61,7 @@ either (Err reply) = reply
 abbrev pub ReadAnswered : HubState → Wanted → Entry → Reply → HubState → Type 0
 ReadAnswered before wanted entry reply after = (reply ≡ sent wanted (either (read_result before wanted entry))) × (after ≡ before)
 
+-- a write is answered: refused by a check before its verdict, or by the verdict, which leads to the next state
 abbrev pub Written : HubState → Wanted → Entry → Write → ℤ → Result Bool Reply → Reply → HubState → Type 0
 Written before wanted entry write at (Err refusal) reply after = (reply ≡ sent wanted refusal) × (after ≡ before)
 Written before wanted entry write at (Ok passed) reply after =
@@ -65,10 +69,12 @@ Written before wanted entry write at (Ok passed) reply after =
     × (reply ≡ sent wanted (reply_to_write before wanted write verdict))
     × (after ≡ state_after before entry.by.caller (mark_number wanted.mark) write verdict)
 
+-- a request that passes the checks of path, method and token is answered as a write or as a read
 abbrev pub Entered : Bool → HubState → Wanted → ℤ → Entry → Reply → HubState → Type 0
 Entered true before wanted at entry reply after = Written before wanted entry (write_of wanted entry.path) at (write_result before wanted entry) reply after
 Entered false before wanted at entry reply after = ReadAnswered before wanted entry reply after
 
+-- a request is answered: refused by the checks of path, method and token, or behind them
 abbrev pub Answered : HubState → Wanted → ℤ → Result Entry Reply → Reply → HubState → Type 0
 Answered before wanted at (Err refusal) reply after = (reply ≡ sent wanted refusal) × (after ≡ before)
 Answered before wanted at (Ok entry) reply after = Entered (is_write wanted.verb) before wanted at entry reply after

@@ -28,6 +28,7 @@ pub record Asking : Type 0 where
   pub offset : ℕ
   pub pin : Option ℕ
 
+-- the query that asks for such a page
 abbrev pub query_for : Asking → Query
 query_for ask = record {
   limit = ask.limit;
@@ -64,23 +65,23 @@ pub record IsRead (state : HubState) (by : GrantRow) (pin : Option ℕ) (version
   pub since : by.grant.since ≤ version
   pub stands : version ≤ newest_number state
 
--- what the hub says: that no grant has the token, that the pin can't be read, that the scopes don't open the kind, or a page of the
--- kind's list in the cut of the version to the token
-pub data Says (state : HubState) (token : List ℕ) (ask : Asking) (reply : Reply) : Type 0 where
-  Unknown : grant_of token (newest_in state).grants ≡ None → reply.cause ≡ cause.NoKnownToken → Says state token ask reply
+-- what the hub says: that no grant has the token, that the pin can't be read, that the scopes don't open the kind, or a
+-- page of the kind's list in the cut of the version to the token
+pub data IsPageReply (state : HubState) (token : List ℕ) (ask : Asking) (reply : Reply) : Type 0 where
+  Unknown : grant_of token (newest_in state).grants ≡ None → reply.cause ≡ cause.NoKnownToken → IsPageReply state token ask reply
   Gone : (by : GrantRow) (pin : ℕ) → grant_of token (newest_in state).grants ≡ Some by
       → ask.pin ≡ Some pin → (pin < first_open state by) ⊎ (newest_number state < pin)
       → reply.cause ≡ cause.VersionNotKept → reply.oldest ≡ Some (first_open state by) → reply.version ≡ Some (newest_number state)
-      → Says state token ask reply
+      → IsPageReply state token ask reply
   Shut : (by : GrantRow) (version : ℕ) → grant_of token (version_at state version).grants ≡ Some by
       → IsRead state by ask.pin version → opens by.grant.scopes ask.kind Read ≡ false
       → list_in (version_at state version) token ask.kind ≡ []
       → reply.cause ≡ cause.ScopeMissing → reply.version ≡ Some version
-      → Says state token ask reply
+      → IsPageReply state token ask reply
   Listed : (by : GrantRow) (version : ℕ) → grant_of token (version_at state version).grants ≡ Some by
       → IsRead state by ask.pin version → opens by.grant.scopes ask.kind Read ≡ true
       → reply.cause ≡ cause.Done → reply.version ≡ Some version
       → reply.total ≡ Some (length (list_in (version_at state version) token ask.kind))
       → reply.body ≡ collection_text None ask.kind (slice ask.limit ask.offset (list_in (version_at state version) token ask.kind))
       → reply.headless ≡ false
-      → Says state token ask reply
+      → IsPageReply state token ask reply

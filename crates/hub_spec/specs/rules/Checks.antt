@@ -21,11 +21,11 @@ use Rattle.version_core.specs.declared.grant_row.GrantRow.{GrantRow}
 abbrev pub version_at : HubState → ℕ → BaseVersion
 version_at state number = slice_index_or state.published number empty_version
 
--- the reply that says a cause and no more
+-- the reply that says a cause and nothing else
 abbrev pub refused : Wanted → Cause → Reply
 refused wanted why = failing why wanted.echo wanted.close
 
--- with the version that it speaks of
+-- the reply that says a cause and the version that it speaks of
 abbrev pub refused_at : Wanted → ℕ → Cause → Reply
 refused_at wanted version why = record (refused wanted why) { version = Some version }
 
@@ -34,6 +34,7 @@ abbrev pub check : Bool → Reply → Result Bool Reply
 check true reply = Ok true
 check false reply = Err reply
 
+-- the reply that refuses the method, and says whether the path takes writes
 abbrev pub method_refused : Wanted → Path → Reply
 method_refused wanted path = record (refused wanted cause.MethodNotAllowed) { allow_write = takes_writes path }
 
@@ -41,11 +42,12 @@ method_refused wanted path = record (refused wanted cause.MethodNotAllowed) { al
 abbrev pub grant_in : HubState → Option (List ℕ) → Option GrantRow
 grant_in state token = option_and_then (λ t. grant_of t (newest_in state).grants) token
 
--- where a request goes, and who asks: path, method, token
+-- where a request goes, and who asks
 pub record Entry : Type 0 where
   pub path : Path
   pub by : GrantRow
 
+-- the checks of path, method and token, in this order
 abbrev pub entry_of : HubState → Wanted → Result Entry Reply
 entry_of state wanted = do
   path ← found_or (refused wanted cause.NoSuchPath) wanted.path
@@ -58,21 +60,23 @@ abbrev pub first_open : HubState → GrantRow → ℕ
 first_open state by = max (oldest_number state) by.grant.since
 
 -- a pin may be read
-abbrev pub is_open : HubState → GrantRow → ℕ → Bool
-is_open state by pin = not (nat_lt pin (first_open state by)) && not (nat_lt (newest_number state) pin)
+abbrev pub may_read : HubState → GrantRow → ℕ → Bool
+may_read state by pin = not (nat_lt pin (first_open state by)) && not (nat_lt (newest_number state) pin)
 
+-- the reply that refuses a pin, with the newest version and the oldest that may be asked for
 abbrev pub pin_refused : HubState → GrantRow → Wanted → Reply
 pin_refused state by wanted = record (refused_at wanted (newest_number state) cause.VersionNotKept) { oldest = Some (first_open state by) }
 
 -- the version that is read: the pin, or the newest without one
 abbrev pub version_read : HubState → GrantRow → Wanted → Option ℕ → Result ℕ Reply
 version_read state by wanted None = Ok (newest_number state)
-version_read state by wanted (Some pin) = if is_open state by pin then Ok pin else Err (pin_refused state by wanted)
+version_read state by wanted (Some pin) = if may_read state by pin then Ok pin else Err (pin_refused state by wanted)
 
 -- a base may be read: it is kept, not older than the grant, and not above the version that is read
 abbrev pub is_base : HubState → GrantRow → ℕ → ℕ → Bool
 is_base state by version base = not (nat_lt base (first_open state by)) && not (nat_lt version base)
 
+-- the reply that refuses a base, with the version that is read and the oldest that may be asked for
 abbrev pub base_refused : HubState → GrantRow → Wanted → ℕ → Reply
 base_refused state by wanted version = record (refused_at wanted version cause.VersionNotKept) { oldest = Some (first_open state by) }
 

@@ -17,8 +17,8 @@ pub record Grew (before after : HubState) : Type 0 where
   pub same : (number : ℕ) → number < length before.published → version_at after number ≡ version_at before number
   pub marks : (caller : List ℕ) (number : ℕ) (mark : MarkRow) → mark_at (caller, number) before.marks ≡ Some mark → mark_at (caller, number) after.marks ≡ Some mark
 
--- the mark is that of a request which was taken at this state: it has the request's write, and the newest version gives the
--- request's token to the caller
+-- the mark is that of a request which was taken at this state: it has the request's write, and the newest version gives
+-- the request's token to the caller
 pub record IsMarkOf (wanted : Wanted) (state : HubState) (who : List ℕ) (place : ℕ) (mark : MarkRow) : Type 0 where
   pub number : mark_number wanted.mark ≡ Some place
   pub write : (path : Path) × (wanted.path ≡ Some path) × (mark.write ≡ write_of wanted path)
@@ -30,7 +30,7 @@ IsNewMark before after caller number mark =
     (mark_at (caller, number) before.marks ≡ None) × (mark_at (caller, number) after.marks ≡ Some mark)
 
 -- a step lets the state grow, and each new mark is that of the request that it takes
-pub record Goes (command : Command) (before after : HubState) : Type 0 where
+pub record GrowsBy (command : Command) (before after : HubState) : Type 0 where
   pub grew : Grew before after
   pub marks : (caller : List ℕ) (number : ℕ) (mark : MarkRow) → IsNewMark before after caller number mark
       → (wanted : Wanted) × (at : ℤ) × (command ≡ Take wanted at) × IsMarkOf wanted before caller number mark

@@ -24,18 +24,21 @@ use Rattle.version_core.specs.Changes.{rows_of}
 use Rattle.version_core.specs.HubStates.{HubState}
 use Rattle.hub_spec.specs.rules.Checks.{Entry, base_checked, check, query_or, refused_at, version_at, version_read}
 
--- what a 200 has, beside what every reply has
+-- what the reply to a read that succeeds has, beside what every reply has
 pub record Contents : Type 0 where
   pub body : List ℕ
   pub total : Option ℕ
   pub links : List LinkItem
 
+-- one object, with the members that the query chooses
 abbrev pub object_shown : Kind → Query → Record → Contents
 object_shown kind query row = record { body = single_text query.only row; total = None; links = [] }
 
+-- a page of a list, with the members that the query chooses
 abbrev pub page_shown : Kind → Query → Page → Contents
 page_shown kind query page = record { body = collection_text query.only kind page.rows; total = Some page.total; links = page.links }
 
+-- a page of what differs
 abbrev pub delta_shown : Kind → DeltaPage → Contents
 delta_shown kind page = record { body = delta_text kind page.rows page.gone; total = Some page.total; links = page.links }
 
@@ -53,6 +56,7 @@ contents_at state entry version query (Some base) =
     Some (delta_shown (kind_of_path entry.path) (page_of_delta entry.path query version (kind_delta (kind_of_path entry.path)
     (seen entry.by.grant.schools (rows_of (version_at state base).rows)) (seen entry.by.grant.schools (rows_of (version_at state version).rows)))))
 
+-- the reply with what a read shows
 abbrev pub shown : Wanted → ℕ → Query → Contents → Reply
 shown wanted version query contents = record (refused_at wanted version cause.Done) {
   body = contents.body;

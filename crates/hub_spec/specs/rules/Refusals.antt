@@ -24,15 +24,17 @@ use Rattle.version_core.specs.declared.grant_row.GrantRow.{GrantRow}
 use Rattle.version_core.specs.declared.mark.Write.{Write}
 use Rattle.version_core.specs.declared.row_change.RowChange.{RowChange}
 
--- a refusal, where its check fails
+-- the number of a refusal, where its check fails
 abbrev pub refused_if : Bool → ℕ → Option ℕ
 refused_if true number = Some number
 refused_if false number = None
 
+-- the first refusal of checks in order, where one of them fails
 abbrev pub first_of : List (Option ℕ) → Option ℕ
 first_of [] = None
 first_of (check ∷ checks) = option_or check (first_of checks)
 
+-- the caller owns the row
 abbrev pub is_of : List ℕ → Owner → Bool
 is_of caller (Caller name) = bytes_eq name caller
 is_of caller (Feed name) = false
@@ -41,6 +43,7 @@ is_of caller (Feed name) = false
 abbrev pub stored_at : BaseVersion → Write → Option RowChange
 stored_at newest write = look_up change_key (place_of_kind write.kind, write.id) newest.rows
 
+-- a row stands there, and belongs to another than the caller
 abbrev pub is_of_other : List ℕ → Option RowChange → Bool
 is_of_other caller stored = option_map_or (λ change. not (is_of caller change.owner)) stored false
 
@@ -50,6 +53,7 @@ kind_named (RefForm kind) = Some kind
 kind_named (RefsForm kind) = Some kind
 kind_named _ = None
 
+-- the value of one field names seen rows alone
 abbrev pub names_seen : Schools → List Record → Info → Option Value → Bool
 names_seen schools rows info value = option_map_or (λ kind. list_all (sees schools rows kind) (refs_in value)) (kind_named info.form) true
 
@@ -59,9 +63,11 @@ all_name_seen schools rows [] values = true
 all_name_seen schools rows (info ∷ infos) [] = true
 all_name_seen schools rows (info ∷ infos) (value ∷ values) = names_seen schools rows info value && all_name_seen schools rows infos values
 
+-- each field of the row names seen rows alone
 abbrev pub is_within : Schools → List Record → Record → Bool
 is_within schools rows row = all_name_seen schools rows (table row.kind) (all_values row)
 
+-- the session has the type of a grading period
 abbrev pub is_grading_period : Record → Bool
 is_grading_period session = has_type session (codes "gradingPeriod")
 
@@ -74,7 +80,8 @@ abbrev pub is_one_too_many : List Record → Kind → Option RowChange → Bool
 is_one_too_many rows kind (Some stored) = false
 is_one_too_many rows kind None = nat_le row_limit (count_of kind rows)
 
--- the first check that a put row fails: owner, grant, references, limit
+-- the first check that a put row fails: another owns the row (4), a reference isn't seen (5) or is of the wrong type
+-- (6), too many rows (7)
 abbrev pub put_refusal : BaseVersion → GrantRow → Write → Record → Option ℕ
 put_refusal newest by write row = first_of (
     refused_if (is_of_other by.caller (stored_at newest write)) 4
@@ -83,7 +90,7 @@ put_refusal newest by write row = first_of (
     ∷ refused_if (is_one_too_many (rows_of newest.rows) write.kind (stored_at newest write)) 7
     ∷ [])
 
--- and that a DELETE fails: object, owner
+-- the first check that a DELETE fails: no such object is seen (3), another owns the row (4)
 abbrev pub delete_refusal : BaseVersion → GrantRow → Write → Option ℕ
 delete_refusal newest by write = first_of (
     refused_if (not (sees by.grant.schools (rows_of newest.rows) write.kind write.id)) 3

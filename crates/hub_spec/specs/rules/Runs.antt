@@ -12,6 +12,8 @@ use Rattle.status_info.specs.declared.cause.Cause.TheVariants.{NoMemory, StoreFa
 use Rattle.status_info.specs.declared.reply.Reply.{Reply}
 use Rattle.version_core.specs.HubStates.{HubState}
 
+-- what a hub may be told at a moment: to publish a set, to set the grants, or to take a request; and to open its store
+-- again
 pub data Command : Type 0 where
   Publish : SetRecord → ℤ → Command
   SetGrants : List GrantEntry → ℤ → Command
@@ -46,21 +48,23 @@ Does Reopen before answer after = (answer ≡ Reopened) × (after ≡ before)
 abbrev pub ActedOrNot : Command → HubState → HubState → Type 0
 ActedOrNot command before after = (after ≡ before) ⊎ ((answer : Answer) × Does command before answer after)
 
--- how a command is told that the keeper failed, and that memory ran out
+-- how a command is told that the keeper failed
 abbrev pub failed_answer : Command → Answer
 failed_answer (Take wanted at) = Replied (sent wanted (refused wanted StoreFailed))
 failed_answer _ = KeeperFailed
 
+-- how a command is told that memory ran out
 abbrev pub memory_answer : Command → Answer
 memory_answer (Take wanted at) = Replied (sent wanted (refused wanted NoMemory))
 memory_answer _ = OutOfMemory
 
--- want of memory leaves the state, save that a write has acted or not
+-- what becomes of a state where memory is wanting: it stays, save that a request has acted or not
 abbrev pub Wants : Command → HubState → HubState → Type 0
 Wants (Take wanted at) before after = ActedOrNot (Take wanted at) before after
 Wants _ before after = after ≡ before
 
--- a step, which fails once where the keeper failed, and else not
+-- a step by a command: what it does by itself, or that the keeper failed, or that memory ran out; `failed` is 1 where
+-- the keeper failed
 pub data Steps (command : Command) (before : HubState) (answer : Answer) (after : HubState) (failed : ℕ) : Type 0 where
   Acts : Does command before answer after → failed ≡ 0 → Steps command before answer after failed
   Fails : ActedOrNot command before after → answer ≡ failed_answer command → failed ≡ 1 → Steps command before answer after failed

@@ -19,12 +19,13 @@ use Rattle.version_core.specs.declared.change.BaseVersion.{BaseVersion}
 abbrev pub HoldsRows : BaseVersion → Type 0
 HoldsRows version = AllByRecursion (λ change. IsRow change.row) version.rows
 
--- a state in which each caller has kept its grant since the version that the grant names; nothing is said of what its versions hold
+-- a state in which each caller has kept its grant since the version that the grant names; nothing is said of what its
+-- versions hold
 pub record IsGranted (hub : HubState) : Type 0 where
   pub state : IsHubState hub
   pub grants : KeepGrants hub.published
 
--- and one whose versions all hold rows
+-- a state in which each caller has kept its grant, and whose versions all hold rows
 pub record IsHub (hub : HubState) : Type 0 where
   pub state : IsHubState hub
   pub grants : KeepGrants hub.published
@@ -34,18 +35,20 @@ pub record IsHub (hub : HubState) : Type 0 where
 abbrev pub ListsRows : SetRecord → Type 0
 ListsRows set = AllByRecursion (λ listed. IsRow listed.row) (rows_in set)
 
--- what a hub may be told at a moment: sets of rows, grants that may be asked for, and requests whose path, where it is one, has a
--- good id for each object
+-- what a hub may be told at a moment: sets of rows, grants that may be asked for, and requests whose path, where it is
+-- one, has a good id for each object
 abbrev pub IsCommand : Command → Type 0
 IsCommand (Publish set at) = IsMoment at × ListsRows set
 IsCommand (SetGrants entries at) = IsMoment at × AreEntries entries
 IsCommand (Take wanted at) = IsMoment at × ForSome wanted.path IsPath
 IsCommand Reopen = ⊤
 
+-- each step has such a command
 abbrev pub AreCommands : List Step → Type 0
 AreCommands steps = AllByRecursion (λ step. IsCommand step.command) steps
 
 -- what is read of a state is read of these versions, the first of which is the oldest
 pub record ReadsAs (state : HubState) (versions : List BaseVersion) : Type 0 where
   pub newest : newest_in state ≡ last_or empty_version versions
-  pub at : (number : ℕ) → oldest_number state ≤ number → number ≤ newest_number state → version_at state number ≡ slice_index_or versions (number - oldest_number state) empty_version
+  pub at : (number : ℕ) → oldest_number state ≤ number → number ≤ newest_number state
+      → version_at state number ≡ slice_index_or versions (number - oldest_number state) empty_version

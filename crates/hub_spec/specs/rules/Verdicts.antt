@@ -20,7 +20,9 @@ use Rattle.version_core.specs.declared.mark.Write.{Write}
 use Rattle.version_core.specs.declared.row_change.RowChange.{RowChange}
 use Rattle.hub_spec.specs.rules.Refusals.{delete_refusal, put_refusal, stored_at}
 
--- a new version, nothing new, what was kept under the mark, or the number of a refusal from 1 to 8
+-- a new version, nothing new, what was kept under the mark, or the number of a refusal: 1 the mark is another write's,
+-- 2 the body tells of no row, 3 no such object is seen, 4 another owns the row, 5 a reference isn't seen, 6 one is of
+-- the wrong type, 7 the kind has too many rows, 8 the newest version is the last that may be
 pub data Verdict : Type 0 where
   Leads : BaseVersion → Verdict
   Same : Verdict
@@ -44,14 +46,17 @@ abbrev pub delete_makes : BaseVersion → ℤ → Option RowChange → Verdict
 delete_makes newest at None = Refused 3
 delete_makes newest at (Some stored) = if is_active stored.row.status then leads_with newest at (marked at stored) else Same
 
+-- the verdict on a row that is put, by the first check that it fails, where it fails one
 abbrev pub PutJudged : BaseVersion → GrantRow → Write → ℤ → Record → Option ℕ → Verdict → Type 0
 PutJudged newest by write at row (Some number) verdict = verdict ≡ Refused number
 PutJudged newest by write at row None verdict = PutMakes newest at (record { row = row; owner = Caller by.caller }) (stored_at newest write) verdict
 
+-- the verdict on a PUT, by what its body tells
 abbrev pub BodyJudged : BaseVersion → GrantRow → Write → ℤ → Result Record JsonFault → Verdict → Type 0
 BodyJudged newest by write at (Err fault) verdict = verdict ≡ Refused 2
 BodyJudged newest by write at (Ok row) verdict = PutJudged newest by write at row (put_refusal newest by write row) verdict
 
+-- the verdict on a DELETE, by the first check that it fails, where it fails one
 abbrev pub delete_judged : BaseVersion → Write → ℤ → Option ℕ → Verdict
 delete_judged newest write at (Some number) = Refused number
 delete_judged newest write at None = delete_makes newest at (stored_at newest write)
@@ -65,6 +70,7 @@ NewJudged false newest by write at verdict = BodyJudged newest by write at (put_
 abbrev pub repeated : MarkRow → Write → Verdict
 repeated held write = if same_write held.write write then Repeat held.kept else Refused 1
 
+-- the verdict on a write, by what is held under its mark
 abbrev pub Judged : Option MarkRow → BaseVersion → GrantRow → Write → ℤ → Verdict → Type 0
 Judged (Some held) newest by write at verdict = verdict ≡ repeated held write
 Judged None newest by write at verdict = NewJudged write.delete newest by write at verdict

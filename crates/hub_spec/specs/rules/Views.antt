@@ -16,8 +16,8 @@ use Rattle.version_core.specs.declared.change.BaseVersion.{BaseVersion}
 use Rattle.version_core.specs.declared.grant_row.GrantRow.{GrantRow}
 use Rattle.version_core.specs.declared.row_change.RowChange.{RowChange}
 
--- two states are one to the reader of a request: they have the same numbers and the same grant of its token, which sees the same
--- rows of the version that is read, and of the base that it asks for, where that may be read
+-- two states are one to the reader of a request: they have the same numbers and the same grant of its token, which sees
+-- the same rows of the version that is read, and of the base that it asks for, where that may be read
 pub record SameToReader (wanted : Wanted) (one other : HubState) : Type 0 where
   pub oldest : oldest_number one ≡ oldest_number other
   pub newest : newest_number one ≡ newest_number other
@@ -32,13 +32,15 @@ pub record SameToReader (wanted : Wanted) (one other : HubState) : Type 0 where
 abbrev pub own_rows : GrantRow → BaseVersion → List RowChange
 own_rows by version = filter (λ change. is_of by.caller change.owner) version.rows
 
--- two states are one to the writer of a request: they have the same newest number and the same grant of its token, which sees the same rows
--- of the newest version and owns the same; the marks of its caller are the same; and where the write goes stands a row of another in both or
--- in neither, and both have as many rows of the kind as they may, or neither
+-- two states are one to the writer of a request: they have the same newest number and the same grant of its token,
+-- which sees the same rows of the newest version and owns the same; the marks of its caller are the same; and where the
+-- write goes stands a row of another in both or in neither, and both have as many rows of the kind as they may, or
+-- neither
 pub record SameToWriter (wanted : Wanted) (one other : HubState) : Type 0 where
   pub newest : newest_number one ≡ newest_number other
   pub grant : grant_in one wanted.token ≡ grant_in other wanted.token
-  pub rows : (by : GrantRow) → grant_in one wanted.token ≡ Some by → seen by.grant.schools (rows_of (newest_in one).rows) ≡ seen by.grant.schools (rows_of (newest_in other).rows)
+  pub rows : (by : GrantRow) → grant_in one wanted.token ≡ Some by
+      → seen by.grant.schools (rows_of (newest_in one).rows) ≡ seen by.grant.schools (rows_of (newest_in other).rows)
   pub own : (by : GrantRow) → grant_in one wanted.token ≡ Some by → own_rows by (newest_in one) ≡ own_rows by (newest_in other)
   pub marks : (by : GrantRow) (number : ℕ) → grant_in one wanted.token ≡ Some by → mark_at (by.caller, number) one.marks ≡ mark_at (by.caller, number) other.marks
   pub owner : (by : GrantRow) (path : Path) → grant_in one wanted.token ≡ Some by → wanted.path ≡ Some path

@@ -16,7 +16,8 @@ use Rattle.status_info.specs.declared.request.MarkField.TheVariants as mark
 use Rattle.status_info.specs.declared.request.Verb.{Verb}
 use Rattle.status_info.specs.declared.request.Verb.TheVariants.{Get, Put, Delete, Head}
 
--- the path, where it is one; the version that the query pins, where it says one number; the query, or the cause of its first fault
+-- the path, where it is one; the version that the query pins, where it says one number; the query, or the cause of its
+-- first fault
 pub record Wanted : Type 0 where
   pub verb : Verb
   pub path : Option Path
@@ -28,22 +29,26 @@ pub record Wanted : Type 0 where
   pub close : Bool
   pub body : List ℕ
 
--- one object of a gradebook kind
+-- the route is that of one object of a gradebook kind
 abbrev pub takes_writes_at : Route → Bool
 takes_writes_at (route.One (Of kind)) = list_any (is_kind kind) gradebook_kinds
 takes_writes_at _ = false
 
+-- the path is that of one object of a gradebook kind
 abbrev pub takes_writes : Path → Bool
 takes_writes path = takes_writes_at path.route
 
+-- the method asks for a reply without its body
 abbrev pub is_head : Verb → Bool
 is_head Head = true
 is_head _ = false
 
+-- the method asks that a row be deleted
 abbrev pub is_delete : Verb → Bool
 is_delete Delete = true
 is_delete _ = false
 
+-- the method asks for a write
 abbrev pub is_write : Verb → Bool
 is_write Put = true
 is_write Delete = true
@@ -56,11 +61,13 @@ allows path Put = takes_writes path
 allows path Delete = takes_writes path
 allows path _ = false
 
+-- what a request with this method does with the rows of its path
 abbrev pub access_of : Verb → Access
 access_of Put = access.Put
 access_of Delete = access.Delete
 access_of _ = access.Read
 
+-- there is no mark, or it is a number
 abbrev pub is_good_mark : MarkField → Bool
 is_good_mark mark.Bad = false
 is_good_mark _ = true

@@ -7,17 +7,19 @@ use Rattle.version_core.specs.declared.change.BaseVersion.{BaseVersion}
 use Rattle.version_core.specs.declared.mark.MarkRow.{MarkRow}
 use Rattle.version_core.specs.declared.mark.Write.{Write}
 
--- the outcome of a write that is done
+-- the outcome of a write that is done: 9 of one that deletes, 0 of one that puts
 abbrev pub done_of : Write → ℕ
 done_of write = if write.delete then 9 else 0
 
--- what is to be kept of a verdict: all but what the mark said already
+-- what is to be kept of a verdict: nothing where the mark said it already, and nothing of refusal 1, since the mark is
+-- another write's
 abbrev pub outcome_of : Write → Verdict → Option ℕ
 outcome_of write (Leads version) = Some (done_of write)
 outcome_of write Same = Some (done_of write)
 outcome_of write (Repeat kept) = None
 outcome_of write (Refused number) = if number == 1 then None else Some number
 
+-- the published versions after a verdict
 abbrev pub published_after : List BaseVersion → Verdict → List BaseVersion
 published_after published (Leads version) = published ++ version ∷ []
 published_after published Same = published
@@ -31,6 +33,7 @@ kept_mark caller (Some number) write newest None = None
 kept_mark caller (Some number) write newest (Some outcome) =
     Some (record { caller = caller; number = number; write = write; kept = record { outcome = outcome; version = newest } })
 
+-- the marks with one more, where there is one
 abbrev pub with_kept : Option MarkRow → List MarkRow → List MarkRow
 with_kept None marks = marks
 with_kept (Some mark) marks = with_mark mark marks

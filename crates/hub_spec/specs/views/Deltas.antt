@@ -13,11 +13,11 @@ use Rattle.row_deltas.specs.Deltas.{delta_of, ids_gone, rows_put}
 use Rattle.row_deltas.specs.declared.entry.DeltaEntry.{DeltaEntry}
 use Rattle.version_core.specs.declared.change.BaseVersion.{BaseVersion}
 
--- of the rows of a kind in the cuts of two versions to a token: no other version is looked at
+-- what differs of the rows of a kind in the cuts of two versions to a token: no other version is looked at
 abbrev pub delta : BaseVersion → BaseVersion → List ℕ → Kind → List DeltaEntry
 delta before after token kind = delta_of kind (list_in before token kind) (list_in after token kind)
 
--- of the rows of a kind among all that are seen before and after
+-- what differs of the rows of a kind among all that are seen before and after
 abbrev pub kind_delta : Kind → List Record → List Record → List DeltaEntry
 kind_delta kind before after = delta_of kind (filter (is_of_kind kind) before) (filter (is_of_kind kind) after)
 

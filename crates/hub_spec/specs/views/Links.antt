@@ -24,13 +24,16 @@ segments_text (Word word ∷ segments) ids = codes "/" ++ word ++ segments_text 
 segments_text (Object c ∷ segments) [] = codes "/" ++ segments_text segments []
 segments_text (Object c ∷ segments) (id ∷ ids) = codes "/" ++ flat_map encoded_byte id ++ segments_text segments ids
 
+-- the path as a link writes it, from the root on
 unfoldable pub path_text : PathParts → List ℕ
 path_text path = codes "/ims/oneroster/v1p1" ++ segments_text (segments_of path.route) path.ids
 
+-- the word for a direction
 abbrev pub order_word : Order → List ℕ
 order_word Asc = codes "asc"
 order_word Desc = codes "desc"
 
+-- a parameter whose value is a number
 abbrev pub number_parameter : List ℕ → ℕ → List ℕ
 number_parameter name n = name ++ codes "=" ++ decimal n
 
@@ -39,11 +42,13 @@ abbrev pub given_parameter : List ℕ → Option (List ℕ) → List ℕ
 given_parameter name None = []
 given_parameter name (Some value) = codes "&" ++ name ++ codes "=" ++ byte_serialize value
 
--- the version from which on a read is told what differs: a kind's collection takes one, and any other path passes it over
+-- the version from which on a read is told what differs: a kind's collection takes one, and any other path passes it
+-- over
 abbrev pub base_for : Route → Option ℕ → Option ℕ
 base_for (route.All (Of kind)) since = since
 base_for _ since = None
 
+-- the parameter for the base, where there is one
 abbrev pub base_parameter : Option ℕ → List ℕ
 base_parameter None = []
 base_parameter (Some base) = codes "&" ++ number_parameter (codes "hubSince") base
@@ -61,6 +66,7 @@ target path query version offset =
     ++ base_parameter (base_for path.route query.since)
     ++ codes "&" ++ number_parameter (codes "hubVersion") version
 
+-- the link to the page at an offset
 abbrev pub link : (ℕ → List ℕ) → Rel → ℕ → LinkItem
 link target_at rel offset = record { rel = rel; target = target_at offset }
 
@@ -71,5 +77,6 @@ links_among target_at limit offset total =
     ++ (if nat_lt 0 offset then link target_at Prev (offset - limit) ∷ [] else [])
     ++ link target_at First 0 ∷ link target_at Last ((total - 1) / limit * limit) ∷ []
 
+-- the links of a page of a path and a query, in one version, where the list has so many rows
 abbrev pub links_of : PathParts → Query → ℕ → ℕ → List LinkItem
 links_of path query version total = links_among (target path query version) query.limit query.offset total

@@ -19,10 +19,11 @@ abbrev pub is_single : Route → Bool
 is_single (route.One c) = true
 is_single _ = false
 
--- the collection whose rows a path lists, and their kind
+-- the collection whose rows a path lists
 abbrev pub listed_by : PathParts → Collection
 listed_by path = (line_of path.route).lists
 
+-- the kind of the rows that a path lists
 abbrev pub kind_of_path : PathParts → Kind
 kind_of_path path = kind_listed path.route
 
@@ -32,6 +33,7 @@ objects_stand rows [] ids = true
 objects_stand rows (c ∷ cs) [] = false
 objects_stand rows (c ∷ cs) (id ∷ ids) = stands_where (is_in c) rows (kind_in c) id && objects_stand rows cs ids
 
+-- each object that the path names is among these rows
 abbrev pub has_objects : List Record → PathParts → Bool
 has_objects rows path = objects_stand rows (objects_in path.route) path.ids
 
@@ -43,6 +45,7 @@ id_at path place = slice_index_or path.ids place []
 unfoldable pub belongs : List Record → PathParts → Record → Bool
 belongs rows path row = is_in (listed_by path) row && rule_of path.route rows (id_at path 0) (id_at path 1) row
 
+-- the row belongs to the path, and passes the filter of the query
 abbrev pub is_listed : List Record → PathParts → Query → Record → Bool
 is_listed rows path query row = belongs rows path row && passes query.test row
 

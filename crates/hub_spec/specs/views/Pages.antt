@@ -15,6 +15,7 @@ use Rattle.roster_values.specs.declared.kind.Kind.{Kind}
 abbrev pub slice : {A : Type 0} → ℕ → ℕ → List A → List A
 slice limit offset xs = take limit (drop offset xs)
 
+-- the page that a query asks for of a list, with the links to its other pages
 abbrev pub page_of_list : PathParts → Query → ℕ → List Record → Page
 page_of_list path query version rows =
     record { rows = slice query.limit query.offset rows; total = length rows; links = links_of path query version (length rows) }

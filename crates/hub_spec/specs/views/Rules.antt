@@ -15,9 +15,11 @@ use Rattle.roster_values.specs.declared.kind.Kind.TheVariants.{Classes, Enrollme
 use Rattle.roster_values.specs.declared.kind.Kind.TheVariants.{CourseResources}
 use Rattle.version_core.specs.References.{names}
 
+-- the role of the row is this word
 abbrev pub has_role : Record → List ℕ → Bool
 has_role row word = is_word (field_of row (codes "role")) word
 
+-- the row has the type or the role that a collection asks for
 abbrev pub is_of_type : Collection → Record → Bool
 is_of_type (Of kind) row = true
 is_of_type Schools row = has_type row (codes "school")
@@ -34,13 +36,15 @@ is_in collection row = is_of_kind (kind_in collection) row && is_of_type collect
 abbrev pub Rule : Type 0
 Rule = List Record → List ℕ → List ℕ → Record → Bool
 
+-- each row belongs to the path
 abbrev pub any_row : Rule
 any_row rows first second row = true
 
--- a field of the row names the first object, or the second
+-- a field of the row names the first object
 abbrev pub names_first : List ℕ → Rule
 names_first field rows first second row = names field first row
 
+-- a field of the row names the second object
 abbrev pub names_second : List ℕ → Rule
 names_second field rows first second row = names field second row
 
@@ -56,12 +60,15 @@ naming field kind rule rows first second row = leads_to (rule rows first second)
 abbrev pub if_second : Kind → Rule → Rule
 if_second kind rule rows first second row = stands_where (rule rows first second) rows kind second
 
+-- the role of the row is this word, whatever the path names
 abbrev pub of_role : List ℕ → Rule
 of_role word rows first second row = has_role row word
 
+-- both rules hold
 abbrev pub both : Rule → Rule → Rule
 both one other rows first second row = one rows first second row && other rows first second row
 
+-- one of the rules holds
 abbrev pub either : Rule → Rule → Rule
 either one other rows first second row = one rows first second row || other rows first second row
 

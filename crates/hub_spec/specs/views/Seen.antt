@@ -22,38 +22,34 @@ leads_up rows id (suc n) school = leads_up rows id n school || is_id id (nth_par
 unfoldable pub sees_org : List (List ℕ) → List Record → Record → Bool
 sees_org schools rows org = list_any (leads_up rows org.id (count_of Orgs rows)) schools
 
--- its school is listed
+-- the row's school is listed
 unfoldable pub is_at_school : List (List ℕ) → Record → Bool
 is_at_school schools row = list_any (is_one_of schools) (named_in (codes "school") row)
 
--- one of its orgs is listed, or an enrollment whose school is listed names it
+-- one of the user's orgs is listed, or an enrollment whose school is listed names the user
 unfoldable pub sees_user : List (List ℕ) → List Record → Record → Bool
 sees_user schools rows user =
     list_any (is_one_of schools) (named_in (codes "orgs") user)
     || is_named_by (is_at_school schools) rows Enrollments (codes "user") user
 
--- its org is seen, or a seen class names it
+-- the course's org is seen, or a seen class names the course
 unfoldable pub sees_course : List (List ℕ) → List Record → Record → Bool
 sees_course schools rows course =
     leads_to (sees_org schools rows) rows (codes "org") Orgs course
     || is_named_by (is_at_school schools) rows Classes (codes "course") course
 
--- its class is seen
-unfoldable pub sees_line_item : List (List ℕ) → List Record → Record → Bool
-sees_line_item schools rows item = leads_to (is_at_school schools) rows (codes "class") Classes item
+-- the row's class is seen
+unfoldable pub sees_class_of : List (List ℕ) → List Record → Record → Bool
+sees_class_of schools rows row = leads_to (is_at_school schools) rows (codes "class") Classes row
 
--- its class is seen
-unfoldable pub sees_class_resource : List (List ℕ) → List Record → Record → Bool
-sees_class_resource schools rows row = leads_to (is_at_school schools) rows (codes "class") Classes row
-
--- its course is seen
+-- the row's course is seen
 unfoldable pub sees_course_resource : List (List ℕ) → List Record → Record → Bool
 sees_course_resource schools rows row = leads_to (sees_course schools rows) rows (codes "course") Courses row
 
--- a seen class resource or a seen course resource names it
+-- a seen class resource or a seen course resource names the resource
 unfoldable pub sees_resource : List (List ℕ) → List Record → Record → Bool
 sees_resource schools rows resource =
-    is_named_by (sees_class_resource schools rows) rows ClassResources (codes "resource") resource
+    is_named_by (sees_class_of schools rows) rows ClassResources (codes "resource") resource
     || is_named_by (sees_course_resource schools rows) rows CourseResources (codes "resource") resource
 
 -- what is seen of each kind under a list of schools
@@ -66,10 +62,10 @@ sees_at schools rows Users row = sees_user schools rows row
 sees_at schools rows Enrollments row = is_at_school schools row
 sees_at schools rows Demographics row = stands_where (sees_user schools rows) rows Users row.id
 sees_at schools rows Categories row = true
-sees_at schools rows LineItems row = sees_line_item schools rows row
-sees_at schools rows Results row = leads_to (sees_line_item schools rows) rows (codes "lineItem") LineItems row
+sees_at schools rows LineItems row = sees_class_of schools rows row
+sees_at schools rows Results row = leads_to (sees_class_of schools rows) rows (codes "lineItem") LineItems row
 sees_at schools rows Resources row = sees_resource schools rows row
-sees_at schools rows ClassResources row = sees_class_resource schools rows row
+sees_at schools rows ClassResources row = sees_class_of schools rows row
 sees_at schools rows CourseResources row = sees_course_resource schools rows row
 
 -- a row among others is seen

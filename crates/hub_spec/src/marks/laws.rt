@@ -10,7 +10,7 @@ ghost use Rattle.hub_spec.specs.rules.Growth.{Grew};
 ghost use Rattle.hub_spec.specs.rules.Wanted.{Wanted};
 ghost use Rattle.hub_spec.specs.marks.Agreement.{IsCaller, IsOfEntry, MarksAgree};
 ghost use Rattle.hub_spec.specs.marks.Alone.{NoMarkBehind, OnlySent};
-ghost use Rattle.hub_spec.specs.marks.Answering.{SaysWrite};
+ghost use Rattle.hub_spec.specs.marks.Answering.{IsWriteReply};
 ghost use Rattle.hub_spec.specs.marks.Marked.{Marked, marked_by, marked_in};
 ghost use Rattle.hub_spec.specs.marks.Sending.{write_request};
 ghost use Rattle.roster_texts.specs.Texts.{is_id};
@@ -19,10 +19,11 @@ ghost use Rattle.status_info.specs.declared.request.Echo.{Echo};
 ghost use Rattle.status_info.specs.declared.request.Request.{Request};
 ghost use Rattle.version_core.specs.HubStates.{HubState};
 
-/// A marked write is answered with one of four, of which only the last shows a mark: 401, 403, 422, or what is kept under the mark.
+/// A marked write is answered with one of four, of which only the last shows a mark: no grant has its token, its scopes
+/// don't open the access, its mark is held with another write, or here is what is kept under the mark.
 pub fn a_marked_write_is_answered()
     ensures { (state : HubState) (wanted : Wanted) (marked : Marked) (at : ℤ) (reply : Reply) (next : HubState) → marked_in wanted ≡ Some marked
-        → Answers state wanted at reply next → SaysWrite state wanted.token marked reply next }
+        → Answers state wanted at reply next → IsWriteReply state wanted.token marked reply next }
 {}
 
 /// The request that sends a marked write, read again, has that write and its mark, whatever its id.
@@ -31,8 +32,8 @@ pub fn a_write_request_is_read_as_its_write()
         → marked_by (write_request token marked echo) ≡ Some marked }
 {}
 
-/// The agreement is kept by all that a hub does, and by requests that carry an entry which is settled or is the first that isn't, or no
-/// mark.
+/// The agreement is kept by all that a hub does, and by requests that carry an entry which is settled or is the first
+/// that isn't, or no mark.
 pub fn traffic_keeps_the_agreement()
     ensures { (entries : List OutEntry) (last : ℕ) (before after : HubState) (more sent : List Request) → Grew before after
         → AllByRecursion (λ request. IfSome (marked_by request) (λ marked. IsOfEntry marked entries × (marked.number ≤ last))) more

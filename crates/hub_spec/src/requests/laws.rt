@@ -4,8 +4,8 @@ ghost use Rattle.std.specs.Prelude.{◌≡◌, ◌<◌, ◌^◌, ℤ, ℕ, List,
 ghost use Rattle.hub_spec.specs.requests.DeltaRequests.{delta_request};
 ghost use Rattle.hub_spec.specs.requests.PageRequests.{CanAsk, page_request};
 ghost use Rattle.hub_spec.specs.requests.Requests.{AnswersRequest, wanted_by};
-ghost use Rattle.hub_spec.specs.rules.Asking.{Asking, Says, asking};
-ghost use Rattle.hub_spec.specs.rules.DeltaAsking.{SaysFrom, asking_from};
+ghost use Rattle.hub_spec.specs.rules.Asking.{Asking, IsPageReply, asking};
+ghost use Rattle.hub_spec.specs.rules.DeltaAsking.{IsDeltaReply, asking_from};
 ghost use Rattle.hub_spec.specs.rules.States.{IsHub};
 ghost use Rattle.status_info.specs.declared.reply.Reply.{Reply};
 ghost use Rattle.status_info.specs.declared.request.Echo.{Echo};
@@ -16,9 +16,10 @@ pub fn a_page_request_wants_its_page()
     ensures { (ask : Asking) → CanAsk ask → (token : List ℕ) (echo : Option Echo) → wanted_by (page_request token ask echo) ≡ asking token ask echo }
 {}
 
-/// It is answered with 401, 404 with the oldest version, 403, or a page of the cut, and leaves the state.
+/// A consumer's request for a page leaves the state, and is answered with one of four: no grant has its token, its pin
+/// can't be read, its scopes don't open the kind, or here is a page of the cut.
 pub fn a_page_request_is_told_of_the_cut()
-    ensures { (state : HubState) → IsHub state → (ask : Asking) → CanAsk ask → (token : List ℕ) (echo : Option Echo) (at : ℤ) (reply : Reply) (after : HubState) → AnswersRequest state (page_request token ask echo) at reply after → Says state token ask reply × (after ≡ state) }
+    ensures { (state : HubState) → IsHub state → (ask : Asking) → CanAsk ask → (token : List ℕ) (echo : Option Echo) (at : ℤ) (reply : Reply) (after : HubState) → AnswersRequest state (page_request token ask echo) at reply after → IsPageReply state token ask reply × (after ≡ state) }
 {}
 
 /// A consumer's request for a page of what differs from a base on, read again, wants that page.
@@ -26,8 +27,10 @@ pub fn a_delta_request_wants_its_page()
     ensures { (ask : Asking) → CanAsk ask → (base : ℕ) → base < 10 ^ 18 → (token : List ℕ) (echo : Option Echo) → wanted_by (delta_request token ask base echo) ≡ asking_from token ask base echo }
 {}
 
-/// It is answered with 401, 404 with the oldest version, 403, or a page of what differs between the cuts, and leaves the state.
+/// A consumer's request for a page of what differs leaves the state, and is answered with one of five: no grant has its
+/// token, its pin or its base can't be read, its scopes don't open the kind, or here is a page of what differs between
+/// the cuts.
 pub fn a_delta_request_is_told_of_the_delta()
     ensures { (state : HubState) → IsHub state → (ask : Asking) → CanAsk ask → (base : ℕ) → base < 10 ^ 18 → (token : List ℕ) (echo : Option Echo) (at : ℤ) (reply : Reply) (after : HubState)
-        → AnswersRequest state (delta_request token ask base echo) at reply after → SaysFrom state token ask base reply × (after ≡ state) }
+        → AnswersRequest state (delta_request token ask base echo) at reply after → IsDeltaReply state token ask base reply × (after ≡ state) }
 {}

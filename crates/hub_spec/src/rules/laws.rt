@@ -1,11 +1,11 @@
-//! What holds of the abstract hub. Each function here does nothing; its contract is a law.
+//! What holds of the hub as it is defined. Each function here does nothing; its contract is a law.
 
 ghost use Rattle.std.specs.Prelude.{◌≡◌, ℕ, ℤ, List, Option, drop, false, true};
 ghost use Rattle.version_changes.specs.grants.Next.{IsNext};
 ghost use Rattle.hub_spec.specs.rules.Answers.{Answers};
-ghost use Rattle.hub_spec.specs.rules.Asking.{Asking, Says, asking};
-ghost use Rattle.hub_spec.specs.rules.DeltaAsking.{SaysFrom, asking_from};
-ghost use Rattle.hub_spec.specs.rules.Growth.{Goes, Grew, IsNewMark, IsRunMark};
+ghost use Rattle.hub_spec.specs.rules.Asking.{Asking, IsPageReply, asking};
+ghost use Rattle.hub_spec.specs.rules.DeltaAsking.{IsDeltaReply, asking_from};
+ghost use Rattle.hub_spec.specs.rules.Growth.{GrowsBy, Grew, IsNewMark, IsRunMark};
 ghost use Rattle.hub_spec.specs.rules.Runs.{Answer, Command, Runs, Step, Steps, end_of};
 ghost use Rattle.hub_spec.specs.rules.States.{AreCommands, IsCommand, IsHub, ReadsAs};
 ghost use Rattle.hub_spec.specs.rules.Verdicts.{Judges, Leads, Verdict, newest_in};
@@ -34,21 +34,22 @@ pub fn a_read_leaves_the_state()
     ensures { (before : HubState) (wanted : Wanted) (at : ℤ) (reply : Reply) (after : HubState) → is_write wanted.verb ≡ false → Answers before wanted at reply after → after ≡ before }
 {}
 
-/// A consumer's request for a page is answered with one of four: 401, 404 with the oldest version, 403, or a page of the
-/// cut of the version that is read to the token.
+/// A consumer's request for a page is answered with one of four: no grant has its token, its pin can't be read, its
+/// scopes don't open the kind, or here is a page of the cut of the version that is read to the token.
 pub fn a_consumer_is_told_of_the_cut()
-    ensures { (state : HubState) → IsHub state → (token : List ℕ) (ask : Asking) (echo : Option Echo) (at : ℤ) (reply : Reply) (after : HubState) → Answers state (asking token ask echo) at reply after → Says state token ask reply × (after ≡ state) }
+    ensures { (state : HubState) → IsHub state → (token : List ℕ) (ask : Asking) (echo : Option Echo) (at : ℤ) (reply : Reply) (after : HubState) → Answers state (asking token ask echo) at reply after → IsPageReply state token ask reply × (after ≡ state) }
 {}
 
-/// And its request for what differs from a base on is answered with one of five: no grant has its token, its pin or its base can't be
-/// read, its scopes don't open the kind, or here is a page of what differs between the cuts of both versions to the token.
+/// A consumer's request for what differs from a base on is answered with one of five: no grant has its token, its pin
+/// or its base can't be read, its scopes don't open the kind, or here is a page of what differs between the cuts of
+/// both versions to the token.
 pub fn a_consumer_is_told_of_the_delta()
-    ensures { (state : HubState) → IsHub state → (token : List ℕ) (ask : Asking) (base : ℕ) (echo : Option Echo) (at : ℤ) (reply : Reply) (after : HubState) → Answers state (asking_from token ask base echo) at reply after → SaysFrom state token ask base reply × (after ≡ state) }
+    ensures { (state : HubState) → IsHub state → (token : List ℕ) (ask : Asking) (base : ℕ) (echo : Option Echo) (at : ℤ) (reply : Reply) (after : HubState) → Answers state (asking_from token ask base echo) at reply after → IsDeltaReply state token ask base reply × (after ≡ state) }
 {}
 
 /// In a step a state grows, and a mark that is new is that of the request which the step takes.
 pub fn a_step_lets_the_state_grow()
-    ensures { (command : Command) (before : HubState) (answer : Answer) (after : HubState) (failed : ℕ) → Steps command before answer after failed → Goes command before after }
+    ensures { (command : Command) (before : HubState) (answer : Answer) (after : HubState) (failed : ℕ) → Steps command before answer after failed → GrowsBy command before after }
 {}
 
 /// In a run a state grows.
@@ -66,7 +67,7 @@ pub fn a_step_keeps_a_hub()
     ensures { (before : HubState) → IsHub before → (command : Command) → IsCommand command → (answer : Answer) (after : HubState) (failed : ℕ) → Steps command before answer after failed → IsHub after }
 {}
 
-/// And so does a run.
+/// A run leads from a state that a hub can have to another.
 pub fn a_run_keeps_a_hub()
     ensures { (before : HubState) → IsHub before → (steps : List Step) (faults : ℕ) → AreCommands steps → Runs before steps faults → IsHub (end_of before steps) }
 {}

@@ -18,7 +18,7 @@ ghost use Rattle.version_core.specs.Changes.{rows_of};
 ghost use Rattle.version_core.specs.Grants.{grant_of};
 ghost use Rattle.version_core.specs.declared.change.BaseVersion.{BaseVersion};
 ghost use Rattle.std.specs.List.{IsDistinct};
-ghost use Rattle.hub_spec.specs.views.Once.{same_key};
+ghost use Rattle.hub_spec.specs.views.SameKeys.{same_key};
 
 /// A stable sort by the order of a list arranges rows by it.
 pub fn a_stable_sort_arranges_rows()

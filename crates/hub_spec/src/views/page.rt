@@ -13,8 +13,8 @@ pub struct Page {
     pub links: Items<LinkItem>,
 }
 
-/// Entries of what differs between two versions of the rows of a kind: the rows that are put and the ids that are gone; how many
-/// entries there are in all, and where the other pages are.
+/// Entries of what differs between two versions of the rows of a kind: the rows that are put and the ids that are gone;
+/// how many entries there are in all, and where the other pages are.
 #[derive(Drop)]
 pub struct DeltaPage {
     pub rows: Items<Row>,

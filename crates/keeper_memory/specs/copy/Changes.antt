@@ -19,15 +19,17 @@ use Rattle.keeper_memory.specs.copy.States.{stage_of}
 
 -- ---- when
 
--- rows of the next kind, with ids above those that are there
+-- a page may be added to the stage: rows of the next kind, with ids above those that are there
 abbrev pub CanPage : Kind → List Record → Option StageState → Type 0
 CanPage kind rows None = ⊥
 CanPage kind rows (Some s) = (place_of_kind kind ≡ s.kinds_done) × All (λ row. row.kind ≡ kind) rows × (ascends s.last rows ≡ true)
 
+-- there is a stage, and all its kinds are done
 abbrev pub AllDone : Option StageState → Type 0
 AllDone None = ⊥
 AllDone (Some s) = s.kinds_done ≡ kind_count
 
+-- the change may be made of the copy
 abbrev pub CanChange : CopyChange → Copy → Type 0
 CanChange (Run run) c = (c.run < run) × (run ≤ LAST)
 CanChange (Begin pin token) c = (c.stage ≡ None) × (pin ≤ LAST)
@@ -39,6 +41,7 @@ CanChange (Settle number status version) c = IsSomeAnd (first_unsettled c.entrie
 
 -- ---- what
 
+-- a stage that was begun just now: no kind is done, and no row is there
 abbrev pub begun : ℕ → List ℕ → Stage
 begun pin token = record { pin = pin; token = token; done = []; present = []; total = None }
 
@@ -51,6 +54,7 @@ stage_after s rows total false = record { pin = s.pin; token = s.token; done = s
 abbrev pub held_of : Stage → Held
 held_of s = record { version = s.pin; token = Some s.token; lists = s.done }
 
+-- the copy with its stage in the place of what is held
 abbrev pub swapped : Copy → Option Stage → Copy
 swapped c None = c
 swapped c (Some s) = record c { held = Some (held_of s); stage = None }
@@ -61,6 +65,7 @@ settled_first settled [] = []
 settled_first settled (entry ∷ entries) =
     if is_none entry.settled then record entry { settled = Some settled } ∷ entries else entry ∷ settled_first settled entries
 
+-- what a change makes of a copy
 abbrev pub copy_after : CopyChange → Copy → Copy
 copy_after (Run run) c = record c { run = run }
 copy_after (Begin pin token) c = record c { stage = Some (begun pin token) }

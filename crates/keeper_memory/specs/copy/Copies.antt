@@ -27,6 +27,8 @@ pub record Held : Type 0 where
   pub token : Option (List ℕ)
   pub lists : List (List Record)
 
+-- what a consumer keeps: the number of its last run, what it holds, what it gathers, and its outbox with the number of
+-- the last entry
 pub record Copy : Type 0 where
   pub run : ℕ
   pub held : Option Held
@@ -52,12 +54,13 @@ first_unsettled entries = find (λ entry. is_none entry.settled) entries
 
 -- ---- what every copy meets
 
+-- what is held may be: a list for each kind, of a version with a number that may be
 pub record IsHeld (h : Held) : Type 0 where
   pub version : h.version ≤ LAST
   pub all : length h.lists ≡ kind_count
   pub lists : AreLists all_kinds h.lists
 
--- once all kinds are done there is no next kind
+-- a stage may be: its lists are those of the first kinds; once all kinds are done there is no next kind
 pub record IsStage (s : Stage) : Type 0 where
   pub pin : s.pin ≤ LAST
   pub done : AreLists all_kinds s.done
@@ -91,12 +94,14 @@ abbrev pub SettledFirst : List OutEntry → Type 0
 SettledFirst [] = ⊤
 SettledFirst (entry ∷ entries) = MatchOption entry.settled (All (λ e. e.settled ≡ None) entries) (λ _. SettledFirst entries)
 
+-- entries of an outbox, up to the last number
 pub record AreEntries (last : ℕ) (entries : List OutEntry) : Type 0 where
   pub writes : All (λ entry. IsOutWrite entry.write) entries
   pub rise : NumbersRise 0 entries
   pub below : All (λ entry. entry.number ≤ last) entries
   pub settled : SettledFirst entries
 
+-- what every copy meets
 pub record IsCopy (c : Copy) : Type 0 where
   pub run : c.run ≤ LAST
   pub held : IfSome c.held IsHeld

@@ -11,9 +11,9 @@ use roster_types::row::Row;
 use roster_values::Kind;
 use std::alloc::Global;
 
-/// Keeps what a consumer needs to go on after it is stopped: the lists that it holds, the stage that it gathers and the writes that it
-/// has to send. What a keeper stands for after a call is told by what it stood for before it. One that tells nothing stands for no copy,
-/// and one that doesn't know whether its last commit acted may stand for two.
+/// Keeps what a consumer needs to go on after it is stopped: the lists that it holds, the stage that it gathers and the
+/// writes that it has to send. What a keeper stands for after a call is told by what it stood for before it. One that
+/// tells nothing stands for no copy, and one that doesn't know whether its last commit acted may stand for two.
 pub trait CopyKeeper {
     ghost use Rattle.keeper_memory.specs.copy.Copies.{Copy, IsCopy, entry_after, held_list};
     ghost use Rattle.keeper_memory.specs.copy.Changes.{CanChange, Commits};

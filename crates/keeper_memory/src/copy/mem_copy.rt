@@ -68,8 +68,8 @@ impl MemCopy {
         }
     }
 
-    /// The same copy, of which these calls fail: the commits of these numbers, from 1 on, before and after they have acted, and
-    /// the reads of these.
+    /// The same copy, of which these calls fail: the commits of these numbers, from 1 on, before and after they have
+    /// acted, and the reads of these.
     pub fn with_failures(self, before: Vec<u64>, after: Vec<u64>, reads: Vec<u64>) -> MemCopy
         ensures copy { result.copy ≡ self.copy }
         ensures plan { result.plan ≡ planned before.items after.items reads.items }
@@ -177,6 +177,7 @@ impl CopyKeeper for MemCopy {
         ensures faults { result ≡ self.now.plan.faults }
         ensures copy { IsCopy self.now.copy }
     {
+        // Read for the invariant.
         let _ = &self.tables;
         self.failures.faults()
     }

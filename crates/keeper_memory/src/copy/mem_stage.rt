@@ -17,8 +17,8 @@ use std::alloc::Global;
 use std::marker::Model;
 use std::mem::replace;
 
-/// The rows of an unfinished synchronisation: the lists of the kinds that are done, and what has come of the next kind, with its whole
-/// number where that is known. A clause sees a `Stage`.
+/// The rows of an unfinished synchronisation: the lists of the kinds that are done, and what has come of the next kind,
+/// with its whole number where that is known. A clause sees a `Stage`.
 #[derive(Drop)]
 pub(crate) struct MemStage {
     pin: u64,

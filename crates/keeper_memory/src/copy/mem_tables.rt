@@ -23,7 +23,7 @@ use std::alloc::Global;
 use std::marker::Model;
 use version_core::mark::Write;
 
-/// What a copy in memory holds; contracts see it as a `Copy`.
+/// What a copy in memory holds. A clause sees a `Copy`.
 #[derive(Drop)]
 pub(crate) struct MemCopyTables {
     run: u64,
@@ -58,6 +58,7 @@ fn token_of(alloc: Global, held: &Option<MemHeld>) -> Result<Option<Token>, NoMe
     }
 }
 
+// The small part of the stage, where there is one.
 fn state_of(alloc: Global, stage: &Option<MemStage>) -> Result<Option<StageState>, NoMemory>
     requires { IfSome stage.now (λ s. length s.done ≤ kind_count) }
     ensures { IfOk result (λ s. s ≡ option_map small_stage stage.now) }
@@ -68,12 +69,14 @@ fn state_of(alloc: Global, stage: &Option<MemStage>) -> Result<Option<StageState
     }
 }
 
+// What tables tell of the held rows, under the token that they were copied with.
 fn held_of(held: Option<HeldRows>, token: Option<Token>) -> Option<MemHeld>
     ensures { result ≡ option_map (held_in token) held }
 {
     Some(MemHeld::holding(held?, token))
 }
 
+// What tables tell of the stage, where there is one.
 fn stage_of(alloc: Global, stage: Option<StagedRows>) -> Option<MemStage>
     ensures { result ≡ option_map stage_in stage }
 {
@@ -168,6 +171,7 @@ impl MemCopyTables {
         }
     }
 
+    // Adds rows of the next kind to the stage.
     fn page(
         &mut self,
         alloc: Global,
@@ -184,6 +188,7 @@ impl MemCopyTables {
         }
     }
 
+    // Lets the stage take the place of what is held.
     fn swap(&mut self)
         ensures { self.new ≡ copy_after Swap self.old }
     {
@@ -193,6 +198,7 @@ impl MemCopyTables {
         }
     }
 
+    // Adds an entry that isn't settled.
     fn enter(&mut self, number: u64, write: Write) -> Result<(), NoMemory>
         ensures ok { OnOk result (self.new ≡ copy_after (Enter number write) self.old) }
         ensures err { OnErr result (self.new ≡ self.old) }

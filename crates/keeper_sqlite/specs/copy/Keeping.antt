@@ -32,7 +32,8 @@ abbrev pub AreEditsOf : ℕ → Copy → CopyChange → List Edit → Type 0
 AreEditsOf side c change es = (es ≡ edits side c change) × FitsChange change c
 
 -- what the keeper of a copy tells: of its store, and of the store as it was handed in
-abbrev pub CopyTells : {Store : Type 0} → (Store → Items → Type 0) → (Store → Items → Type 0) → Store × Store → Copy → Type 0
+abbrev pub CopyTells : {Store : Type 0} → (Store → Items → Type 0) → (Store → Items → Type 0) → Store × Store → Copy
+    → Type 0
 CopyTells stands_for may_hold keeper c = Tells KeepOrNew (stands_for keeper.1) (may_hold keeper.0) c
 
 -- what calls make of the keeper of a copy: what was handed in stays known, and the store shows its past

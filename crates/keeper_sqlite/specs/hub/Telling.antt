@@ -15,14 +15,17 @@ abbrev pub StillKeep : {X : Type 0} → (Items → X → Type 0) → (Items → 
 StillKeep keep at_first now trusted = KeepSome keep at_first → trusted → KeepSome keep now
 
 -- the items kept a state at first, and those that an open may find keep this one
-pub record Tells {X : Type 0} (keep : Items → X → Type 0) (at_first may_hold : Items → Type 0) (state : X) : Type 0 where
+pub record Tells {X : Type 0} (keep : Items → X → Type 0) (at_first may_hold : Items → Type 0)
+    (state : X) : Type 0 where
   pub first : KeepSome keep at_first
   pub items : Items
   pub found : may_hold items
   pub kept : keep items state
 
--- what the keeper of a hub's state tells: of its store, of the store as it was handed in, and of how many versions a new one keeps
-abbrev pub HubTells : {Store : Type 0} → (Store → Items → Type 0) → (Store → Items → Type 0) → Store × Store × ℕ → KeptState → Type 0
+-- what the keeper of a hub's state tells: of its store, of the store as it was handed in, and of how many versions a
+-- new one keeps
+abbrev pub HubTells : {Store : Type 0} → (Store → Items → Type 0) → (Store → Items → Type 0) → Store × Store × ℕ
+    → KeptState → Type 0
 HubTells stands_for may_hold hub state = Tells (KeepOrNew hub.2) (stands_for hub.1) (may_hold hub.0) state
 
 -- what calls make of the keeper of a hub: what was handed in stays known, and the store shows its past

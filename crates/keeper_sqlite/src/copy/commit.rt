@@ -10,8 +10,8 @@ ghost use Rattle.keeper_sqlite.specs.hub.Keeping.{Became, ComeOf, HasOtherFormat
 ghost use Rattle.keeper_sqlite.specs.copy.Keeping.{KeepEither, KeepOrNew};
 ghost use Rattle.keeper_sqlite.specs.Trust.{Clean};
 
+use crate::copy::edits::edits_for;
 use crate::copy::prepare::prepare;
-use crate::copy::wanted::edits_wanted;
 use crate::stored_items::StoredItems;
 use keeper_memory::CopyChange;
 use roster_base::KeeperError;
@@ -25,15 +25,17 @@ fn commit_ready<S: StoredItems>(
 ) -> Result<(), KeeperError>
     ensures ok { (c : Copy) → Keeps Keep (S.stands_for store.old) c → CanChange change c → S.is_trusted store.new
         → OnOk result (Keeps Keep (S.stands_for store.new) (copy_after change c)) }
-    ensures err { (c : Copy) → Keeps Keep (S.stands_for store.old) c → OnErr result (Keeps Keep (S.stands_for store.new) c) }
+    ensures err { (c : Copy) → Keeps Keep (S.stands_for store.old) c
+        → OnErr result (Keeps Keep (S.stands_for store.new) c) }
     ensures cause { CountsFailure (S.fault_count store.old) (S.fault_count store.new) result }
     ensures trust { S.is_trusted store.new → S.is_trusted store.old }
     ensures signs { Stay (S.shows store.new) (S.shows store.old) }
     ensures made { (n : Items) → S.may_hold store.new n
-        → ComeOf (λ m. IsErr result × S.may_hold store.old m) (S.is_trusted store.old) (S.stands_for store.old) Keep (λ c now. CanChange change c → Became Keep (copy_after change) result c now) n }
+        → ComeOf (λ m. IsErr result × S.may_hold store.old m) (S.is_trusted store.old) (S.stands_for store.old) Keep
+        (λ c now. CanChange change c → Became Keep (copy_after change) result c now) n }
     ensures live { S.shows store.new Clean → OnOk result (S.is_trusted store.new) }
 {
-    let edits = edits_wanted(alloc, store, change)?;
+    let edits = edits_for(alloc, store, change)?;
     store.commit(edits.as_slice())
 }
 
@@ -45,14 +47,19 @@ pub(crate) fn commit_to<S: StoredItems>(
 ) -> Result<(), KeeperError>
     ensures ok { (c : Copy) → Keeps KeepOrNew (S.stands_for store.old) c → CanChange change c → S.is_trusted store.new
         → OnOk result (Keeps Keep (S.stands_for store.new) (copy_after change c)) }
-    ensures err { (c : Copy) → Keeps KeepOrNew (S.stands_for store.old) c → S.is_trusted store.new → OnErr result (Keeps KeepOrNew (S.stands_for store.new) c) }
-    ensures whole { (c : Copy) → Keeps KeepEither (S.stands_for store.old) c → S.is_trusted store.new → OnErr result (Keeps KeepEither (S.stands_for store.new) c) }
-    ensures other { (m : Items) → S.stands_for store.old m → HasOtherFormat m → S.is_trusted store.new → IsErr result × S.stands_for store.new m }
+    ensures err { (c : Copy) → Keeps KeepOrNew (S.stands_for store.old) c → S.is_trusted store.new
+        → OnErr result (Keeps KeepOrNew (S.stands_for store.new) c) }
+    ensures whole { (c : Copy) → Keeps KeepEither (S.stands_for store.old) c → S.is_trusted store.new
+        → OnErr result (Keeps KeepEither (S.stands_for store.new) c) }
+    ensures other { (m : Items) → S.stands_for store.old m → HasOtherFormat m → S.is_trusted store.new
+        → IsErr result × S.stands_for store.new m }
     ensures cause { CountsFailure (S.fault_count store.old) (S.fault_count store.new) result }
     ensures trust { S.is_trusted store.new → S.is_trusted store.old }
     ensures signs { Stay (S.shows store.new) (S.shows store.old) }
     ensures made { (n : Items) → S.may_hold store.new n
-        → ComeOf (λ m. IsErr result × S.may_hold store.old m) (S.is_trusted store.old) (S.stands_for store.old) KeepOrNew (λ c now. CanChange change c → Became KeepOrNew (copy_after change) result c now) n }
+        → ComeOf (λ m. IsErr result × S.may_hold store.old m) (S.is_trusted store.old)
+        (S.stands_for store.old) KeepOrNew
+        (λ c now. CanChange change c → Became KeepOrNew (copy_after change) result c now) n }
     ensures live { S.shows store.new Clean → OnOk result (S.is_trusted store.new) }
 {
     prepare(alloc, store)?;

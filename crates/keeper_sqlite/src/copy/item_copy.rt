@@ -38,11 +38,13 @@ impl<S: StoredItems> Model for ItemCopy<S> {
 
     ghost view = { λ c. (c.store, c.origin.value) };
 
-    ghost invariant = { λ c. StillKeep KeepOrNew (S.stands_for c.origin.value) (S.stands_for c.store) (S.is_trusted c.store) };
+    ghost invariant = { λ c. StillKeep KeepOrNew (S.stands_for c.origin.value) (S.stands_for c.store)
+        (S.is_trusted c.store) };
 }
 
 impl<S: StoredItems> ItemCopy<S> {
-    /// The keeper of the copy that this store has; no memory is taken. A store that has no items keeps the copy that holds nothing.
+    /// The keeper of the copy that this store has; no memory is taken. A store that has no items keeps the copy that
+    /// holds nothing.
     pub fn adopt(store: S) -> ItemCopy<S>
         ensures store { (result.0 ≡ store) × (result.1 ≡ store) }
         ensures tells { (c : Copy) → S.is_trusted store → Keeps KeepOrNew (S.stands_for store) c
@@ -52,10 +54,12 @@ impl<S: StoredItems> ItemCopy<S> {
         ItemCopy { store, origin }
     }
 
-    /// While the store is trusted it stands for items that keep a copy, if those that were handed in did. No memory is taken.
+    /// While the store is trusted it stands for items that keep a copy, if those that were handed in did. No memory is
+    /// taken.
     pub fn keeps(&self)
         ensures { StillKeep KeepOrNew (S.stands_for self.now.1) (S.stands_for self.now.0) (S.is_trusted self.now.0) }
     {
+        // Read for the invariant.
         let _ = &self.store;
     }
 
@@ -68,10 +72,11 @@ impl<S: StoredItems> ItemCopy<S> {
     }
 }
 
-// The count of failures is one of its type.
+// The count of failures is below 2^64, as its type has it.
 fn bounded<S: StoredItems>(store: &S)
     ensures { S.fault_count store.now < 2 ^ 64 }
 {
+    // Read for its range.
     let _ = store.faults();
 }
 
@@ -95,64 +100,79 @@ impl<S: StoredItems> CopyKeeper for ItemCopy<S> {
     ghost leads_on = { λ _ _ _ first then. (then.0 ∙ first.0, λ sign shown. first.1 sign (then.1 sign shown)) };
 
     ghost is_copy = { λ keeper c tells. ⊎_elim (λ (kept : Keep tells.items c). kept.is)
-        (⊎_elim (λ (old : KeepOne tells.items c). old.is) (λ (none : (tells.items ≡ no_items) × (c ≡ empty_copy)). subst IsCopy (sym none.1) empty_is))
+        (⊎_elim (λ (old : KeepOne tells.items c). old.is)
+        (λ (none : (tells.items ≡ no_items) × (c ≡ empty_copy)). subst IsCopy (sym none.1) empty_is))
         tells.kept };
 
     fn state(&mut self, alloc: Global) -> Result<CopyState, KeeperError>
         ensures shown { IfOk result (λ s. (c : Copy) → CopyTells S.stands_for S.may_hold self.new c → Shows c s) }
         ensures any { IfOk result CanBe }
-        ensures same { (c : Copy) → CopyTells S.stands_for S.may_hold self.new c → CopyTells S.stands_for S.may_hold self.old c }
+        ensures same { (c : Copy) → CopyTells S.stands_for S.may_hold self.new c
+            → CopyTells S.stands_for S.may_hold self.old c }
         ensures later { S.fault_count self.old.0 ≤ S.fault_count self.new.0 }
         ensures cause { CountsFailure (S.fault_count self.old.0) (S.fault_count self.new.0) result }
         ensures leads { CopyLeads S.shows self.old self.new }
         // Over a clean disk a call that succeeds leaves the store trusted, so that it tells what it keeps.
         ensures live { S.shows self.new.0 Clean → OnOk result (S.is_trusted self.new.0) }
         // A call that succeeds leaves items of format 2, whatever they were before it.
-        ensures turned { (c : Copy) → Keeps KeepOrNew (S.stands_for self.old.0) c → S.is_trusted self.new.0 → OnOk result (Keeps Keep (S.stands_for self.new.0) c) }
+        ensures turned { (c : Copy) → Keeps KeepOrNew (S.stands_for self.old.0) c → S.is_trusted self.new.0
+            → OnOk result (Keeps Keep (S.stands_for self.new.0) c) }
         // And any call leaves the copy whole, in one of the two formats.
-        ensures whole { (c : Copy) → Keeps KeepEither (S.stands_for self.old.0) c → S.is_trusted self.new.0 → Keeps KeepEither (S.stands_for self.new.0) c }
+        ensures whole { (c : Copy) → Keeps KeepEither (S.stands_for self.old.0) c → S.is_trusted self.new.0
+            → Keeps KeepEither (S.stands_for self.new.0) c }
         // Items of another format are refused, and stay as they are.
-        ensures other { (m : Kept) → S.stands_for self.old.0 m → HasOtherFormat m → S.is_trusted self.new.0 → IsErr result × S.stands_for self.new.0 m }
+        ensures other { (m : Kept) → S.stands_for self.old.0 m → HasOtherFormat m → S.is_trusted self.new.0
+            → IsErr result × S.stands_for self.new.0 m }
     {
         bounded(&self.store);
         state_from(alloc, &mut self.store)
     }
 
     fn held(&mut self, alloc: Global, kind: Kind) -> Result<Items<Row>, KeeperError>
-        ensures shown { IfOk result (λ rows. (c : Copy) → CopyTells S.stands_for S.may_hold self.new c → rows ≡ held_list c kind) }
+        ensures shown { IfOk result
+            (λ rows. (c : Copy) → CopyTells S.stands_for S.may_hold self.new c → rows ≡ held_list c kind) }
         ensures any { IfOk result (CanBeList kind) }
-        ensures same { (c : Copy) → CopyTells S.stands_for S.may_hold self.new c → CopyTells S.stands_for S.may_hold self.old c }
+        ensures same { (c : Copy) → CopyTells S.stands_for S.may_hold self.new c
+            → CopyTells S.stands_for S.may_hold self.old c }
         ensures later { S.fault_count self.old.0 ≤ S.fault_count self.new.0 }
         ensures cause { CountsFailure (S.fault_count self.old.0) (S.fault_count self.new.0) result }
         ensures leads { CopyLeads S.shows self.old self.new }
         // Over a clean disk a call that succeeds leaves the store trusted, so that it tells what it keeps.
         ensures live { S.shows self.new.0 Clean → OnOk result (S.is_trusted self.new.0) }
         // A call that succeeds leaves items of format 2, whatever they were before it.
-        ensures turned { (c : Copy) → Keeps KeepOrNew (S.stands_for self.old.0) c → S.is_trusted self.new.0 → OnOk result (Keeps Keep (S.stands_for self.new.0) c) }
+        ensures turned { (c : Copy) → Keeps KeepOrNew (S.stands_for self.old.0) c → S.is_trusted self.new.0
+            → OnOk result (Keeps Keep (S.stands_for self.new.0) c) }
         // And any call leaves the copy whole, in one of the two formats.
-        ensures whole { (c : Copy) → Keeps KeepEither (S.stands_for self.old.0) c → S.is_trusted self.new.0 → Keeps KeepEither (S.stands_for self.new.0) c }
+        ensures whole { (c : Copy) → Keeps KeepEither (S.stands_for self.old.0) c → S.is_trusted self.new.0
+            → Keeps KeepEither (S.stands_for self.new.0) c }
         // Items of another format are refused, and stay as they are.
-        ensures other { (m : Kept) → S.stands_for self.old.0 m → HasOtherFormat m → S.is_trusted self.new.0 → IsErr result × S.stands_for self.new.0 m }
+        ensures other { (m : Kept) → S.stands_for self.old.0 m → HasOtherFormat m → S.is_trusted self.new.0
+            → IsErr result × S.stands_for self.new.0 m }
     {
         bounded(&self.store);
         held_from(alloc, &mut self.store, kind)
     }
 
     fn entry(&mut self, alloc: Global, after: u64) -> Result<Option<OutEntry>, KeeperError>
-        ensures shown { IfOk result (λ entry. (c : Copy) → CopyTells S.stands_for S.may_hold self.new c → entry ≡ entry_after after c.entries) }
+        ensures shown { IfOk result
+            (λ entry. (c : Copy) → CopyTells S.stands_for S.may_hold self.new c → entry ≡ entry_after after c.entries) }
         ensures any { IfOk result (λ entry. IfSome entry (CanBeEntry after)) }
-        ensures same { (c : Copy) → CopyTells S.stands_for S.may_hold self.new c → CopyTells S.stands_for S.may_hold self.old c }
+        ensures same { (c : Copy) → CopyTells S.stands_for S.may_hold self.new c
+            → CopyTells S.stands_for S.may_hold self.old c }
         ensures later { S.fault_count self.old.0 ≤ S.fault_count self.new.0 }
         ensures cause { CountsFailure (S.fault_count self.old.0) (S.fault_count self.new.0) result }
         ensures leads { CopyLeads S.shows self.old self.new }
         // Over a clean disk a call that succeeds leaves the store trusted, so that it tells what it keeps.
         ensures live { S.shows self.new.0 Clean → OnOk result (S.is_trusted self.new.0) }
         // A call that succeeds leaves items of format 2, whatever they were before it.
-        ensures turned { (c : Copy) → Keeps KeepOrNew (S.stands_for self.old.0) c → S.is_trusted self.new.0 → OnOk result (Keeps Keep (S.stands_for self.new.0) c) }
+        ensures turned { (c : Copy) → Keeps KeepOrNew (S.stands_for self.old.0) c → S.is_trusted self.new.0
+            → OnOk result (Keeps Keep (S.stands_for self.new.0) c) }
         // And any call leaves the copy whole, in one of the two formats.
-        ensures whole { (c : Copy) → Keeps KeepEither (S.stands_for self.old.0) c → S.is_trusted self.new.0 → Keeps KeepEither (S.stands_for self.new.0) c }
+        ensures whole { (c : Copy) → Keeps KeepEither (S.stands_for self.old.0) c → S.is_trusted self.new.0
+            → Keeps KeepEither (S.stands_for self.new.0) c }
         // Items of another format are refused, and stay as they are.
-        ensures other { (m : Kept) → S.stands_for self.old.0 m → HasOtherFormat m → S.is_trusted self.new.0 → IsErr result × S.stands_for self.new.0 m }
+        ensures other { (m : Kept) → S.stands_for self.old.0 m → HasOtherFormat m → S.is_trusted self.new.0
+            → IsErr result × S.stands_for self.new.0 m }
     {
         bounded(&self.store);
         entry_from(alloc, &mut self.store, after)
@@ -168,12 +188,15 @@ impl<S: StoredItems> CopyKeeper for ItemCopy<S> {
         // Over a clean disk a call that succeeds leaves the store trusted, so that it tells what it keeps.
         ensures live { S.shows self.new.0 Clean → OnOk result (S.is_trusted self.new.0) }
         // A call that succeeds leaves items of format 2, whatever they were before it, with its change.
-        ensures turned { (c : Copy) → Keeps KeepOrNew (S.stands_for self.old.0) c → CanChange change c → S.is_trusted self.new.0
+        ensures turned { (c : Copy) → Keeps KeepOrNew (S.stands_for self.old.0) c → CanChange change c
+            → S.is_trusted self.new.0
             → OnOk result (Keeps Keep (S.stands_for self.new.0) (copy_after change c)) }
         // And one that doesn't leaves the copy whole, in one of the two formats.
-        ensures whole { (c : Copy) → Keeps KeepEither (S.stands_for self.old.0) c → S.is_trusted self.new.0 → OnErr result (Keeps KeepEither (S.stands_for self.new.0) c) }
+        ensures whole { (c : Copy) → Keeps KeepEither (S.stands_for self.old.0) c → S.is_trusted self.new.0
+            → OnErr result (Keeps KeepEither (S.stands_for self.new.0) c) }
         // Items of another format are refused, and stay as they are.
-        ensures other { (m : Kept) → S.stands_for self.old.0 m → HasOtherFormat m → S.is_trusted self.new.0 → IsErr result × S.stands_for self.new.0 m }
+        ensures other { (m : Kept) → S.stands_for self.old.0 m → HasOtherFormat m → S.is_trusted self.new.0
+            → IsErr result × S.stands_for self.new.0 m }
     {
         bounded(&self.store);
         commit_to(alloc, &mut self.store, change)

@@ -30,7 +30,8 @@ fn is_stray(held: Option<u64>, token: &Option<Token>) -> bool
 
 // The small part of the copy that a store that is ready keeps. A token of no version is refused.
 fn ready_state<S: StoredItems>(alloc: Global, store: &mut S) -> Result<CopyState, KeeperError>
-    ensures shown { (c : Copy) → Keeps Keep (S.stands_for store.old) c → S.is_trusted store.new → IfOk result (Shows c) }
+    ensures shown { (c : Copy) → Keeps Keep (S.stands_for store.old) c → S.is_trusted store.new
+        → IfOk result (Shows c) }
     ensures can { IfOk result CanBe }
     ensures same { Stay (S.stands_for store.old) (S.stands_for store.new) }
     ensures cause { CountsFailure (S.fault_count store.old) (S.fault_count store.new) result }
@@ -59,17 +60,23 @@ pub(crate) fn state_from<S: StoredItems>(
     alloc: Global,
     store: &mut S,
 ) -> Result<CopyState, KeeperError>
-    ensures shown { (c : Copy) → Keeps KeepOrNew (S.stands_for store.old) c → S.is_trusted store.new → IfOk result (Shows c) }
+    ensures shown { (c : Copy) → Keeps KeepOrNew (S.stands_for store.old) c → S.is_trusted store.new
+        → IfOk result (Shows c) }
     ensures can { IfOk result CanBe }
-    ensures kept { (c : Copy) → Keeps KeepOrNew (S.stands_for store.old) c → S.is_trusted store.new → Keeps KeepOrNew (S.stands_for store.new) c }
-    ensures turned { (c : Copy) → Keeps KeepOrNew (S.stands_for store.old) c → S.is_trusted store.new → OnOk result (Keeps Keep (S.stands_for store.new) c) }
-    ensures whole { (c : Copy) → Keeps KeepEither (S.stands_for store.old) c → S.is_trusted store.new → Keeps KeepEither (S.stands_for store.new) c }
-    ensures other { (m : Kept) → S.stands_for store.old m → HasOtherFormat m → S.is_trusted store.new → IsErr result × S.stands_for store.new m }
+    ensures kept { (c : Copy) → Keeps KeepOrNew (S.stands_for store.old) c → S.is_trusted store.new
+        → Keeps KeepOrNew (S.stands_for store.new) c }
+    ensures turned { (c : Copy) → Keeps KeepOrNew (S.stands_for store.old) c → S.is_trusted store.new
+        → OnOk result (Keeps Keep (S.stands_for store.new) c) }
+    ensures whole { (c : Copy) → Keeps KeepEither (S.stands_for store.old) c → S.is_trusted store.new
+        → Keeps KeepEither (S.stands_for store.new) c }
+    ensures other { (m : Kept) → S.stands_for store.old m → HasOtherFormat m → S.is_trusted store.new
+        → IsErr result × S.stands_for store.new m }
     ensures cause { CountsFailure (S.fault_count store.old) (S.fault_count store.new) result }
     ensures trust { S.is_trusted store.new → S.is_trusted store.old }
     ensures signs { Stay (S.shows store.new) (S.shows store.old) }
     ensures made { (n : Kept) → S.may_hold store.new n
-        → ComeOf (S.may_hold store.old) (S.is_trusted store.old) (S.stands_for store.old) KeepOrNew (λ c now. KeepOrNew now c) n }
+        → ComeOf (S.may_hold store.old) (S.is_trusted store.old) (S.stands_for store.old) KeepOrNew
+        (λ c now. KeepOrNew now c) n }
     ensures live { S.shows store.new Clean → OnOk result (S.is_trusted store.new) }
 {
     prepare(alloc, store)?;
@@ -82,7 +89,8 @@ fn ready_rows<S: StoredItems>(
     store: &mut S,
     kind: Kind,
 ) -> Result<Items<Row>, KeeperError>
-    ensures shown { (c : Copy) → Keeps Keep (S.stands_for store.old) c → S.is_trusted store.new → IfOk result (λ rows. rows ≡ held_list c kind) }
+    ensures shown { (c : Copy) → Keeps Keep (S.stands_for store.old) c → S.is_trusted store.new
+        → IfOk result (λ rows. rows ≡ held_list c kind) }
     ensures can { IfOk result (IsList kind) }
     ensures same { Stay (S.stands_for store.old) (S.stands_for store.new) }
     ensures cause { CountsFailure (S.fault_count store.old) (S.fault_count store.new) result }
@@ -105,17 +113,23 @@ pub(crate) fn held_from<S: StoredItems>(
     store: &mut S,
     kind: Kind,
 ) -> Result<Items<Row>, KeeperError>
-    ensures shown { (c : Copy) → Keeps KeepOrNew (S.stands_for store.old) c → S.is_trusted store.new → IfOk result (λ rows. rows ≡ held_list c kind) }
+    ensures shown { (c : Copy) → Keeps KeepOrNew (S.stands_for store.old) c → S.is_trusted store.new
+        → IfOk result (λ rows. rows ≡ held_list c kind) }
     ensures can { IfOk result (IsList kind) }
-    ensures kept { (c : Copy) → Keeps KeepOrNew (S.stands_for store.old) c → S.is_trusted store.new → Keeps KeepOrNew (S.stands_for store.new) c }
-    ensures turned { (c : Copy) → Keeps KeepOrNew (S.stands_for store.old) c → S.is_trusted store.new → OnOk result (Keeps Keep (S.stands_for store.new) c) }
-    ensures whole { (c : Copy) → Keeps KeepEither (S.stands_for store.old) c → S.is_trusted store.new → Keeps KeepEither (S.stands_for store.new) c }
-    ensures other { (m : Kept) → S.stands_for store.old m → HasOtherFormat m → S.is_trusted store.new → IsErr result × S.stands_for store.new m }
+    ensures kept { (c : Copy) → Keeps KeepOrNew (S.stands_for store.old) c → S.is_trusted store.new
+        → Keeps KeepOrNew (S.stands_for store.new) c }
+    ensures turned { (c : Copy) → Keeps KeepOrNew (S.stands_for store.old) c → S.is_trusted store.new
+        → OnOk result (Keeps Keep (S.stands_for store.new) c) }
+    ensures whole { (c : Copy) → Keeps KeepEither (S.stands_for store.old) c → S.is_trusted store.new
+        → Keeps KeepEither (S.stands_for store.new) c }
+    ensures other { (m : Kept) → S.stands_for store.old m → HasOtherFormat m → S.is_trusted store.new
+        → IsErr result × S.stands_for store.new m }
     ensures cause { CountsFailure (S.fault_count store.old) (S.fault_count store.new) result }
     ensures trust { S.is_trusted store.new → S.is_trusted store.old }
     ensures signs { Stay (S.shows store.new) (S.shows store.old) }
     ensures made { (n : Kept) → S.may_hold store.new n
-        → ComeOf (S.may_hold store.old) (S.is_trusted store.old) (S.stands_for store.old) KeepOrNew (λ c now. KeepOrNew now c) n }
+        → ComeOf (S.may_hold store.old) (S.is_trusted store.old) (S.stands_for store.old) KeepOrNew
+        (λ c now. KeepOrNew now c) n }
     ensures live { S.shows store.new Clean → OnOk result (S.is_trusted store.new) }
 {
     prepare(alloc, store)?;
@@ -138,7 +152,8 @@ fn ready_entry<S: StoredItems>(
     store: &mut S,
     after: u64,
 ) -> Result<Option<OutEntry>, KeeperError>
-    ensures shown { (c : Copy) → Keeps Keep (S.stands_for store.old) c → S.is_trusted store.new → IfOk result (λ entry. entry ≡ entry_after after c.entries) }
+    ensures shown { (c : Copy) → Keeps Keep (S.stands_for store.old) c → S.is_trusted store.new
+        → IfOk result (λ entry. entry ≡ entry_after after c.entries) }
     ensures can { IfOk result (λ entry. IfSome entry (CanBeEntry after)) }
     ensures same { Stay (S.stands_for store.old) (S.stands_for store.new) }
     ensures cause { CountsFailure (S.fault_count store.old) (S.fault_count store.new) result }
@@ -161,17 +176,23 @@ pub(crate) fn entry_from<S: StoredItems>(
     store: &mut S,
     after: u64,
 ) -> Result<Option<OutEntry>, KeeperError>
-    ensures shown { (c : Copy) → Keeps KeepOrNew (S.stands_for store.old) c → S.is_trusted store.new → IfOk result (λ entry. entry ≡ entry_after after c.entries) }
+    ensures shown { (c : Copy) → Keeps KeepOrNew (S.stands_for store.old) c → S.is_trusted store.new
+        → IfOk result (λ entry. entry ≡ entry_after after c.entries) }
     ensures can { IfOk result (λ entry. IfSome entry (CanBeEntry after)) }
-    ensures kept { (c : Copy) → Keeps KeepOrNew (S.stands_for store.old) c → S.is_trusted store.new → Keeps KeepOrNew (S.stands_for store.new) c }
-    ensures turned { (c : Copy) → Keeps KeepOrNew (S.stands_for store.old) c → S.is_trusted store.new → OnOk result (Keeps Keep (S.stands_for store.new) c) }
-    ensures whole { (c : Copy) → Keeps KeepEither (S.stands_for store.old) c → S.is_trusted store.new → Keeps KeepEither (S.stands_for store.new) c }
-    ensures other { (m : Kept) → S.stands_for store.old m → HasOtherFormat m → S.is_trusted store.new → IsErr result × S.stands_for store.new m }
+    ensures kept { (c : Copy) → Keeps KeepOrNew (S.stands_for store.old) c → S.is_trusted store.new
+        → Keeps KeepOrNew (S.stands_for store.new) c }
+    ensures turned { (c : Copy) → Keeps KeepOrNew (S.stands_for store.old) c → S.is_trusted store.new
+        → OnOk result (Keeps Keep (S.stands_for store.new) c) }
+    ensures whole { (c : Copy) → Keeps KeepEither (S.stands_for store.old) c → S.is_trusted store.new
+        → Keeps KeepEither (S.stands_for store.new) c }
+    ensures other { (m : Kept) → S.stands_for store.old m → HasOtherFormat m → S.is_trusted store.new
+        → IsErr result × S.stands_for store.new m }
     ensures cause { CountsFailure (S.fault_count store.old) (S.fault_count store.new) result }
     ensures trust { S.is_trusted store.new → S.is_trusted store.old }
     ensures signs { Stay (S.shows store.new) (S.shows store.old) }
     ensures made { (n : Kept) → S.may_hold store.new n
-        → ComeOf (S.may_hold store.old) (S.is_trusted store.old) (S.stands_for store.old) KeepOrNew (λ c now. KeepOrNew now c) n }
+        → ComeOf (S.may_hold store.old) (S.is_trusted store.old) (S.stands_for store.old) KeepOrNew
+        (λ c now. KeepOrNew now c) n }
     ensures live { S.shows store.new Clean → OnOk result (S.is_trusted store.new) }
 {
     prepare(alloc, store)?;

@@ -10,6 +10,7 @@ ghost use Rattle.keeper_memory.specs.declared.copy.state.TheConstants.{LAST as l
 ghost use Rattle.hub_format.specs.Pieces.{number};
 ghost use Rattle.item_maps.specs.Edits.{entry_of};
 ghost use Rattle.item_maps.specs.Items.{Items as Kept, listed};
+ghost use Rattle.copy_format.specs.Areas.{outbox_area};
 ghost use Rattle.copy_format.specs.Format.{IsOut, out_entry};
 ghost use Rattle.copy_format.specs.Roots.{CanBeRoot, root_in};
 ghost use Rattle.keeper_sqlite.specs.hub.Keeping.{Stay};
@@ -26,12 +27,13 @@ use roster_types::row::Row;
 use roster_values::Kind;
 use std::alloc::Global;
 
-/// The state.
+/// The small part of a copy that stands in the item of its state.
 pub(crate) fn stored_root<S: StoredItems>(
     alloc: Global,
     store: &mut S,
 ) -> Result<CopyRoot, KeeperError>
-    ensures root { (side : ℕ) (c : Copy) → HasCopy (S.stands_for store.old) side c → S.is_trusted store.new → IfOk result (λ r. r ≡ root_in side c) }
+    ensures root { (side : ℕ) (c : Copy) → HasCopy (S.stands_for store.old) side c → S.is_trusted store.new
+        → IfOk result (λ r. r ≡ root_in side c) }
     ensures can { IfOk result CanBeRoot }
     ensures same { Stay (S.stands_for store.old) (S.stands_for store.new) }
     ensures cause { CountsFailure (S.fault_count store.old) (S.fault_count store.new) result }
@@ -52,7 +54,8 @@ pub(crate) fn stored_stage<S: StoredItems>(
     alloc: Global,
     store: &mut S,
 ) -> Result<Option<StageState>, KeeperError>
-    ensures stage { (side : ℕ) (c : Copy) → HasCopy (S.stands_for store.old) side c → S.is_trusted store.new → IfOk result (λ s. s ≡ stage_in c) }
+    ensures stage { (side : ℕ) (c : Copy) → HasCopy (S.stands_for store.old) side c → S.is_trusted store.new
+        → IfOk result (λ s. s ≡ stage_in c) }
     ensures can { IfOk result (λ s. IfSome s CanBeStage) }
     ensures same { Stay (S.stands_for store.old) (S.stands_for store.new) }
     ensures cause { CountsFailure (S.fault_count store.old) (S.fault_count store.new) result }
@@ -73,7 +76,8 @@ pub(crate) fn stored_token<S: StoredItems>(
     alloc: Global,
     store: &mut S,
 ) -> Result<Option<Token>, KeeperError>
-    ensures token { (side : ℕ) (c : Copy) → HasCopy (S.stands_for store.old) side c → S.is_trusted store.new → IfOk result (λ t. t ≡ held_token c) }
+    ensures token { (side : ℕ) (c : Copy) → HasCopy (S.stands_for store.old) side c → S.is_trusted store.new
+        → IfOk result (λ t. t ≡ held_token c) }
     ensures same { Stay (S.stands_for store.old) (S.stands_for store.new) }
     ensures cause { CountsFailure (S.fault_count store.old) (S.fault_count store.new) result }
     ensures trust { S.is_trusted store.new → S.is_trusted store.old }
@@ -95,7 +99,8 @@ pub(crate) fn stored_rows<S: StoredItems>(
     side: u8,
     kind: Kind,
 ) -> Result<Items<Row>, KeeperError>
-    ensures rows { (c : Copy) → HasCopy (S.stands_for store.old) side c → S.is_trusted store.new → IfOk result (λ rows. rows ≡ held_list c kind) }
+    ensures rows { (c : Copy) → HasCopy (S.stands_for store.old) side c → S.is_trusted store.new
+        → IfOk result (λ rows. rows ≡ held_list c kind) }
     ensures list { IfOk result (IsList kind) }
     ensures same { Stay (S.stands_for store.old) (S.stands_for store.new) }
     ensures cause { CountsFailure (S.fault_count store.old) (S.fault_count store.new) result }
@@ -114,7 +119,8 @@ pub(crate) fn stored_rows<S: StoredItems>(
 
 // The entry of an item, if its number is above `after`.
 fn entry_in(alloc: Global, after: u64, item: &Item) -> Result<Option<OutEntry>, NoMemory>
-    ensures found { (entry : EntryValue) → IsOut entry → after < entry.number → entry_of item.now ≡ out_entry entry → IfOk result (λ o. IfSome o (λ found. found ≡ entry)) }
+    ensures found { (entry : EntryValue) → IsOut entry → after < entry.number → entry_of item.now ≡ out_entry entry
+        → IfOk result (λ o. IfSome o (λ found. found ≡ entry)) }
     ensures can { IfOk result (λ o. IfSome o (CanBeEntry after)) }
 {
     match out_of(alloc, item)? {
@@ -131,7 +137,8 @@ fn item_above<S: StoredItems>(
 ) -> Result<Option<Item>, KeeperError>
     requires { after + 1 < 2 ^ 64 }
     ensures item { (m : Kept) → S.stands_for store.old m → S.is_trusted store.new
-        → IfOk result (λ item. option_map entry_of item ≡ slice_get (listed 3 (number (after + 1)) (number (last_number + 1)) m) 0) }
+        → IfOk result (λ item. option_map entry_of item
+        ≡ slice_get (listed outbox_area (number (after + 1)) (number (last_number + 1)) m) 0) }
     ensures same { Stay (S.stands_for store.old) (S.stands_for store.new) }
     ensures cause { CountsFailure (S.fault_count store.old) (S.fault_count store.new) result }
     ensures trust { S.is_trusted store.new → S.is_trusted store.old }
@@ -156,7 +163,8 @@ fn entry_above<S: StoredItems>(
     after: u64,
 ) -> Result<Option<OutEntry>, KeeperError>
     requires { after + 1 < 2 ^ 64 }
-    ensures entry { (side : ℕ) (c : Copy) → HasCopy (S.stands_for store.old) side c → S.is_trusted store.new → IfOk result (λ entry. entry ≡ entry_after after c.entries) }
+    ensures entry { (side : ℕ) (c : Copy) → HasCopy (S.stands_for store.old) side c → S.is_trusted store.new
+        → IfOk result (λ entry. entry ≡ entry_after after c.entries) }
     ensures can { IfOk result (λ entry. IfSome entry (CanBeEntry after)) }
     ensures same { Stay (S.stands_for store.old) (S.stands_for store.new) }
     ensures cause { CountsFailure (S.fault_count store.old) (S.fault_count store.new) result }
@@ -180,7 +188,8 @@ pub(crate) fn stored_entry<S: StoredItems>(
     store: &mut S,
     after: u64,
 ) -> Result<Option<OutEntry>, KeeperError>
-    ensures entry { (side : ℕ) (c : Copy) → HasCopy (S.stands_for store.old) side c → S.is_trusted store.new → IfOk result (λ entry. entry ≡ entry_after after c.entries) }
+    ensures entry { (side : ℕ) (c : Copy) → HasCopy (S.stands_for store.old) side c → S.is_trusted store.new
+        → IfOk result (λ entry. entry ≡ entry_after after c.entries) }
     ensures can { IfOk result (λ entry. IfSome entry (CanBeEntry after)) }
     ensures same { Stay (S.stands_for store.old) (S.stands_for store.new) }
     ensures cause { CountsFailure (S.fault_count store.old) (S.fault_count store.new) result }

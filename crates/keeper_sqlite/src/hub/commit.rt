@@ -28,7 +28,8 @@ fn edits_for<S: StoredItems>(
     store: &mut S,
     commit: &HubCommit,
 ) -> Result<Vec<Edit>, KeeperError>
-    ensures edits { (t : HubTables) → HasSpans (S.stands_for store.old) t → CanCommit (kept_by t) commit.now → S.is_trusted store.new
+    ensures edits { (t : HubTables) → HasSpans (S.stands_for store.old) t → CanCommit (kept_by t) commit.now
+        → S.is_trusted store.new
         → IfOk result (λ edits. edits.items ≡ edits_of t commit.now) }
     ensures fits { OnOk result (FitsSpanCommit commit.now) }
     ensures same { Stay (S.stands_for store.old) (S.stands_for store.new) }
@@ -37,9 +38,9 @@ fn edits_for<S: StoredItems>(
     ensures held { Stay (S.may_hold store.new) (S.may_hold store.old) }
     ensures signs { Stay (S.shows store.new) (S.shows store.old) }
 {
-    let (keep, base, _) = state_of_store(alloc, store)?;
-    let oldest = oldest_for(alloc, store, keep, base, &commit.change)?;
-    match commit_edits(alloc, keep, base, &oldest, commit)? {
+    let state = state_of_store(alloc, store)?;
+    let oldest = oldest_for(alloc, store, state.keep, state.base, &commit.change)?;
+    match commit_edits(alloc, state.keep, state.base, &oldest, commit)? {
         Some(edits) => Ok(edits),
         None => Err(store.refuse()),
     }
@@ -51,14 +52,19 @@ fn commit_ready<S: StoredItems>(
     store: &mut S,
     commit: &HubCommit,
 ) -> Result<(), KeeperError>
-    ensures ok { (state : KeptState) → Keeps KeepSpans (S.stands_for store.old) state → CanCommit state commit.now → S.is_trusted store.new
+    ensures ok { (state : KeptState) → Keeps KeepSpans (S.stands_for store.old) state → CanCommit state commit.now
+        → S.is_trusted store.new
         → OnOk result (Keeps KeepSpans (S.stands_for store.new) (with_commit state commit.now)) }
-    ensures err { (state : KeptState) → Keeps KeepSpans (S.stands_for store.old) state → OnErr result (Keeps KeepSpans (S.stands_for store.new) state) }
+    ensures err { (state : KeptState) → Keeps KeepSpans (S.stands_for store.old) state
+        → OnErr result (Keeps KeepSpans (S.stands_for store.new) state) }
     ensures cause { CountsFailure (S.fault_count store.old) (S.fault_count store.new) result }
     ensures trust { S.is_trusted store.new → S.is_trusted store.old }
     ensures signs { Stay (S.shows store.new) (S.shows store.old) }
     ensures made { (n : Items) → S.may_hold store.new n
-        → ComeOf (λ m. IsErr result × S.may_hold store.old m) (S.is_trusted store.old) (S.stands_for store.old) KeepSpans (λ state now. CanCommit state commit.now → Became KeepSpans (λ s. with_commit s commit.now) result state now) n }
+        → ComeOf (λ m. IsErr result × S.may_hold store.old m) (S.is_trusted store.old)
+        (S.stands_for store.old) KeepSpans
+        (λ state now. CanCommit state commit.now
+        → Became KeepSpans (λ s. with_commit s commit.now) result state now) n }
     ensures live { S.shows store.new Clean → OnOk result (S.is_trusted store.new) }
 {
     let edits = edits_for(alloc, store, commit)?;
@@ -72,17 +78,22 @@ pub(crate) fn commit_to<S: StoredItems>(
     keep: u32,
     commit: &HubCommit,
 ) -> Result<(), KeeperError>
-    ensures ok { (state : KeptState) → Keeps (KeepOrNew keep) (S.stands_for store.old) state → CanCommit state commit.now → S.is_trusted store.new
+    ensures ok { (state : KeptState) → Keeps (KeepOrNew keep) (S.stands_for store.old) state
+        → CanCommit state commit.now → S.is_trusted store.new
         → OnOk result (Keeps KeepSpans (S.stands_for store.new) (with_commit state commit.now)) }
     ensures err { (state : KeptState) → Keeps (KeepOrNew keep) (S.stands_for store.old) state → S.is_trusted store.new
         → OnErr result (Keeps (KeepOrNew keep) (S.stands_for store.new) state) }
-    ensures whole { (state : KeptState) → Keeps KeepEither (S.stands_for store.old) state → S.is_trusted store.new → OnErr result (Keeps KeepEither (S.stands_for store.new) state) }
-    ensures other { (m : Items) → S.stands_for store.old m → HasOtherFormat m → S.is_trusted store.new → IsErr result × S.stands_for store.new m }
+    ensures whole { (state : KeptState) → Keeps KeepEither (S.stands_for store.old) state → S.is_trusted store.new
+        → OnErr result (Keeps KeepEither (S.stands_for store.new) state) }
+    ensures other { (m : Items) → S.stands_for store.old m → HasOtherFormat m → S.is_trusted store.new
+        → IsErr result × S.stands_for store.new m }
     ensures cause { CountsFailure (S.fault_count store.old) (S.fault_count store.new) result }
     ensures trust { S.is_trusted store.new → S.is_trusted store.old }
     ensures signs { Stay (S.shows store.new) (S.shows store.old) }
     ensures made { (n : Items) → S.may_hold store.new n
-        → ComeOf (λ m. IsErr result × S.may_hold store.old m) (S.is_trusted store.old) (S.stands_for store.old) (KeepOrNew keep) (λ state now. CanCommit state commit.now → Became (KeepOrNew keep) (λ s. with_commit s commit.now) result state now) n }
+        → ComeOf (λ m. IsErr result × S.may_hold store.old m) (S.is_trusted store.old) (S.stands_for store.old)
+        (KeepOrNew keep) (λ state now. CanCommit state commit.now
+        → Became (KeepOrNew keep) (λ s. with_commit s commit.now) result state now) n }
     ensures live { S.shows store.new Clean → OnOk result (S.is_trusted store.new) }
 {
     prepare(alloc, store, keep)?;

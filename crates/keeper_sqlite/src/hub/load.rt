@@ -11,6 +11,7 @@ ghost use Rattle.version_core.specs.Version.{last_version};
 ghost use Rattle.version_core.specs.declared.change.Change.{Change as ChangeValue};
 ghost use Rattle.version_core.specs.declared.grant_row.GrantRow.{GrantRow as GrantValue};
 ghost use Rattle.version_core.specs.declared.hub_tables.HubTables.{HubTables as Tables};
+ghost use Rattle.hub_format.specs.Areas.{grants_area, versions_area};
 ghost use Rattle.hub_format.specs.Format.{Entry, FitsChange, FitsGrant, grants_under, own_grants, own_version};
 ghost use Rattle.hub_format.specs.Format.{some_grants};
 ghost use Rattle.hub_format.specs.Pieces.{has_grants, number};
@@ -37,7 +38,8 @@ pub(crate) fn grants_at<S: StoredItems>(
 ) -> Result<Items<GrantRow>, KeeperError>
     requires { version + 1 < 2 ^ 64 }
     ensures grants { (m : Kept) (grants : List GrantValue) → S.stands_for store.old m → AllByRecursion FitsGrant grants
-        → listed 5 (number version) (number (version + 1)) m ≡ grants_under version grants → S.is_trusted store.new → IfOk result (λ found. found ≡ grants) }
+        → listed grants_area (number version) (number (version + 1)) m ≡ grants_under version grants
+        → S.is_trusted store.new → IfOk result (λ found. found ≡ grants) }
     ensures same { Stay (S.stands_for store.old) (S.stands_for store.new) }
     ensures cause { CountsFailure (S.fault_count store.old) (S.fault_count store.new) result }
     ensures trust { S.is_trusted store.new → S.is_trusted store.old }
@@ -56,7 +58,8 @@ pub(crate) fn marks_in<S: StoredItems>(
     alloc: Global,
     store: &mut S,
 ) -> Result<Items<MarkRow>, KeeperError>
-    ensures marks { (t : Tables) → HasTables (S.stands_for store.old) t → S.is_trusted store.new → IfOk result (λ marks. marks ≡ t.marks) }
+    ensures marks { (t : Tables) → HasTables (S.stands_for store.old) t → S.is_trusted store.new
+        → IfOk result (λ marks. marks ≡ t.marks) }
     ensures same { Stay (S.stands_for store.old) (S.stands_for store.new) }
     ensures cause { CountsFailure (S.fault_count store.old) (S.fault_count store.new) result }
     ensures trust { S.is_trusted store.new → S.is_trusted store.old }
@@ -79,8 +82,10 @@ fn own_grants_at<S: StoredItems>(
     flag: u8,
 ) -> Result<Option<Items<GrantRow>>, KeeperError>
     requires { version + 1 < 2 ^ 64 }
-    ensures grants { (m : Kept) (grants : Option (List GrantValue)) → S.stands_for store.old m → ForSome grants (AllByRecursion FitsGrant) → flag ≡ has_grants grants
-        → listed 5 (number version) (number (version + 1)) m ≡ some_grants version grants → S.is_trusted store.new → IfOk result (λ found. found ≡ grants) }
+    ensures grants { (m : Kept) (grants : Option (List GrantValue)) → S.stands_for store.old m
+        → ForSome grants (AllByRecursion FitsGrant) → flag ≡ has_grants grants
+        → listed grants_area (number version) (number (version + 1)) m ≡ some_grants version grants
+        → S.is_trusted store.new → IfOk result (λ found. found ≡ grants) }
     ensures same { Stay (S.stands_for store.old) (S.stands_for store.new) }
     ensures cause { CountsFailure (S.fault_count store.old) (S.fault_count store.new) result }
     ensures trust { S.is_trusted store.new → S.is_trusted store.old }
@@ -98,13 +103,15 @@ fn own_grants_at<S: StoredItems>(
 fn change_of<S: StoredItems>(
     alloc: Global,
     store: &mut S,
-    laid: &ChangeRows,
+    later: &ChangeRows,
     version: u64,
     items: &[Item],
 ) -> Result<Change, KeeperError>
     requires { version + 1 < 2 ^ 64 }
-    ensures change { (m : Kept) (change : ChangeValue) → S.stands_for store.old m → FitsChange change → version ≡ change.version → map entry_of items.now ≡ own_version change
-        → TellLater laid.now m change → listed 5 (number version) (number (version + 1)) m ≡ own_grants change → S.is_trusted store.new → IfOk result (λ found. found ≡ change) }
+    ensures change { (m : Kept) (change : ChangeValue) → S.stands_for store.old m → FitsChange change
+        → version ≡ change.version → map entry_of items.now ≡ own_version change
+        → TellLater later.now m change → listed grants_area (number version) (number (version + 1)) m ≡ own_grants change
+        → S.is_trusted store.new → IfOk result (λ found. found ≡ change) }
     ensures same { Stay (S.stands_for store.old) (S.stands_for store.new) }
     ensures cause { CountsFailure (S.fault_count store.old) (S.fault_count store.new) result }
     ensures trust { S.is_trusted store.new → S.is_trusted store.old }
@@ -114,7 +121,7 @@ fn change_of<S: StoredItems>(
     let Some((moment, flag)) = version_of(items) else {
         return Err(store.refuse());
     };
-    let rows = change_rows(alloc, store, laid, version)?;
+    let rows = change_rows(alloc, store, later, version)?;
     let grants = own_grants_at(alloc, store, version, flag)?;
     Ok(Change {
         version,
@@ -129,24 +136,26 @@ fn has_none(items: &[Item]) -> bool
     ensures none { map entry_of items.now ≡ [] → result ≡ true }
     ensures some { (entry : Entry) → map entry_of items.now ≡ entry ∷ [] → result ≡ false }
 {
-    match items {
-        [] => true,
-        _ => false,
-    }
+    matches!(items, [])
 }
 
 // The change to a version, where one is stored.
 fn change_at<S: StoredItems>(
     alloc: Global,
     store: &mut S,
-    laid: &ChangeRows,
+    later: &ChangeRows,
     version: u64,
 ) -> Result<Option<Change>, KeeperError>
     requires { version + 1 < 2 ^ 64 }
-    ensures change { (m : Kept) (change : ChangeValue) → S.stands_for store.old m → FitsChange change → version ≡ change.version
-        → listed 3 (number version) (number (version + 1)) m ≡ own_version change → TellLater laid.now m change
-        → listed 5 (number version) (number (version + 1)) m ≡ own_grants change → S.is_trusted store.new → IfOk result (λ found. found ≡ Some change) }
-    ensures none { (m : Kept) → S.stands_for store.old m → listed 3 (number version) (number (version + 1)) m ≡ [] → S.is_trusted store.new → IfOk result (λ found. found ≡ None) }
+    ensures change { (m : Kept) (change : ChangeValue) → S.stands_for store.old m → FitsChange change
+        → version ≡ change.version
+        → listed versions_area (number version) (number (version + 1)) m ≡ own_version change
+        → TellLater later.now m change
+        → listed grants_area (number version) (number (version + 1)) m ≡ own_grants change → S.is_trusted store.new
+        → IfOk result (λ found. found ≡ Some change) }
+    ensures none { (m : Kept) → S.stands_for store.old m
+        → listed versions_area (number version) (number (version + 1)) m ≡ [] → S.is_trusted store.new
+        → IfOk result (λ found. found ≡ None) }
     ensures same { Stay (S.stands_for store.old) (S.stands_for store.new) }
     ensures cause { CountsFailure (S.fault_count store.old) (S.fault_count store.new) result }
     ensures trust { S.is_trusted store.new → S.is_trusted store.old }
@@ -157,10 +166,11 @@ fn change_at<S: StoredItems>(
     if has_none(items.as_slice()) {
         return Ok(None);
     }
-    let change = change_of(alloc, store, laid, version, items.as_slice())?;
+    let change = change_of(alloc, store, later, version, items.as_slice())?;
     Ok(Some(change))
 }
 
+// Adds a change to those that were found.
 fn push_change(found: &mut Vec<Change>, change: Change) -> Result<(), NoMemory>
     ensures { OnOk result (found.new.items ≡ found.old.items ++ change ∷ []) }
 {
@@ -172,12 +182,13 @@ fn push_change(found: &mut Vec<Change>, change: Change) -> Result<(), NoMemory>
 pub(crate) fn changes_in<S: StoredItems>(
     alloc: Global,
     store: &mut S,
-    laid: &ChangeRows,
+    later: &ChangeRows,
     base: u64,
     keep: u32,
 ) -> Result<Items<Change>, KeeperError>
     requires { base ≤ last_version }
-    ensures changes { (t : Tables) → HasChanges (S.stands_for store.old) (TellLater laid.now) t → base ≡ t.base.number → keep ≡ t.keep → S.is_trusted store.new
+    ensures changes { (t : Tables) → HasChanges (S.stands_for store.old) (TellLater later.now) t → base ≡ t.base.number
+        → keep ≡ t.keep → S.is_trusted store.new
         → IfOk result (λ changes. changes ≡ t.changes) }
     ensures same { Stay (S.stands_for store.old) (S.stands_for store.new) }
     ensures cause { CountsFailure (S.fault_count store.old) (S.fault_count store.new) result }
@@ -187,7 +198,7 @@ pub(crate) fn changes_in<S: StoredItems>(
 {
     let mut found = Vec::new(alloc);
     for place in 0..keep {
-        let Some(change) = change_at(alloc, store, laid, base + 1 + place as u64)? else {
+        let Some(change) = change_at(alloc, store, later, base + 1 + place as u64)? else {
             return Ok(Items::from_vec(found));
         };
         push_change(&mut found, change)?;

@@ -19,7 +19,8 @@ use version_core::change::Change;
 // The grants of the base, and the version and the rows' names of the change behind it.
 fn oldest_of<S: StoredItems>(alloc: Global, store: &mut S, base: u64) -> Result<Oldest, KeeperError>
     requires { base + 2 < 2 ^ 64 }
-    ensures oldest { (t : HubTables) → HasSpans (S.stands_for store.old) t → base ≡ t.base.number → S.is_trusted store.new
+    ensures oldest { (t : HubTables) → HasSpans (S.stands_for store.old) t → base ≡ t.base.number
+        → S.is_trusted store.new
         → IfOk result (λ o. AreOldest t o.grants.items o.version.items o.names.items) }
     ensures same { Stay (S.stands_for store.old) (S.stands_for store.new) }
     ensures cause { CountsFailure (S.fault_count store.old) (S.fault_count store.new) result }
@@ -38,7 +39,7 @@ fn oldest_of<S: StoredItems>(alloc: Global, store: &mut S, base: u64) -> Result<
 }
 
 // Whether a change lets the oldest go.
-fn goes(keep: u64, base: u64, change: &Option<Change>) -> bool
+fn lets_oldest_go(keep: u64, base: u64, change: &Option<Change>) -> bool
     ensures { result ≡ false → ForSome change.now (λ change. nat_lt keep (change.version - base) ≡ false) }
 {
     match change {
@@ -56,7 +57,8 @@ pub(crate) fn oldest_for<S: StoredItems>(
     change: &Option<Change>,
 ) -> Result<Oldest, KeeperError>
     requires { base + 2 < 2 ^ 64 }
-    ensures oldest { (t : HubTables) → HasSpans (S.stands_for store.old) t → base ≡ t.base.number → S.is_trusted store.new
+    ensures oldest { (t : HubTables) → HasSpans (S.stands_for store.old) t → base ≡ t.base.number
+        → S.is_trusted store.new
         → IfOk result (λ o. AreOldestFor t keep base change.now o.grants.items o.version.items o.names.items) }
     ensures same { Stay (S.stands_for store.old) (S.stands_for store.new) }
     ensures cause { CountsFailure (S.fault_count store.old) (S.fault_count store.new) result }
@@ -64,7 +66,7 @@ pub(crate) fn oldest_for<S: StoredItems>(
     ensures held { Stay (S.may_hold store.new) (S.may_hold store.old) }
     ensures signs { Stay (S.shows store.new) (S.shows store.old) }
 {
-    if goes(keep, base, change) {
+    if lets_oldest_go(keep, base, change) {
         return oldest_of(alloc, store, base);
     }
     Ok(Oldest {

@@ -1,4 +1,4 @@
-//! A store is made ready.
+//! How a hub's store is made ready.
 
 ghost use Rattle.std.specs.Prelude.{IsErr, OnErr, OnOk};
 ghost use Rattle.roster_base.specs.Faults.{CountsFailure};
@@ -17,8 +17,8 @@ use roster_base::KeeperError;
 use span_format::{first_edits, turn_edits};
 use std::alloc::Global;
 
-// A store of format 1 becomes one of format 2, by one commit. Its tables are read before: items that are none of a state, as a
-// copy's, are refused and stay as they are.
+// A store of format 1 becomes one of format 2, by one commit. Its tables are read before: items that are none of a
+// state, as a copy's, are refused and stay as they are.
 fn turn<S: StoredItems>(alloc: Global, store: &mut S) -> Result<(), KeeperError>
     ensures ok { (state : KeptState) → Keeps Keep (S.stands_for store.old) state → S.is_trusted store.new
         → OnOk result (Keeps KeepSpans (S.stands_for store.new) state) }
@@ -27,7 +27,8 @@ fn turn<S: StoredItems>(alloc: Global, store: &mut S) -> Result<(), KeeperError>
     ensures trust { S.is_trusted store.new → S.is_trusted store.old }
     ensures signs { Stay (S.shows store.new) (S.shows store.old) }
     ensures made { (n : Items) → S.may_hold store.new n
-        → ComeOf (S.may_hold store.old) (S.is_trusted store.old) (S.stands_for store.old) Keep (λ state now. KeepEither now state) n }
+        → ComeOf (S.may_hold store.old) (S.is_trusted store.old) (S.stands_for store.old) Keep
+        (λ state now. KeepEither now state) n }
     ensures live { S.shows store.new Clean → OnOk result (S.is_trusted store.new) }
 {
     let tables = tables_from(alloc, store, StoredRows::Areas)?;
@@ -35,7 +36,8 @@ fn turn<S: StoredItems>(alloc: Global, store: &mut S) -> Result<(), KeeperError>
     store.commit(edits.as_slice())
 }
 
-/// A store that has no items gets those of version 0 alone, and one of format 1 those of format 2. One of another format fails.
+/// A store that has no items gets those of version 0 alone, and one of format 1 those of format 2. One of another
+/// format fails.
 pub(crate) fn prepare<S: StoredItems>(
     alloc: Global,
     store: &mut S,
@@ -44,12 +46,14 @@ pub(crate) fn prepare<S: StoredItems>(
     ensures ok { (state : KeptState) → Keeps (KeepOrNew keep) (S.stands_for store.old) state → S.is_trusted store.new
         → OnOk result (Keeps KeepSpans (S.stands_for store.new) state) }
     ensures err { (m : Items) → S.stands_for store.old m → OnErr result (S.stands_for store.new m) }
-    ensures other { (m : Items) → S.stands_for store.old m → HasOtherFormat m → S.is_trusted store.new → IsErr result × S.stands_for store.new m }
+    ensures other { (m : Items) → S.stands_for store.old m → HasOtherFormat m → S.is_trusted store.new
+        → IsErr result × S.stands_for store.new m }
     ensures cause { CountsFailure (S.fault_count store.old) (S.fault_count store.new) result }
     ensures trust { S.is_trusted store.new → S.is_trusted store.old }
     ensures signs { Stay (S.shows store.new) (S.shows store.old) }
     ensures made { (n : Items) → S.may_hold store.new n
-        → ComeOf (S.may_hold store.old) (S.is_trusted store.old) (S.stands_for store.old) (KeepOrNew keep) (λ state now. KeepOrNew keep now state) n }
+        → ComeOf (S.may_hold store.old) (S.is_trusted store.old) (S.stands_for store.old) (KeepOrNew keep)
+        (λ state now. KeepOrNew keep now state) n }
     ensures live { S.shows store.new Clean → OnOk result (S.is_trusted store.new) }
 {
     let items = store.all_of(alloc, HubArea::Format.number(), &[], &[0])?;

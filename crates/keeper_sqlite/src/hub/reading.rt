@@ -22,9 +22,10 @@ use version_core::hub_tables::HubTables;
 fn read_tables<S: StoredItems>(
     alloc: Global,
     store: &mut S,
-    laid: StoredRows,
+    stored: StoredRows,
 ) -> Result<HubTables, KeeperError>
-    ensures tables { (t : Tables) → HasRows (S.stands_for store.old) laid t → S.is_trusted store.new → IfOk result (λ tables. tables ≡ t) }
+    ensures tables { (t : Tables) → HasRows (S.stands_for store.old) stored t → S.is_trusted store.new
+        → IfOk result (λ tables. tables ≡ t) }
     ensures same { Stay (S.stands_for store.old) (S.stands_for store.new) }
     ensures cause { CountsFailure (S.fault_count store.old) (S.fault_count store.new) result }
     ensures trust { S.is_trusted store.new → S.is_trusted store.old }
@@ -32,20 +33,19 @@ fn read_tables<S: StoredItems>(
     ensures signs { Stay (S.shows store.new) (S.shows store.old) }
     ensures live { S.shows store.new Clean → OnOk result (S.is_trusted store.new) }
 {
-    let (keep, number, moment) = state_of_store(alloc, store)?;
-    let keep = match u32::try_from(keep) {
-        Ok(keep) => keep,
-        Err(_) => return Err(store.refuse()),
+    let state = state_of_store(alloc, store)?;
+    let Ok(keep) = u32::try_from(state.keep) else {
+        return Err(store.refuse());
     };
-    let (rows, later) = base_rows(alloc, store, laid, number)?;
-    let grants = grants_at(alloc, store, number)?;
-    let changes = changes_in(alloc, store, &later, number, keep)?;
+    let (rows, later) = base_rows(alloc, store, stored, state.base)?;
+    let grants = grants_at(alloc, store, state.base)?;
+    let changes = changes_in(alloc, store, &later, state.base, keep)?;
     let marks = marks_in(alloc, store)?;
     Ok(HubTables {
         keep,
         base: BaseVersion {
-            number,
-            moment,
+            number: state.base,
+            moment: state.moment,
             rows,
             grants,
         },
@@ -70,9 +70,10 @@ fn tested(tables: HubTables) -> Option<HubTables>
 pub(crate) fn tables_from<S: StoredItems>(
     alloc: Global,
     store: &mut S,
-    laid: StoredRows,
+    stored: StoredRows,
 ) -> Result<HubTables, KeeperError>
-    ensures tables { (t : Tables) → HasRows (S.stands_for store.old) laid t → S.is_trusted store.new → IfOk result (λ tables. tables ≡ t) }
+    ensures tables { (t : Tables) → HasRows (S.stands_for store.old) stored t → S.is_trusted store.new
+        → IfOk result (λ tables. tables ≡ t) }
     ensures sound { IfOk result AreTables }
     ensures same { Stay (S.stands_for store.old) (S.stands_for store.new) }
     ensures cause { CountsFailure (S.fault_count store.old) (S.fault_count store.new) result }
@@ -81,7 +82,7 @@ pub(crate) fn tables_from<S: StoredItems>(
     ensures signs { Stay (S.shows store.new) (S.shows store.old) }
     ensures live { S.shows store.new Clean → OnOk result (S.is_trusted store.new) }
 {
-    let tables = read_tables(alloc, store, laid)?;
+    let tables = read_tables(alloc, store, stored)?;
     match tested(tables) {
         Some(tables) => Ok(tables),
         None => Err(store.refuse()),

@@ -8,10 +8,10 @@ ghost use Rattle.item_maps.specs.Items.{Items as Kept};
 ghost use Rattle.version_core.specs.declared.change.BaseVersion.{BaseVersion as BaseValue};
 ghost use Rattle.version_core.specs.declared.change.Change.{Change as ChangeValue};
 ghost use Rattle.version_core.specs.declared.row_change.RowChange.{RowChange as RowValue};
-ghost use Rattle.hub_format.specs.Format.{rows_under};
+ghost use Rattle.hub_format.specs.Format.{rows_under, where_label};
 ghost use Rattle.hub_format.specs.Pieces.{IsReadBack};
 ghost use Rattle.span_format.specs.Format.{Span, span_entry};
-ghost use Rattle.span_format.specs.Reading.{FitsSpan, came_within, where_label};
+ghost use Rattle.span_format.specs.Reading.{FitsSpan, came_within};
 ghost use Rattle.keeper_sqlite.specs.hub.Keeping.{Stay};
 ghost use Rattle.keeper_sqlite.specs.hub.Rows.{TellBase, TellChange, TellLater, laid_at};
 
@@ -45,7 +45,7 @@ pub enum ChangeRows {
     Laid(ByVersion),
 }
 
-// The items that came in a version.
+// The items of the spans that came in a version.
 fn laid_in(laid: &ByVersion, version: u64) -> &[Item]
     ensures { result.now ≡ laid_at laid.now version }
 {
@@ -68,7 +68,8 @@ fn in_order(rows: Vec<RowChange>) -> Option<SortedRows>
 
 // The rows of items whose labels have so many bytes in front of the rows' keys.
 fn rows_in(alloc: Global, skip: usize, items: &[Item]) -> Result<Option<SortedRows>, NoMemory>
-    ensures { (prefix : List ℕ) (rows : List RowValue) → length prefix ≡ skip → AllByRecursion IsReadBack rows → map entry_of items.now ≡ rows_under prefix rows
+    ensures { (prefix : List ℕ) (rows : List RowValue) → length prefix ≡ skip → AllByRecursion IsReadBack rows
+        → map entry_of items.now ≡ rows_under prefix rows
         → IfOk result (λ o. IfSome o (λ found. found ≡ rows)) }
 {
     match rows_of(alloc, skip, items)? {
@@ -84,7 +85,8 @@ fn rows_came(
     high: u64,
     items: &[Item],
 ) -> Result<Option<SortedRows>, NoMemory>
-    ensures { (spans : List Span) → AllByRecursion FitsSpan spans → where_label (came_within low high) (map entry_of items.now) ≡ map span_entry spans
+    ensures { (spans : List Span) → AllByRecursion FitsSpan spans
+        → where_label (came_within low high) (map entry_of items.now) ≡ map span_entry spans
         → IfOk result (λ o. IfSome o (λ found. found ≡ map (λ s. s.change) spans)) }
 {
     match rows_within(alloc, low, high, items)? {
@@ -97,20 +99,22 @@ fn rows_came(
 pub(crate) fn base_rows<S: StoredItems>(
     alloc: Global,
     store: &mut S,
-    laid: StoredRows,
+    stored: StoredRows,
     number: u64,
 ) -> Result<(SortedRows, ChangeRows), KeeperError>
-    ensures rows { (m : Kept) (base : BaseValue) → S.stands_for store.old m → AllByRecursion IsReadBack base.rows → number ≡ base.number → TellBase laid m base
+    ensures rows { (m : Kept) (base : BaseValue) → S.stands_for store.old m → AllByRecursion IsReadBack base.rows
+        → number ≡ base.number → TellBase stored m base
         → S.is_trusted store.new → IfOk result (λ r. r.0 ≡ base.rows) }
     ensures later { (m : Kept) → S.stands_for store.old m → S.is_trusted store.new
-        → IfOk result (λ r. (change : ChangeValue) → number < change.version → TellChange laid m change → TellLater r.1 m change) }
+        → IfOk result (λ r. (change : ChangeValue) → number < change.version → TellChange stored m change
+        → TellLater r.1 m change) }
     ensures same { Stay (S.stands_for store.old) (S.stands_for store.new) }
     ensures cause { CountsFailure (S.fault_count store.old) (S.fault_count store.new) result }
     ensures trust { S.is_trusted store.new → S.is_trusted store.old }
     ensures held { Stay (S.may_hold store.new) (S.may_hold store.old) }
     ensures signs { Stay (S.shows store.new) (S.shows store.old) }
 {
-    match laid {
+    match stored {
         StoredRows::Areas => {
             let items = store.all_of(alloc, HubArea::BaseRows.number(), &[], &[255])?;
             match rows_in(alloc, 0, items.as_slice())? {
@@ -132,11 +136,12 @@ pub(crate) fn base_rows<S: StoredItems>(
 pub(crate) fn change_rows<S: StoredItems>(
     alloc: Global,
     store: &mut S,
-    laid: &ChangeRows,
+    later: &ChangeRows,
     version: u64,
 ) -> Result<SortedRows, KeeperError>
     requires { version + 1 < 2 ^ 64 }
-    ensures rows { (m : Kept) (change : ChangeValue) → S.stands_for store.old m → AllByRecursion IsReadBack change.rows → version ≡ change.version → TellLater laid.now m change
+    ensures rows { (m : Kept) (change : ChangeValue) → S.stands_for store.old m → AllByRecursion IsReadBack change.rows
+        → version ≡ change.version → TellLater later.now m change
         → S.is_trusted store.new → IfOk result (λ rows. rows ≡ change.rows) }
     ensures same { Stay (S.stands_for store.old) (S.stands_for store.new) }
     ensures cause { CountsFailure (S.fault_count store.old) (S.fault_count store.new) result }
@@ -144,7 +149,7 @@ pub(crate) fn change_rows<S: StoredItems>(
     ensures held { Stay (S.may_hold store.new) (S.may_hold store.old) }
     ensures signs { Stay (S.shows store.new) (S.shows store.old) }
 {
-    match laid {
+    match later {
         ChangeRows::Area => {
             let items = items_of_version(alloc, store, HubArea::ChangeRows, version)?;
             match rows_in(alloc, 8, items.as_slice())? {

@@ -1,9 +1,11 @@
-//! The spans of a store, read piece by piece: the rows of a piece are made, and its items go, before the next one is read.
+//! The spans of a store, read piece by piece: the rows of a piece are made, and its items go, before the next one is
+//! read.
 
 ghost use Rattle.std.specs.Prelude.{◌≡◌, ◌∷◌, ◌++◌, ◌≢◌, [], ℕ, List, IfOk, IfSome, IsTrue, OnOk, map};
 ghost use Rattle.roster_base.specs.Faults.{CountsFailure};
 ghost use Rattle.item_maps.specs.Edits.{entry_of};
 ghost use Rattle.item_maps.specs.Items.{Items as Kept, listed};
+ghost use Rattle.hub_format.specs.Areas.{spans_area};
 ghost use Rattle.hub_format.specs.Format.{Entry};
 ghost use Rattle.span_format.specs.Reading.{came};
 ghost use Rattle.keeper_sqlite.specs.hub.Keeping.{Stay};
@@ -40,7 +42,8 @@ fn push_item(alloc: Global, version: u64, item: Item, laid: &mut ByVersion) -> R
 
 // Lays out an item, if it came behind the base. False where its label tells no version.
 fn lay_item(alloc: Global, base: u64, item: Item, laid: &mut ByVersion) -> Result<bool, NoMemory>
-    ensures { (seen : List Entry) → AreLaid base seen laid.old → IfOk result (λ done. IsTrue done → AreLaid base (seen ++ entry_of item ∷ []) laid.new) }
+    ensures { (seen : List Entry) → AreLaid base seen laid.old
+        → IfOk result (λ done. IsTrue done → AreLaid base (seen ++ entry_of item ∷ []) laid.new) }
 {
     let Some(version) = came_in(item.label.as_slice()) else {
         return Ok(false);
@@ -59,7 +62,8 @@ fn lay_out(
     items: Vec<Item>,
     laid: &mut ByVersion,
 ) -> Result<bool, NoMemory>
-    ensures { (seen : List Entry) → AreLaid base seen laid.old → IfOk result (λ done. IsTrue done → AreLaid base (seen ++ map entry_of items.items) laid.new) }
+    ensures { (seen : List Entry) → AreLaid base seen laid.old
+        → IfOk result (λ done. IsTrue done → AreLaid base (seen ++ map entry_of items.items) laid.new) }
 {
     for item in items {
         if !lay_item(alloc, base, item, laid)? {
@@ -83,7 +87,8 @@ fn push_rows(
     items: &[Item],
     rows: &mut Vec<RowChange>,
 ) -> Result<bool, NoMemory>
-    ensures { (seen : List Entry) → AreMade base seen rows.old.items → IfOk result (λ done. IsTrue done → AreMade base (seen ++ map entry_of items.now) rows.new.items) }
+    ensures { (seen : List Entry) → AreMade base seen rows.old.items
+        → IfOk result (λ done. IsTrue done → AreMade base (seen ++ map entry_of items.now) rows.new.items) }
 {
     match rows_within(alloc, 0, base, items)? {
         Some(mut more) => {
@@ -102,7 +107,8 @@ fn take_in(
     read: &mut SpanRows,
 ) -> Result<bool, NoMemory>
     ensures { (seen : List Entry) → AreRead base seen read.old.rows.items read.old.later
-        → IfOk result (λ done. IsTrue done → AreRead base (seen ++ map entry_of items.items) read.new.rows.items read.new.later) }
+        → IfOk result (λ done. IsTrue done
+        → AreRead base (seen ++ map entry_of items.items) read.new.rows.items read.new.later) }
 {
     if !push_rows(alloc, base, items.as_slice(), &mut read.rows)? {
         return Ok(false);
@@ -117,8 +123,9 @@ fn read_all<S: StoredItems>(
     base: u64,
     read: &mut SpanRows,
 ) -> Result<(), KeeperError>
-    ensures read { (m : Kept) → S.stands_for store.old m → S.is_trusted store.new → AreRead base [] read.old.rows.items read.old.later
-        → OnOk result (AreRead base (listed 7 [] (255 ∷ []) m) read.new.rows.items read.new.later) }
+    ensures read { (m : Kept) → S.stands_for store.old m → S.is_trusted store.new
+        → AreRead base [] read.old.rows.items read.old.later
+        → OnOk result (AreRead base (listed spans_area [] (255 ∷ []) m) read.new.rows.items read.new.later) }
     ensures same { Stay (S.stands_for store.old) (S.stands_for store.new) }
     ensures cause { CountsFailure (S.fault_count store.old) (S.fault_count store.new) result }
     ensures trust { S.is_trusted store.new → S.is_trusted store.old }
@@ -144,7 +151,8 @@ pub(crate) fn span_rows<S: StoredItems>(
     store: &mut S,
     base: u64,
 ) -> Result<SpanRows, KeeperError>
-    ensures read { (m : Kept) → S.stands_for store.old m → S.is_trusted store.new → IfOk result (λ read. AreRead base (listed 7 [] (255 ∷ []) m) read.rows.items read.later) }
+    ensures read { (m : Kept) → S.stands_for store.old m → S.is_trusted store.new
+        → IfOk result (λ read. AreRead base (listed spans_area [] (255 ∷ []) m) read.rows.items read.later) }
     ensures same { Stay (S.stands_for store.old) (S.stands_for store.new) }
     ensures cause { CountsFailure (S.fault_count store.old) (S.fault_count store.new) result }
     ensures trust { S.is_trusted store.new → S.is_trusted store.old }

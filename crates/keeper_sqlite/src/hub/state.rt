@@ -16,39 +16,38 @@ ghost use Rattle.keeper_sqlite.specs.hub.Keeping.{Stay};
 ghost use Rattle.keeper_sqlite.specs.hub.Rows.{HasTables};
 
 use crate::stored_items::StoredItems;
-use hub_format::{HubArea, state_of};
+use hub_format::{HubArea, StoredState, state_of};
 use item_maps::Item;
 use roster_base::KeeperError;
-use roster_texts::Moment;
 use std::alloc::Global;
 use version_changes::limits::LAST_VERSION;
 
-// How many versions are kept, and the number and the moment of the base, as these items say it. None where they are no state's, or the
-// number is above that of the last version.
-fn state_in(items: &[Item]) -> Option<(u64, u64, Moment)>
-    ensures state { (keep : ℕ) (base : BaseVersion) → keep < 2 ^ 64 → base.number < 2 ^ 64 → FitsSigned w64 base.moment → map entry_of items.now ≡ state_entry keep base ∷ []
-        → IfSome result (λ s. (s.0 ≡ keep) × (s.1 ≡ base.number) × (s.2 ≡ base.moment)) }
-    ensures small { IfSome result (λ s. s.1 + 2 < 2 ^ 64) }
-    ensures low { IfSome result (λ s. s.1 ≤ last_version) }
+// The state, from its items. None where they are no state's, or where the number of the base is above that of the last
+// version.
+fn state_in(items: &[Item]) -> Option<StoredState>
+    ensures state { (keep : ℕ) (base : BaseVersion) → keep < 2 ^ 64 → base.number < 2 ^ 64 → FitsSigned w64 base.moment
+        → map entry_of items.now ≡ state_entry keep base ∷ []
+        → IfSome result (λ s. (s.keep ≡ keep) × (s.base ≡ base.number) × (s.moment ≡ base.moment)) }
+    ensures small { IfSome result (λ s. s.base + 2 < 2 ^ 64) }
+    ensures low { IfSome result (λ s. s.base ≤ last_version) }
 {
-    let (keep, base, at) = state_of(items)?;
-    if base <= LAST_VERSION {
-        Some((keep, base, at))
+    let state = state_of(items)?;
+    if state.base <= LAST_VERSION {
+        Some(state)
     } else {
         None
     }
 }
 
-/// How many versions are kept beside the newest, and the number and the moment of the base. Items that are no state's are refused as a
-/// fault of the store.
+/// The state of a store. Items that are no state's are refused as a fault of the store.
 pub(crate) fn state_of_store<S: StoredItems>(
     alloc: Global,
     store: &mut S,
-) -> Result<(u64, u64, Moment), KeeperError>
+) -> Result<StoredState, KeeperError>
     ensures state { (t : HubTables) → HasTables (S.stands_for store.old) t → S.is_trusted store.new
-        → IfOk result (λ s. (s.0 ≡ t.keep) × (s.1 ≡ t.base.number) × (s.2 ≡ t.base.moment)) }
-    ensures small { IfOk result (λ s. s.1 + 2 < 2 ^ 64) }
-    ensures low { IfOk result (λ s. s.1 ≤ last_version) }
+        → IfOk result (λ s. (s.keep ≡ t.keep) × (s.base ≡ t.base.number) × (s.moment ≡ t.base.moment)) }
+    ensures small { IfOk result (λ s. s.base + 2 < 2 ^ 64) }
+    ensures low { IfOk result (λ s. s.base ≤ last_version) }
     ensures same { Stay (S.stands_for store.old) (S.stands_for store.new) }
     ensures cause { CountsFailure (S.fault_count store.old) (S.fault_count store.new) result }
     ensures trust { S.is_trusted store.new → S.is_trusted store.old }
@@ -72,7 +71,8 @@ pub(crate) fn items_of_version<S: StoredItems>(
 ) -> Result<Vec<Item>, KeeperError>
     requires { version + 1 < 2 ^ 64 }
     ensures items { (m : Items) → S.stands_for store.old m → S.is_trusted store.new
-        → IfOk result (λ items. map entry_of items.items ≡ listed (area_number area) (number version) (number (version + 1)) m) }
+        → IfOk result (λ items. map entry_of items.items
+        ≡ listed (area_number area) (number version) (number (version + 1)) m) }
     ensures same { Stay (S.stands_for store.old) (S.stands_for store.new) }
     ensures cause { CountsFailure (S.fault_count store.old) (S.fault_count store.new) result }
     ensures trust { S.is_trusted store.new → S.is_trusted store.old }

@@ -19,7 +19,8 @@ use version_core::hub_tables::HubTables;
 
 // What a store that is ready keeps.
 fn load_ready<S: StoredItems>(alloc: Global, store: &mut S) -> Result<HubTables, KeeperError>
-    ensures shown { (state : KeptState) → Keeps KeepSpans (S.stands_for store.old) state → S.is_trusted store.new → IfOk result (λ tables. state ≡ kept_by tables) }
+    ensures shown { (state : KeptState) → Keeps KeepSpans (S.stands_for store.old) state → S.is_trusted store.new
+        → IfOk result (λ tables. state ≡ kept_by tables) }
     ensures tables { IfOk result AreTables }
     ensures same { Stay (S.stands_for store.old) (S.stands_for store.new) }
     ensures cause { CountsFailure (S.fault_count store.old) (S.fault_count store.new) result }
@@ -37,17 +38,23 @@ pub fn load_from<S: StoredItems>(
     store: &mut S,
     keep: u32,
 ) -> Result<HubTables, KeeperError>
-    ensures shown { (state : KeptState) → Keeps (KeepOrNew keep) (S.stands_for store.old) state → S.is_trusted store.new → IfOk result (λ tables. state ≡ kept_by tables) }
-    ensures kept { (state : KeptState) → Keeps (KeepOrNew keep) (S.stands_for store.old) state → S.is_trusted store.new → Keeps (KeepOrNew keep) (S.stands_for store.new) state }
-    ensures turned { (state : KeptState) → Keeps (KeepOrNew keep) (S.stands_for store.old) state → S.is_trusted store.new → OnOk result (Keeps KeepSpans (S.stands_for store.new) state) }
-    ensures whole { (state : KeptState) → Keeps KeepEither (S.stands_for store.old) state → S.is_trusted store.new → Keeps KeepEither (S.stands_for store.new) state }
+    ensures shown { (state : KeptState) → Keeps (KeepOrNew keep) (S.stands_for store.old) state → S.is_trusted store.new
+        → IfOk result (λ tables. state ≡ kept_by tables) }
+    ensures kept { (state : KeptState) → Keeps (KeepOrNew keep) (S.stands_for store.old) state → S.is_trusted store.new
+        → Keeps (KeepOrNew keep) (S.stands_for store.new) state }
+    ensures turned { (state : KeptState) → Keeps (KeepOrNew keep) (S.stands_for store.old) state
+        → S.is_trusted store.new → OnOk result (Keeps KeepSpans (S.stands_for store.new) state) }
+    ensures whole { (state : KeptState) → Keeps KeepEither (S.stands_for store.old) state → S.is_trusted store.new
+        → Keeps KeepEither (S.stands_for store.new) state }
     ensures tables { IfOk result AreTables }
-    ensures other { (m : Kept) → S.stands_for store.old m → HasOtherFormat m → S.is_trusted store.new → IsErr result × S.stands_for store.new m }
+    ensures other { (m : Kept) → S.stands_for store.old m → HasOtherFormat m → S.is_trusted store.new
+        → IsErr result × S.stands_for store.new m }
     ensures cause { CountsFailure (S.fault_count store.old) (S.fault_count store.new) result }
     ensures trust { S.is_trusted store.new → S.is_trusted store.old }
     ensures signs { Stay (S.shows store.new) (S.shows store.old) }
     ensures made { (n : Kept) → S.may_hold store.new n
-        → ComeOf (S.may_hold store.old) (S.is_trusted store.old) (S.stands_for store.old) (KeepOrNew keep) (λ state now. KeepOrNew keep now state) n }
+        → ComeOf (S.may_hold store.old) (S.is_trusted store.old) (S.stands_for store.old) (KeepOrNew keep)
+        (λ state now. KeepOrNew keep now state) n }
     ensures live { S.shows store.new Clean → OnOk result (S.is_trusted store.new) }
 {
     prepare(alloc, store, keep)?;

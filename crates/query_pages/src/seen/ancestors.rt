@@ -3,7 +3,7 @@
 ghost use Rattle.std.specs.Prelude.{◌≡◌, ◌||◌, ℕ, List, IfOk, OnOk};
 ghost use Rattle.std.specs.List.{list_any};
 ghost use Rattle.hub_spec.specs.views.Seen.{leads_up};
-ghost use Rattle.query_pages.specs.Ancestors.{IsClosed, is_in};
+ghost use Rattle.query_pages.specs.Ancestors.{IsClosed, has_id};
 ghost use Rattle.roster_types.specs.Keys.{count_of};
 ghost use Rattle.roster_values.specs.declared.kind.Kind.TheVariants.{Orgs};
 
@@ -18,8 +18,8 @@ use std::collections::HashSet;
 /// Ids that stand in rows or in a list of schools.
 pub type OrgIds<'a> = HashSet<&'a str>;
 
-// Adds the school's id and those above it. A chain is followed only to an id that is in already, so that all chains together take no
-// more steps than there are schools and orgs.
+// Adds the school's id and those above it. A chain is followed only to an id that is in already, so that all chains
+// together take no more steps than there are schools and orgs.
 fn add_chain<'a, R: Rows>(
     rows: &'a R,
     turns: u64,
@@ -29,7 +29,7 @@ fn add_chain<'a, R: Rows>(
     requires turns { turns ≡ count_of Orgs (R.rows rows.now) }
     requires closed { IsClosed (R.rows rows.now) ids.old }
     ensures closed { OnOk result (IsClosed (R.rows rows.now) ids.new) }
-    ensures added { OnOk result ((id : List ℕ) → is_in ids.new id ≡ (is_in ids.old id || leads_up (R.rows rows.now) id turns school.now)) }
+    ensures added { OnOk result ((id : List ℕ) → has_id ids.new id ≡ (has_id ids.old id || leads_up (R.rows rows.now) id turns school.now)) }
 {
     let mut current = school;
     for _turn in 0..turns {
@@ -53,7 +53,7 @@ pub fn ancestors<'a, R: Rows>(
     schools: &'a [Id],
 ) -> Result<OrgIds<'a>, NoMemory>
     requires { turns ≡ count_of Orgs (R.rows rows.now) }
-    ensures { IfOk result (λ ids. (id : List ℕ) → is_in ids id ≡ list_any (leads_up (R.rows rows.now) id turns) schools.now) }
+    ensures { IfOk result (λ ids. (id : List ℕ) → has_id ids id ≡ list_any (leads_up (R.rows rows.now) id turns) schools.now) }
 {
     let mut ids = HashSet::new(alloc);
     for school in schools {

@@ -12,8 +12,8 @@ use roster_values::Kind;
 use std::alloc::Global;
 use version_core::references::Refs;
 
-/// Rows, the schools at which they are seen, how many of them are orgs, which bounds each chain of parents, and the ids to which the
-/// listed schools lead up, where they were looked up.
+/// Rows, the schools at which they are seen, how many of them are orgs, which bounds each chain of parents, and the ids
+/// to which the listed schools lead up, where they were looked up.
 #[derive(Drop)]
 pub struct KnownRows<'a, R: Refs> {
     pub schools: &'a Schools,

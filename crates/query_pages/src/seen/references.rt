@@ -23,6 +23,7 @@ pub fn names_one_of(row: &Row, name: &str, ids: &[Id]) -> bool
     }
 }
 
+// Whether one id stands in both lists.
 fn have_common(named: &[Id], ids: &[Id]) -> bool
     ensures { result ≡ list_any (is_one_of ids.now) named.now }
 {

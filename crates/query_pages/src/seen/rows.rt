@@ -44,7 +44,8 @@ impl<'a, R: Refs> SeenRows<'a, R> {
         }
     }
 
-    /// What is seen of these rows, made for asking of many of them: the orgs that the listed schools lead up to are looked up once.
+    /// What is seen of these rows, made for asking of many of them: the orgs that the listed schools lead up to are
+    /// looked up once.
     pub fn with_ancestors(
         alloc: Global,
         schools: &'a Schools,
@@ -100,7 +101,7 @@ fn count_seen<R: Refs>(known: &KnownRows<'_, R>, kind: Kind) -> u64
     ensures count { result ≡ count_of kind (seen known.now.schools.now (R.rows known.now.rows.now)) }
     ensures order { Ascends row_key (seen known.now.schools.now (R.rows known.now.rows.now)) }
 {
-    // Not fewer than are seen, so that the count doesn't wrap.
+    // Read for the bound of a count: as many rows of the kind stand, and not more are seen.
     let _all = known.rows.count(kind);
     let mut count = 0;
     let mut after = None;
@@ -144,7 +145,7 @@ impl<'a, R: Refs> Refs for SeenRows<'a, R> {
     }
 }
 
-// Each row is looked for anew.
+// A row that is seen is looked for anew each time: the place of the last one isn't used.
 impl<'a, R: Refs> Steps for SeenRows<'a, R> {
     fn next_near(&self, kind: Kind, after: Option<&Id>, _near: &mut usize) -> Option<&Row> {
         next_seen(&self.known, kind, after)

@@ -15,7 +15,7 @@ use roster_types::rows::Rows;
 use roster_values::Kind;
 use version_core::references::Refs;
 
-// The school of the row is listed.
+// The test whether the school of the row is listed.
 #[derive(Drop)]
 struct IsAtSchool<'a> {
     schools: &'a [Id],
@@ -30,7 +30,7 @@ impl<'a> RowTest for IsAtSchool<'a> {
     }
 }
 
-// The org is listed, or an ancestor of one that is.
+// The test whether the org is listed, or an ancestor of one that is.
 #[derive(Drop)]
 struct SeesOrg<'a, R: Refs> {
     schools: &'a [Id],
@@ -55,7 +55,7 @@ impl<'a, R: Refs> RowTest for SeesOrg<'a, R> {
     }
 }
 
-// One of the user's orgs is listed, or an enrollment whose school is listed names the user.
+// The test whether one of the user's orgs is listed, or an enrollment whose school is listed names the user.
 #[derive(Drop)]
 struct SeesUser<'a, R: Refs> {
     schools: &'a [Id],
@@ -79,30 +79,30 @@ impl<'a, R: Refs> RowTest for SeesUser<'a, R> {
     }
 }
 
-// The class of the line item is seen.
+// The test whether the class of a line item or of a class resource is seen.
 #[derive(Drop)]
-struct SeesLineItem<'a, R: Refs> {
+struct SeesClassOf<'a, R: Refs> {
     schools: &'a [Id],
     rows: &'a R,
 }
 
-impl<'a, R: Refs> RowTest for SeesLineItem<'a, R> {
-    ghost passes = { λ t item. spec.sees_line_item t.schools.now (R.rows t.rows.now) item };
+impl<'a, R: Refs> RowTest for SeesClassOf<'a, R> {
+    ghost passes = { λ t row. spec.sees_class_of t.schools.now (R.rows t.rows.now) row };
 
-    #[tactic(auto, unfolding(hub_spec::specs::views::Seen::sees_line_item))]
-    fn passes(&self, item: &Row) -> bool {
+    #[tactic(auto, unfolding(hub_spec::specs::views::Seen::sees_class_of))]
+    fn passes(&self, row: &Row) -> bool {
         let schools = self.schools;
         leads_to(
             self.rows,
             &IsAtSchool { schools },
             "class",
             Kind::Classes,
-            item,
+            row,
         )
     }
 }
 
-// The org of the course is seen, or a class that is seen names the course.
+// The test whether the org of the course is seen, or a class that is seen names the course.
 #[derive(Drop)]
 struct SeesCourse<'a, R: Refs> {
     schools: &'a [Id],
@@ -133,30 +133,7 @@ impl<'a, R: Refs> RowTest for SeesCourse<'a, R> {
     }
 }
 
-// The class of the class resource is seen.
-#[derive(Drop)]
-struct SeesClassResource<'a, R: Refs> {
-    schools: &'a [Id],
-    rows: &'a R,
-}
-
-impl<'a, R: Refs> RowTest for SeesClassResource<'a, R> {
-    ghost passes = { λ t row. spec.sees_class_resource t.schools.now (R.rows t.rows.now) row };
-
-    #[tactic(auto, unfolding(hub_spec::specs::views::Seen::sees_class_resource))]
-    fn passes(&self, row: &Row) -> bool {
-        let schools = self.schools;
-        leads_to(
-            self.rows,
-            &IsAtSchool { schools },
-            "class",
-            Kind::Classes,
-            row,
-        )
-    }
-}
-
-// The course of the course resource is seen.
+// The test whether the course of the course resource is seen.
 #[derive(Drop)]
 struct SeesCourseResource<'a, R: Refs> {
     schools: &'a [Id],
@@ -190,7 +167,7 @@ fn sees_resource<R: Refs>(schools: &[Id], known: &KnownRows<'_, R>, resource: &R
     let rows = known.rows;
     is_named_by(
         rows,
-        &SeesClassResource { schools, rows },
+        &SeesClassOf { schools, rows },
         Kind::ClassResources,
         "resource",
         resource,
@@ -203,7 +180,7 @@ fn sees_resource<R: Refs>(schools: &[Id], known: &KnownRows<'_, R>, resource: &R
     )
 }
 
-// What is seen of each kind under a list of schools.
+// Whether a row is seen under a list of schools, by the rule of its kind.
 fn sees_at<R: Refs>(schools: &[Id], known: &KnownRows<'_, R>, row: &Row) -> bool
     requires { known.now.schools.now ≡ Listed schools.now }
     ensures { result ≡ spec.sees_at schools.now (R.rows known.now.rows.now) row.now.kind row.now }
@@ -218,16 +195,16 @@ fn sees_at<R: Refs>(schools: &[Id], known: &KnownRows<'_, R>, row: &Row) -> bool
         Kind::Demographics => {
             stands_where(rows, &SeesUser { schools, rows }, Kind::Users, row.id())
         }
-        Kind::LineItems => SeesLineItem { schools, rows }.passes(row),
+        Kind::LineItems => SeesClassOf { schools, rows }.passes(row),
         Kind::Results => leads_to(
             rows,
-            &SeesLineItem { schools, rows },
+            &SeesClassOf { schools, rows },
             "lineItem",
             Kind::LineItems,
             row,
         ),
         Kind::Resources => sees_resource(schools, known, row),
-        Kind::ClassResources => SeesClassResource { schools, rows }.passes(row),
+        Kind::ClassResources => SeesClassOf { schools, rows }.passes(row),
         Kind::CourseResources => SeesCourseResource { schools, known }.passes(row),
     }
 }

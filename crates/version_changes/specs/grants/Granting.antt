@@ -14,6 +14,7 @@ use Rattle.version_core.specs.Version.{last_version}
 use Rattle.version_core.specs.declared.change.BaseVersion.{BaseVersion}
 use Rattle.version_core.specs.declared.grant_row.GrantRow.{GrantRow}
 
+-- both name all schools, or the same ones in the same order
 abbrev pub same_schools : Schools → Schools → Bool
 same_schools All All = true
 same_schools All (Listed ids) = false
@@ -29,6 +30,7 @@ abbrev pub since_of : ℕ → GrantEntry → Option GrantRow → ℕ
 since_of next entry None = next
 since_of next entry (Some row) = if asks_for entry row.grant then row.grant.since else next
 
+-- what an entry is granted in the version after this one
 abbrev pub granted : BaseVersion → GrantEntry → GrantRow
 granted version entry = record {
   caller = entry.caller;

@@ -29,6 +29,7 @@ use Rattle.version_core.specs.declared.change.BaseVersion.{BaseVersion}
 use Rattle.version_core.specs.declared.change.Change.{Change}
 use Rattle.version_core.specs.declared.row_change.RowChange.{RowChange}
 
+-- the key of a listed row
 abbrev pub set_key : SetRow → Key
 set_key listed = row_key listed.row
 
@@ -36,9 +37,11 @@ set_key listed = row_key listed.row
 abbrev pub rows_in : SetRecord → List SetRow
 rows_in set = flat_map (λ part. part.rows) set.parts
 
+-- a row as it is stored for a feed
 abbrev pub owned_by : List ℕ → Record → RowChange
 owned_by feed row = record { row = row; owner = Feed feed }
 
+-- the row with a moment as its date
 abbrev pub dated : ℤ → Record → Record
 dated at row = record row { modified = at }
 
@@ -53,14 +56,17 @@ abbrev pub Listed : List ℕ → ℤ → Bool → Record → Option RowChange �
 Listed feed at true row stored new = new ≡ owned_by feed row
 Listed feed at false row stored new = Undated feed at row stored new
 
+-- the owner is this feed
 abbrev pub is_own : List ℕ → Owner → Bool
 is_own feed (Feed name) = bytes_eq name feed
 is_own feed (Caller name) = false
 
+-- a row of this status is there, and not marked as deleted
 abbrev pub is_active : Status → Bool
 is_active Active = true
 is_active ToBeDeleted = false
 
+-- a part of this mode lists all rows that its feed has of the kind
 abbrev pub is_bulk : Mode → Bool
 is_bulk Bulk = true
 is_bulk Delta = false
@@ -73,6 +79,7 @@ is_whole parts kind = list_any (λ (part : SetPart). (place_of_kind part.kind ==
 abbrev pub is_left_out : SetRecord → RowChange → Bool
 is_left_out set stored = is_whole set.parts stored.row.kind && (is_own set.feed stored.owner && is_active stored.row.status)
 
+-- the stored row, marked as deleted at a moment; its owner stays
 abbrev pub marked : ℤ → RowChange → RowChange
 marked at stored = record { row = record stored.row { status = ToBeDeleted; modified = at }; owner = stored.owner }
 
@@ -119,6 +126,7 @@ abbrev pub refusal_of : SetRecord → List RowChange → List RowChange → Opti
 refusal_of set rows new =
     option_or (owned_by_other set.feed rows (rows_in set)) (option_or (too_many (rows_of new) all_kinds) (unsound (faults_of (rows_of new))))
 
+-- what a set or a list of grants makes of a version: a refusal, nothing new, or the next version
 pub data Outcome : Type 0 where
   Refuses : PublishFault → Outcome
   Unchanged : Outcome

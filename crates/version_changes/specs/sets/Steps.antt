@@ -30,10 +30,11 @@ bare part = record part { rows = [] }
 abbrev pub bare_set : SetRecord → SetRecord
 bare_set set = record set { parts = map bare set.parts }
 
--- the rows of a part in the order of ids, and those of all parts
+-- the rows of a part in the order of ids
 abbrev pub part_indexed : SetPart → List SetRow
 part_indexed part = in_order (λ (listed : SetRow). listed.row.id) part.rows
 
+-- the rows of all parts, each part in the order of ids
 abbrev pub indexed : List SetPart → List SetRow
 indexed parts = flat_map part_indexed parts
 
@@ -85,6 +86,7 @@ ChangesAt set at listed stored (Some change) = Becomes set at listed stored (Som
 abbrev pub is_added : Kind → List RowChange → RowChange → Bool
 is_added kind rows change = is_of_kind kind change.row && not (is_some (look_up change_key (change_key change) rows))
 
+-- how many changes of the kind are of no row that stands
 abbrev pub added : Kind → List RowChange → List RowChange → ℕ
 added kind rows changes = count_by (is_added kind rows) changes
 
@@ -96,7 +98,8 @@ is_one_type _ _ = false
 
 -- a change has the type of the row that stands under its key, where one does
 abbrev pub keeps_type : List RowChange → RowChange → Bool
-keeps_type rows change = option_map_or (λ (stored : RowChange). is_one_type (type_in change.row) (type_in stored.row)) (look_up change_key (change_key change) rows) true
+keeps_type rows change =
+    option_map_or (λ (stored : RowChange). is_one_type (type_in change.row) (type_in stored.row)) (look_up change_key (change_key change) rows) true
 
 -- the refusal of new rows, whoever publishes them
 abbrev pub rows_refusal : List Record → Option PublishFault

@@ -24,7 +24,7 @@ last_grants grants (change ∷ changes) = last_grants (grants_after grants chang
 abbrev pub KeepAt : List GrantRow → ℕ → List GrantRow → Type 0
 KeepAt newest number grants = AllByRecursion (λ row. row.grant.since ≤ number → HasGrant grants row) newest
 
--- and in each version that a change leads to
+-- these callers have their grants in each version that a change leads to, from their `since` on
 abbrev pub KeepBehind : List GrantRow → List GrantRow → List Change → Type 0
 KeepBehind newest grants [] = ⊤
 KeepBehind newest grants (change ∷ changes) = KeepAt newest change.version (grants_after grants change) × KeepBehind newest (grants_after grants change) changes

@@ -34,6 +34,7 @@ fn grant_row_of<'a>(grants: &'a [GrantRow], caller: &Name) -> Option<&'a GrantRo
     None
 }
 
+// Whether both name the same schools: `is_same`, told in the words of grants.
 fn same_schools(left: &Schools, right: &Schools) -> bool
     ensures { result ≡ same_schools left.now right.now }
 {
@@ -120,10 +121,10 @@ fn grants_from(alloc: Global, table: &Table, list: &GrantList) -> Result<Items<G
     Ok(Items::from_vec(rows))
 }
 
-/// What a list of grants makes of the newest version of a table, where it is published at a moment: the change to the next version,
-/// or nothing where no grant changes. A caller that has what it asks for keeps it since the version since which it has it; any other
-/// caller of the list has it since the next version, and a caller that isn't listed has nothing. The one fault is that a change is
-/// due and the newest version has the last number.
+/// What a list of grants makes of the newest version of a table, where it is published at a moment: the change to the
+/// next version, or nothing where no grant changes. A caller that has what it asks for keeps it since the version since
+/// which it has it; any other caller of the list has it since the next version, and a caller that isn't listed has
+/// nothing. The one fault is that a change is due and the newest version has the last number.
 pub fn grants_change(
     alloc: Global,
     table: &Table,

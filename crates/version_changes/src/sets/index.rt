@@ -57,8 +57,8 @@ fn is_at(rows: &[SetRow], kind: Kind, id: &Id, place: usize) -> bool
     order::compare(listed.kind(), listed.id(), kind, id).is_eq()
 }
 
-/// Whether a row of this kind and id is among rows in order. They are looked for at the place `near` first, which is then the one
-/// behind them: of rows asked for in their order each is found in one step.
+/// Whether a row of this kind and id is among rows in order. They are looked for at the place `near` first, which is
+/// then the one behind them: of rows asked for in their order each is found in one step.
 pub fn is_listed(rows: &[SetRow], kind: Kind, id: &Id, near: &mut usize) -> bool
     requires { Ascends set_key rows.now }
     ensures { result ≡ is_some (look_up set_key (place_of_kind kind, id.now) rows.now) }

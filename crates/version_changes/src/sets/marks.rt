@@ -18,6 +18,7 @@ use std::alloc::Global;
 use version_core::row_change::RowChange;
 use version_core::view::VersionView;
 
+// Whether a file lists all rows that its feed has of the kind.
 fn is_bulk(mode: Mode) -> bool
     ensures { result ≡ is_bulk mode }
 {
@@ -44,6 +45,7 @@ fn is_whole(parts: &[SetPart], kind: Kind) -> bool
     parts.iter().any(|part| part.kind.place() == kind.place() && is_bulk(part.mode))
 }
 
+// Whether a stored row, where the set doesn't list it, is taken for one that the feed has no longer.
 fn is_left_out(set: &RosterSet, stored: &RowChange) -> bool
     ensures { result ≡ is_left_out set.now stored.now }
 {
@@ -123,7 +125,8 @@ fn add_marks(
     Ok(())
 }
 
-/// The marks of the rows that a set leaves out where it lists these, in the order of kinds and ids. The set may be bare of its rows.
+/// The marks of the rows that a set leaves out where it lists these, in the order of kinds and ids. The set may be bare
+/// of its rows.
 pub fn marks_of(
     alloc: Global,
     view: &VersionView,
@@ -139,7 +142,7 @@ pub fn marks_of(
     for kind in Kind::ALL {
         add_marks(view, set, listed, at, kind, &mut marks)?;
     }
-    // Asked for its clause `sorted`.
+    // Read for its clause `sorted`.
     let _ = view.next_change(Kind::Orgs, None);
     Ok(marks)
 }

@@ -75,8 +75,8 @@ pub fn changed_rows(
     changes_of(alloc, view, &bare, rows, at)
 }
 
-/// What a set makes of the newest version of a table, where it is published at a moment: the change to the next version,
-/// or nothing where no row changes. Its faults are those of `PublishFault`, the first of them.
+/// What a set makes of the newest version of a table, where it is published at a moment: the change to the next
+/// version, or nothing where no row changes. Its faults are those of `PublishFault`, the first of them.
 pub fn set_change(
     alloc: Global,
     table: &Table,
@@ -90,8 +90,9 @@ pub fn set_change(
     set_change_over(alloc, table, false, set, at)
 }
 
-/// What a set makes of the newest version of a table, as `set_change` says, for a caller who may know that this version is sound, as
-/// each is that a set led to: then the references of the rows that the set changes are mostly all that is checked.
+/// What a set makes of the newest version of a table, as `set_change` says, for a caller who may know that this version
+/// is sound, as each is that a set led to: then the references of the rows that the set changes are mostly all that is
+/// checked.
 pub fn set_change_over(
     alloc: Global,
     table: &Table,

@@ -11,10 +11,10 @@ use roster_values::Kind;
 pub enum PublishFault {
     /// The first row of the set, in its order, whose id stands with another owner than this feed, and that owner.
     OwnedByOther { kind: Kind, id: Id, owner: Owner },
-    /// The first kind that would have over 1,000,000 rows, and how many it would have.
+    /// The first kind that would have more rows than `ROW_LIMIT`, and how many it would have.
     TooManyRows { kind: Kind, count: u64 },
     /// The broken references of the new rows; not empty.
     Unsound(Items<RefFault>),
-    /// A change is due and the newest version has the last number, 10^15.
+    /// A change is due, and the newest version has the last number, `LAST_VERSION`.
     LastVersion,
 }

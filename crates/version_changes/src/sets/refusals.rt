@@ -103,8 +103,9 @@ fn unsound(faults: Vec<RefFault>) -> Option<PublishFault>
     Some(PublishFault::Unsound(Items::from_vec(faults)))
 }
 
-/// The refusal of the rows of a draft, whoever publishes them: too many rows of a kind, or broken references. `is_sound` says that the
-/// rows before the draft are known to have no broken references; those of the draft are found faster then.
+/// The refusal of the rows of a draft, whoever publishes them: too many rows of a kind, or broken references.
+/// `is_sound` says that the rows before the draft are known to have no broken references; those of the draft are found
+/// faster then.
 pub fn refusal_of(
     alloc: Global,
     draft: &Draft,

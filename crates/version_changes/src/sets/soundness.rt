@@ -52,8 +52,8 @@ fn are_all(view: &VersionView, found: &[RefFault]) -> bool
     view.is_empty() || !has_cycle(found)
 }
 
-/// The broken references of the rows as they become. Where those that stood are known to be sound and keep their types, the rows that
-/// change are checked first, and the others only where these don't tell.
+/// The broken references of the rows as they become. Where those that stood are known to be sound and keep their types,
+/// the rows that change are checked first, and the others only where these don't tell.
 pub fn draft_faults(alloc: Global, draft: &Draft, is_sound: bool) -> Result<Vec<RefFault>, NoMemory>
     requires { is_sound ≡ true → faults_of (rows_of draft.now.view.now.rows) ≡ [] }
     ensures { IfOk result (λ v. v.items ≡ faults_of (rows_of (overlaid change_key draft.now.view.now.rows draft.now.changes.now))) }
@@ -61,7 +61,7 @@ pub fn draft_faults(alloc: Global, draft: &Draft, is_sound: bool) -> Result<Vec<
     if !is_sound || !keep_types(draft.view, draft.changes.as_slice()) {
         return faults(alloc, draft);
     }
-    // Counted for its clause `order`.
+    // Read for its clause `order`.
     let _ = draft.count(Kind::Orgs);
     let found = faults_among(alloc, draft, draft.changes.as_slice())?;
     if !are_all(draft.view, found.as_slice()) {

@@ -18,6 +18,7 @@ use version_core::row_change::RowChange;
 use version_core::sorted::found;
 use version_core::sorted_rows::SortedRows;
 
+// Whether a row is of the kind.
 fn is_of_kind(kind: Kind, row: &Row) -> bool
     ensures { result ≡ is_of_kind kind row.now }
 {
@@ -28,19 +29,17 @@ fn is_of_kind(kind: Kind, row: &Row) -> bool
 fn has_row(rows: &SortedRows, row: &Row) -> bool
     ensures { result ≡ is_some (look_up change_key (row_key row.now) rows.now) }
 {
-    match found(rows.as_slice(), row.kind(), row.id()) {
-        Some(_) => true,
-        None => false,
-    }
+    found(rows.as_slice(), row.kind(), row.id()).is_some()
 }
 
+// Whether one of the changes has a row with the kind and the id of another.
 fn any_has(changes: &[Change], row: &Row) -> bool
     ensures { result ≡ list_any (λ change. is_some (look_up change_key (row_key row.now) change.rows)) changes.now }
 {
     changes.iter().any(|change| has_row(&change.rows, row))
 }
 
-// Whether a row of the kind is none of those after the earlier changes.
+// Whether a change is of the kind, and of no row that stands after the earlier changes.
 fn is_new(kind: Kind, base: &SortedRows, earlier: &[Change], change: &RowChange) -> bool
     ensures { result ≡ is_added kind (rows_behind base.now earlier.now) change.now }
 {
@@ -53,7 +52,7 @@ fn is_new(kind: Kind, base: &SortedRows, earlier: &[Change], change: &RowChange)
     !any_has(earlier, &change.row)
 }
 
-// 1 where it is, and else 0.
+// How many rows of the kind one change adds: 1 where it is of a new one, and else 0.
 fn new_count(kind: Kind, base: &SortedRows, earlier: &[Change], change: &RowChange) -> u64
     ensures count { result ≡ cond (is_added kind (rows_behind base.now earlier.now) change.now) 1 0 }
     ensures one { result ≤ 1 }
@@ -65,7 +64,7 @@ fn new_count(kind: Kind, base: &SortedRows, earlier: &[Change], change: &RowChan
     }
 }
 
-// How many of them are.
+// How many rows of the kind these changes add.
 fn added(kind: Kind, base: &SortedRows, earlier: &[Change], changes: &[RowChange]) -> u64
     ensures { result ≡ added kind (rows_behind base.now earlier.now) changes.now }
 {
@@ -76,7 +75,7 @@ fn added(kind: Kind, base: &SortedRows, earlier: &[Change], changes: &[RowChange
     count
 }
 
-// The sum, where so many rows may be.
+// The sum of both, where a kind may have so many rows.
 fn sum_of(count: u64, more: u64) -> Option<u64>
     ensures sum { IfSome result (λ sum. sum ≡ count + more) }
     ensures few { IfSome result (λ sum. sum ≤ row_limit) }
@@ -150,6 +149,7 @@ fn few_of(kind: &Kind, base: &SortedRows, changes: &[Change]) -> bool
     }
 }
 
+// Whether no version has too many rows of one of these kinds.
 fn all_few(kinds: &[Kind], base: &SortedRows, changes: &[Change]) -> bool
     requires { AreChanges base.now }
     ensures { result ≡ true → AllByRecursion (λ kind. AreFew kind base.now changes.now) kinds.now }

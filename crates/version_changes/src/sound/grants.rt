@@ -9,13 +9,14 @@ ghost use Rattle.version_core.specs.Grants.{AreGrants, caller_of, grant_of, toke
 
 use version_core::grant_row::{GrantRow, row_of_token};
 
+// Whether one caller stands in front of another in the order of their names.
 fn is_below(low: &GrantRow, high: &GrantRow) -> bool
     ensures { result ≡ is_lt (slice_cmp nat_cmp low.now.caller high.now.caller) }
 {
     low.caller.as_str().cmp(high.caller.as_str()).is_lt()
 }
 
-/// Whether each caller is below the next.
+/// Whether each caller stands in front of the next, in the order of their names.
 pub(crate) fn rise(grants: &[GrantRow]) -> bool
     ensures { result ≡ true → RiseBy caller_of grants.now }
 {
@@ -27,12 +28,14 @@ pub(crate) fn rise(grants: &[GrantRow]) -> bool
     true
 }
 
+// Whether no grant is newer than the version of this number.
 fn are_up_to(number: u64, grants: &[GrantRow]) -> bool
     ensures { result ≡ list_all (λ row. nat_le row.grant.since number) grants.now }
 {
     grants.iter().all(|row| row.grant.since <= number)
 }
 
+// Whether each grant is as new as this version or newer, as a test of the list.
 fn are_from(first: u64, grants: &[GrantRow]) -> bool
     ensures { result ≡ list_all (λ row. nat_le first row.grant.since) grants.now }
 {
@@ -43,10 +46,7 @@ fn are_from(first: u64, grants: &[GrantRow]) -> bool
 fn is_alone(row: &GrantRow, others: &[GrantRow]) -> bool
     ensures { result ≡ true → grant_of row.now.grant.token others.now ≡ None }
 {
-    match row_of_token(others, row.grant.token.as_str()) {
-        Some(_) => false,
-        None => true,
-    }
+    row_of_token(others, row.grant.token.as_str()).is_none()
 }
 
 // The grants from a place on.
@@ -59,7 +59,7 @@ fn later(grants: &[GrantRow], place: usize) -> &[GrantRow]
     &grants[place..]
 }
 
-// Whether no two have one token.
+// Whether no two callers have one token.
 fn tokens_differ(grants: &[GrantRow]) -> bool
     ensures { result ≡ true → IsDistinct bytes_eq (map token_of grants.now) }
 {
@@ -71,7 +71,7 @@ fn tokens_differ(grants: &[GrantRow]) -> bool
     true
 }
 
-/// Whether each has its grant since this version or a later one.
+/// Whether each caller has its grant since this version or a later one.
 pub(crate) fn are_since(first: u64, grants: &[GrantRow]) -> bool
     ensures { result ≡ true → AllByRecursion (λ row. first ≤ row.grant.since) grants.now }
 {

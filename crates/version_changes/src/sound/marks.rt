@@ -8,7 +8,7 @@ ghost use Rattle.version_core.specs.Marks.{AreMarks, is_outcome, mark_cmp};
 
 use version_core::mark::MarkRow;
 
-// Whether this may be kept of a write.
+// Whether this may be kept of a write: 0 of a row that was put, 9 of one that was deleted, 2 to 8 of a refusal.
 fn is_outcome(delete: bool, outcome: u8) -> bool
     ensures { result ≡ is_outcome delete outcome }
 {
@@ -23,12 +23,14 @@ fn is_sound(newest: u64, mark: &MarkRow) -> bool
     is_outcome(mark.write.delete, mark.kept.outcome) && mark.kept.version <= newest
 }
 
+// Whether each mark has an outcome of its write, and a version up to the newest.
 fn are_sound(newest: u64, marks: &[MarkRow]) -> bool
     ensures { result ≡ list_all (λ mark. is_outcome mark.write.delete mark.kept.outcome && nat_le mark.kept.version newest) marks.now }
 {
     marks.iter().all(|mark| is_sound(newest, mark))
 }
 
+// Whether one mark stands in front of another in the order of callers and numbers.
 fn is_below(low: &MarkRow, high: &MarkRow) -> bool
     ensures { result ≡ is_lt (mark_cmp low.now high.now) }
 {
@@ -39,7 +41,7 @@ fn is_below(low: &MarkRow, high: &MarkRow) -> bool
         .is_lt()
 }
 
-// Whether each mark is below the next.
+// Whether each mark stands in front of the next.
 fn rise(marks: &[MarkRow]) -> bool
     ensures { result ≡ true → IsStrictlySortedBy mark_cmp marks.now }
 {

@@ -8,13 +8,14 @@ ghost use Rattle.version_core.specs.Changes.{AreChanges, change_key};
 use version_core::row_change::RowChange;
 use version_core::sorted::compare;
 
+// Whether one row stands in front of another in the order of kinds and ids.
 fn is_below(low: &RowChange, high: &RowChange) -> bool
     ensures { result ≡ is_lt (key_cmp (change_key low.now) (change_key high.now)) }
 {
     compare(low, high).is_lt()
 }
 
-/// Whether each row is below the next, in the order of kinds and ids.
+/// Whether each row stands in front of the next, in the order of kinds and ids.
 pub fn are_changes(rows: &[RowChange]) -> bool
     ensures { result ≡ true → AreChanges rows.now }
 {

@@ -27,11 +27,12 @@ fn fits(number: u64, count: usize) -> bool
     }
 }
 
-// The rows of each change stand in order: their type keeps it.
+// Shows that the rows of each change stand in order: their type keeps it.
 fn see_order(changes: &[Change])
     ensures { AllByRecursion (λ change. AreChanges change.rows) changes.now }
 {
     for change in changes {
+        // Read for its order.
         let _ = change.rows.as_slice();
     }
 }
@@ -54,6 +55,7 @@ fn are_versions(base: &BaseVersion, changes: &[Change]) -> bool
     if !are_all_own(changes) {
         return false;
     }
+    // Read for its order.
     let _ = base.rows.as_slice();
     are_few(&base.rows, changes)
 }

@@ -1,4 +1,4 @@
-use Rattle.bulk_export.proofs.Standing.{on_ok}
+use Rattle.bulk_export.proofs.AnyResult.{on_ok}
 use Rattle.bulk_export.proofs.changes.export_changes.Goals as goal
 
 pub returns-clause-stood : goal.returns-clause-stood

@@ -10,22 +10,20 @@ use Rattle.keeper_memory.specs.declared.copy.state.TheConstants.{LAST}
 use Rattle.exchange_link.proofs.AskedLemmas.{sends_refl, sends_weaker}
 use Rattle.exchange_link.specs.Causes.{RoseBy}
 use Rattle.exchange_link.specs.Completeness.{StandsAt, first_pin}
-use Rattle.exchange_link.specs.Exchanges.{Told}
+use Rattle.exchange_link.specs.Exchanges.{LinkState}
 use Rattle.exchange_link.specs.Places.{kinds_of}
 use Rattle.exchange_link.specs.Synchronised.{Leaves, own_state}
 use Rattle.exchange_link.specs.declared.answer.SyncAnswer.{SyncAnswer}
-use Rattle.exchange_link.specs.declared.begin.NoRun.{NoRun}
-use Rattle.exchange_link.specs.declared.begin.NoRun.TheVariants as no_run
 use Rattle.roster_base.specs.Faults.{Rose}
 use Rattle.consumer_sync.proofs.DoneLemmas.{start_told}
 use Rattle.consumer_sync.proofs.FaultLemmas.{abort_faults, swap_faults}
 use Rattle.consumer_sync.proofs.MarkLemmas.{marks_asked, marks_kept}
-use Rattle.consumer_sync.proofs.SyncLemmas.{begun_is, drop_done, drop_fails, drop_sync, enter_cause, enter_done}
+use Rattle.consumer_sync.proofs.SyncLemmas.{begun_is, drop_done, drop_fails, drop_sync, enter_done}
 use Rattle.consumer_sync.proofs.SyncLemmas.{enter_leaves, enter_sync, entry, finish_by, finish_other, last_dropped}
 use Rattle.consumer_sync.proofs.SyncLemmas.{last_entered, last_low, own_few, own_token, swap_leaves, swap_run}
-use Rattle.consumer_sync.proofs.SyncLemmas.{swap_sync}
+use Rattle.consumer_sync.proofs.SyncLemmas.{swap_sync, unentered_cause}
 use Rattle.consumer_sync.specs.Filling.{Ends, HasToken, PinLaw}
-use Rattle.consumer_sync.specs.Starting.{StartCause, unentered}
+use Rattle.consumer_sync.specs.Starting.{unentered}
 use Rattle.consumer_deltas.proofs.DeltaDoneLemmas.{done_of}
 use Rattle.consumer_deltas.proofs.DeltaRunLemmas.{some_held, all_ends, begun, bounded_map, broken_cause, broken_done}
 use Rattle.consumer_deltas.proofs.DeltaRunLemmas.{broken_faults, broken_last, broken_law, broken_leaves, broken_sync}
@@ -45,9 +43,6 @@ use Rattle.consumer_deltas.specs.declared.answer.DeltaAnswer.{DeltaAnswer}
 use Rattle.consumer_deltas.specs.declared.answer.DeltaAnswer.TheVariants.{Ended}
 use Rattle.consumer_deltas.specs.declared.judging.Place.{Place}
 use Rattle.consumer_deltas.proofs.run.delta_sync.Goals as goal
-
-start_of : {K : Type 0} {e : NoRun} {a : SyncAnswer} → a ≡ unentered e → (e ≡ no_run.KeeperFault → K) → StartCause K a
-start_of {K} {e} {a} is cause = subst (λ (a : SyncAnswer). StartCause K a) (sym is) (enter_cause K e cause)
 
 pub fill-requires-clause-token : goal.fill-requires-clause-token
 fill-requires-clause-token g c =
@@ -277,7 +272,7 @@ returns-in-Err-begin_run-clause-cause g c =
       few = λ some. refl;
       counts = record { least = omega arith; most = omega arith };
       runs = λ some. absurd (omega (arith, some));
-      only = start_cause _ 0 0 _ _ _ (first_place None 0 c.args.limit) c.unentered.result refl (start_of c.unentered.ensures (λ e. let rose = c.in-Err-begin_run.ensures.cause e in omega (arith, rose, c.base_under.ensures.later)));
+      only = start_cause _ 0 0 _ _ _ (first_place None 0 c.args.limit) c.unentered.result refl (unentered_cause c.unentered.ensures (λ e. let rose = c.in-Err-begin_run.ensures.cause e in omega (arith, rose, c.base_under.ensures.later)));
       exact = λ w own. absurd (let from = own.from in omega (arith, from));
     }
 
@@ -553,7 +548,7 @@ returns-in-Some-clause-told g c agree after tells stands told =
     let cause = c.in-Some.ensures.cause in
     let end = ended_at c.in-Ok-Some.base cause.0 c.in-Some.answer cause.2 (halts_end _ _ _ _ _ _ cause.0 c.in-Some.answer cause.5) in
     let fill = c.fill.ensures.told
-    (λ (d : Copy) (t : Told) sd tt.
+    (λ (d : Copy) (t : LinkState) sd tt.
     let y2 = c.in-Ok-drop_other.ensures.told d sd in
     let x2 = c.in-Ok.ensures.told y2.0 y2.1 in
     let at = begun_is c.args.token.now x2.0 y2.0 d c.in-Ok.state c.in-Ok-drop_other.begun x2.2 y2.2 in
@@ -576,7 +571,7 @@ returns-clause-told g c agree after tells stands told =
     let old = c.base_under.ensures.same x.0 x.1 in
     let has = some_held (g.C.CopyKeeper.stands_for c.base_under.new.copy) c.args.token.now c.in-Ok-Some.field-0 c.in-Ok-Some.base c.in-Ok-Some.ensures.some c.in-Ok-Some.field-0-is x.0 x.1 in
     let fill = c.fill.ensures.told
-    (λ (d : Copy) (t : Told) sd tt.
+    (λ (d : Copy) (t : LinkState) sd tt.
     let y2 = c.in-Ok-drop_other.ensures.told d sd in
     let x2 = c.in-Ok.ensures.told y2.0 y2.1 in
     let at = begun_is c.args.token.now x2.0 y2.0 d c.in-Ok.state c.in-Ok-drop_other.begun x2.2 y2.2 in
@@ -640,7 +635,7 @@ returns-in-Some-clause-bound g c agree after tells stands told =
     let cause = c.in-Some.ensures.cause in
     let end = ended_at c.in-Ok-Some.base cause.0 c.in-Some.answer cause.2 (halts_end _ _ _ _ _ _ cause.0 c.in-Some.answer cause.5) in
     let fill = c.fill.ensures.told
-    (λ (d : Copy) (t : Told) sd tt.
+    (λ (d : Copy) (t : LinkState) sd tt.
     let y2 = c.in-Ok-drop_other.ensures.told d sd in
     let x2 = c.in-Ok.ensures.told y2.0 y2.1 in
     let at = begun_is c.args.token.now x2.0 y2.0 d c.in-Ok.state c.in-Ok-drop_other.begun x2.2 y2.2 in
@@ -674,7 +669,7 @@ returns-clause-bound g c agree after tells stands told =
     let old = c.base_under.ensures.same x.0 x.1 in
     let has = some_held (g.C.CopyKeeper.stands_for c.base_under.new.copy) c.args.token.now c.in-Ok-Some.field-0 c.in-Ok-Some.base c.in-Ok-Some.ensures.some c.in-Ok-Some.field-0-is x.0 x.1 in
     let fill = c.fill.ensures.told
-    (λ (d : Copy) (t : Told) sd tt.
+    (λ (d : Copy) (t : LinkState) sd tt.
     let y2 = c.in-Ok-drop_other.ensures.told d sd in
     let x2 = c.in-Ok.ensures.told y2.0 y2.1 in
     let at = begun_is c.args.token.now x2.0 y2.0 d c.in-Ok.state c.in-Ok-drop_other.begun x2.2 y2.2 in
@@ -709,7 +704,7 @@ returns-in-Ok-None-clause-cause_told g c agree after tells stands told =
 
 pub returns-in-Err-begin_run-clause-cause_told : goal.returns-in-Err-begin_run-clause-cause_told
 returns-in-Err-begin_run-clause-cause_told g c agree after tells stands told =
-    (tells, told, start_told c.args.token.now tells tells _ c.unentered.result (start_of c.unentered.ensures c.in-Err-begin_run.ensures.cause))
+    (tells, told, start_told c.args.token.now tells tells _ c.unentered.result (unentered_cause c.unentered.ensures c.in-Err-begin_run.ensures.cause))
 
 pub returns-in-Err-drop_other-clause-cause_told : goal.returns-in-Err-drop_other-clause-cause_told
 returns-in-Err-drop_other-clause-cause_told g c agree after tells stands told =
@@ -718,7 +713,7 @@ returns-in-Err-drop_other-clause-cause_told g c agree after tells stands told =
 pub returns-in-Some-clause-cause_told : goal.returns-in-Some-clause-cause_told
 returns-in-Some-clause-cause_told g c agree after tells stands told =
     let fill = c.fill.ensures.told
-    (λ (d : Copy) (t : Told) sd tt.
+    (λ (d : Copy) (t : LinkState) sd tt.
     let y2 = c.in-Ok-drop_other.ensures.told d sd in
     let x2 = c.in-Ok.ensures.told y2.0 y2.1 in
     let at = begun_is c.args.token.now x2.0 y2.0 d c.in-Ok.state c.in-Ok-drop_other.begun x2.2 y2.2 in
@@ -768,7 +763,7 @@ returns-in-Some-clause-complete g c agree link copy after tells stands told =
     let cause = c.in-Some.ensures.cause in
     let end = ended_at c.in-Ok-Some.base cause.0 c.in-Some.answer cause.2 (halts_end _ _ _ _ _ _ cause.0 c.in-Some.answer cause.5) in
     let fill = c.fill.ensures.told
-    (λ (d : Copy) (t : Told) sd tt.
+    (λ (d : Copy) (t : LinkState) sd tt.
     let y2 = c.in-Ok-drop_other.ensures.told d sd in
     let x2 = c.in-Ok.ensures.told y2.0 y2.1 in
     let at = begun_is c.args.token.now x2.0 y2.0 d c.in-Ok.state c.in-Ok-drop_other.begun x2.2 y2.2 in
@@ -801,7 +796,7 @@ returns-clause-complete g c agree link copy after tells stands told =
     let old = c.base_under.ensures.same x.0 x.1 in
     let has = some_held (g.C.CopyKeeper.stands_for c.base_under.new.copy) c.args.token.now c.in-Ok-Some.field-0 c.in-Ok-Some.base c.in-Ok-Some.ensures.some c.in-Ok-Some.field-0-is x.0 x.1 in
     let fill = c.fill.ensures.told
-    (λ (d : Copy) (t : Told) sd tt.
+    (λ (d : Copy) (t : LinkState) sd tt.
     let y2 = c.in-Ok-drop_other.ensures.told d sd in
     let x2 = c.in-Ok.ensures.told y2.0 y2.1 in
     let at = begun_is c.args.token.now x2.0 y2.0 d c.in-Ok.state c.in-Ok-drop_other.begun x2.2 y2.2 in

@@ -2,7 +2,7 @@ use Rattle.std.proofs.Common.{arith, ◌≡◌, List, sym, ap, subst}
 use Rattle.keeper_memory.specs.copy.Copies.{Copy}
 use Rattle.exchange_link.proofs.AskedLemmas.{sends_refl}
 use Rattle.exchange_link.specs.Asked.{IsWriteUnder, SendsOn, TriedEntry}
-use Rattle.exchange_link.specs.Exchanges.{Told}
+use Rattle.exchange_link.specs.Exchanges.{LinkState}
 use Rattle.exchange_link.specs.declared.send_answer.SendAnswer.TheVariants as answer
 use Rattle.keeper_memory.specs.declared.copy.entry.OutEntry.{OutEntry}
 use Rattle.exchange_link.specs.SendCauses.{SendLastLaw}
@@ -73,8 +73,8 @@ returns-in-Ok-clause-told g c agree after tells stands told =
     let y = c.send_all.ensures.copy after stands in
     let x = c.in-Ok.ensures.told y.0 y.1 in
     let m = c.send_all.ensures.link tells told in
-    let k = c.send_all.ensures.agree (λ (d : Copy) (u : Told) sd tu. let x2 = c.in-Ok.ensures.told d sd in ready_begun c.in-Ok.state x2.0 d u x2.2 (agree x2.0 u x2.1 tu)) after tells stands told in
-    let z = c.send_all.ensures.told (λ (d : Copy) (u : Told) sd tu. let x2 = c.in-Ok.ensures.told d sd in ready_begun c.in-Ok.state x2.0 d u x2.2 (agree x2.0 u x2.1 tu)) after tells stands told in (
+    let k = c.send_all.ensures.agree (λ (d : Copy) (u : LinkState) sd tu. let x2 = c.in-Ok.ensures.told d sd in ready_begun c.in-Ok.state x2.0 d u x2.2 (agree x2.0 u x2.1 tu)) after tells stands told in
+    let z = c.send_all.ensures.told (λ (d : Copy) (u : LinkState) sd tu. let x2 = c.in-Ok.ensures.told d sd in ready_begun c.in-Ok.state x2.0 d u x2.2 (agree x2.0 u x2.1 tu)) after tells stands told in (
       x.0,
       z.0,
       x.1,
@@ -88,7 +88,7 @@ returns-in-Ok-clause-told g c agree after tells stands told =
 
 pub returns-in-Ok-clause-complete : goal.returns-in-Ok-clause-complete
 returns-in-Ok-clause-complete g c agree link copy after tells stands told =
-    let y = c.send_all.ensures.complete (λ (d : Copy) (u : Told) sd tu. let x2 = c.in-Ok.ensures.told d sd in ready_begun c.in-Ok.state x2.0 d u x2.2 (agree x2.0 u x2.1 tu)) link (λ rose. copy (omega (arith, rose, c.begin_run.ensures.later))) after tells stands told in
+    let y = c.send_all.ensures.complete (λ (d : Copy) (u : LinkState) sd tu. let x2 = c.in-Ok.ensures.told d sd in ready_begun c.in-Ok.state x2.0 d u x2.2 (agree x2.0 u x2.1 tu)) link (λ rose. copy (omega (arith, rose, c.begin_run.ensures.later))) after tells stands told in
     let x = c.in-Ok.ensures.told y.0 y.2 in
     (x.0, y.1, x.1, y.3, λ low quiet can. y.4 quiet (can_begun c.in-Ok.state c.args.token.now _ x.0 y.0 tells.hub x.2 can))
 

@@ -4,14 +4,14 @@ use Rattle.std.specs.Prelude.{IfSome, Option}
 use Rattle.keeper_memory.specs.copy.Copies.{Copy, first_unsettled}
 use Rattle.keeper_memory.specs.copy.States.{CanBeEntry}
 use Rattle.keeper_memory.specs.declared.copy.entry.OutEntry.{OutEntry}
-use Rattle.exchange_link.specs.Exchanges.{Told}
+use Rattle.exchange_link.specs.Exchanges.{LinkState}
 use Rattle.exchange_link.proofs.AskLemmas.{moved_on, moved_refl}
 use Rattle.exchange_link.proofs.AskedLemmas.{sends_refl, sends_weaker}
 use Rattle.exchange_link.specs.Asked.{IsWriteUnder}
 use Rattle.consumer_outbox.proofs.AllLemmas.{aside_cause, aside_fine, aside_names, aside_settled, aside_stays}
 use Rattle.consumer_outbox.proofs.AllLemmas.{aside_told, bound_at, bound_next, can_send, cause_more, end_names}
-use Rattle.consumer_outbox.proofs.AllLemmas.{end_not_last, entry_left, goes_end, goes_on, goes_to, more_none, more_to}
-use Rattle.consumer_outbox.proofs.AllLemmas.{rose_from, so_far_none, told_on}
+use Rattle.consumer_outbox.proofs.AllLemmas.{end_not_last, entry_left, more_none, more_to, rose_from}
+use Rattle.consumer_outbox.proofs.AllLemmas.{settles_at_end, settles_on, settles_up_to, so_far_none, told_on}
 use Rattle.consumer_outbox.proofs.TriedLemmas.{aside_tried, entry_tried, sends_entry}
 use Rattle.consumer_outbox.proofs.VerdictLemmas.{settled_exact}
 use Rattle.consumer_outbox.proofs.WalkLemmas.{walk_begins, walk_over}
@@ -99,7 +99,7 @@ returns-in-Some-clause-copy g c d stands =
     let asked = more_to _ _ _ c.entries.count c.send_entry.new.count c.entries.invariant.asked c.send_entry.ensures.count.0 c.send_entry.ensures.asked in (
       w.0,
       w.1,
-      goes_end c.entries.settled _ c.in-Some.answer w.0 x.0 d c.in-Ok-Some.entry w.2 first c.in-Some.ensures.cause.0 x.2,
+      settles_at_end c.entries.settled _ c.in-Some.answer w.0 x.0 d c.in-Ok-Some.entry w.2 first c.in-Some.ensures.cause.0 x.2,
       bound_at c.args.by.tries (c.entries.settled + 1) c.send_entry.new.count _ _ _ (bound_next c.args.by.tries c.entries.settled c.entries.count c.send_entry.new.count c.entries.invariant.bound c.send_entry.ensures.count.1) asked.most
           (entry_left c.entries.settled w.0 x.0 c.in-Ok-Some.entry w.2 first),
     )
@@ -112,11 +112,11 @@ returns-in-Some-clause-link g c t tells =
 
 pub returns-in-Some-clause-agree : goal.returns-in-Some-clause-agree
 returns-in-Some-clause-agree g c entry d t stands tells =
-    (c.send_entry.new.count, c.in-Some.ensures.agree (λ (e : Copy) (u : Told) se te. c.entries.invariant.agree entry e u (c.next_unsettled.ensures.same e se) te) d t stands tells)
+    (c.send_entry.new.count, c.in-Some.ensures.agree (λ (e : Copy) (u : LinkState) se te. c.entries.invariant.agree entry e u (c.next_unsettled.ensures.same e se) te) d t stands tells)
 
 pub returns-in-Some-clause-told : goal.returns-in-Some-clause-told
 returns-in-Some-clause-told g c entry d t stands tells =
-    let y = c.in-Some.ensures.told (λ (e : Copy) (u : Told) se te. c.entries.invariant.agree entry e u (c.next_unsettled.ensures.same e se) te) d t stands tells in
+    let y = c.in-Some.ensures.told (λ (e : Copy) (u : LinkState) se te. c.entries.invariant.agree entry e u (c.next_unsettled.ensures.same e se) te) d t stands tells in
     let z = c.entries.invariant.link y.0 y.1 in
     (z.0, z.1, told_on c.args.by.token.now z.0 y.0 t d.entries c.in-Some.answer z.2 y.2)
 
@@ -125,7 +125,7 @@ returns-in-Some-clause-complete g c entry link copy d t stands tells =
     let x = c.in-Some.ensures.copy d stands in
     let w = c.entries.invariant.copy x.0 (c.next_unsettled.ensures.same x.0 x.1) in
     let first : first_unsettled x.0.entries ≡ Some c.in-Ok-Some.entry = c.in-Ok-Some.ensures.next x.0 x.1 ∙ c.in-Ok-Some.field-0-is in
-    let y = c.in-Some.ensures.complete (λ (e : Copy) (u : Told) se te. c.entries.invariant.agree entry e u (c.next_unsettled.ensures.same e se) te)
+    let y = c.in-Some.ensures.complete (λ (e : Copy) (u : LinkState) se te. c.entries.invariant.agree entry e u (c.next_unsettled.ensures.same e se) te)
     (λ rose. link (omega (arith, rose, c.entries.invariant.heard))) (λ rose. copy (omega (arith, rose, c.entries.invariant.later, c.next_unsettled.ensures.later))) d t stands tells in
     let z = c.entries.invariant.link y.0 y.1 in (
       w.0,
@@ -158,7 +158,7 @@ entries-preserved g c =
     record {
       walked = λ d stands.
           let x = c.in-None.ensures.copy d stands in
-          goes_to _ x.0 d c.in-Ok-Some.entry (g.met.C.CopyKeeper.is_copy c.next_unsettled.new.copy x.0 x.1) (c.in-Ok-Some.ensures.next x.0 x.1 ∙ c.in-Ok-Some.field-0-is) x.2;
+          settles_up_to _ x.0 d c.in-Ok-Some.entry (g.met.C.CopyKeeper.is_copy c.next_unsettled.new.copy x.0 x.1) (c.in-Ok-Some.ensures.next x.0 x.1 ∙ c.in-Ok-Some.field-0-is) x.2;
       few = omega (arith, can.above, c.entries.invariant.few);
       room = omega (arith, c.entries.invariant.room, c.send_entry.ensures.count.1, c.requires.tries.1);
       bound = bound_next c.args.by.tries c.entries.settled c.entries.count c.send_entry.new.count c.entries.invariant.bound c.send_entry.ensures.count.1;
@@ -167,7 +167,7 @@ entries-preserved g c =
       copy = λ d stands.
           let x = c.in-None.ensures.copy d stands in
           let w = c.entries.invariant.copy x.0 (c.next_unsettled.ensures.same x.0 x.1) in
-          (w.0, w.1, goes_on c.entries.settled _ w.0 x.0 d c.in-Ok-Some.entry w.2 (c.in-Ok-Some.ensures.next x.0 x.1 ∙ c.in-Ok-Some.field-0-is) x.2);
+          (w.0, w.1, settles_on c.entries.settled _ w.0 x.0 d c.in-Ok-Some.entry w.2 (c.in-Ok-Some.ensures.next x.0 x.1 ∙ c.in-Ok-Some.field-0-is) x.2);
       link = λ t tells.
           let y = c.in-None.ensures.link t tells in
           let z = c.entries.invariant.link y.0 y.1 in
@@ -181,10 +181,10 @@ entries-preserved g c =
             z.1,
             z.2,
             z.3,
-            goes_on c.entries.settled _ z.0 x.0 d c.in-Ok-Some.entry z.4 first x.2,
+            settles_on c.entries.settled _ z.0 x.0 d c.in-Ok-Some.entry z.4 first x.2,
             sends_entry c.args.by.token.now c.entries.settled c.args.by.run c.entries.count c.send_entry.new.count z.0 x.0 c.in-Ok-Some.entry _ ⊥ _ _ _ z.4 first (λ e. absurd (none-some _ e)) z.5 y.2,
           );
-      agree = λ entry d t stands tells. c.in-None.ensures.agree (λ (e : Copy) (u : Told) se te. c.entries.invariant.agree entry e u (c.next_unsettled.ensures.same e se) te) d t stands tells;
+      agree = λ entry d t stands tells. c.in-None.ensures.agree (λ (e : Copy) (u : LinkState) se te. c.entries.invariant.agree entry e u (c.next_unsettled.ensures.same e se) te) d t stands tells;
       heard = omega (arith, c.entries.invariant.heard, c.send_entry.ensures.heard);
       copy_leads = g.met.C.CopyKeeper.leads_on _ _ _ c.entries.invariant.copy_leads (g.met.C.CopyKeeper.leads_on _ _ _ c.next_unsettled.ensures.copy_leads c.send_entry.ensures.copy_leads);
       link_leads = g.met.L.Link.leads_on _ _ _ c.entries.invariant.link_leads c.send_entry.ensures.link_leads;

@@ -12,12 +12,12 @@ use Rattle.exchange_link.specs.Requests.{number, numbered}
 use Rattle.consumer_outbox.specs.Sends.{ExactIf, request_of}
 use Rattle.consumer_outbox.specs.Verdicts.{verdict_of}
 use Rattle.consumer_outbox.proofs.OwnLemmas.{ready_asked, ready_taken, said_of, taken_fine, taken_told}
-use Rattle.consumer_outbox.proofs.StepLemmas.{carries_first, stays_first, takes_goes}
+use Rattle.consumer_outbox.proofs.StepLemmas.{carries_first, stays_first, takes_any}
 use Rattle.consumer_outbox.proofs.VerdictLemmas.{exact_of, taken_cause}
 use Rattle.consumer_outbox.proofs.sending.send_entry.Goals as goal
 
 pub returns-in-Own-clause-copy : goal.returns-in-Own-clause-copy
-returns-in-Own-clause-copy g c after stands = let x = c.take_reply.ensures.told after stands in (x.0, x.1, takes_goes _ _ _ _ _ x.2)
+returns-in-Own-clause-copy g c after stands = let x = c.take_reply.ensures.told after stands in (x.0, x.1, takes_any _ _ _ _ _ x.2)
 
 pub returns-in-Own-clause-agree : goal.returns-in-Own-clause-agree
 returns-in-Own-clause-agree g c entry d t stands tells =

@@ -8,7 +8,7 @@ use Rattle.keeper_memory.specs.declared.copy.state.StageState.{StageState}
 use Rattle.exchange_link.specs.Bounds.{Bounded, HasPin, IsCallPin}
 use Rattle.exchange_link.specs.Causes.{AnswersTo, AsksOn, CauseOf, IsAside, LastLaw, RoseBy, ToldCause}
 use Rattle.exchange_link.specs.Completeness.{IsDone, StandsAt, first_pin}
-use Rattle.exchange_link.specs.Exchanges.{Told}
+use Rattle.exchange_link.specs.Exchanges.{LinkState}
 use Rattle.exchange_link.specs.Places.{kinds_of, pin_of}
 use Rattle.exchange_link.specs.Synchronised.{Leaves, Synchronised, own_state}
 use Rattle.exchange_link.specs.declared.answer.SyncAnswer.{SyncAnswer}
@@ -21,21 +21,16 @@ use Rattle.consumer_sync.proofs.BoundLemmas.{bounded_map, bounded_zero, swap_pin
 use Rattle.consumer_sync.proofs.CauseLemmas.{exact_page}
 use Rattle.consumer_sync.proofs.DoneLemmas.{start_told}
 use Rattle.consumer_sync.proofs.MarkLemmas.{marks_asked, marks_dropped, marks_kept}
-use Rattle.consumer_sync.proofs.SyncLemmas.{begun_is, cause_whole, drop_done, drop_fails, drop_sync, enter_cause}
+use Rattle.consumer_sync.proofs.SyncLemmas.{begun_is, cause_whole, drop_done, drop_fails, drop_sync}
 use Rattle.consumer_sync.proofs.SyncLemmas.{enter_done, enter_leaves, enter_sync, entry, fill_leaves, fill_sync}
 use Rattle.consumer_sync.proofs.SyncLemmas.{finish_by, finish_other, last_dropped, last_ended, last_entered, last_low}
 use Rattle.consumer_sync.proofs.SyncLemmas.{own_few, own_token, start_cause, start_on, swap_leaves, swap_run, swap_sync}
+use Rattle.consumer_sync.proofs.SyncLemmas.{unentered_cause}
 use Rattle.consumer_sync.proofs.TriedLemmas.{tried_entered, tried_start}
-use Rattle.consumer_sync.specs.Starting.{StartCause, unentered}
 use Rattle.exchange_link.proofs.AskedLemmas.{sends_refl, sends_weaker}
 use Rattle.exchange_link.specs.Asked.{IsPageUnder, TriedFor}
 use Rattle.exchange_link.proofs.RunLemmas.{ready_from}
-use Rattle.exchange_link.specs.declared.begin.NoRun.{NoRun}
-use Rattle.exchange_link.specs.declared.begin.NoRun.TheVariants as no_run
 use Rattle.consumer_sync.proofs.run.sync.Goals as goal
-
-start_of : {K : Type 0} {e : NoRun} {a : SyncAnswer} → a ≡ unentered e → (e ≡ no_run.KeeperFault → K) → StartCause K a
-start_of {K} {e} {a} is cause = subst (λ (a : SyncAnswer). StartCause K a) (sym is) (enter_cause K e cause)
 
 pub fill-requires-clause-token : goal.fill-requires-clause-token
 fill-requires-clause-token g c = subst (λ (o : Option StageState). HasToken c.args.token.now o) (sym c.in-Ok-drop_other.ensures.ok) (own_token c.args.token.now c.in-Ok.state.stage)
@@ -80,7 +75,7 @@ returns-in-Some-clause-told g c agree after tells stands told =
       l.1,
       fill_sync c.args.token.now c.in-Ok.state.run l.2 c.in-Some.answer x.0 z.0 after l.0 tells begun c.in-Some.ensures.ends z.2 run_is l.3 (agree x.0 l.0 x.1 l.1)
           (c.fill.ensures.agree
-          (λ (d : Copy) (t : Told) sd tt.
+          (λ (d : Copy) (t : LinkState) sd tt.
           let y2 = c.in-Ok-drop_other.ensures.told d sd in
           let x2 = c.in-Ok.ensures.told y2.0 y2.1 in
           entry c.args.token.now c.in-Ok.state.run x2.0 d t (begun_is c.args.token.now x2.0 y2.0 d c.in-Ok.state c.in-Ok-drop_other.begun x2.2 y2.2) (x2.2).0 (agree x2.0 t x2.1 tt))
@@ -102,7 +97,7 @@ returns-clause-told g c agree after tells stands told =
     let small = subst (λ (o : Option StageState). IsSmall o) (sym stage_is) (small_own c.args.token.now (stage_of x.0) (small_fits (l.0).hub (g.met.L.Link.is_hub c.args.link.now l.0 l.1) (x.0).stage first.fits.stage)) in
     let law = l.4 c.in_default.is small (ready_from (x.0).run c.in-Ok.state.run (l.0).sent run_is first.differ first.below) in
     let fits = c.fill.ensures.agree
-    (λ (d : Copy) (t : Told) sd tt.
+    (λ (d : Copy) (t : LinkState) sd tt.
     let y2 = c.in-Ok-drop_other.ensures.told d sd in
     let x2 = c.in-Ok.ensures.told y2.0 y2.1 in
     entry c.args.token.now c.in-Ok.state.run x2.0 d t (begun_is c.args.token.now x2.0 y2.0 d c.in-Ok.state c.in-Ok-drop_other.begun x2.2 y2.2) (x2.2).0 (agree x2.0 t x2.1 tt))
@@ -144,7 +139,7 @@ returns-in-Some-clause-bound g c agree after tells stands told =
     let stage_is : c.in-Ok-drop_other.begun ≡ own_state c.args.token.now (stage_of x.0) =
     c.in-Ok-drop_other.ensures.ok ∙ ap (own_state c.args.token.now) (sym ((c.in-Ok.ensures.holds y.0 y.1).1) ∙ ap stage_of (x.2).1) in
     let n = c.in-Some.ensures.bound
-    (λ (d : Copy) (t : Told) sd tt.
+    (λ (d : Copy) (t : LinkState) sd tt.
     let y2 = c.in-Ok-drop_other.ensures.told d sd in
     let x2 = c.in-Ok.ensures.told y2.0 y2.1 in
     entry c.args.token.now c.in-Ok.state.run x2.0 d t (begun_is c.args.token.now x2.0 y2.0 d c.in-Ok.state c.in-Ok-drop_other.begun x2.2 y2.2) (x2.2).0 (agree x2.0 t x2.1 tt))
@@ -166,7 +161,7 @@ returns-clause-bound g c agree after tells stands told =
     let stage_is : c.in-Ok-drop_other.begun ≡ own_state c.args.token.now (stage_of x.0) =
     c.in-Ok-drop_other.ensures.ok ∙ ap (own_state c.args.token.now) (sym ((c.in-Ok.ensures.holds y.0 y.1).1) ∙ ap stage_of (x.2).1) in
     let n = c.in_default.ensures.bound
-    (λ (d : Copy) (t : Told) sd tt.
+    (λ (d : Copy) (t : LinkState) sd tt.
     let y2 = c.in-Ok-drop_other.ensures.told d sd in
     let x2 = c.in-Ok.ensures.told y2.0 y2.1 in
     entry c.args.token.now c.in-Ok.state.run x2.0 d t (begun_is c.args.token.now x2.0 y2.0 d c.in-Ok.state c.in-Ok-drop_other.begun x2.2 y2.2) (x2.2).0 (agree x2.0 t x2.1 tt))
@@ -199,7 +194,7 @@ returns-in-Some-clause-complete g c agree link copy after tells stands told =
     let stage_is : c.in-Ok-drop_other.begun ≡ own_state c.args.token.now (stage_of x.0) =
     c.in-Ok-drop_other.ensures.ok ∙ ap (own_state c.args.token.now) (sym ((c.in-Ok.ensures.holds y.0 y.1).1) ∙ ap stage_of (x.2).1) in
     let n = c.in-Some.ensures.complete
-    (λ (d : Copy) (t : Told) sd tt.
+    (λ (d : Copy) (t : LinkState) sd tt.
     let y2 = c.in-Ok-drop_other.ensures.told d sd in
     let x2 = c.in-Ok.ensures.told y2.0 y2.1 in
     entry c.args.token.now c.in-Ok.state.run x2.0 d t (begun_is c.args.token.now x2.0 y2.0 d c.in-Ok.state c.in-Ok-drop_other.begun x2.2 y2.2) (x2.2).0 (agree x2.0 t x2.1 tt))
@@ -239,7 +234,7 @@ returns-clause-copy g c after stands =
     )
 
 pub returns-in-Err-clause-cause_told : goal.returns-in-Err-clause-cause_told
-returns-in-Err-clause-cause_told g c agree after tells stands told = (tells, told, start_told c.args.token.now tells tells _ c.unentered.result (start_of c.unentered.ensures c.in-Err.ensures.cause))
+returns-in-Err-clause-cause_told g c agree after tells stands told = (tells, told, start_told c.args.token.now tells tells _ c.unentered.result (unentered_cause c.unentered.ensures c.in-Err.ensures.cause))
 
 pub returns-in-Err-drop_other-clause-cause_told : goal.returns-in-Err-drop_other-clause-cause_told
 returns-in-Err-drop_other-clause-cause_told g c agree after tells stands told = (tells, told, start_told c.args.token.now tells tells _ c.in-Err-drop_other.answer (c.in-Err-drop_other.ensures.cause).1)
@@ -247,7 +242,7 @@ returns-in-Err-drop_other-clause-cause_told g c agree after tells stands told = 
 pub returns-in-Some-clause-cause_told : goal.returns-in-Some-clause-cause_told
 returns-in-Some-clause-cause_told g c agree after tells stands told =
     c.in-Some.ensures.told
-    (λ (d : Copy) (t : Told) sd tt.
+    (λ (d : Copy) (t : LinkState) sd tt.
     let y2 = c.in-Ok-drop_other.ensures.told d sd in
     let x2 = c.in-Ok.ensures.told y2.0 y2.1 in
     entry c.args.token.now c.in-Ok.state.run x2.0 d t (begun_is c.args.token.now x2.0 y2.0 d c.in-Ok.state c.in-Ok-drop_other.begun x2.2 y2.2) (x2.2).0 (agree x2.0 t x2.1 tt))
@@ -274,10 +269,10 @@ returns-in-Err-clause-cause g c =
       asked = None;
       counts = record { least = omega arith; most = omega arith };
       runs = λ some. absurd (omega (arith, some));
-      only = start_cause c.args.limit _ _ _ _ c.unentered.result (λ k. k) (start_of c.unentered.ensures c.in-Err.ensures.cause);
+      only = start_cause c.args.limit _ _ _ _ c.unentered.result (λ k. k) (unentered_cause c.unentered.ensures c.in-Err.ensures.cause);
       exact = λ w own. absurd (let from = own.from in omega (arith, from));
       last = λ some. absurd (omega (arith, some));
-      on = λ on. absurd (start_on _ c.unentered.result (start_of c.unentered.ensures c.in-Err.ensures.cause) on);
+      on = λ on. absurd (start_on _ c.unentered.result (unentered_cause c.unentered.ensures c.in-Err.ensures.cause) on);
     }
 
 pub returns-in-Err-drop_other-clause-cause : goal.returns-in-Err-drop_other-clause-cause

@@ -2,7 +2,7 @@ use Rattle.std.proofs.Common.{◌≡◌, [], ◌∷◌, ◌++◌, None, true, sy
 use Rattle.keeper_memory.specs.copy.Lists.{IsList, last_from}
 use Rattle.copy_format.specs.Format.{IsRowOf, row_entry}
 use Rattle.roster_types.specs.Keys.{is_after}
-use Rattle.hub_format.proofs.Found.{all_found, value_at}
+use Rattle.hub_format.proofs.ItemLists.{all_found, value_at}
 use Rattle.copy_format.proofs.RowReading.{list_push}
 use Rattle.copy_format.proofs.read_rows.rows_of.Goals as goal
 

@@ -1,7 +1,7 @@
 use Rattle.std.proofs.Common.{bytes_eq, sym, ap, ◌∙◌}
 use Rattle.std.specs.List.{list_any}
 use Rattle.roster_values.specs.Table.{Info, info_of}
-use Rattle.csv_sets.proofs.ListLaws.{list_any-map}
+use Rattle.roster_base.proofs.ListSteps.{list_any-map}
 use Rattle.csv_sets.proofs.header.is_known.Goals as goal
 
 pub returns : goal.returns

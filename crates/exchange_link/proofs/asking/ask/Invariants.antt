@@ -1,5 +1,5 @@
 use Rattle.std.proofs.Common.{◌≡◌, ◌+◌, ◌<◌, ◌≤◌}
-use Rattle.exchange_link.specs.Exchanges.{Told}
+use Rattle.exchange_link.specs.Exchanges.{LinkState}
 use Rattle.http_wire.specs.Answers.{IsReplyText}
 use Rattle.http_wire.specs.declared.reply_reading.WireReply.{WireReply}
 use Rattle.exchange_link.specs.Asked.{IsTry, SendsOn}
@@ -18,7 +18,7 @@ invariant-loop-i g l = record {
   leads : g.L.Link.leads l.fn.link l.link;
   rose : RoseBy l.i (g.L.Link.fault_count l.fn.link) (g.L.Link.fault_count l.link);
   none : 0 < l.i → (w : WireReply) → IsReplyText (g.L.Link.kept l.link) w → w.echo ≡ Some (number l.run l.count) → ⊥;
-  told : (after : Told) → g.L.Link.tells l.link after → (before : Told) × g.L.Link.tells l.fn.link before × Asks l.run l.fn.count l.count (IsNumbered l.fn.request) before after;
-  sends : (after : Told) → g.L.Link.tells l.link after → (before : Told) × g.L.Link.tells l.fn.link before × SendsOn (IsTry (numbered l.fn.request)) l.run l.fn.count l.count ⊥ before.sent after.sent;
-  last : 0 < l.i → (after : Told) → g.L.Link.tells l.link after → IsLast (numbered l.fn.request (number l.run l.count)) after.sent;
+  told : (after : LinkState) → g.L.Link.tells l.link after → (before : LinkState) × g.L.Link.tells l.fn.link before × Asks l.run l.fn.count l.count (IsNumbered l.fn.request) before after;
+  sends : (after : LinkState) → g.L.Link.tells l.link after → (before : LinkState) × g.L.Link.tells l.fn.link before × SendsOn (IsTry (numbered l.fn.request)) l.run l.fn.count l.count ⊥ before.sent after.sent;
+  last : 0 < l.i → (after : LinkState) → g.L.Link.tells l.link after → IsLast (numbered l.fn.request (number l.run l.count)) after.sent;
 }

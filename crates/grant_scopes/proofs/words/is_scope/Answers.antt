@@ -3,7 +3,7 @@ use Rattle.std.specs.List.{list_any}
 use Rattle.grant_scopes.specs.Infos.{scope_of}
 use Rattle.grant_scopes.specs.Opens.{Scope}
 use Rattle.grant_scopes.specs.Words.{is_scope}
-use Rattle.grant_scopes.proofs.WordSteps.{list_any-map}
+use Rattle.roster_base.proofs.ListSteps.{list_any-map}
 use Rattle.grant_scopes.proofs.words.is_scope.Goals as goal
 
 pub returns : goal.returns

@@ -11,7 +11,7 @@ returns-in_err-length-in-Ok-Complete c =
     let found = answer_found c.min.result c.args.bytes.now c.parse_response.new.headers c.in-Ok-Complete.spans small (omega (arith, c.parse_response.auto.headers))
     (rw c.in-Ok-Complete.field-0-is at c.in-Ok-Complete.ensures.within) (rw c.in-Ok-Complete.field-0-is at c.in-Ok-Complete.ensures.complete) in
     let p = err_from_is_err_and c.from_residual.result c.from_residual.ensures.1 in
-    let states = sym c.length_told.ensures ∙ c.in_err-length-in-Ok-Complete.was in
+    let states = sym c.stated_body_length.ensures ∙ c.in_err-length-in-Ok-Complete.was in
     rw (p.1, p.2) (never_stated _ found states, faulty _ found states)
 
 pub overflow_add-result : goal.overflow_add-result
@@ -19,14 +19,14 @@ overflow_add-result c =
     let small : c.min.result ≤ max_reply_head = omega arith in
     let found = answer_found c.min.result c.args.bytes.now c.parse_response.new.headers c.in-Ok-Complete.spans small (omega (arith, c.parse_response.auto.headers))
     (rw c.in-Ok-Complete.field-0-is at c.in-Ok-Complete.ensures.within) (rw c.in-Ok-Complete.field-0-is at c.in-Ok-Complete.ensures.complete) in
-    omega (arith, reply_fits _ _ (length_stated c.in_ok-length-in-Ok-Complete.length found (sym c.length_told.ensures ∙ c.in_ok-length-in-Ok-Complete.was)))
+    omega (arith, reply_fits _ _ (length_stated c.in_ok-length-in-Ok-Complete.length found (sym c.stated_body_length.ensures ∙ c.in_ok-length-in-Ok-Complete.was)))
 
 pub returns-in_ok-length-in-Ok-Complete : goal.returns-in_ok-length-in-Ok-Complete
 returns-in_ok-length-in-Ok-Complete c =
     let small : c.min.result ≤ max_reply_head = omega arith in
     let found = answer_found c.min.result c.args.bytes.now c.parse_response.new.headers c.in-Ok-Complete.spans small (omega (arith, c.parse_response.auto.headers))
     (rw c.in-Ok-Complete.field-0-is at c.in-Ok-Complete.ensures.within) (rw c.in-Ok-Complete.field-0-is at c.in-Ok-Complete.ensures.complete) in
-    length_stated c.in_ok-length-in-Ok-Complete.length found (sym c.length_told.ensures ∙ c.in_ok-length-in-Ok-Complete.was)
+    length_stated c.in_ok-length-in-Ok-Complete.length found (sym c.stated_body_length.ensures ∙ c.in_ok-length-in-Ok-Complete.was)
 
 pub returns-else-bytes-lt-MAX_REPLY_HEAD : goal.returns-else-bytes-lt-MAX_REPLY_HEAD
 returns-else-bytes-lt-MAX_REPLY_HEAD c =

@@ -46,7 +46,7 @@ returns-in-Ok-clause-served g c =
 
 pub returns-in-Ok-clause-settled : goal.returns-in-Ok-clause-settled
 returns-in-Ok-clause-settled g c =
-    subst (λ (r : Result Published CascadeError). LeavesOpen r c.publish_held.new.hub.is_open) (sym c.answer_of.ensures) (answer_leaves c.publish_held.result c.publish_held.new.hub.is_open c.publish_held.ensures.settled)
+    subst (λ (r : Result Published CascadeError). LeavesOpen r c.publish_held.new.hub.commit_open) (sym c.answer_of.ensures) (answer_leaves c.publish_held.result c.publish_held.new.hub.commit_open c.publish_held.ensures.settled)
 
 pub returns-in-Ok-clause-hub_cause : goal.returns-in-Ok-clause-hub_cause
 returns-in-Ok-clause-hub_cause g c =
@@ -76,7 +76,7 @@ pub returns-in-Err-clause-settled : goal.returns-in-Err-clause-settled
 returns-in-Err-clause-settled g c =
     let copies = g.C.CopyKeeper.stands_for c.held_set.new.copy in
     let count = g.C.CopyKeeper.fault_count in
-    copy_leaves copies (count c.args.copy.now) (count c.held_set.new.copy) c.in-Err.error c.args.hub.now.is_open c.in-Err.ensures.tells
+    copy_leaves copies (count c.args.copy.now) (count c.held_set.new.copy) c.in-Err.error c.args.hub.now.commit_open c.in-Err.ensures.tells
 
 pub returns-in-Err-clause-hub_cause : goal.returns-in-Err-clause-hub_cause
 returns-in-Err-clause-hub_cause g c =

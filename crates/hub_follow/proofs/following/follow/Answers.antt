@@ -34,7 +34,7 @@ pub returns-in-Ok-clause-held : goal.returns-in-Ok-clause-held
 returns-in-Ok-clause-held g c = if_cascaded c.after_cascade.result c.in-Ok.version c.cascade-made.result (TellsHeld (g.C.CopyKeeper.stands_for c.cascade-made.new.copy)) ⊤ c.after_cascade.ensures c.cascade-made.ensures.held
 
 pub returns-in-Ok-clause-settled : goal.returns-in-Ok-clause-settled
-returns-in-Ok-clause-settled g c = if_cascaded c.after_cascade.result c.in-Ok.version c.cascade-made.result (λ made. LeavesOpen made c.cascade-made.new.hub.is_open) ⊤ c.after_cascade.ensures c.cascade-made.ensures.settled
+returns-in-Ok-clause-settled g c = if_cascaded c.after_cascade.result c.in-Ok.version c.cascade-made.result (λ made. LeavesOpen made c.cascade-made.new.hub.commit_open) ⊤ c.after_cascade.ensures c.cascade-made.ensures.settled
 
 pub returns-in-Ok-clause-hub_cause : goal.returns-in-Ok-clause-hub_cause
 returns-in-Ok-clause-hub_cause g c =
@@ -150,7 +150,7 @@ pub returns-in-Err-clause-held : goal.returns-in-Err-clause-held
 returns-in-Err-clause-held g c = if_missed c.answer_of_miss.result c.in-Err.missed (TellsHeld (g.C.CopyKeeper.stands_for c.catch_up.new.copy)) ⊤ c.answer_of_miss.ensures tt
 
 pub returns-in-Err-clause-settled : goal.returns-in-Err-clause-settled
-returns-in-Err-clause-settled g c = if_missed c.answer_of_miss.result c.in-Err.missed (λ made. LeavesOpen made c.args.hub.now.is_open) ⊤ c.answer_of_miss.ensures tt
+returns-in-Err-clause-settled g c = if_missed c.answer_of_miss.result c.in-Err.missed (λ made. LeavesOpen made c.args.hub.now.commit_open) ⊤ c.answer_of_miss.ensures tt
 
 pub returns-in-Err-clause-hub_cause : goal.returns-in-Err-clause-hub_cause
 returns-in-Err-clause-hub_cause g c =

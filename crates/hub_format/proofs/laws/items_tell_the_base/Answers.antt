@@ -1,4 +1,4 @@
-use Rattle.hub_format.proofs.Told.{base_grants_told, base_rows_told, format_told, marks_told, state_told}
+use Rattle.hub_format.proofs.TableListings.{base_grants_told, base_rows_told, format_told, marks_told, state_told}
 use Rattle.hub_format.proofs.laws.items_tell_the_base.Goals as goal
 
 pub returns-clause-format : goal.returns-clause-format

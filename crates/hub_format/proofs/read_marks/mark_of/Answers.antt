@@ -9,7 +9,7 @@ returns-in-Some-3-clause-found c mark fits same =
     let caller = c.in-Some-2.caller in
     let n = c.in-Some.number in
     let body = c.in-Some-body_parts in
-    let kept = body.kept in
+    let kept = body.parts.kept in
     let write = c.in-Some-3.write in
     let name : caller ≡ c.in-Some.caller.now = rw c.in-Some-2.is at c.in_ok-caller.ensures in
     let parts = rw c.in-Some-3.is at c.in_ok-write.ensures in
@@ -23,7 +23,7 @@ pub returns-in-Some-3-clause-whole : goal.returns-in-Some-3-clause-whole
 returns-in-Some-3-clause-whole c =
     let n = c.in-Some.number in
     let body = c.in-Some-body_parts in
-    let kept = body.kept in
+    let kept = body.parts.kept in
     let name : c.in-Some-2.caller ≡ c.in-Some.caller.now = rw c.in-Some-2.is at c.in_ok-caller.ensures in
     let parts = rw c.in-Some-3.is at c.in_ok-write.ensures in
     let label = ap (λ bytes. mark_label (bytes, n)) name ∙ sym c.in-Some.ensures ∙ c.as_slice.ensures in

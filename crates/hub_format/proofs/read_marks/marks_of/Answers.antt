@@ -1,7 +1,7 @@
 use Rattle.std.proofs.Common.{◌≡◌, [], ◌∷◌, ◌++◌, map, sym, ap, ◌∙◌}
 use Rattle.item_maps.specs.Edits.{entry_of}
 use Rattle.hub_format.specs.Format.{FitsMark, mark_entry}
-use Rattle.hub_format.proofs.Found.{all_found, all_read, more_read, value_at}
+use Rattle.hub_format.proofs.ItemLists.{all_found, all_read, more_read, value_at}
 use Rattle.hub_format.proofs.read_marks.marks_of.Goals as goal
 
 pub loop-item-preserved : goal.loop-item-preserved

@@ -1,6 +1,6 @@
 use Rattle.std.proofs.Common.{rules, ◌≡◌, ◌∷◌, sym, ap, ◌∙◌}
 use Rattle.hub_format.specs.Pieces.{sized}
-use Rattle.hub_format.proofs.Back.{row_back}
+use Rattle.hub_format.proofs.Decoding.{row_back}
 use Rattle.hub_format.proofs.read_rows.row_of_body.Goals as goal
 
 pub returns-in-Ok-clause-row : goal.returns-in-Ok-clause-row

@@ -4,7 +4,7 @@ use Rattle.version_core.specs.Changes.{change_key}
 use Rattle.version_core.specs.declared.row_change.RowChange.{RowChange}
 use Rattle.hub_format.specs.Format.{row_entry}
 use Rattle.hub_format.specs.Pieces.{IsReadBack, key_label}
-use Rattle.hub_format.proofs.Found.{all_found, all_read, more_read, value_at}
+use Rattle.hub_format.proofs.ItemLists.{all_found, all_read, more_read, value_at}
 use Rattle.hub_format.proofs.read_rows.rows_of.Goals as goal
 
 abbrev label_behind : ℕ → Item → List ℕ

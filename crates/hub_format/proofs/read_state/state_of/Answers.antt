@@ -1,7 +1,7 @@
 use Rattle.std.proofs.Common.{rules, ◌<◌, ◌^◌, ◌++◌, ◌∷◌, [], sym, ap, ◌∙◌}
 use Rattle.hub_format.specs.Format.{state_entry}
 use Rattle.hub_format.specs.Pieces.{moment, number}
-use Rattle.hub_format.proofs.Back.{number_back}
+use Rattle.hub_format.proofs.Decoding.{number_back}
 use Rattle.hub_format.proofs.Stating.{moment_number}
 use Rattle.hub_format.proofs.read_state.state_of.Goals as goal
 

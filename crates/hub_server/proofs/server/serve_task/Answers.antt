@@ -18,5 +18,5 @@ returns-in-Err-clause-ended g c = (
   fresh,
   record { versions = no_versions 0; marks = no_marks 0 },
   nothing_ended g.A.Acceptor.given_count g.A.Acceptor.fault_count g.F.Folder.files g.F.Folder.faults fresh c.args.task.connections c.args.task.feeds c.args.doors.folders.items c.args.doors.acceptors.items
-      c.ending_of.result c.ending_of.ensures.one,
+      c.ending_unopened.result c.ending_unopened.ensures.one,
 )

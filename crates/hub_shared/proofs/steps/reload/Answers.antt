@@ -11,7 +11,7 @@ returns-clause-standing g c =
     let k = g.H.HubKeeper.fault_count c.args.keeper.now in
     let k' = g.H.HubKeeper.fault_count c.ready-asked.new.keeper in
     let asked = c.ready-asked.ensures in
-    let left : before.is_open ≡ true = sym c.has_open_commit.ensures.is ∙ c.if-not-has_open_commit.false in
+    let left : before.commit_open ≡ true = sym c.has_open_commit.ensures.is ∙ c.if-not-has_open_commit.false in
     let outcome = asked_outcome c.ready-asked.result before after k k' c.if-is_out_of_memory.ensures left (c.has_open_commit.ensures.left c.if-not-has_open_commit.false) (asked.told after.kept (inl refl)).0 asked.last asked.keeps asked.settled asked.err asked.cause asked.refused in
     rw c.settle-publisher.ensures.hub
     (added_stands g.N.Naming.opening g.N.Naming.count g.N.Naming.stood c.args.publisher before (g.H.HubKeeper.stands_for c.args.keeper.now) k c.requires.standing after (g.H.HubKeeper.stands_for c.ready-asked.new.keeper) k' asked.fits
@@ -25,7 +25,7 @@ returns-clause-reloads g c =
     let k = g.H.HubKeeper.fault_count c.args.keeper.now in
     let k' = g.H.HubKeeper.fault_count c.ready-asked.new.keeper in
     let asked = c.ready-asked.ensures in
-    let left : before.is_open ≡ true = sym c.has_open_commit.ensures.is ∙ c.if-not-has_open_commit.false in
+    let left : before.commit_open ≡ true = sym c.has_open_commit.ensures.is ∙ c.if-not-has_open_commit.false in
     let outcome = asked_outcome c.ready-asked.result before after k k' c.if-is_out_of_memory.ensures left (c.has_open_commit.ensures.left c.if-not-has_open_commit.false) (asked.told after.kept (inl refl)).0 asked.last asked.keeps asked.settled asked.err asked.cause asked.refused in
     elim c.if-done.branch [
       | then-done w ↦ rw w.told-is (asked_reloads c.args.publisher c.settle-publisher.result.0 before after c.settle-publisher.new.hub k k' c.requires.none left asked.last c.settle-publisher.result.1 outcome c.settle-publisher.ensures.pushed c.ready-asked.result c.if-is_out_of_memory.ensures asked.settled asked.refused w.if-done.true c.settle-publisher.ensures.hub)

@@ -19,7 +19,7 @@ returns-in-Ok-clause-step g c =
 pub returns-in-Ok-clause-did : goal.returns-in-Ok-clause-did
 returns-in-Ok-clause-did g c = λ settled.
     let count = g.H.HubKeeper.fault_count in
-    let idle = c.in-Ok.ensures.idle (ap (λ (h : HeldHub). h.is_open) c.index.ensures ∙ settled) in
+    let idle = c.in-Ok.ensures.idle (ap (λ (h : HeldHub). h.commit_open) c.index.ensures ∙ settled) in
     let hub = idle.1 ∙ c.index.ensures in
     let did = c.answer_settled.ensures.did in
     subst (λ (h : HeldHub). DidRequest c.args.request.now c.args.at c.answer_settled.result h c.answer_settled.new.hub (count c.args.keeper.now) (count c.answer_settled.new.keeper)) hub

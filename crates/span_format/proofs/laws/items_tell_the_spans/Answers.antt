@@ -1,4 +1,4 @@
-use Rattle.span_format.proofs.Told.{base_told, changes_told}
+use Rattle.span_format.proofs.SpanListings.{base_told, changes_told}
 use Rattle.span_format.proofs.laws.items_tell_the_spans.Goals as goal
 
 pub returns-clause-base : goal.returns-clause-base

@@ -2,7 +2,7 @@ use Rattle.std.proofs.Common.{rules, ◌≡◌, ◌∷◌, ◌++◌, [], ◌<◌
 use Rattle.hub_format.specs.Format.{Entry}
 use Rattle.hub_format.specs.Pieces.{row_body}
 use Rattle.span_format.specs.Format.{span_key, span_label}
-use Rattle.span_format.proofs.Left.{same_key, within_is}
+use Rattle.span_format.proofs.SpanReading.{same_key, within_is}
 use Rattle.span_format.proofs.read_spans.push_span.Goals as goal
 
 pub returns-then-not-is_within-clause-taken : goal.returns-then-not-is_within-clause-taken

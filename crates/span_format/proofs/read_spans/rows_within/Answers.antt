@@ -1,6 +1,6 @@
 use Rattle.std.proofs.Common.{rules, ◌≡◌, [], IsTrue}
 use Rattle.span_format.specs.Reading.{came_within}
-use Rattle.span_format.proofs.Left.{all_found, none_found, one_found}
+use Rattle.span_format.proofs.SpanReading.{all_found, none_found, one_found}
 use Rattle.span_format.proofs.read_spans.rows_within.Goals as goal
 
 pub loop-item-init : goal.loop-item-init

@@ -1,20 +1,20 @@
 use Rattle.std.proofs.Common.{refl, sym, subst}
 use Rattle.sqlite.specs.Held.{state}
 use Rattle.item_store.specs.Stands.{StandsFor}
-use Rattle.exchange_link.specs.Exchanges.{Told}
+use Rattle.exchange_link.specs.Exchanges.{LinkState}
 use Rattle.exchange_link.specs.Marks.{Agree}
 use Rattle.exchange_link.specs.SentTold.{WasSent}
 use Rattle.keeper_sqlite.proofs.HoldingLemmas.{stored_tells, trusted_still}
 use Rattle.keeper_sqlite.specs.copy.Keeping.{KeepOrNew}
 use Rattle.keeper_sqlite.specs.hub.Telling.{KeepSome}
-use Rattle.sync_world.specs.Links.{told_by}
+use Rattle.sync_world.specs.Links.{link_state}
 use Rattle.store_laws.proofs.stored.send_stored.Goals as goal
 
 pub returns-clause-found : goal.returns-clause-found
 returns-clause-found g c after stands =
-    let link = told_by c.send-answer.new.link in
+    let link = link_state c.send-answer.new.link in
     let (before, told, was, tells, done) = c.send-answer.ensures.told (λ copy t stands tells. subst (Agree copy) (sym tells.0) (c.requires.agree copy stands)) after link stands (refl, c.faults.ensures.hub) in
-    (before, was, subst (λ (t : Told). WasSent c.args.token.now c.send-answer.result before t after link) tells.0 done)
+    (before, was, subst (λ (t : LinkState). WasSent c.args.token.now c.send-answer.result before t after link) tells.0 done)
 
 pub returns-clause-sent : goal.returns-clause-sent
 returns-clause-sent g c quiet =

@@ -1,21 +1,21 @@
 use Rattle.std.proofs.Common.{refl, sym, subst}
 use Rattle.sqlite.specs.Held.{state}
 use Rattle.item_store.specs.Stands.{StandsFor}
-use Rattle.exchange_link.specs.Exchanges.{Told}
+use Rattle.exchange_link.specs.Exchanges.{LinkState}
 use Rattle.exchange_link.specs.Agreement.{StageAgrees}
 use Rattle.exchange_link.specs.Synchronised.{HeldTold, Synchronised}
 use Rattle.exchange_link.specs.declared.answer.SyncAnswer.{SyncAnswer}
 use Rattle.keeper_sqlite.proofs.HoldingLemmas.{stored_tells, trusted_still}
 use Rattle.keeper_sqlite.specs.copy.Keeping.{KeepOrNew}
 use Rattle.keeper_sqlite.specs.hub.Telling.{KeepSome}
-use Rattle.sync_world.specs.Links.{told_by}
+use Rattle.sync_world.specs.Links.{link_state}
 use Rattle.store_laws.proofs.stored.sync_stored.Goals as goal
 
 pub returns-clause-found : goal.returns-clause-found
 returns-clause-found g c after stands =
-    let link = told_by c.sync-answer.new.link in
+    let link = link_state c.sync-answer.new.link in
     let (before, told, was, tells, done) = c.sync-answer.ensures.told (λ copy t stands tells. subst (StageAgrees copy) (sym tells.0) (c.requires.agree copy stands)) after link stands (refl, c.faults.ensures.hub) in
-    (before, was, subst (λ (t : Told). Synchronised c.args.token.now c.sync-answer.result before t after link) tells.0 done)
+    (before, was, subst (λ (t : LinkState). Synchronised c.args.token.now c.sync-answer.result before t after link) tells.0 done)
 
 pub returns-clause-synchronised : goal.returns-clause-synchronised
 returns-clause-synchronised g c quiet =
@@ -31,6 +31,6 @@ returns-clause-synchronised g c quiet =
 
 pub returns-clause-exact : goal.returns-clause-exact
 returns-clause-exact g c version is after stands =
-    let link = told_by c.sync-answer.new.link in
+    let link = link_state c.sync-answer.new.link in
     let (before, told, was, tells, done) = c.sync-answer.ensures.told (λ copy t stands tells. subst (StageAgrees copy) (sym tells.0) (c.requires.agree copy stands)) after link stands (refl, c.faults.ensures.hub) in
     (subst (λ (a : SyncAnswer). HeldTold c.args.token.now a before told after link) is done.held).held

@@ -5,7 +5,7 @@ use Rattle.http_wire.specs.Sending.{CanSend}
 use Rattle.status_info.specs.declared.request.Request.{Request}
 use Rattle.sync_world.specs.Deliveries.{Delivered, OnCome}
 use Rattle.sync_world.specs.Given.{is_stale, requests_in}
-use Rattle.sync_world.specs.Links.{told_world}
+use Rattle.sync_world.specs.Links.{world_state}
 use Rattle.sync_world.specs.declared.past.Past.{Past}
 use Rattle.sync_world.proofs.DeliveryLemmas.{is_delivered}
 use Rattle.sync_world.proofs.ExchangeLemmas.{came_as, reply_late}
@@ -21,8 +21,8 @@ note-requires-clause-late c =
 
 pub returns-clause-own : goal.returns-clause-own
 returns-clause-own c e q is xs ys =
-    came_as (λ v. v.items) (λ (t : List ℕ). IsOwn (told_world xs c.args.world.now) (told_world ys c.reply_to-reply.new.world) q t) c.note.result c.reply_to-reply.result c.note.ensures.same
-    (subst (λ (r : Request). IfOk c.reply_to-reply.result (λ v. IsOwn (told_world xs c.args.world.now) (told_world ys c.reply_to-reply.new.world) r v.items)) (c.in_ok-request.ensures q is) (c.reply_to-reply.ensures.own e xs ys))
+    came_as (λ v. v.items) (λ (t : List ℕ). IsOwn (world_state xs c.args.world.now) (world_state ys c.reply_to-reply.new.world) q t) c.note.result c.reply_to-reply.result c.note.ensures.same
+    (subst (λ (r : Request). IfOk c.reply_to-reply.result (λ v. IsOwn (world_state xs c.args.world.now) (world_state ys c.reply_to-reply.new.world) r v.items)) (c.in_ok-request.ensures q is) (c.reply_to-reply.ensures.own e xs ys))
 
 pub returns-clause-late : goal.returns-clause-late
 returns-clause-late c e =

@@ -10,7 +10,7 @@ use Rattle.roster_values.specs.Kinds.{place_of_kind}
 use Rattle.version_core.specs.Changes.{change_key}
 use Rattle.version_core.specs.History.{HaveRoom, PutsRow, history_key, parts_of, past_key, past_of, pasts_of}
 use Rattle.version_core.specs.declared.history.History.{History}
-use Rattle.version_core.specs.declared.history.Place.{Place}
+use Rattle.version_core.specs.declared.history.FreshEntries.{FreshEntries}
 use Rattle.version_core.specs.declared.row_change.RowChange.{RowChange}
 use Rattle.version_core.proofs.HistoryLemmas.{Ascends-histories, all_at, all_from, all_take}
 use Rattle.version_core.proofs.PartsLemmas.{all_set, ascends_first, puts_grown, puts_new}
@@ -38,15 +38,15 @@ put-requires c =
     let room = all_at (λ (h : History). history_key h ≡ change_key change → vec_len h.entries < vec_capacity h.entries) items place old c.requires.grown bound in
     subst (λ (h : History). history_key h ≡ change_key change → vec_len h.entries < vec_capacity h.entries) (sym value) room (key_exact _ _ same)
 
--- the last fresh place is empty and has room
+-- the last of the fresh entries is empty and has room
 pub new-requires-clause-empty : goal.new-requires-clause-empty
 new-requires-clause-empty c =
-    let P = λ (place : Place). (place.entries.items ≡ []) × (vec_len place.entries < vec_capacity place.entries) in
+    let P = λ (fresh : FreshEntries). (fresh.entries.items ≡ []) × (vec_len fresh.entries < vec_capacity fresh.entries) in
     (all_second P c.take_last-entries.new.self.items (c.take_last-entries.result ∷ []) (subst (AllByRecursion P) c.take_last-entries.ensures.items c.requires.fresh)).0.0
 
 pub new-requires-clause-room : goal.new-requires-clause-room
 new-requires-clause-room c =
-    let P = λ (place : Place). (place.entries.items ≡ []) × (vec_len place.entries < vec_capacity place.entries) in
+    let P = λ (fresh : FreshEntries). (fresh.entries.items ≡ []) × (vec_len fresh.entries < vec_capacity fresh.entries) in
     (all_second P c.take_last-entries.new.self.items (c.take_last-entries.result ∷ []) (subst (AllByRecursion P) c.take_last-entries.ensures.items c.requires.fresh)).0.1
 
 pub returns-in-Ok-clause-put : goal.returns-in-Ok-clause-put
@@ -125,5 +125,5 @@ returns-in-Err-clause-grown c = λ (row : RowChange) less grown. subst (HaveRoom
 
 pub returns-in-Err-clause-fresh : goal.returns-in-Err-clause-fresh
 returns-in-Err-clause-fresh c =
-    let P = λ (place : Place). (place.entries.items ≡ []) × (vec_len place.entries < vec_capacity place.entries) in
+    let P = λ (fresh : FreshEntries). (fresh.entries.items ≡ []) × (vec_len fresh.entries < vec_capacity fresh.entries) in
     all_first P c.take_last-entries.new.self.items (c.take_last-entries.result ∷ []) (subst (AllByRecursion P) c.take_last-entries.ensures.items c.requires.fresh)

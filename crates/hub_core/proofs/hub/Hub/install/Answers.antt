@@ -17,6 +17,6 @@ invariant_of-self-in-Ok g c =
     let taken : kept_in c.take_in.new.table c.take_in.new.marks.marks ≡ with_commit kept commit = c.take_in.ensures ∙ ap (λ (k : KeptState). with_commit k commit) same in
     record {
       kept = subst IsKept (sym taken) (IsKept-with_commit kept commit can c.self.invariant.kept);
-      left_open = λ left. let shut : hub.is_open ≡ false = closed in cc;
+      left_open = λ left. let shut : hub.commit_open ≡ false = closed in cc;
       sound = λ known. cc;
     }

@@ -43,7 +43,7 @@ returns-clause-did g c = λ closed.
     let asks : BaseVersion → Outcome → Type 0 = λ version. Applies version set at in
     let idle = c.in_ok-ready.ensures.idle closed in
     let answers = subst (λ (h : HeldHub). Answers (newest_kept h.kept.versions) set at due) c.self.view_is c.set_change_over-due.ensures.change in
-    let done = did asks between after (g.H.HubKeeper.fault_count c.ready.new.keeper) (g.H.HubKeeper.fault_count c.adopt-answer.new.keeper) (ap (λ (h : HeldHub). h.is_open) idle.1 ∙ closed) result
+    let done = did asks between after (g.H.HubKeeper.fault_count c.ready.new.keeper) (g.H.HubKeeper.fault_count c.adopt-answer.new.keeper) (ap (λ (h : HeldHub). h.commit_open) idle.1 ∙ closed) result
     (λ kept standing. (between.kept, inl refl, publishes asks between.kept kept due result (set_answers (newest_kept between.kept.versions) set at due answers) (c.adopt-answer.ensures.told kept standing).1))
     c.adopt-answer.ensures.works c.adopt-answer.ensures.cause in
     rw (c.note_sound.ensures, sym idle.1, sym (ap g.H.HubKeeper.fault_count idle.2)) done

@@ -36,7 +36,7 @@ returns-clause-did g c = λ closed.
     let asks : BaseVersion → Outcome → Type 0 = λ version. GrantsMake version list at in
     let idle = c.in_ok-ready.ensures.idle closed in
     let answers = subst (λ (h : HeldHub). AnswersBy (GrantsMake (newest_kept h.kept.versions) list at) (newest_kept h.kept.versions) due) c.self.view_is c.grants_change-due.ensures.change in
-    let done = did asks between after (g.H.HubKeeper.fault_count c.ready.new.keeper) (g.H.HubKeeper.fault_count c.adopt.new.keeper) (ap (λ (h : HeldHub). h.is_open) idle.1 ∙ closed) result
+    let done = did asks between after (g.H.HubKeeper.fault_count c.ready.new.keeper) (g.H.HubKeeper.fault_count c.adopt.new.keeper) (ap (λ (h : HeldHub). h.commit_open) idle.1 ∙ closed) result
     (λ kept standing. (between.kept, inl refl, publishes asks between.kept kept due result answers (c.adopt.ensures.told kept standing).1))
     c.adopt.ensures.works c.adopt.ensures.cause in
     rw (sym idle.1, sym (ap g.H.HubKeeper.fault_count idle.2)) done

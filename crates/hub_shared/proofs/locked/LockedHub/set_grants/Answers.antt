@@ -10,10 +10,10 @@ pub returns-clause-worked : goal.returns-clause-worked
 returns-clause-worked g c =
     let old = c.args.self.now in
     let new = c.carry_out-done.new.self in
-    worked_asked (MakesNext (λ (version : BaseVersion). GrantsMake version c.args.list.now c.args.at)) (Err error.Keeper) (Err error.NoMemory) g.N.Naming.opening old.log new.log old.hub (g.H.HubKeeper.fault_count old.keeper) (g.H.HubKeeper.fault_count new.keeper) c.told.result (rw c.told.ensures c.carry_out-done.ensures.worked)
+    worked_asked (MakesNext (λ (version : BaseVersion). GrantsMake version c.args.list.now c.args.at)) (Err error.Keeper) (Err error.NoMemory) g.N.Naming.opening old.log new.log old.hub (g.H.HubKeeper.fault_count old.keeper) (g.H.HubKeeper.fault_count new.keeper) c.publication_answer.result (rw c.publication_answer.ensures c.carry_out-done.ensures.worked)
 
 pub returns-clause-keeper : goal.returns-clause-keeper
 returns-clause-keeper g c = λ is.
     let old = c.args.self.now in
     let new = c.carry_out-done.new.self in
-    worked_failed (MakesNext (λ (version : BaseVersion). GrantsMake version c.args.list.now c.args.at)) (Err error.Keeper) (Err error.NoMemory) g.N.Naming.opening old.log new.log old.hub (g.H.HubKeeper.fault_count old.keeper) (g.H.HubKeeper.fault_count new.keeper) c.told.result (λ same. cc (same)) is (rw c.told.ensures c.carry_out-done.ensures.worked)
+    worked_failed (MakesNext (λ (version : BaseVersion). GrantsMake version c.args.list.now c.args.at)) (Err error.Keeper) (Err error.NoMemory) g.N.Naming.opening old.log new.log old.hub (g.H.HubKeeper.fault_count old.keeper) (g.H.HubKeeper.fault_count new.keeper) c.publication_answer.result (λ same. cc (same)) is (rw c.publication_answer.ensures c.carry_out-done.ensures.worked)

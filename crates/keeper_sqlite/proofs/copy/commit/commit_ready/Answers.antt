@@ -18,7 +18,7 @@ returns-clause-ok g c copy this can sure =
 
 pub returns-in_err-edits-clause-err : goal.returns-in_err-edits-clause-err
 returns-in_err-edits-clause-err g c copy this =
-    on_any c.from_residual.result (keeps_on Keep (g.S.StoredItems.stands_for c.args.store.now) (g.S.StoredItems.stands_for c.edits_wanted.new.store) copy this (c.edits_wanted.ensures.same this.items this.stands))
+    on_any c.from_residual.result (keeps_on Keep (g.S.StoredItems.stands_for c.args.store.now) (g.S.StoredItems.stands_for c.edits_for.new.store) copy this (c.edits_for.ensures.same this.items this.stands))
 
 pub returns-clause-err : goal.returns-clause-err
 returns-clause-err g c copy this =
@@ -27,7 +27,7 @@ returns-clause-err g c copy this =
 
 pub returns-in_err-edits-clause-made : goal.returns-in_err-edits-clause-made
 returns-in_err-edits-clause-made g c n held =
-    let p = err_from_is_err_and c.from_residual.result c.from_residual.ensures.1 in inl (rw p.1 refl, c.edits_wanted.ensures.held n held)
+    let p = err_from_is_err_and c.from_residual.result c.from_residual.ensures.1 in inl (rw p.1 refl, c.edits_for.ensures.held n held)
 
 pub returns-clause-made : goal.returns-clause-made
 returns-clause-made g c n held = elim (c.commit.ensures.made n held) [

@@ -1,6 +1,6 @@
 use Rattle.std.proofs.Common.{map, ap, ◌∙◌}
 use Rattle.item_maps.specs.Edits.{entry_of}
-use Rattle.copy_format.proofs.Told.{state_told}
+use Rattle.copy_format.proofs.CopyListings.{state_told}
 use Rattle.keeper_sqlite.proofs.copy.stored.stored_root.Goals as goal
 
 pub returns-in-Some-clause-root : goal.returns-in-Some-clause-root

@@ -2,7 +2,7 @@ use Rattle.std.proofs.Common.{map, [], ◌∷◌, ap, ◌∙◌}
 use Rattle.keeper_memory.specs.copy.Copies.{held_list}
 use Rattle.item_maps.specs.Edits.{entry_of}
 use Rattle.item_maps.specs.Items.{listed}
-use Rattle.copy_format.proofs.Told.{held_rows, held_told}
+use Rattle.copy_format.proofs.CopyListings.{held_rows, held_told}
 use Rattle.keeper_sqlite.proofs.copy.stored.stored_rows.Goals as goal
 
 pub returns-in-Some-clause-rows : goal.returns-in-Some-clause-rows

@@ -1,6 +1,6 @@
 use Rattle.std.proofs.Common.{map, ap, ◌∙◌}
 use Rattle.item_maps.specs.Edits.{entry_of}
-use Rattle.copy_format.proofs.Told.{stage_told}
+use Rattle.copy_format.proofs.CopyListings.{stage_told}
 use Rattle.keeper_sqlite.proofs.copy.stored.stored_stage.Goals as goal
 
 pub returns-in-Some-clause-stage : goal.returns-in-Some-clause-stage

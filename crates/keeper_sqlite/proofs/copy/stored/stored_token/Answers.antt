@@ -1,6 +1,6 @@
 use Rattle.std.proofs.Common.{map, ap, ◌∙◌}
 use Rattle.item_maps.specs.Edits.{entry_of}
-use Rattle.copy_format.proofs.Told.{token_told}
+use Rattle.copy_format.proofs.CopyListings.{token_told}
 use Rattle.keeper_memory.specs.copy.Copies.{held_token}
 use Rattle.keeper_sqlite.proofs.copy.stored.stored_token.Goals as goal
 

@@ -13,7 +13,7 @@ loop-place-preserved g c = record {
   found = λ t has bases sure.
       let m = has.tables.items in
       let stands = c.loop-place.invariant.same m has.tables.stands in
-      found_more (g.S.StoredItems.stands_for c.args.store.now) (TellLater c.args.laid.now) t has c.args.base c.loop-place.place c.loop-place.found.items _ c.in-Some.change bases (c.loop-place.invariant.found t has bases (c.in_ok-change.ensures.trust sure))
+      found_more (g.S.StoredItems.stands_for c.args.store.now) (TellLater c.args.later.now) t has c.args.base c.loop-place.place c.loop-place.found.items _ c.in-Some.change bases (c.loop-place.invariant.found t has bases (c.in_ok-change.ensures.trust sure))
       c.in_ok-push_change.ensures (λ here. rw c.in-Some.is at (c.in_ok-change.ensures.change m here.change stands here.fits here.number here.own here.rows here.grants sure))
       (λ none. rw c.in-Some.is at (c.in_ok-change.ensures.none m stands none sure));
 }
@@ -22,10 +22,10 @@ pub returns-in_default-clause-changes : goal.returns-in_default-clause-changes
 returns-in_default-clause-changes g c t has bases keeps sure =
     let m = has.tables.items in
     let stands = c.loop-place.invariant.same m has.tables.stands in
-    c.from_vec.ensures ∙ found_all (g.S.StoredItems.stands_for c.args.store.now) (TellLater c.args.laid.now) t has c.args.base c.loop-place.place c.loop-place.found.items bases (c.loop-place.invariant.found t has bases (c.in_ok-change.ensures.trust sure))
+    c.from_vec.ensures ∙ found_all (g.S.StoredItems.stands_for c.args.store.now) (TellLater c.args.later.now) t has c.args.base c.loop-place.place c.loop-place.found.items bases (c.loop-place.invariant.found t has bases (c.in_ok-change.ensures.trust sure))
     (λ here. rw c.in_default.is at (c.in_ok-change.ensures.change m here.change stands here.fits here.number here.own here.rows here.grants sure))
 
 pub returns-clause-changes : goal.returns-clause-changes
 returns-clause-changes g c t has bases keeps sure =
     c.from_vec-2.ensures
-    ∙ found_kept (g.S.StoredItems.stands_for c.args.store.now) (TellLater c.args.laid.now) t has c.args.keep c.loop-place.place c.loop-place.found.items keeps (c.loop-place.invariant.found t has bases sure) (omega (arith, c.loop-place-test.false))
+    ∙ found_kept (g.S.StoredItems.stands_for c.args.store.now) (TellLater c.args.later.now) t has c.args.keep c.loop-place.place c.loop-place.found.items keeps (c.loop-place.invariant.found t has bases sure) (omega (arith, c.loop-place-test.false))

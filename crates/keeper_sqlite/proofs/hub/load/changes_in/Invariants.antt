@@ -13,5 +13,5 @@ invariant-loop-place g l =
       held : Stay (s.may_hold l.store) (s.may_hold l.fn.store);
       signs : Stay (s.shows l.store) (s.shows l.fn.store);
       faults : s.fault_count l.store ≡ s.fault_count l.fn.store;
-      found : (t : HubTables) → HasChanges (s.stands_for l.fn.store) (TellLater l.laid) t → l.base ≡ t.base.number → s.is_trusted l.store → (l.found.items ≡ take l.place t.changes) × (l.place ≤ length t.changes);
+      found : (t : HubTables) → HasChanges (s.stands_for l.fn.store) (TellLater l.later) t → l.base ≡ t.base.number → s.is_trusted l.store → (l.found.items ≡ take l.place t.changes) × (l.place ≤ length t.changes);
     }

@@ -2,7 +2,7 @@ use Rattle.std.proofs.Common.{[], ◌∷◌, map, ap, ◌∙◌}
 use Rattle.item_maps.specs.Edits.{entry_of}
 use Rattle.hub_format.specs.Format.{items_of}
 use Rattle.keeper_sqlite.proofs.HubKeepingLemmas.{listed_alike}
-use Rattle.hub_format.proofs.Told.{marks_told}
+use Rattle.hub_format.proofs.TableListings.{marks_told}
 use Rattle.keeper_sqlite.proofs.hub.load.marks_in.Goals as goal
 
 pub returns-in-Some-clause-marks : goal.returns-in-Some-clause-marks

@@ -1,7 +1,7 @@
 use Rattle.std.proofs.Common.{rules, ◌≡◌, ◌+◌, ap, sym, ◌∙◌}
 use Rattle.hub_format.specs.Format.{grants_under, items_of}
 use Rattle.hub_format.specs.Pieces.{number}
-use Rattle.hub_format.proofs.Told.{base_grants_told, listed_of}
+use Rattle.hub_format.proofs.TableListings.{base_grants_told, listed_of}
 use Rattle.keeper_sqlite.proofs.HubKeepingLemmas.{listed_alike, tables_stay}
 use Rattle.keeper_sqlite.proofs.RowsLemmas.{changes_later}
 use Rattle.keeper_sqlite.proofs.hub.reading.read_tables.Goals as goal
@@ -15,17 +15,17 @@ returns-clause-tables g c t has sure =
     let at_state = c.in_ok-rows.ensures.trust at_rows in
     let tables = has.changes.tables in
     let m = tables.items in
-    let state = c.in_ok-keep.ensures.state t tables at_state in
-    let small : c.in-Ok.keep ≡ c.in_ok-keep.keep = search rules in
+    let state = c.in_ok-state.ensures.state t tables at_state in
+    let small : c.in-Ok.keep ≡ c.in_ok-state.state.keep = search rules in
     let keeps = small ∙ state.0 in
     let bases = state.1 in
-    let one = c.in_ok-keep.ensures.same m tables.stands in
+    let one = c.in_ok-state.ensures.same m tables.stands in
     let rows = c.in_ok-rows.ensures.rows m t.base one tables.fit.rows bases has.base at_rows in
     let two = c.in_ok-rows.ensures.same m one in
-    let listed = listed_alike 5 (number c.in_ok-keep.number) (number (c.in_ok-keep.number + 1)) m (items_of t) tables.grants in
+    let listed = listed_alike 5 (number c.in_ok-state.state.base) (number (c.in_ok-state.state.base + 1)) m (items_of t) tables.grants in
     let grants = c.in_ok-grants.ensures.grants m t.base.grants two tables.fit.grants (listed ∙ ap (λ n. listed_of 5 n (items_of t)) bases ∙ base_grants_told t tables.are tables.fit ∙ ap (λ n. grants_under n t.base.grants) (sym bases)) at_grants in
-    let later = changes_later (s c.args.store.now) (s c.grants_at.new.store) c.args.laid c.in_ok-rows.later t c.in_ok-keep.number bases
-    (λ n stands. c.in_ok-grants.ensures.same n (c.in_ok-rows.ensures.same n (c.in_ok-keep.ensures.same n stands))) has.changes (c.in_ok-rows.ensures.later m one at_rows) in
+    let later = changes_later (s c.args.store.now) (s c.grants_at.new.store) c.args.stored c.in_ok-rows.later t c.in_ok-state.state.base bases
+    (λ n stands. c.in_ok-grants.ensures.same n (c.in_ok-rows.ensures.same n (c.in_ok-state.ensures.same n stands))) has.changes (c.in_ok-rows.ensures.later m one at_rows) in
     let changes = c.in_ok-changes.ensures.changes t later bases keeps at_changes in
     let four = tables_stay (s c.grants_at.new.store) (s c.changes_in.new.store) t c.in_ok-changes.ensures.same later.tables in
     let marks = c.in_ok-marks.ensures.marks t four sure in

@@ -4,7 +4,7 @@ use Rattle.version_core.specs.Version.{IsVersion}
 use Rattle.version_core.proofs.TableLemmas.{base_meets}
 use Rattle.hub_format.specs.Format.{items_of}
 use Rattle.keeper_sqlite.proofs.HubKeepingLemmas.{listed_alike}
-use Rattle.hub_format.proofs.Told.{state_told}
+use Rattle.hub_format.proofs.TableListings.{state_told}
 use Rattle.keeper_sqlite.proofs.hub.state.state_of_store.Goals as goal
 
 pub returns-in-Some-clause-state : goal.returns-in-Some-clause-state

@@ -4,7 +4,7 @@ use Rattle.outside_ports.specs.declared.failed.IoError.TheVariants as io_error
 use Rattle.roster_base.specs.Faults.{Rose}
 use Rattle.sync_world.specs.Deliveries.{Carried, OnCome}
 use Rattle.sync_world.specs.Given.{is_stale, requests_in}
-use Rattle.sync_world.specs.Links.{link_in, told_world}
+use Rattle.sync_world.specs.Links.{link_in, world_state}
 use Rattle.sync_world.specs.Planned.{fate_at}
 use Rattle.sync_world.proofs.ExchangeLemmas.{broken_leads, came_leads, counts_as, exchanged, noted_or, own_carries}
 use Rattle.sync_world.proofs.ExchangeLemmas.{sure}
@@ -26,12 +26,12 @@ returns-in-Ok-clause-leads c = rw (← c.self.view_is)
 
 pub returns-in-Ok-clause-told : goal.returns-in-Ok-clause-told
 returns-in-Ok-clause-told c = rw (← c.self.view_is) (λ q is after tells. (
-  told_world (requests_in c.self.inside.past.items) c.self.inside.world,
+  world_state (requests_in c.self.inside.past.items) c.self.inside.world,
   (refl, c.faults.ensures.hub),
   exchanged q (Ok tt) (Rose c.self.inside.tally.faults c.count.new.self.faults) c.in-Ok.reply.items (requests_in c.self.inside.past.items) (requests_in c.carry-came.new.past.items) c.self.inside.world c.carry-came.new.world after c.in-Ok.ensures.walks
       (inl (sure (c.in-Ok.ensures.sent q is) (λ none. cc none.0)))
       (elim (is_stale c.fate_of-fate.result) as (λ b. is_stale c.fate_of-fate.result ≡ b
-      → IsOwn (told_world (requests_in c.self.inside.past.items) c.self.inside.world) (told_world (requests_in c.carry-came.new.past.items) c.carry-came.new.world) q c.in-Ok.reply.items
+      → IsOwn (world_state (requests_in c.self.inside.past.items) c.self.inside.world) (world_state (requests_in c.carry-came.new.past.items) c.carry-came.new.world) q c.in-Ok.reply.items
       ⊎ (Rose c.self.inside.tally.faults c.count.new.self.faults × IsLate (requests_in c.self.inside.past.items) c.in-Ok.reply.items)) [
         | true ↦ λ e. inr (c.count.ensures.rose (c.is_stale.ensures ∙ e), c.in-Ok.ensures.late e)
         | false ↦ λ e. inl (c.in-Ok.ensures.own e q is (requests_in c.self.inside.past.items) (requests_in c.carry-came.new.past.items))
@@ -52,7 +52,7 @@ returns-in-Err-Failed-clause-leads c = rw (← c.self.view_is)
 pub returns-in-Err-Failed-clause-told : goal.returns-in-Err-Failed-clause-told
 returns-in-Err-Failed-clause-told c = rw (← c.self.view_is) (λ q is after tells.
     let failed : c.carry-came.result ≡ Err io_error.Failed = search rules in (
-      told_world (requests_in c.self.inside.past.items) c.self.inside.world,
+      world_state (requests_in c.self.inside.past.items) c.self.inside.world,
       (refl, c.faults.ensures.hub),
       exchanged q (Err io_error.Failed) (Rose c.self.inside.tally.faults c.count-in-Err-Failed.new.self.faults) c.new.result.items (requests_in c.self.inside.past.items) (requests_in c.carry-came.new.past.items) c.self.inside.world c.carry-came.new.world after
           c.carry-came.ensures.walks (inl (sure (c.carry-came.ensures.sent q is) (λ none. cc (none.0, failed)))) tt tells.0,
@@ -65,7 +65,7 @@ returns-in-Err-NoMemory-clause-leads c = rw (← c.self.view_is)
 
 pub returns-in-Err-NoMemory-clause-told : goal.returns-in-Err-NoMemory-clause-told
 returns-in-Err-NoMemory-clause-told c = rw (← c.self.view_is) (λ q is after tells. (
-  told_world (requests_in c.self.inside.past.items) c.self.inside.world,
+  world_state (requests_in c.self.inside.past.items) c.self.inside.world,
   (refl, c.faults.ensures.hub),
   exchanged q (Err io_error.NoMemory) (Rose c.self.inside.tally.faults c.count-in-Err-NoMemory.new.self.faults) c.new.result.items (requests_in c.self.inside.past.items) (requests_in c.carry-came.new.past.items) c.self.inside.world c.carry-came.new.world after
       c.carry-came.ensures.walks (noted_or c.self.inside.past.items c.carry-came.new.past.items q _ _ (λ none. refl) (c.carry-came.ensures.sent q is)) tt tells.0,

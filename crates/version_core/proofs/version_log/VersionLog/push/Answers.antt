@@ -96,8 +96,8 @@ invariant_of-self c =
       fresh = c.put_rows.ensures.fresh;
       room = λ keys none. cc;
       index = λ on.
-          let said = subst (λ (rows : List RowChange). AllWithin (λ change. IsIndexed log.refs.items change.row) rows 0 (length rows)) c.as_slice.ensures.changes (rw c.deref.ensures.value at c.stay_said-self-inside.ensures.now on) in
-          let before = c.self.invariant.index (c.stay_said-self-inside.ensures.before on) in
+          let said = subst (λ (rows : List RowChange). AllWithin (λ change. IsIndexed log.refs.items change.row) rows 0 (length rows)) c.as_slice.ensures.changes (rw c.deref.ensures.value at c.stay_indexed-self-inside.ensures.now on) in
+          let before = c.self.invariant.index (c.stay_indexed-self-inside.ensures.before on) in
           subst (λ (ms : List ℤ). AllByRecursion (IsVersionIndexed log.refs.items) (versions_at log.number (log.moment ∷ ms) pasts' grants')) (sym items) (grown_indexed log c.self.invariant change next pasts' grants' put c.put_grants.ensures.now c.put_grants.ensures.earlier log.refs.items before said);
     }
 

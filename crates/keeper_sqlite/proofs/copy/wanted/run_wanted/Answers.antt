@@ -1,4 +1,0 @@
-use Rattle.keeper_sqlite.proofs.copy.wanted.run_wanted.Goals as goal
-
-pub returns-clause-edits : goal.returns-clause-edits
-returns-clause-edits g c side copy has sure = (c.in_ok-run_edits.ensures side copy (c.in_ok-root.ensures.root side copy has sure), tt)
