@@ -15,11 +15,12 @@ use Rattle.roster_values.specs.declared.mode.Mode.TheVariants.{Bulk, Delta}
 use Rattle.bulk_export.specs.declared.error.ExportError.{ExportError}
 use Rattle.bulk_export.specs.declared.error.ExportError.TheVariants as error
 
+-- the error of an export whose keeper failed
 abbrev pub export_error : KeeperError → ExportError
 export_error keeper.Failed = error.KeeperFault
 export_error keeper.NoMemory = error.NoMemory
 
--- the copy holds something, of the kind these rows
+-- the copy holds something, and these are the rows that it holds of the kind
 pub record IsHeld (kind : Kind) (copy : Copy) (rows : List Record) : Type 0 where
   pub some : copy.held ≡ None → ⊥
   pub list : rows ≡ held_list copy kind
@@ -40,7 +41,8 @@ pub record IsExport (kind : Kind) (copies : Copy → Type 0) (text : List ℕ) :
   pub are : AreHeld kind copies rows
   pub file : IsFile kind rows text
 
--- the cause of an error: that nothing is held, that the keeper's count rose, or that the text has so many bytes
+-- the cause of an error: that nothing is held, that the keeper's count of faults rose (`broke`), or that the text of
+-- what a copy holds has so many bytes (`HasBytes`) and is too large; of want of memory nothing is said
 abbrev pub CauseOf : (Copy → Type 0) → Type 0 → (Copy → ℕ → Type 0) → ExportError → Type 0
 CauseOf copies broke HasBytes error.NothingHeld = (copy : Copy) → copies copy → copy.held ≡ None
 CauseOf copies broke HasBytes error.KeeperFault = broke
@@ -48,19 +50,21 @@ CauseOf copies broke HasBytes (error.TooLarge bytes) =
     (largest < bytes) × ((copy : Copy) → copies copy → HasBytes copy bytes)
 CauseOf copies broke HasBytes error.NoMemory = Unit {0}
 
--- the text of rows is too large, or memory ran out
-abbrev pub IsLong : Kind → List Record → ExportError → Type 0
-IsLong kind rows error.NothingHeld = ⊥
-IsLong kind rows error.KeeperFault = ⊥
-IsLong kind rows (error.TooLarge bytes) = (largest < bytes) × (bytes ≡ length (written_text kind rows))
-IsLong kind rows error.NoMemory = Unit {0}
+-- the cause of an error where rows are written alone: that their text is too large, or that memory ran out
+abbrev pub TextCauseOf : Kind → List Record → ExportError → Type 0
+TextCauseOf kind rows error.NothingHeld = ⊥
+TextCauseOf kind rows error.KeeperFault = ⊥
+TextCauseOf kind rows (error.TooLarge bytes) = (largest < bytes) × (bytes ≡ length (written_text kind rows))
+TextCauseOf kind rows error.NoMemory = Unit {0}
 
 -- ---- the manifest
 
+-- the word that a manifest has for a mode
 abbrev pub mode_word : Mode → List ℕ
 mode_word Bulk = codes "bulk"
 mode_word Delta = codes "delta"
 
+-- the line that says in which mode the file of a kind stands in the set
 abbrev pub file_line : Mode → Kind → List ℕ
 file_line mode kind = codes "file." ++ plural_of kind ++ codes "," ++ mode_word mode ++ codes "\n"
 

@@ -24,9 +24,11 @@ pub record IsExportFolder (mode : Mode) (dir : List ℕ) (files : List Stored) (
   pub manifest : bytes_at files dir Manifest ≡ Some (manifest_text mode)
   pub kinds : (kind : Kind) → HasFile mode dir files kind (rows kind)
 
+-- how a manifest lists the file of a kind: in this mode
 abbrev pub listed : Mode → Kind → ListedFile
 listed mode kind = record { kind = kind; mode = mode }
 
+-- the part of a set that the file of a kind is read as: its rows, all dated
 abbrev pub part_of : Mode → (Kind → List Record) → Kind → SetPart
 part_of mode rows kind = record { kind = kind; mode = mode; rows = map dated (rows kind) }
 

@@ -1,7 +1,7 @@
 //! What the copy holds, and the text of a file.
 
 ghost use Rattle.std.specs.Prelude.{◌≡◌, ◌≤◌, IfErr, IfOk, Ok, OnOk, is_some, map};
-ghost use Rattle.bulk_export.specs.Exports.{CauseOf, IsHeld, IsLong};
+ghost use Rattle.bulk_export.specs.Exports.{CauseOf, IsHeld, TextCauseOf};
 ghost use Rattle.csv_sets.specs.Files.{file_of};
 ghost use Rattle.csv_sets.specs.Written.{dated, written_text};
 ghost use Rattle.keeper_memory.specs.copy.Copies.{Copy};
@@ -61,7 +61,7 @@ pub fn file_text(alloc: Global, kind: Kind, rows: &[Row]) -> Result<Vec<u8>, Exp
     requires { IsList kind rows.now }
     ensures text { IfOk result (λ v. v.items ≡ written_text kind rows.now) }
     ensures back { IfOk result (λ v. (mode : Mode) → file_of kind mode v.items ≡ Ok (map dated rows.now)) }
-    ensures cause { IfErr result (λ e. IsLong kind rows.now e) }
+    ensures cause { IfErr result (λ e. TextCauseOf kind rows.now e) }
 {
     let Ok(text) = write_file(alloc, kind, rows) else {
         return Err(ExportError::NoMemory);

@@ -4,7 +4,7 @@ use Rattle.consumer_deltas.specs.Below.Faulted.{FaultLaw}
 use Rattle.keeper_memory.specs.copy.Copies.{Copy}
 use Rattle.keeper_memory.specs.copy.States.{stage_of}
 use Rattle.keeper_memory.specs.declared.copy.state.TheConstants.{LAST}
-use Rattle.exchange_link.specs.Agreement.{StageAgrees}
+use Rattle.exchange_link.specs.Agreement.{StagesAgree}
 use Rattle.exchange_link.specs.Asked.{AsksPages}
 use Rattle.exchange_link.specs.Bounds.{Bounded, IsCallPin}
 use Rattle.exchange_link.specs.Causes.{Caused, LastLaw, RoseBy, ToldCause}
@@ -20,7 +20,7 @@ use Rattle.hub_words.specs.Tasks.{Task}
 
 -- before the call the copy agreed with what the link told, where both tell
 abbrev pub Agreed : CopyRun → LinkRun → Type 0
-Agreed copy link = (c : Copy) (t : LinkState) → copy.stood c → link.told t → StageAgrees c t
+Agreed copy link = StagesAgree copy.stood link.told
 
 -- what holds of a synchronisation with the answer `a`. `stood`, `told` and `before` speak of the time before the call,
 -- `stands`, `tells` and `after` of that behind it

@@ -36,7 +36,8 @@ ending_of act.HubFault place offset = Ended answer.HubFault
 ending_of act.HubNoMemory place offset = Ended answer.HubNoMemory
 ending_of a place offset = Ended (answer.BadReply place.kind offset)
 
--- the most exchanges for a kind: each page but the last has an entry, and is asked for at most 100 times
+-- the most exchanges for a kind: each page but the last has an entry, and is asked for at most 100 times, as often as
+-- one request may be tried
 abbrev pub most_asked : ℕ
 most_asked = 100 * (entry_limit + 2)
 
@@ -80,14 +81,18 @@ pub data Stops (kept : List ℕ) (run count : ℕ) (missed : Type 0) (place : Pl
 
 -- ---- over a link that tells
 
+-- what differs of the place's kind between what the token sees of the base's version and of the pin's
+abbrev pub differs_at : HubState → List ℕ → Place → ℕ → List DeltaEntry
+differs_at h token place pin = what_differs (version_at h place.base) (version_at h pin) token place.kind
+
 -- the entries are what differs between the cuts of two versions to the token
 pub record IsDelta (h : HubState) (token : List ℕ) (place : Place) (pin : ℕ) (entries : Sofar) : Type 0 where
   pub standing : pin < length h.published
   pub known : knows (version_at h pin) token ≡ true
   pub based : knows (version_at h place.base) token ≡ true
   pub low : place.base ≤ pin
-  pub puts : entries.puts ≡ rows_put (what_differs (version_at h place.base) (version_at h pin) token place.kind)
-  pub gone : entries.gone ≡ ids_gone (what_differs (version_at h place.base) (version_at h pin) token place.kind)
+  pub puts : entries.puts ≡ rows_put (differs_at h token place pin)
+  pub gone : entries.gone ≡ ids_gone (differs_at h token place pin)
 
 -- the token sees no row of the kind
 pub record IsShutAt (h : HubState) (token : List ℕ) (place : Place) (pin : ℕ) : Type 0 where
@@ -109,6 +114,6 @@ pub record IsPartOf (h : HubState) (token : List ℕ) (place : Place) (sofar : S
   pub known : knows (version_at h pin) token ≡ true
   pub based : knows (version_at h place.base) token ≡ true
   pub low : place.base ≤ pin
-  pub total_is : total ≡ length (what_differs (version_at h place.base) (version_at h pin) token place.kind)
-  pub puts : page.puts ≡ rows_put (slice place.limit (count_in sofar) (what_differs (version_at h place.base) (version_at h pin) token place.kind))
-  pub gone : page.gone ≡ ids_gone (slice place.limit (count_in sofar) (what_differs (version_at h place.base) (version_at h pin) token place.kind))
+  pub total_is : total ≡ length (differs_at h token place pin)
+  pub puts : page.puts ≡ rows_put (slice place.limit (count_in sofar) (differs_at h token place pin))
+  pub gone : page.gone ≡ ids_gone (slice place.limit (count_in sofar) (differs_at h token place pin))

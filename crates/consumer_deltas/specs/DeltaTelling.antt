@@ -2,7 +2,7 @@
 use Rattle.std.specs.Prelude.{◌≡◌, ◌≢◌, ◌⊎◌, ◌*◌, ◌<◌, ◌≤◌, ℕ, false, List, [], Option, Some, None, IfErr, IfOk, IfSome}
 use Rattle.std.specs.Prelude.{IsSomeAnd, Result, Ok, Err, length, ⊤}
 use Rattle.consumer_deltas.specs.DeltaAnswers.{DeltaTold}
-use Rattle.consumer_deltas.specs.DeltaGathering.{IsDelta, IsShutAt}
+use Rattle.consumer_deltas.specs.DeltaGathering.{IsDelta, IsShutAt, differs_at}
 use Rattle.consumer_deltas.specs.declared.answer.DeltaAnswer.{DeltaAnswer}
 use Rattle.consumer_deltas.specs.declared.answer.DeltaAnswer.TheVariants.{Ended}
 use Rattle.consumer_deltas.specs.declared.gathering.Delta.{Delta}
@@ -14,7 +14,6 @@ use Rattle.exchange_link.specs.Sayings.{list_of}
 use Rattle.exchange_link.specs.declared.answer.SyncAnswer.TheVariants as answer
 use Rattle.hub_spec.specs.rules.Checks.{version_at}
 use Rattle.hub_spec.specs.views.Cuts.{list_in}
-use Rattle.hub_spec.specs.views.Deltas.{delta as what_differs}
 use Rattle.roster_types.specs.Records.{Record}
 use Rattle.roster_values.specs.Kinds.{place_of_kind}
 use Rattle.version_core.specs.HubStates.{HubState, newest_number}
@@ -57,7 +56,7 @@ GonePin pin h a = ⊤
 abbrev pub PagesBounded : HubState → HubState → List ℕ → Place → ℕ → ℕ → Result Delta DeltaAnswer → Type 0
 PagesBounded before after token place tries n result =
     (n ≤ tries) ⊎ ((v : ℕ) × IsPinFrom place.pin before v × (v < length after.published) × IsAtPin result v
-    × (n ≤ tries * pages place.limit (length (what_differs (version_at after place.base) (version_at after v) token place.kind))))
+    × (n ≤ tries * pages place.limit (length (differs_at after token place v))))
 
 -- what the pages of a kind tell: what is gathered is the delta, no reply is bad, and no page more is asked for
 pub record PagesTold (before after : LinkState) (token : List ℕ) (place : Place) (tries n : ℕ) (result : Result Delta DeltaAnswer) : Type 0 where

@@ -1,6 +1,6 @@
 //! Kind after kind, until all are staged.
 
-ghost use Rattle.std.specs.Prelude.{◌≡◌, ◌⊎◌, ◌+◌, ◌-◌, ◌*◌, ◌^◌, ◌<◌, ◌≤◌, ℕ, [], true, None, Some, IfSome};
+ghost use Rattle.std.specs.Prelude.{◌≡◌, ◌⊎◌, ◌+◌, ◌-◌, ◌^◌, ◌<◌, ◌≤◌, ℕ, [], true, None, Some, IfSome};
 ghost use Rattle.consumer_deltas.specs.DeltaAnswers.{HasBase};
 ghost use Rattle.consumer_deltas.specs.DeltaCalls.{AsksSome};
 ghost use Rattle.consumer_deltas.specs.DeltaCauses.{RepliesIf, RepliesOn};
@@ -15,13 +15,14 @@ ghost use Rattle.consumer_sync.specs.Requests.{IsUnmarked};
 ghost use Rattle.consumer_deltas.specs.declared.judging.Place.{Place as Placed};
 ghost use Rattle.exchange_link.specs.Agreement.{CopyFits};
 ghost use Rattle.exchange_link.specs.Asked.{SendsOn};
+ghost use Rattle.exchange_link.specs.Calls.{CanTry, IsRunNumber, last_exchange};
 ghost use Rattle.exchange_link.specs.Causes.{IsMore, IsOwnReply, IsPageStatus, RoseBy};
 ghost use Rattle.exchange_link.specs.Exchanges.{LinkState};
 ghost use Rattle.exchange_link.specs.Places.{kind_at, kinds_of};
 ghost use Rattle.exchange_link.specs.Requests.{Asks, IsReady};
 ghost use Rattle.exchange_link.specs.Synchronised.{StageOn};
 ghost use Rattle.http_wire.specs.declared.reply_reading.WireReply.{WireReply as Reply};
-ghost use Rattle.keeper_memory.specs.copy.Copies.{Copy, held_list};
+ghost use Rattle.keeper_memory.specs.copy.Copies.{Copy, held_list, largest_limit};
 ghost use Rattle.keeper_memory.specs.copy.Lists.{kind_count};
 ghost use Rattle.keeper_memory.specs.copy.States.{stage_of};
 ghost use Rattle.keeper_memory.specs.declared.copy.state.TheConstants.{LAST};
@@ -100,7 +101,7 @@ fn stage_kind<C: CopyKeeper>(
     match delta {
         Delta::Closed { pin } => {
             let kind = kind(stage);
-            // Read for its range.
+            // Read for the bound that its contract gives: fewer than 2 ^ 64 rows are staged.
             let _staged = staged(stage);
             let page = StagedPage {
                 kind,
@@ -127,10 +128,10 @@ fn fill_kind<C: CopyKeeper, L: Link>(
     requires token { HasToken by.token.now stage.old }
     requires room { kinds_of stage.old < kind_count }
     requires base { by.base ≤ LAST }
-    requires run { (1 ≤ by.run) × (by.run ≤ LAST) }
-    requires limit { (0 < by.limit) × (by.limit ≤ 1000) }
-    requires tries { (0 < by.tries) × (by.tries ≤ 100) }
-    requires few { count.old + most_asked ≤ 100 * LAST }
+    requires run { IsRunNumber by.run }
+    requires limit { (0 < by.limit) × (by.limit ≤ largest_limit) }
+    requires tries { CanTry by.tries }
+    requires few { count.old + most_asked ≤ last_exchange }
     ensures on { result ≡ None → (v : ℕ) × (stage.new ≡ Some (paged (opened stage.old v by.entry.token.now) [] 0 true)) }
     ensures holds { result ≡ None → (c : Copy) → C.stands_for copy.new c → stage_of c ≡ stage.new }
     ensures copy { (after : Copy) → C.stands_for copy.new after → (before : Copy) × C.stands_for copy.old before
@@ -166,7 +167,7 @@ fn fill_kind<C: CopyKeeper, L: Link>(
     }
 }
 
-/// Stages kind after kind what is held with what differs. `None`: all kinds are done.
+/// Stages, kind after kind, the rows that are held, changed by what differs. `None`: all kinds are done.
 pub fn fill<C: CopyKeeper, L: Link>(
     alloc: Global,
     copy: &mut C,
@@ -178,9 +179,9 @@ pub fn fill<C: CopyKeeper, L: Link>(
     requires token { HasToken by.token.now stage.old }
     requires few { kinds_of stage.old ≤ kind_count }
     requires base { by.base ≤ LAST }
-    requires run { (1 ≤ by.run) × (by.run ≤ LAST) }
-    requires limit { (0 < by.limit) × (by.limit ≤ 1000) }
-    requires tries { (0 < by.tries) × (by.tries ≤ 100) }
+    requires run { IsRunNumber by.run }
+    requires limit { (0 < by.limit) × (by.limit ≤ largest_limit) }
+    requires tries { CanTry by.tries }
     ensures holds { result ≡ None → (c : Copy) → C.stands_for copy.new c → stage_of c ≡ stage.new }
     ensures done { result ≡ None → kinds_of stage.new ≡ kind_count }
     ensures copy { (after : Copy) → C.stands_for copy.new after → (before : Copy) × C.stands_for copy.old before

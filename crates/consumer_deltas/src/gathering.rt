@@ -1,6 +1,6 @@
 //! Page after page, until the delta of a kind is whole.
 
-ghost use Rattle.std.specs.Prelude.{◌≡◌, ◌+◌, ◌-◌, ◌*◌, ◌^◌, ◌<◌, ◌≤◌, false, Err, IfErr, IfOk, IfSome, OnOk, Some};
+ghost use Rattle.std.specs.Prelude.{◌≡◌, ◌+◌, ◌-◌, ◌^◌, ◌<◌, ◌≤◌, false, Err, IfErr, IfOk, IfSome, OnOk, Some};
 ghost use Rattle.consumer_deltas.specs.DeltaAnswers.{DeltaTold};
 ghost use Rattle.consumer_deltas.specs.DeltaFilling.{IsPinGone};
 ghost use Rattle.consumer_deltas.specs.DeltaGathering.{IsGathered, Stops, ending_of, most_asked};
@@ -9,14 +9,15 @@ ghost use Rattle.consumer_deltas.specs.DeltaRequests.{IsDeltaUnder, page_asked};
 ghost use Rattle.consumer_deltas.specs.DeltaTelling.{MayAsk, PagesTold};
 ghost use Rattle.consumer_sync.specs.Requests.{IsUnmarked};
 ghost use Rattle.exchange_link.specs.Asked.{SendsOn};
+ghost use Rattle.exchange_link.specs.Calls.{CanTry, CountsOn, IsRunNumber, last_exchange};
 ghost use Rattle.exchange_link.specs.Causes.{IsMore, IsOwnReply, IsPageStatus, RoseBy};
 ghost use Rattle.exchange_link.specs.DeltaPages.{delta_page_request};
 ghost use Rattle.exchange_link.specs.Exchanges.{LinkState};
 ghost use Rattle.exchange_link.specs.Owning.{IsOwnRead};
 ghost use Rattle.exchange_link.specs.Requests.{Asks, IsReady, number};
 ghost use Rattle.http_wire.specs.declared.reply_reading.WireReply.{WireReply as Reply};
+ghost use Rattle.keeper_memory.specs.copy.Copies.{largest_limit};
 ghost use Rattle.keeper_memory.specs.copy.Lists.{IsList};
-ghost use Rattle.keeper_memory.specs.declared.copy.state.TheConstants.{LAST};
 
 use crate::answer::DeltaAnswer;
 use crate::gathered::{Entries, Gathered};
@@ -77,10 +78,10 @@ fn next_act<L: Link>(
     requires limit { place.limit < 2 ^ 64 }
     requires base { place.base < 2 ^ 64 }
     requires pin { IfSome place.pin (λ n. n < 2 ^ 64) }
-    requires run { (1 ≤ by.run) × (by.run ≤ LAST) }
-    requires tries { (0 < by.tries) × (by.tries ≤ 100) }
-    requires few { count.old + by.tries ≤ 100 * LAST }
-    ensures count { (count.old ≤ count.new) × (count.new ≤ count.old + by.entry.tries) }
+    requires run { IsRunNumber by.run }
+    requires tries { CanTry by.tries }
+    requires few { count.old + by.tries ≤ last_exchange }
+    ensures count { CountsOn count.old by.entry.tries count.new }
     ensures asked { IsMore (L.asked link.old) (count.new - count.old) (L.asked link.new) }
     ensures later { L.fault_count link.old ≤ L.fault_count link.new }
     ensures link_leads { L.leads link.old link.new }
@@ -120,7 +121,7 @@ fn behind(place: Place, pin: u64) -> Place
     }
 }
 
-// Adds the entries of a page. Whether all have come.
+// Adds the entries of a page, and tells whether all have come.
 fn add(sofar: &mut Gathered, page: Entries, total: u64) -> Result<bool, DeltaAnswer>
     requires { count_in (with_page sofar.old page total) < 2 ^ 64 }
     ensures added { OnOk result (sofar.new ≡ with_page sofar.old page total) }
@@ -144,12 +145,12 @@ pub fn gather<L: Link>(
     count: &mut u64,
 ) -> Result<Delta, DeltaAnswer>
     requires held { IsList place.kind held }
-    requires limit { (0 < place.limit) × (place.limit ≤ 1000) }
+    requires limit { (0 < place.limit) × (place.limit ≤ largest_limit) }
     requires base { place.base < 2 ^ 64 }
     requires pin { IfSome place.pin (λ n. n < 2 ^ 64) }
-    requires run { (1 ≤ by.run) × (by.run ≤ LAST) }
-    requires tries { (0 < by.tries) × (by.tries ≤ 100) }
-    requires few { count.old + most_asked ≤ 100 * LAST }
+    requires run { IsRunNumber by.run }
+    requires tries { CanTry by.tries }
+    requires few { count.old + most_asked ≤ last_exchange }
     ensures whole { IfOk result (IsGathered place held) }
     ensures cause { IfErr result (Stops (L.kept link.new) by.entry.run count.new ((by.entry.tries ≤ L.missed link.new) × (by.entry.tries ≤ count.new) × RoseBy by.entry.tries (L.fault_count link.old) (L.fault_count link.new)) place held) }
     ensures count { (count.old ≤ count.new) × (count.new ≤ count.old + most_asked) }

@@ -1,6 +1,6 @@
 //! What holds of the deltas that a consumer takes. Each function here does nothing; its contract is a law.
 
-ghost use Rattle.std.specs.Prelude.{◌≡◌, ◌++◌, ◌<◌, ◌^◌, ℕ, ℤ, true, List, length};
+ghost use Rattle.std.specs.Prelude.{◌≡◌, ◌++◌, ◌<◌, ℕ, ℤ, true, List, length};
 ghost use Rattle.std.specs.Str.{is_utf8};
 ghost use Rattle.consumer_deltas.specs.DeltaFits.{fits};
 ghost use Rattle.consumer_deltas.specs.DeltaGathering.{AreFirst, IsPartOf};
@@ -15,7 +15,7 @@ ghost use Rattle.exchange_link.specs.Pages.{Page, asked_by};
 ghost use Rattle.http_wire.specs.Replies.{body_text};
 ghost use Rattle.http_wire.specs.Seen.{seen_of};
 ghost use Rattle.http_wire.specs.declared.reply_reading.WireReply.{WireReply};
-ghost use Rattle.hub_spec.specs.requests.PageRequests.{CanAsk};
+ghost use Rattle.hub_spec.specs.requests.PageRequests.{CanAsk, query_bound};
 ghost use Rattle.hub_spec.specs.requests.Requests.{AnswersRequest};
 ghost use Rattle.hub_spec.specs.rules.Growth.{Grew};
 ghost use Rattle.hub_spec.specs.rules.States.{IsHub};
@@ -35,7 +35,7 @@ ghost use Rattle.version_core.specs.declared.change.BaseVersion.{BaseVersion};
 
 /// A request for a page of what differs, as a hub answers it, tells the consumer of that page, or why there is none.
 pub fn an_answer_tells_of_the_delta()
-    ensures { (state : HubState) → IsHub state → (page : Page) (base : ℕ) → CanAsk (asked_by page) → base < 10 ^ 18 → (echo : Echo) (at : ℤ) (reply : Reply) (left : HubState) → is_utf8 (body_text reply) ≡ true
+    ensures { (state : HubState) → IsHub state → (page : Page) (base : ℕ) → CanAsk (asked_by page) → base < query_bound → (echo : Echo) (at : ℤ) (reply : Reply) (left : HubState) → is_utf8 (body_text reply) ≡ true
         → AnswersRequest state (delta_page_request page base echo) at reply left → TellsFrom state page base (seen_of reply) }
 {}
 

@@ -1,19 +1,17 @@
 //! Requests for pages of what differs.
 
-ghost use Rattle.std.specs.Prelude.{◌≡◌, ◌≢◌, ◌+◌, ◌-◌, ◌*◌, ◌^◌, ◌<◌, ◌≤◌, IfOk, IfSome, Some, string_bytes};
+ghost use Rattle.std.specs.Prelude.{◌≡◌, ◌≢◌, ◌+◌, ◌-◌, ◌^◌, ◌<◌, ◌≤◌, IfOk, IfSome, string_bytes};
 ghost use Rattle.consumer_deltas.specs.DeltaRequests.{delta_unnumbered, page_asked};
 ghost use Rattle.consumer_sync.specs.Requests.{IsUnmarked};
 ghost use Rattle.exchange_link.specs.Asked.{IsTry, SendsOn};
+ghost use Rattle.exchange_link.specs.Calls.{CanTry, CountsOn, IsRunNumber, KeepsNoOwn, KeepsNoReply, last_exchange};
 ghost use Rattle.exchange_link.specs.Causes.{IsLast, IsMore, IsOwnReply, RoseBy};
 ghost use Rattle.exchange_link.specs.DeltaPages.{delta_page_request};
 ghost use Rattle.exchange_link.specs.Exchanges.{LinkState};
 ghost use Rattle.exchange_link.specs.Owning.{IsOwnRead};
 ghost use Rattle.exchange_link.specs.Requests.{Asks, IfOwn, IsReady, number, numbered};
-ghost use Rattle.http_wire.specs.Answers.{IsNoReply, IsReplyText};
 ghost use Rattle.http_wire.specs.Sending.{CanSend, IsSentEcho};
-ghost use Rattle.http_wire.specs.declared.reply_reading.WireReply.{WireReply as Reply};
 ghost use Rattle.hub_spec.specs.requests.DeltaRequests.{delta_query};
-ghost use Rattle.keeper_memory.specs.declared.copy.state.TheConstants.{LAST};
 ghost use Rattle.status_info.specs.declared.request.Echo.{Echo as Number};
 
 use crate::judging::Place;
@@ -96,18 +94,18 @@ pub fn fetch<L: Link>(
     requires limit { place.limit < 2 ^ 64 }
     requires base { place.base < 2 ^ 64 }
     requires pin { IfSome place.pin (λ n. n < 2 ^ 64) }
-    requires run { (1 ≤ by.run) × (by.run ≤ LAST) }
-    requires tries { (0 < by.tries) × (by.tries ≤ 100) }
-    requires few { count.old + by.tries ≤ 100 * LAST }
-    ensures count { (count.old ≤ count.new) × (count.new ≤ count.old + by.entry.tries) }
+    requires run { IsRunNumber by.run }
+    requires tries { CanTry by.tries }
+    requires few { count.old + by.tries ≤ last_exchange }
+    ensures count { CountsOn count.old by.entry.tries count.new }
     ensures asked { IsMore (L.asked link.old) (count.new - count.old) (L.asked link.new) }
     ensures later { L.fault_count link.old ≤ L.fault_count link.new }
     ensures link_leads { L.leads link.old link.new }
     ensures own { IfOwn result (λ w. IsOwnReply (L.kept link.new) by.entry.run count.new w) }
-    ensures none { result ≡ Outcome.NoReply → (1 ≤ count.new) × IsNoReply (L.kept link.new) × ((after : LinkState) → L.tells link.new after → ⊥) }
+    ensures none { result ≡ Outcome.NoReply → KeepsNoReply count.new (L.kept link.new) (L.tells link.new) }
     ensures missed { result ≡ Outcome.Missed → (count.new ≡ count.old + by.entry.tries) × (by.entry.tries ≤ L.missed link.new)
         × RoseBy by.entry.tries (L.fault_count link.old) (L.fault_count link.new)
-        × ((w : Reply) → IsReplyText (L.kept link.new) w → w.echo ≡ Some (number by.entry.run count.new) → ⊥) }
+        × KeepsNoOwn (L.kept link.new) by.entry.run count.new }
     ensures told { (after : LinkState) → L.tells link.new after → (before : LinkState) × L.tells link.old before
         × Asks by.entry.run count.old count.new IsUnmarked before after
         × (IsReady by.entry.run count.old before.sent → IfOwn result (λ w. IsOwnRead before after (delta_page_request (page_asked by.entry.token.now place offset) place.base (number by.entry.run count.new)) w)) }

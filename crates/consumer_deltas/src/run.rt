@@ -5,13 +5,13 @@ ghost use Rattle.consumer_deltas.specs.DeltaAnswers.{BaseLaw, DeltaLeaves, Delta
 ghost use Rattle.consumer_deltas.specs.DeltaCalls.{AnswersPin, AsksDeltas, DeltaBounded, DeltaFaultLaw, DeltaLastLaw};
 ghost use Rattle.consumer_deltas.specs.DeltaCalls.{DeltaSynchronised, IsDeltaDone, IsNewPin};
 ghost use Rattle.consumer_deltas.specs.DeltaCauses.{DeltaCaused};
-ghost use Rattle.exchange_link.specs.Agreement.{StageAgrees};
+ghost use Rattle.exchange_link.specs.Agreement.{StagesAgree};
 ghost use Rattle.exchange_link.specs.Causes.{RoseBy};
 ghost use Rattle.exchange_link.specs.Completeness.{StandsAt, first_pin};
 ghost use Rattle.exchange_link.specs.Exchanges.{LinkState};
 ghost use Rattle.exchange_link.specs.Marks.{MarksTold};
 ghost use Rattle.exchange_link.specs.Synchronised.{own_state};
-ghost use Rattle.keeper_memory.specs.copy.Copies.{Copy};
+ghost use Rattle.keeper_memory.specs.copy.Copies.{Copy, largest_limit, largest_tries};
 ghost use Rattle.keeper_memory.specs.copy.States.{stage_of};
 ghost use Rattle.keeper_memory.specs.declared.copy.state.TheConstants.{LAST};
 ghost use Rattle.roster_base.specs.Faults.{Rose};
@@ -66,8 +66,8 @@ pub fn delta_sync<C: CopyKeeper, L: Link>(
     limit: u32,
     tries: u32,
 ) -> DeltaAnswer
-    requires limit { (0 < limit) × (limit ≤ 1000) }
-    requires tries { (0 < tries) × (tries ≤ 100) }
+    requires limit { (0 < limit) × (limit ≤ largest_limit) }
+    requires tries { (0 < tries) × (tries ≤ largest_tries) }
     // Over any link.
     ensures copy { (after : Copy) → C.stands_for copy.new after → (before : Copy) × C.stands_for copy.old before × DeltaLeaves token.now result before after }
     ensures base { (after : Copy) → C.stands_for copy.new after → (before : Copy) × C.stands_for copy.old before × BaseLaw token.now result before }
@@ -85,18 +85,18 @@ pub fn delta_sync<C: CopyKeeper, L: Link>(
     ensures asks { (after : LinkState) → L.tells link.new after → (before : LinkState) × L.tells link.old before
         × AsksDeltas token.now limit tries (C.stands_for copy.old) (C.stands_for copy.new) (L.asked link.old) (L.asked link.new) result before.sent after.sent }
     // Over one that tells, where copy and link agree.
-    ensures told { ((c : Copy) (t : LinkState) → C.stands_for copy.old c → L.tells link.old t → StageAgrees c t)
+    ensures told { StagesAgree (C.stands_for copy.old) (L.tells link.old)
         → (after : Copy) (tells : LinkState) → C.stands_for copy.new after → L.tells link.new tells
         → (before : Copy) × (told : LinkState) × C.stands_for copy.old before × L.tells link.old told × DeltaSynchronised token.now result before told after tells }
-    ensures bound { ((c : Copy) (t : LinkState) → C.stands_for copy.old c → L.tells link.old t → StageAgrees c t)
+    ensures bound { StagesAgree (C.stands_for copy.old) (L.tells link.old)
         → (after : Copy) (tells : LinkState) → C.stands_for copy.new after → L.tells link.new tells
         → (before : Copy) × (told : LinkState) × C.stands_for copy.old before × L.tells link.old told × (n : ℕ) × (L.asked link.new ≤ L.asked link.old + n)
         × ((n ≡ 0) ⊎ ((base : ℕ) × HasBase base token.now before
         × DeltaBounded n tries limit token.now base (own_state token.now (stage_of before)) (IsNewPin (AnswersPin result) after told.hub tells.hub) tells.hub)) }
-    ensures cause_told { ((c : Copy) (t : LinkState) → C.stands_for copy.old c → L.tells link.old t → StageAgrees c t)
+    ensures cause_told { StagesAgree (C.stands_for copy.old) (L.tells link.old)
         → (after : Copy) (tells : LinkState) → C.stands_for copy.new after → L.tells link.new tells
         → (told : LinkState) × L.tells link.old told × DeltaTold token.now told tells result }
-    ensures complete { ((c : Copy) (t : LinkState) → C.stands_for copy.old c → L.tells link.old t → StageAgrees c t)
+    ensures complete { StagesAgree (C.stands_for copy.old) (L.tells link.old)
         → ¬ Rose (L.fault_count link.old) (L.fault_count link.new) → ¬ Rose (C.fault_count copy.old) (C.fault_count copy.new)
         → (after : Copy) (tells : LinkState) → C.stands_for copy.new after → L.tells link.new tells
         → (before : Copy) × (told : LinkState) × C.stands_for copy.old before × L.tells link.old told

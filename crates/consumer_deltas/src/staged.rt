@@ -1,4 +1,4 @@
-//! A kind's merged rows, staged.
+//! The merged rows of a kind, put into the copy's stage page by page.
 
 ghost use Rattle.std.specs.Prelude.{◌≡◌, ◌⊎◌, ◌+◌, ◌-◌, ◌^◌, ◌<◌, ◌≤◌, [], true, drop, min, None, Some, IfOk, length};
 ghost use Rattle.std.specs.Prelude.{map, option_copied, take};
@@ -28,7 +28,7 @@ use std::alloc::Global;
 /// The most rows of a page of the stage.
 const PAGE: usize = 1_000;
 
-/// Which list is staged: of which kind, at which version, under which token, and how many rows it has.
+/// Which list is staged: under which token, at which version of the hub, of which kind, and how many rows it has.
 #[derive(Clone, Copy)]
 pub struct ListAt<'a> {
     pub token: &'a Token,
@@ -37,7 +37,7 @@ pub struct ListAt<'a> {
     pub total: u64,
 }
 
-// The rows from the first on whose id is above one.
+// The rows from the first one on whose id is above `last`.
 fn rows_above<'a, 'r>(rows: &'a [&'r Row], last: Option<&Id>) -> &'a [&'r Row]
     ensures { map (λ row. row.now) result.now ≡ above (option_copied last.entry) (map (λ row. row.now) rows.now) }
 {
@@ -57,7 +57,7 @@ fn first_rows<'a, 'r>(rows: &'a [&'r Row], most: u64) -> &'a [&'r Row]
     &rows[..rows.len().min(most as usize)]
 }
 
-// How many rows a list has more than are staged.
+// How many rows of the list aren't staged yet.
 fn missing(stage: &Option<StageState>, rows: &[&Row]) -> u64
     ensures missing { result ≡ length (map (λ row. row.now) rows.now) - staged_of stage.now }
     ensures small { staged_of stage.now + result < 2 ^ 64 }
@@ -65,7 +65,7 @@ fn missing(stage: &Option<StageState>, rows: &[&Row]) -> u64
     (rows.len() as u64).saturating_sub(staged(stage))
 }
 
-// The rows that follow those which are staged.
+// The rows that follow those which are staged, as many as aren't staged yet.
 fn rows_following<'a, 'r>(stage: &Option<StageState>, rows: &'a [&'r Row]) -> &'a [&'r Row]
     ensures rows { map (λ row. row.now) result.now ≡ following stage.now (map (λ row. row.now) rows.now) }
     ensures few { staged_of stage.now + length result.now < 2 ^ 64 }
@@ -75,7 +75,7 @@ fn rows_following<'a, 'r>(stage: &Option<StageState>, rows: &'a [&'r Row]) -> &'
     first_rows(behind, most)
 }
 
-// A page of the rows from a place on.
+// A page of the rows, from a place on.
 fn page_from<'a, 'r>(rows: &'a [&'r Row], from: usize) -> &'a [&'r Row]
     requires { from ≤ length rows.now }
     ensures rows { map (λ row. row.now) result.now ≡ take PAGE (drop from (map (λ row. row.now) rows.now)) }
@@ -95,7 +95,7 @@ fn copies(alloc: Global, rows: &[&Row]) -> Result<Items<Row>, NoMemory>
     Ok(Items::from_vec(copied))
 }
 
-// Stages one page of a list; `done`: it is the last one.
+// Stages one page of a list. Where `done` is true, it is the last page.
 fn stage_page<C: CopyKeeper>(
     alloc: Global,
     copy: &mut C,
@@ -134,7 +134,8 @@ fn stage_page<C: CopyKeeper>(
     }
 }
 
-/// Stages the rows of a kind that follow those which are staged, page after page, and so ends the kind.
+/// Stages the rows of a kind that follow those which are staged, page after page. Behind the last page the kind is
+/// done.
 pub fn stage_rows<C: CopyKeeper>(
     alloc: Global,
     copy: &mut C,

@@ -22,13 +22,12 @@ fn settled_behind<C: CopyKeeper>(
     ensures copy_leads { C.leads copy.old copy.new }
     ensures cause { result ≡ Err KeeperError.Failed → Rose (C.fault_count copy.old) (C.fault_count copy.new) }
 {
-    match copy.entry(alloc, after) {
-        Err(error) => Err(error),
-        Ok(None) => Ok(None),
-        Ok(Some(entry)) => match entry.settled {
-            None => Ok(None),
-            Some(_) => Ok(Some(entry.number)),
-        },
+    let Some(entry) = copy.entry(alloc, after)? else {
+        return Ok(None);
+    };
+    match entry.settled {
+        None => Ok(None),
+        Some(_) => Ok(Some(entry.number)),
     }
 }
 

@@ -1,7 +1,7 @@
 //! The sending of what waits in the outbox.
 
 ghost use Rattle.std.specs.Prelude.{◌≡◌, ◌≢◌, ◌+◌, ◌*◌, ◌<◌, ◌≤◌};
-ghost use Rattle.keeper_memory.specs.copy.Copies.{Copy};
+ghost use Rattle.keeper_memory.specs.copy.Copies.{Copy, largest_tries};
 ghost use Rattle.keeper_memory.specs.declared.copy.state.TheConstants.{LAST};
 ghost use Rattle.exchange_link.specs.Asked.{AsksWrites};
 ghost use Rattle.exchange_link.specs.Causes.{RoseBy};
@@ -41,7 +41,7 @@ pub fn send<C: CopyKeeper, L: Link>(
     token: &Token,
     tries: u32,
 ) -> SendAnswer
-    requires tries { (0 < tries) × (tries ≤ 100) }
+    requires tries { (0 < tries) × (tries ≤ largest_tries) }
     // Over any link.
     ensures copy { (after : Copy) → C.stands_for copy.new after → (before : Copy) × C.stands_for copy.old before × SendLeaves result before after
         × (L.asked link.new ≤ L.asked link.old + tries * unsettled before.entries) }

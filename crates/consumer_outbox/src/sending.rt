@@ -1,18 +1,18 @@
 //! Entry after entry, until one isn't settled by its reply.
 
-ghost use Rattle.std.specs.Prelude.{◌≡◌, ◌≢◌, ◌⊎◌, ℕ, [], ◌∷◌, ◌+◌, ◌*◌, ◌-◌, ◌<◌, ◌≤◌, true, IfErr, IfOk, IfSome};
+ghost use Rattle.std.specs.Prelude.{◌≡◌, ◌≢◌, ◌⊎◌, ℕ, [], ◌∷◌, ◌+◌, ◌*◌, ◌-◌, ◌≤◌, true, IfErr, IfOk, IfSome};
 ghost use Rattle.std.specs.Prelude.{IsSomeAnd, None, Some};
 ghost use Rattle.keeper_memory.specs.copy.Copies.{Copy, IsOutWrite, first_unsettled};
 ghost use Rattle.keeper_memory.specs.copy.States.{CanBeEntry};
 ghost use Rattle.keeper_memory.specs.declared.copy.state.TheConstants.{LAST};
 ghost use Rattle.exchange_link.specs.Asked.{IsTry, IsWriteUnder, SendsOn, TriedEntry};
+ghost use Rattle.exchange_link.specs.Calls.{CanTry, CountsOn, IsRunNumber, KeepsNoOwn, KeepsNoReply, last_exchange};
 ghost use Rattle.exchange_link.specs.Causes.{IsLast, IsMore, IsOwnReply, RoseBy};
 ghost use Rattle.exchange_link.specs.Exchanges.{LinkState};
 ghost use Rattle.exchange_link.specs.SendCauses.{CarriesFirst, EndsAtEntry, IsSendAside, AnswersSend, SendCauseOf};
 ghost use Rattle.exchange_link.specs.SendCauses.{SendToldCause};
 ghost use Rattle.exchange_link.specs.SendCompleteness.{CanSendAll, IsFine};
 ghost use Rattle.exchange_link.specs.Sent.{AllSettled, NamesFirst, number_in, unsettled};
-ghost use Rattle.http_wire.specs.Answers.{IsNoReply, IsReplyText};
 ghost use Rattle.http_wire.specs.declared.reply_reading.WireReply.{WireReply as Reply};
 ghost use Rattle.hub_spec.specs.marks.Marked.{mark_of, marked_by};
 ghost use Rattle.roster_base.specs.Faults.{Rose};
@@ -117,18 +117,18 @@ fn ask_for<L: Link>(
 ) -> Outcome
     requires write { IsOutWrite entry.write }
     requires number { (1 ≤ entry.number) × (entry.number ≤ LAST) }
-    requires run { (1 ≤ by.run) × (by.run ≤ LAST) }
-    requires tries { (0 < by.tries) × (by.tries ≤ 100) }
-    requires few { count.old + by.tries ≤ 100 * LAST }
-    ensures count { (count.old ≤ count.new) × (count.new ≤ count.old + by.entry.tries) }
+    requires run { IsRunNumber by.run }
+    requires tries { CanTry by.tries }
+    requires few { count.old + by.tries ≤ last_exchange }
+    ensures count { CountsOn count.old by.entry.tries count.new }
     ensures asked { IsMore (L.asked link.old) (count.new - count.old) (L.asked link.new) }
     ensures later { L.fault_count link.old ≤ L.fault_count link.new }
     ensures link_leads { L.leads link.old link.new }
     ensures own { IfOwn result (λ w. IsOwnReply (L.kept link.new) by.entry.run count.new w) }
-    ensures none { result ≡ Outcome.NoReply → (1 ≤ count.new) × IsNoReply (L.kept link.new) × ((after : LinkState) → L.tells link.new after → ⊥) }
+    ensures none { result ≡ Outcome.NoReply → KeepsNoReply count.new (L.kept link.new) (L.tells link.new) }
     ensures missed { result ≡ Outcome.Missed → (count.new ≡ count.old + by.entry.tries) × (by.entry.tries ≤ L.missed link.new)
         × RoseBy by.entry.tries (L.fault_count link.old) (L.fault_count link.new)
-        × ((w : Reply) → IsReplyText (L.kept link.new) w → w.echo ≡ Some (number by.entry.run count.new) → ⊥) }
+        × KeepsNoOwn (L.kept link.new) by.entry.run count.new }
     ensures told { (after : LinkState) → L.tells link.new after → (before : LinkState) × L.tells link.old before
         × Asks by.entry.run count.old count.new (Carries by.entry.token.now entry) before after
         × (IsReady by.entry.run count.old before.sent → IfOwn result (λ w. IsOwnRead before after (numbered (request_of by.entry.token.now entry) (number by.entry.run count.new)) w)) }
@@ -155,10 +155,10 @@ fn send_entry<C: CopyKeeper, L: Link>(
     requires first { (c : Copy) → C.stands_for copy.old c → first_unsettled c.entries ≡ Some entry }
     requires write { IsOutWrite entry.write }
     requires number { (1 ≤ entry.number) × (entry.number ≤ LAST) }
-    requires run { (1 ≤ by.run) × (by.run ≤ LAST) }
-    requires tries { (0 < by.tries) × (by.tries ≤ 100) }
-    requires few { count.old + by.tries ≤ 100 * LAST }
-    ensures count { (count.old ≤ count.new) × (count.new ≤ count.old + by.entry.tries) }
+    requires run { IsRunNumber by.run }
+    requires tries { CanTry by.tries }
+    requires few { count.old + by.tries ≤ last_exchange }
+    ensures count { CountsOn count.old by.entry.tries count.new }
     ensures asked { IsMore (L.asked link.old) (count.new - count.old) (L.asked link.new) }
     ensures heard { L.fault_count link.old ≤ L.fault_count link.new }
     ensures link_leads { L.leads link.old link.new }
@@ -236,8 +236,8 @@ pub fn send_all<C: CopyKeeper, L: Link>(
     by: Sender<'_>,
     last: u64,
 ) -> SendAnswer
-    requires run { (1 ≤ by.run) × (by.run ≤ LAST) }
-    requires tries { (0 < by.tries) × (by.tries ≤ 100) }
+    requires run { IsRunNumber by.run }
+    requires tries { CanTry by.tries }
     ensures copy { (after : Copy) → C.stands_for copy.new after → (before : Copy) × C.stands_for copy.old before
         × ((settled : ℕ) × SoFar settled before after × AllSettled result settled after.entries)
         × (L.asked link.new ≤ L.asked link.old + by.entry.tries * unsettled before.entries) }

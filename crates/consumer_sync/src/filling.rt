@@ -1,14 +1,14 @@
 //! Page after page, until all kinds are staged.
 
 ghost use Rattle.std.specs.Prelude.{◌≡◌, ◌≢◌, ◌⊎◌, ℕ, ◌+◌, ◌<◌, ◌≤◌, Option, None, Some};
-ghost use Rattle.keeper_memory.specs.copy.Copies.{Copy};
+ghost use Rattle.keeper_memory.specs.copy.Copies.{Copy, largest_limit};
 ghost use Rattle.keeper_memory.specs.copy.Lists.{kind_count};
 ghost use Rattle.keeper_memory.specs.copy.States.{stage_of};
 ghost use Rattle.keeper_memory.specs.declared.copy.state.StageState.{StageState as State};
-ghost use Rattle.keeper_memory.specs.declared.copy.state.TheConstants.{LAST};
 ghost use Rattle.exchange_link.specs.Agreement.{CopyFits};
 ghost use Rattle.exchange_link.specs.Asked.{IsPageUnder, SendsOn};
 ghost use Rattle.exchange_link.specs.Bounds.{Bounded};
+ghost use Rattle.exchange_link.specs.Calls.{CanTry, IsRunNumber};
 ghost use Rattle.exchange_link.specs.Causes.{IsLast, IsMore, IsOwnReply, RoseBy};
 ghost use Rattle.exchange_link.specs.Completeness.{StandsAt, first_pin};
 ghost use Rattle.exchange_link.specs.Exchanges.{LinkState};
@@ -44,9 +44,9 @@ pub fn fill<C: CopyKeeper, L: Link>(
     requires holds { (c : Copy) → C.stands_for copy.old c → stage_of c ≡ stage.old }
     requires token { HasToken by.token.now stage.old }
     requires few { kinds_of stage.old ≤ kind_count }
-    requires run { (1 ≤ by.run) × (by.run ≤ LAST) }
-    requires limit { (0 < by.limit) × (by.limit ≤ 1000) }
-    requires tries { (0 < by.tries) × (by.tries ≤ 100) }
+    requires run { IsRunNumber by.run }
+    requires limit { (0 < by.limit) × (by.limit ≤ largest_limit) }
+    requires tries { CanTry by.tries }
     ensures holds { result ≡ None → (c : Copy) → C.stands_for copy.new c → stage_of c ≡ stage.new }
     ensures done { result ≡ None → kinds_of stage.new ≡ kind_count }
     ensures copy { (after : Copy) → C.stands_for copy.new after → (before : Copy) × C.stands_for copy.old before × Ends by.entry.token.now result before after }

@@ -1,20 +1,18 @@
 //! The requests for pages, and their replies.
 
-ghost use Rattle.std.specs.Prelude.{◌≡◌, ◌≢◌, ◌+◌, ◌-◌, ◌*◌, ◌<◌, ◌≤◌, IfOk, Some, string_bytes};
+ghost use Rattle.std.specs.Prelude.{◌≡◌, ◌≢◌, ◌+◌, ◌-◌, ◌<◌, ◌≤◌, IfOk, string_bytes};
 ghost use Rattle.keeper_memory.specs.copy.Lists.{kind_count};
-ghost use Rattle.keeper_memory.specs.declared.copy.state.TheConstants.{LAST};
 ghost use Rattle.exchange_link.specs.Asked.{IsTry, SendsOn};
+ghost use Rattle.exchange_link.specs.Calls.{CanTry, CountsOn, IsRunNumber, KeepsNoOwn, KeepsNoReply, last_exchange};
 ghost use Rattle.exchange_link.specs.Causes.{IsLast, IsMore, IsOwnReply, RoseBy};
 ghost use Rattle.exchange_link.specs.Exchanges.{LinkState};
 ghost use Rattle.exchange_link.specs.Pages.{page_request as request_under};
 ghost use Rattle.exchange_link.specs.Places.{kinds_of, next_page};
 ghost use Rattle.hub_spec.specs.requests.PageRequests.{page_path, page_query, pin_text};
-ghost use Rattle.http_wire.specs.Answers.{IsNoReply, IsReplyText};
 ghost use Rattle.http_wire.specs.Sending.{CanSend, IsSentEcho};
-ghost use Rattle.http_wire.specs.declared.reply_reading.WireReply.{WireReply as Reply};
 ghost use Rattle.status_info.specs.declared.request.Echo.{Echo as Number};
 ghost use Rattle.exchange_link.specs.Owning.{IsOwnRead};
-ghost use Rattle.exchange_link.specs.Requests.{Asks, IfOwn, IsReady, number, numbered};
+ghost use Rattle.exchange_link.specs.Requests.{Asks, IfOwn, IsReady, numbered};
 ghost use Rattle.consumer_sync.specs.Filling.{request_of};
 ghost use Rattle.consumer_sync.specs.Requests.{IsUnmarked, read_request, unnumbered};
 
@@ -137,18 +135,18 @@ pub fn fetch<L: Link>(
     count: &mut u64,
 ) -> Outcome
     requires room { kinds_of stage.now < kind_count }
-    requires run { (1 ≤ by.run) × (by.run ≤ LAST) }
-    requires tries { (0 < by.tries) × (by.tries ≤ 100) }
-    requires few { count.old + by.tries ≤ 100 * LAST }
-    ensures count { (count.old ≤ count.new) × (count.new ≤ count.old + by.entry.tries) }
+    requires run { IsRunNumber by.run }
+    requires tries { CanTry by.tries }
+    requires few { count.old + by.tries ≤ last_exchange }
+    ensures count { CountsOn count.old by.entry.tries count.new }
     ensures asked { IsMore (L.asked link.old) (count.new - count.old) (L.asked link.new) }
     ensures later { L.fault_count link.old ≤ L.fault_count link.new }
     ensures link_leads { L.leads link.old link.new }
     ensures own { IfOwn result (λ w. IsOwnReply (L.kept link.new) by.entry.run count.new w) }
-    ensures none { result ≡ Outcome.NoReply → (1 ≤ count.new) × IsNoReply (L.kept link.new) × ((after : LinkState) → L.tells link.new after → ⊥) }
+    ensures none { result ≡ Outcome.NoReply → KeepsNoReply count.new (L.kept link.new) (L.tells link.new) }
     ensures missed { result ≡ Outcome.Missed → (count.new ≡ count.old + by.entry.tries) × (by.entry.tries ≤ L.missed link.new)
         × RoseBy by.entry.tries (L.fault_count link.old) (L.fault_count link.new)
-        × ((w : Reply) → IsReplyText (L.kept link.new) w → w.echo ≡ Some (number by.entry.run count.new) → ⊥) }
+        × KeepsNoOwn (L.kept link.new) by.entry.run count.new }
     ensures told { (after : LinkState) → L.tells link.new after → (before : LinkState) × L.tells link.old before
         × Asks by.entry.run count.old count.new IsUnmarked before after
         × (IsReady by.entry.run count.old before.sent → IfOwn result (λ w. IsOwnRead before after (request_of stage.now by.entry.run count.new by.entry.token.now by.entry.limit) w)) }

@@ -8,8 +8,8 @@ use Rattle.keeper_memory.specs.declared.copy.change.CopyChange.TheVariants.{Run,
 use Rattle.keeper_memory.specs.declared.copy.entry.OutEntry.{OutEntry}
 use Rattle.keeper_memory.specs.declared.copy.entry.Settled.{Settled}
 use Rattle.hub_format.specs.Edits.{put_at, puts}
-use Rattle.hub_format.specs.Format.{format_entry}
-use Rattle.hub_format.specs.Pieces.{IsSized}
+use Rattle.hub_format.specs.Format.{format_entry, written_format}
+use Rattle.hub_format.specs.Pieces.{IsSized, labels_end}
 use Rattle.item_maps.specs.declared.item.Edit.{Edit}
 use Rattle.item_maps.specs.declared.item.Edit.TheVariants.{Clear}
 use Rattle.roster_values.specs.Kinds.{all_kinds}
@@ -20,15 +20,15 @@ use Rattle.copy_format.specs.Format.{state_entry, token_entries}
 
 -- the format, and the state of the copy that holds nothing
 abbrev pub first_edits : List Edit
-first_edits = put_at format_area (format_entry 2) ∷ put_at state_area (state_entry 0 empty_copy) ∷ []
+first_edits = put_at format_area (format_entry written_format) ∷ put_at state_area (state_entry 0 empty_copy) ∷ []
 
 -- by these items of format 1 become those of format 2: they have no token
 abbrev pub turn_edits : List Edit
-turn_edits = put_at format_area (format_entry 2) ∷ []
+turn_edits = put_at format_area (format_entry written_format) ∷ []
 
--- takes away the rows of a kind: no id begins with 255
+-- takes away the rows of a kind: all ids stand below the end
 abbrev pub clear_rows : ℕ → Kind → Edit
-clear_rows side kind = Clear (row_area side kind) [] (255 ∷ [])
+clear_rows side kind = Clear (row_area side kind) [] labels_end
 
 abbrev pub clear_side : ℕ → List Edit
 clear_side side = map (clear_rows side) all_kinds

@@ -78,3 +78,7 @@ pub record StageAgrees (c : Copy) (told : LinkState) : Type 0 where
   pub differ : Differ told.sent
   pub below : NoneAbove c.run told.sent
   pub fits : CopyFits c told.hub
+
+-- each of these copies agrees with what each of these states of a link tells
+abbrev pub StagesAgree : (Copy → Type 0) → (LinkState → Type 0) → Type 0
+StagesAgree copies tells = (c : Copy) (t : LinkState) → copies c → tells t → StageAgrees c t

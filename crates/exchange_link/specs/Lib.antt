@@ -1,6 +1,7 @@
 pub mod Agreement
 pub mod Asked
 pub mod Bounds
+pub mod Calls
 pub mod Causes
 pub mod Coming
 pub mod Completeness

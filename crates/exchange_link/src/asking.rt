@@ -1,6 +1,6 @@
 //! One request, tried until its own reply comes.
 
-ghost use Rattle.std.specs.Prelude.{◌≡◌, ◌≢◌, ◌+◌, ◌-◌, ◌*◌, ◌<◌, ◌≤◌, Some};
+ghost use Rattle.std.specs.Prelude.{◌≡◌, ◌≢◌, ◌+◌, ◌-◌, ◌≤◌, Some};
 ghost use Rattle.exchange_link.specs.Exchanges.{IsTextOf, Misses, LinkState};
 ghost use Rattle.http_wire.specs.Answers.{IsNoReply, IsReplyText};
 ghost use Rattle.http_wire.specs.Sending.{CanSend, IsSentEcho};
@@ -8,11 +8,11 @@ ghost use Rattle.http_wire.specs.declared.reply_reading.WireReply.{WireReply as 
 ghost use Rattle.status_info.specs.declared.request.Echo.{Echo as Number};
 ghost use Rattle.status_info.specs.declared.request.Request.{Request as Asked};
 ghost use Rattle.roster_base.specs.Faults.{Rose};
-ghost use Rattle.keeper_memory.specs.declared.copy.state.TheConstants.{LAST};
 ghost use Rattle.exchange_link.specs.Causes.{IsOwnReply};
 ghost use Rattle.exchange_link.specs.Owning.{IsOwnRead, Tries};
 ghost use Rattle.exchange_link.specs.Requests.{Asks, IfOwn, IsNumbered, IsReady, is_number, number, numbered};
 ghost use Rattle.exchange_link.specs.Asked.{IsTry, SendsOn};
+ghost use Rattle.exchange_link.specs.Calls.{CanTry, CountsOn, IsRunNumber, KeepsNoOwn, KeepsNoReply, last_exchange};
 ghost use Rattle.exchange_link.specs.Causes.{IsLast, IsMore, RoseBy};
 
 use crate::link::Link;
@@ -117,18 +117,18 @@ pub fn ask<L: Link>(
     tries: u64,
 ) -> Outcome
     requires can { (n : Number) → IsSentEcho n → CanSend (numbered request n) }
-    requires run { (1 ≤ run) × (run ≤ LAST) }
-    requires tries { (0 < tries) × (tries ≤ 100) }
-    requires few { count.old + tries ≤ 100 * LAST }
-    ensures count { (count.old ≤ count.new) × (count.new ≤ count.old + tries) }
+    requires run { IsRunNumber run }
+    requires tries { CanTry tries }
+    requires few { count.old + tries ≤ last_exchange }
+    ensures count { CountsOn count.old tries count.new }
     ensures asked { IsMore (L.asked link.old) (count.new - count.old) (L.asked link.new) }
     ensures later { L.fault_count link.old ≤ L.fault_count link.new }
     ensures link_leads { L.leads link.old link.new }
     ensures own { IfOwn result (λ w. IsOwnReply (L.kept link.new) run count.new w) }
-    ensures none { result ≡ Outcome.NoReply → (1 ≤ count.new) × IsNoReply (L.kept link.new) × ((after : LinkState) → L.tells link.new after → ⊥) }
+    ensures none { result ≡ Outcome.NoReply → KeepsNoReply count.new (L.kept link.new) (L.tells link.new) }
     ensures missed { result ≡ Outcome.Missed → (count.new ≡ count.old + tries) × (tries ≤ L.missed link.new)
         × RoseBy tries (L.fault_count link.old) (L.fault_count link.new)
-        × ((w : Reply) → IsReplyText (L.kept link.new) w → w.echo ≡ Some (number run count.new) → ⊥) }
+        × KeepsNoOwn (L.kept link.new) run count.new }
     ensures told { (after : LinkState) → L.tells link.new after → (before : LinkState) × L.tells link.old before
         × Asks run count.old count.new (IsNumbered request) before after
         × (IsReady run count.old before.sent → IfOwn result (λ w. IsOwnRead before after (numbered request (number run count.new)) w)) }

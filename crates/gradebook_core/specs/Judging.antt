@@ -30,7 +30,7 @@ IsNewlyMade (judgement.New change) = AreChanges change.rows
 IsNewlyMade (judgement.Repeat kept) = ⊥
 IsNewlyMade _ = ⊤
 
--- what is repeated is kept under one of these marks
+-- what is repeated is kept under one of these marks; the key of a mark is its caller and its number
 pub record IsKeptAmong (marks : List MarkRow) (kept : Kept) : Type 0 where
   pub key : List ℕ × ℕ
   pub held : MarkRow

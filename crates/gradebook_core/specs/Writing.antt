@@ -16,6 +16,7 @@ use Rattle.keeper_memory.specs.Parts.{IsPartOf}
 use Rattle.keeper_memory.specs.declared.hub_commit.HubCommit.{HubCommit}
 use Rattle.version_core.specs.HubStates.{HubState, IsHubState}
 use Rattle.version_core.specs.Marks.{CanMark}
+use Rattle.version_core.specs.Outcomes.{mark_taken_outcome}
 use Rattle.version_core.specs.declared.change.BaseVersion.{BaseVersion}
 use Rattle.version_core.specs.declared.change.Change.{Change}
 use Rattle.version_core.specs.declared.grant_row.GrantRow.{GrantRow}
@@ -27,7 +28,8 @@ written_as mark outcome version = record { outcome = outcome; version = version;
 
 -- a refusal is kept, but for that of another write's mark
 abbrev pub refused_as : Option ℕ → ℕ → ℕ → Written
-refused_as mark number version = record { outcome = number; version = version; kept = is_some mark && nat_lt 1 number }
+refused_as mark number version =
+    record { outcome = number; version = version; kept = is_some mark && nat_lt mark_taken_outcome number }
 
 -- what a write is told of its verdict: the newest version after it, or what was kept under its mark
 abbrev pub written_of : HubState → Option ℕ → Write → Verdict → Written

@@ -2,6 +2,7 @@
 
 ghost use Rattle.std.specs.Prelude.{◌≡◌, ◌≤◌, ◌==◌, IfSome, IsSome, nat_lt, not};
 ghost use Rattle.gradebook_core.specs.Outcomes.{check_number, outcome_number};
+ghost use Rattle.version_core.specs.Outcomes.{deleted_outcome, mark_taken_outcome};
 
 /// The checks of a write, in their order.
 #[derive(Clone, Copy, Debug, PartialEq, Eq)]
@@ -44,8 +45,8 @@ impl Check {
     /// Whether a write that fails this check is kept under its mark: where the mark is another write's, it keeps that
     /// one.
     pub fn is_kept(self) -> bool
-        ensures above { result ≡ nat_lt 1 (check_number self) }
-        ensures other { result ≡ not (check_number self == 1) }
+        ensures above { result ≡ nat_lt mark_taken_outcome (check_number self) }
+        ensures other { result ≡ not (check_number self == mark_taken_outcome) }
     {
         match self {
             Check::MarkOfAnotherWrite => false,
@@ -79,7 +80,7 @@ impl Outcome {
 
     /// What a write came to, by its number. None where it is the number of nothing.
     pub fn from_number(number: u8) -> Option<Outcome>
-        ensures known { number ≤ 9 → IsSome result }
+        ensures known { number ≤ deleted_outcome → IsSome result }
         ensures number { IfSome result (λ outcome. outcome_number outcome ≡ number) }
     {
         match number {

@@ -6,6 +6,7 @@ ghost use Rattle.hub_core.specs.Standing.{IsStanding, KeeperFits};
 ghost use Rattle.hub_core.specs.Steps.{CountsFault, Installs, LeavesOpen, RefusesNothing};
 ghost use Rattle.hub_core.specs.Works.{Works};
 ghost use Rattle.keeper_memory.specs.Kept.{KeptState};
+ghost use Rattle.version_core.specs.Outcomes.{deleted_outcome};
 
 use crate::judging::{Asking, judge};
 use crate::written::{Written, commit_of, written_by};
@@ -54,7 +55,7 @@ pub fn write<H: HubKeeper>(
     ensures fits { KeeperFits (H.stands_for keeper.new) hub.new }
     ensures told { (after : KeptState) → IsStanding hub.new after → (H.stands_for keeper.new after → H.stands_for keeper.old hub.old.kept) × Writes asking.now.by.now asking.now.mark write asking.now.at result hub.old.kept after }
     // What is told is the number of an outcome.
-    ensures outcome { IfOk result (λ written. written.outcome ≤ 9) }
+    ensures outcome { IfOk result (λ written. written.outcome ≤ deleted_outcome) }
     // What it made is the last commit, if anything.
     ensures works { Works result hub.old hub.new }
     ensures settled { LeavesOpen result hub.new.commit_open }

@@ -98,57 +98,77 @@ status
 
 const VERSION: &str = "hub 0.1.0, hub.db of format 2, copy.db of format 2\n";
 
-// The words of each command.
-static USAGES: [(&str, &str); 16] = [
-    (
-        "publish",
-        "usage: hub [--store DIR] [--folder DIR] [--keep N] publish FEED=DIR ..\n",
-    ),
-    ("show", "usage: hub [--folder DIR] show KIND\n"),
-    (
-        "grant",
-        "usage: hub [--store DIR] [--folder DIR] [--keep N] grant FILE\n",
-    ),
-    (
-        "ask",
-        "usage: hub [--store DIR] [--folder DIR] [--keep N] ask FILE\n",
-    ),
-    (
-        "serve",
-        "usage: hub [--store DIR] [--folder DIR] [--keep N] serve CONNECTIONS ADDRESS .. FEED=DIR ..\n",
-    ),
-    (
-        "sync",
-        "usage: hub [--store DIR] [--peer HOST:PORT] sync TOKEN LIMIT TRIES\n",
-    ),
-    (
-        "delta",
-        "usage: hub [--store DIR] [--peer HOST:PORT] delta TOKEN LIMIT TRIES\n",
-    ),
-    (
-        "cascade",
-        "usage: hub [--store DIR] [--keep N] cascade FEED\n",
-    ),
-    (
-        "follow",
-        "usage: hub [--store DIR] [--peer HOST:PORT] [--keep N] follow TOKEN LIMIT TRIES FEED\n",
-    ),
-    ("list", "usage: hub [--store DIR] list KIND\n"),
-    (
-        "export",
-        "usage: hub [--store DIR] [--folder DIR] export KIND [since DIR]\n   or: hub export manifest bulk|delta\n",
-    ),
-    (
-        "enter",
-        "usage: hub [--store DIR] [--folder DIR] enter put KIND ID FILE\n   or: hub [--store DIR] enter delete KIND ID\n",
-    ),
-    (
-        "send",
-        "usage: hub [--store DIR] [--peer HOST:PORT] send TOKEN TRIES\n",
-    ),
-    ("outbox", "usage: hub [--store DIR] outbox\n"),
-    ("rehearse", "usage: hub [--folder DIR] rehearse FILE\n"),
-    ("make", "usage: hub make SCHOOLS\n"),
+// The words of a command, as its usage shows them.
+struct Usage {
+    command: &'static str,
+    text: &'static str,
+}
+
+static USAGES: [Usage; 16] = [
+    Usage {
+        command: "publish",
+        text: "usage: hub [--store DIR] [--folder DIR] [--keep N] publish FEED=DIR ..\n",
+    },
+    Usage {
+        command: "show",
+        text: "usage: hub [--folder DIR] show KIND\n",
+    },
+    Usage {
+        command: "grant",
+        text: "usage: hub [--store DIR] [--folder DIR] [--keep N] grant FILE\n",
+    },
+    Usage {
+        command: "ask",
+        text: "usage: hub [--store DIR] [--folder DIR] [--keep N] ask FILE\n",
+    },
+    Usage {
+        command: "serve",
+        text: "usage: hub [--store DIR] [--folder DIR] [--keep N] serve CONNECTIONS ADDRESS .. FEED=DIR ..\n",
+    },
+    Usage {
+        command: "sync",
+        text: "usage: hub [--store DIR] [--peer HOST:PORT] sync TOKEN LIMIT TRIES\n",
+    },
+    Usage {
+        command: "delta",
+        text: "usage: hub [--store DIR] [--peer HOST:PORT] delta TOKEN LIMIT TRIES\n",
+    },
+    Usage {
+        command: "cascade",
+        text: "usage: hub [--store DIR] [--keep N] cascade FEED\n",
+    },
+    Usage {
+        command: "follow",
+        text: "usage: hub [--store DIR] [--peer HOST:PORT] [--keep N] follow TOKEN LIMIT TRIES FEED\n",
+    },
+    Usage {
+        command: "list",
+        text: "usage: hub [--store DIR] list KIND\n",
+    },
+    Usage {
+        command: "export",
+        text: "usage: hub [--store DIR] [--folder DIR] export KIND [since DIR]\n   or: hub export manifest bulk|delta\n",
+    },
+    Usage {
+        command: "enter",
+        text: "usage: hub [--store DIR] [--folder DIR] enter put KIND ID FILE\n   or: hub [--store DIR] enter delete KIND ID\n",
+    },
+    Usage {
+        command: "send",
+        text: "usage: hub [--store DIR] [--peer HOST:PORT] send TOKEN TRIES\n",
+    },
+    Usage {
+        command: "outbox",
+        text: "usage: hub [--store DIR] outbox\n",
+    },
+    Usage {
+        command: "rehearse",
+        text: "usage: hub [--folder DIR] rehearse FILE\n",
+    },
+    Usage {
+        command: "make",
+        text: "usage: hub make SCHOOLS\n",
+    },
 ];
 
 const ANY_USAGE: &str =
@@ -156,9 +176,9 @@ const ANY_USAGE: &str =
 
 // The usage of a command.
 fn usage_of(command: &str) -> Option<&'static str> {
-    for (name, usage) in &USAGES {
-        if command == *name {
-            return Some(usage);
+    for usage in &USAGES {
+        if command == usage.command {
+            return Some(usage.text);
         }
     }
     None
@@ -174,6 +194,7 @@ fn usage_among(words: &[String]) -> &'static str {
     ANY_USAGE
 }
 
+// Whether a word asks for help.
 fn asks_for_help(word: &str) -> bool {
     word == "--help" || word == "-h" || word == "help"
 }
@@ -217,8 +238,8 @@ fn run<R: Threads + Wait + Sync>(
     }
 }
 
-// Says which word is bad, and what was wanted. Standard output has the line that names the place, and what can't be
-// written here changes nothing.
+// Says on standard error which word is bad, and what was wanted. The line on standard output already names the place of
+// the word; where standard error can't be written, the status stays as it is.
 fn hint(rt: HostRuntime, status: u8, words: &[String]) {
     if status != statuses::BAD_WORDS {
         return;

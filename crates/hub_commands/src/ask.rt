@@ -63,7 +63,7 @@ pub fn ask_end(end: StreamEnd, left: u64) -> Option<End>
     }
 }
 
-// The end behind so many answered requests, where nothing is left of the bytes, or something is.
+// The end once so many requests are answered; `is_whole`: no bytes are left behind them.
 fn closed_end(requests: u64, is_whole: bool) -> End
     ensures { result ≡ closed_end requests is_whole }
 {

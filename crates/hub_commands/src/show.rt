@@ -32,6 +32,7 @@ fn dated(row: SetRow, at: Moment) -> Row
     }
 }
 
+// The rows, each dated by the clock where it brings no date.
 fn dated_rows(alloc: Global, at: Moment, rows: Vec<SetRow>) -> Result<Vec<Row>, NoMemory>
     ensures { IfOk result (λ v. v.items ≡ map (dated_row at) rows.items) }
 {
@@ -49,6 +50,7 @@ fn output(alloc: Global, kind: Kind, at: Moment, rows: Vec<SetRow>) -> Result<St
     Ok(text)
 }
 
+// The answer that prints a text.
 fn done(text: String) -> Answer
     ensures { result ≡ record { done = string_bytes text; end = Done } }
 {
@@ -58,6 +60,7 @@ fn done(text: String) -> Answer
     }
 }
 
+// The answer that prints nothing, since the file has a fault.
 fn refused(alloc: Global, fault: SetFault) -> Answer
     ensures { result ≡ record { done = []; end = Refused fault } }
 {

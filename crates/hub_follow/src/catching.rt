@@ -2,14 +2,14 @@
 
 ghost use Rattle.std.specs.Prelude.{◌+◌, ◌<◌, ◌≤◌, IfErr};
 ghost use Rattle.consumer_deltas.specs.DeltaAnswers.{LacksBase};
-ghost use Rattle.exchange_link.specs.Agreement.{StageAgrees};
+ghost use Rattle.exchange_link.specs.Agreement.{StagesAgree};
 ghost use Rattle.exchange_link.specs.Completeness.{IsDone};
 ghost use Rattle.exchange_link.specs.Exchanges.{LinkState};
 ghost use Rattle.exchange_link.specs.Marks.{MarksTold};
 ghost use Rattle.hub_follow.specs.Catching.{BeginsFromHeld, CatchesUp, CatchesUpTold, MayCatchUp};
 ghost use Rattle.hub_follow.specs.Causes.{MissedBy, MissedTold, keeper_view, link_view};
 ghost use Rattle.hub_follow.specs.Ends.{IsMiss, sync_of};
-ghost use Rattle.keeper_memory.specs.copy.Copies.{Copy};
+ghost use Rattle.keeper_memory.specs.copy.Copies.{Copy, largest_limit, largest_tries};
 ghost use Rattle.keeper_memory.specs.declared.copy.state.TheConstants.{LAST};
 ghost use Rattle.roster_base.specs.Faults.{Rose};
 
@@ -31,8 +31,8 @@ pub fn catch_up<C: CopyKeeper, L: Link>(
     limit: u32,
     tries: u32,
 ) -> Result<u64, Missed>
-    requires limit { (0 < limit) × (limit ≤ 1000) }
-    requires tries { (0 < tries) × (tries ≤ 100) }
+    requires limit { (0 < limit) × (limit ≤ largest_limit) }
+    requires tries { (0 < tries) × (tries ≤ largest_tries) }
     // Over any link.
     ensures shape { IfErr result IsMiss }
     ensures copy { (after : Copy) → C.stands_for copy.new after → (before : Copy) × C.stands_for copy.old before × CatchesUp (sync_of result) before after }
@@ -45,14 +45,14 @@ pub fn catch_up<C: CopyKeeper, L: Link>(
         → (after : Copy) (tells : LinkState) → C.stands_for copy.new after → L.tells link.new tells
         → (told : LinkState) × L.tells link.old told × BeginsFromHeld token.now limit (C.stands_for copy.old) told.sent tells.sent }
     // Over one that tells, where copy and link agree.
-    ensures told { ((c : Copy) (t : LinkState) → C.stands_for copy.old c → L.tells link.old t → StageAgrees c t)
+    ensures told { StagesAgree (C.stands_for copy.old) (L.tells link.old)
         → (after : Copy) (tells : LinkState) → C.stands_for copy.new after → L.tells link.new tells
         → (before : Copy) × (told : LinkState) × C.stands_for copy.old before × L.tells link.old told × CatchesUpTold token.now (sync_of result) before told after tells }
-    ensures cause_told { ((c : Copy) (t : LinkState) → C.stands_for copy.old c → L.tells link.old t → StageAgrees c t)
+    ensures cause_told { StagesAgree (C.stands_for copy.old) (L.tells link.old)
         → (after : Copy) (tells : LinkState) → C.stands_for copy.new after → L.tells link.new tells
         → MissedTold (link_view L.tells L.asked L.missed L.kept L.fault_count L.leads) token.now link.old tells result }
     // And where no call of the link and of the copy's keeper failed.
-    ensures complete { ((c : Copy) (t : LinkState) → C.stands_for copy.old c → L.tells link.old t → StageAgrees c t)
+    ensures complete { StagesAgree (C.stands_for copy.old) (L.tells link.old)
         → ¬ Rose (L.fault_count link.old) (L.fault_count link.new) → ¬ Rose (C.fault_count copy.old) (C.fault_count copy.new)
         → (after : Copy) (tells : LinkState) → C.stands_for copy.new after → L.tells link.new tells
         → (before : Copy) × (told : LinkState) × C.stands_for copy.old before × L.tells link.old told

@@ -2,7 +2,7 @@
 
 ghost use Rattle.std.specs.Prelude.{◌≡◌, ◌+◌, ◌<◌, ◌≤◌, IfErr, ⊤};
 ghost use Rattle.consumer_deltas.specs.DeltaAnswers.{LacksBase};
-ghost use Rattle.exchange_link.specs.Agreement.{StageAgrees};
+ghost use Rattle.exchange_link.specs.Agreement.{StagesAgree};
 ghost use Rattle.exchange_link.specs.Completeness.{IsDone};
 ghost use Rattle.exchange_link.specs.Exchanges.{LinkState};
 ghost use Rattle.exchange_link.specs.Marks.{MarksTold};
@@ -15,7 +15,7 @@ ghost use Rattle.hub_follow.specs.Causes.{MissedBy, MissedTold, keeper_view, lin
 ghost use Rattle.hub_follow.specs.Ends.{IfCascaded, IfDone, IsFollowed, IsMiss, sync_of, synced};
 ghost use Rattle.hub_spec.specs.rules.Checks.{version_at};
 ghost use Rattle.keeper_memory.specs.Kept.{KeptState, newest_kept};
-ghost use Rattle.keeper_memory.specs.copy.Copies.{Copy};
+ghost use Rattle.keeper_memory.specs.copy.Copies.{Copy, largest_limit, largest_tries};
 ghost use Rattle.keeper_memory.specs.declared.copy.state.TheConstants.{LAST};
 ghost use Rattle.roster_base.specs.Faults.{Rose};
 ghost use Rattle.version_changes.specs.declared.sets.publish_fault.PublishFault.{PublishFault};
@@ -39,8 +39,8 @@ pub fn follow<H: HubKeeper, C: CopyKeeper, L: Link>(
     task: FollowTask<'_>,
 ) -> FollowAnswer
     requires fits { KeeperFits (H.stands_for keeper.old) hub.old }
-    requires limit { (0 < task.limit) × (task.limit ≤ 1000) }
-    requires tries { (0 < task.tries) × (task.tries ≤ 100) }
+    requires limit { (0 < task.limit) × (task.limit ≤ largest_limit) }
+    requires tries { (0 < task.tries) × (task.tries ≤ largest_tries) }
     // The hub: after a synchronisation that wasn't complete it is as before, and else what a cascade of the copy makes
     // of it.
     ensures fits { KeeperFits (H.stands_for keeper.new) hub.new }
@@ -65,20 +65,20 @@ pub fn follow<H: HubKeeper, C: CopyKeeper, L: Link>(
         → (after : Copy) (tells : LinkState) → C.stands_for copy.new after → L.tells link.new tells
         → (told : LinkState) × L.tells link.old told × BeginsFromHeld task.entry.token.now task.entry.limit (C.stands_for copy.old) told.sent tells.sent }
     // Over one that tells, where copy and link agree.
-    ensures synchronised { ((c : Copy) (t : LinkState) → C.stands_for copy.old c → L.tells link.old t → StageAgrees c t)
+    ensures synchronised { StagesAgree (C.stands_for copy.old) (L.tells link.old)
         → (after : Copy) (tells : LinkState) → C.stands_for copy.new after → L.tells link.new tells
         → (before : Copy) × (told : LinkState) × C.stands_for copy.old before × L.tells link.old told × CatchesUpTold task.entry.token.now (sync_of (synced result)) before told after tells }
-    ensures cause_told { ((c : Copy) (t : LinkState) → C.stands_for copy.old c → L.tells link.old t → StageAgrees c t)
+    ensures cause_told { StagesAgree (C.stands_for copy.old) (L.tells link.old)
         → (after : Copy) (tells : LinkState) → C.stands_for copy.new after → L.tells link.new tells
         → MissedTold (link_view L.tells L.asked L.missed L.kept L.fault_count L.leads) task.entry.token.now link.old tells (synced result) }
     // And where no call of the link and of the copy's keeper failed.
-    ensures caught { ((c : Copy) (t : LinkState) → C.stands_for copy.old c → L.tells link.old t → StageAgrees c t)
+    ensures caught { StagesAgree (C.stands_for copy.old) (L.tells link.old)
         → ¬ Rose (L.fault_count link.old) (L.fault_count link.new) → ¬ Rose (C.fault_count copy.old) (C.fault_count copy.new)
         → (after : Copy) (tells : LinkState) → C.stands_for copy.new after → L.tells link.new tells
         → (before : Copy) × (told : LinkState) × C.stands_for copy.old before × L.tells link.old told
         × (before.run + 1 < LAST → ¬ Rose told.hub_faults tells.hub_faults → MayCatchUp task.entry.token.now (C.stands_for copy.old) before told tells → IsDone (sync_of (synced result))) }
     // And where no call of the hub's keeper failed, and the cascade refuses nothing.
-    ensures complete { ((c : Copy) (t : LinkState) → C.stands_for copy.old c → L.tells link.old t → StageAgrees c t)
+    ensures complete { StagesAgree (C.stands_for copy.old) (L.tells link.old)
         → ¬ Rose (L.fault_count link.old) (L.fault_count link.new) → ¬ Rose (C.fault_count copy.old) (C.fault_count copy.new)
         → ¬ Rose (H.fault_count keeper.old) (H.fault_count keeper.new)
         → (after : Copy) (tells : LinkState) → C.stands_for copy.new after → L.tells link.new tells
@@ -91,7 +91,7 @@ pub fn follow<H: HubKeeper, C: CopyKeeper, L: Link>(
     // The active rows of the feed are exactly those that the copy holds, and so those that the token sees of the
     // version of the other hub.
     ensures served { IfDone result (λ version. (c : Copy) → C.stands_for copy.new c → current_rows task.entry.feed.now (newest_kept hub.new.kept.versions).rows ≡ active_rows (held_rows c)) }
-    ensures done_shows { ((c : Copy) (t : LinkState) → C.stands_for copy.old c → L.tells link.old t → StageAgrees c t)
+    ensures done_shows { StagesAgree (C.stands_for copy.old) (L.tells link.old)
         → (after : Copy) (tells : LinkState) → C.stands_for copy.new after → L.tells link.new tells
         → IfDone result (λ version. current_rows task.entry.feed.now (newest_kept hub.new.kept.versions).rows ≡ active_rows (rows_seen (version_at tells.hub version) task.entry.token.now)) }
 {

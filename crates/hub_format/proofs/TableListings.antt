@@ -23,8 +23,8 @@ use Rattle.version_core.specs.declared.mark.MarkRow.{MarkRow}
 use Rattle.version_core.proofs.TableLemmas.{base_meets}
 use Rattle.version_core.proofs.VersionLemmas.{AllByRecursion-push}
 use Rattle.hub_format.specs.Format.{Entry, Fit, FitsChange, FitsGrant, FitsMark, format_entry, grants_under, items_of}
-use Rattle.hub_format.specs.Format.{mark_entry, of_changes, own_grants, own_rows, own_version, rows_under, some_grants}
-use Rattle.hub_format.specs.Format.{state_entry, where_label}
+use Rattle.hub_format.specs.Format.{listed_of, mark_entry, of_changes, own_grants, own_rows, own_version, rows_under}
+use Rattle.hub_format.specs.Format.{some_grants, state_entry, where_label}
 use Rattle.hub_format.specs.Pieces.{HasNoZero, mark_label, number}
 use Rattle.hub_format.proofs.Encodes.{rise_of}
 use Rattle.hub_format.proofs.Endings.{grants_rise, marks_rise}
@@ -36,10 +36,6 @@ use Rattle.hub_format.proofs.Orders.{less_is}
 -- what passes behind a version's number
 abbrev pub behind_version : ℕ → List Entry → List Entry
 behind_version version es = where_label (is_between (number version) (number (version + 1))) es
-
--- what is listed there
-abbrev pub listed_of : ℕ → ℕ → Items → List Entry
-listed_of area version m = listed area (number version) (number (version + 1)) m
 
 -- the number of the newest version
 abbrev pub newest_from : ℕ → List Change → ℕ

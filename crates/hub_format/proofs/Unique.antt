@@ -23,8 +23,8 @@ use Rattle.version_core.specs.declared.mark.MarkRow.{MarkRow}
 use Rattle.version_core.specs.declared.row_change.RowChange.{RowChange}
 use Rattle.version_core.proofs.TableLemmas.{base_meets}
 use Rattle.hub_format.specs.Format.{Entry, Fit, FitsChange, FitsGrant, FitsMark, Keep, grant_entry, grants_under}
-use Rattle.hub_format.specs.Format.{items_of, mark_entry, own_grants, own_rows, own_version, row_entry, rows_under}
-use Rattle.hub_format.specs.Format.{some_grants, state_entry, version_entry}
+use Rattle.hub_format.specs.Format.{items_of, listed_of, mark_entry, own_grants, own_rows, own_version, row_entry}
+use Rattle.hub_format.specs.Format.{rows_under, some_grants, state_entry, version_entry}
 use Rattle.hub_format.specs.Pieces.{IsReadBack, caller_label, change_body, flag, grant_body, has_grants, key_label}
 use Rattle.hub_format.specs.Pieces.{mark_body, mark_label, number, row_body, schools_bytes, sized}
 use Rattle.roster_values.proofs.KindLaws.{kind_from_place}
@@ -34,7 +34,7 @@ use Rattle.hub_format.proofs.Labels.{same_caller}
 use Rattle.hub_format.proofs.Listing.{listed_sorted, rows_rise}
 use Rattle.hub_format.proofs.Marking.{same_parts}
 use Rattle.hub_format.proofs.Orders.{same_number}
-use Rattle.hub_format.proofs.TableListings.{IsToldBy, base_grants_told, changes_told, listed_of, newest_from, none_told}
+use Rattle.hub_format.proofs.TableListings.{IsToldBy, base_grants_told, changes_told, newest_from, none_told}
 
 -- lists whose entries are equal are equal, where each is
 pub same_list : {X : Type 0} (entry : X → Entry) (P : X → Type 0) → ((x y : X) → P x → P y → entry x ≡ entry y → x ≡ y)

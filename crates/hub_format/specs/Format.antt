@@ -1,12 +1,12 @@
 -- The items in which a hub's state is kept.
-use Rattle.std.specs.Prelude.{◌≡◌, ◌<◌, ◌==◌, ◌^◌, ℕ, Bool, List, [], ◌∷◌, ◌++◌, Option, None, Some, filter, map}
+use Rattle.std.specs.Prelude.{◌≡◌, ◌<◌, ◌==◌, ◌^◌, ◌+◌, ℕ, Bool, List, [], ◌∷◌, ◌++◌, Option, None, Some, filter, map}
 use Rattle.std.specs.Prelude.{if◌then◌else◌}
 use Rattle.std.specs.FinMap.{from_entries}
 use Rattle.std.specs.Int.{w64}
 use Rattle.std.specs.Int.RustNames.{FitsSigned}
 use Rattle.std.specs.List.{AllByRecursion}
 use Rattle.std.specs.Option.{ForSome}
-use Rattle.item_maps.specs.Items.{Items}
+use Rattle.item_maps.specs.Items.{Items, listed}
 use Rattle.keeper_memory.specs.Kept.{KeptState, kept_by}
 use Rattle.keeper_memory.specs.declared.hub_commit.HubCommit.{HubCommit}
 use Rattle.version_core.specs.Changes.{change_key}
@@ -22,7 +22,7 @@ use Rattle.version_core.specs.declared.row_change.RowChange.{RowChange}
 use Rattle.hub_format.specs.Areas.{base_rows_area, change_rows_area, format_area, grants_area, marks_area, state_area}
 use Rattle.hub_format.specs.Areas.{versions_area}
 use Rattle.hub_format.specs.Pieces.{AreSized, HasNoZero, IsReadBack, IsSized, caller_label, change_body, grant_body}
-use Rattle.hub_format.specs.Pieces.{key_label, mark_body, mark_label, moment, number, row_body}
+use Rattle.hub_format.specs.Pieces.{StaysBelowEnd, key_label, mark_body, mark_label, moment, number, row_body}
 
 -- version 0 alone
 abbrev pub new_tables : ℕ → HubTables
@@ -35,6 +35,17 @@ Entry = List ℕ × List ℕ
 -- the entries whose labels pass a test
 abbrev pub where_label : (List ℕ → Bool) → List Entry → List Entry
 where_label test entries = filter (λ e. test e.0) entries
+
+-- what is listed behind a version's number in an area
+abbrev pub listed_of : ℕ → ℕ → Items → List Entry
+listed_of area version m = listed area (number version) (number (version + 1)) m
+
+-- the format that older programs wrote, and the one in which stores are written now
+abbrev pub first_format : ℕ
+first_format = 1
+
+abbrev pub written_format : ℕ
+written_format = 2
 
 -- the number of a format
 abbrev pub format_entry : ℕ → Entry
@@ -84,7 +95,7 @@ of_changes own (change ∷ changes) = of_changes own changes ++ own change
 -- the entries of each area
 abbrev pub area_of : HubTables → ℕ → List Entry
 area_of t area =
-    if area == format_area then format_entry 1 ∷ []
+    if area == format_area then format_entry first_format ∷ []
     else if area == state_area then state_entry t.keep t.base ∷ []
     else if area == base_rows_area then rows_under [] t.base.rows
     else if area == versions_area then of_changes own_version t.changes
@@ -110,7 +121,7 @@ pub record FitsChange (change : Change) : Type 0 where
 
 pub record FitsMark (mark : MarkRow) : Type 0 where
   pub caller : HasNoZero mark.caller
-  pub below : AllByRecursion (λ b. b < 255) mark.caller
+  pub below : StaysBelowEnd mark.caller
   pub number : mark.number < 2 ^ 64
   pub id : IsSized mark.write.id
   pub body : IsSized mark.write.body

@@ -83,6 +83,18 @@ mark_body mark =
 abbrev pub HasNoZero : List ℕ → Type 0
 HasNoZero text = AllByRecursion (λ b. 0 < b) text
 
+-- a byte with which no label of a row or a mark begins
+abbrev pub end_byte : ℕ
+end_byte = 255
+
+-- a label behind those of all rows and marks
+abbrev pub labels_end : List ℕ
+labels_end = end_byte ∷ []
+
+-- each byte of the text is below that one
+abbrev pub StaysBelowEnd : List ℕ → Type 0
+StaysBelowEnd text = AllByRecursion (λ b. b < end_byte) text
+
 -- the length stands in its 8 bytes
 abbrev pub IsSized : List ℕ → Type 0
 IsSized text = length text < 2 ^ 64

@@ -1,8 +1,8 @@
 //! What labels and bodies are made of, written at the end of bytes.
 
-ghost use Rattle.std.specs.Prelude.{◌≡◌, ◌++◌, ◌<◌, OnOk};
-ghost use Rattle.hub_format.specs.Pieces.{AreSized, IsSized, all_sized, caller_label, moment, number, owner_bytes};
-ghost use Rattle.hub_format.specs.Pieces.{owner_name, schools_bytes, sized, HasNoZero};
+ghost use Rattle.std.specs.Prelude.{◌≡◌, ◌++◌, OnOk};
+ghost use Rattle.hub_format.specs.Pieces.{AreSized, HasNoZero, IsSized, StaysBelowEnd, all_sized, caller_label};
+ghost use Rattle.hub_format.specs.Pieces.{moment, number, owner_bytes, owner_name, schools_bytes, sized};
 ghost use Rattle.std.specs.Int.{w64};
 ghost use Rattle.std.specs.Int.RustNames.{FitsSigned};
 ghost use Rattle.std.specs.List.{AllByRecursion};
@@ -71,7 +71,7 @@ pub fn kind_byte(kind: Kind) -> u8
 pub(crate) fn push_caller(to: &mut Vec<u8>, caller: &Name) -> Result<(), NoMemory>
     ensures bytes { OnOk result (to.new.items ≡ to.old.items ++ caller_label caller.now) }
     ensures good { HasNoZero caller.now }
-    ensures below { AllByRecursion (λ b. b < 255) caller.now }
+    ensures below { StaysBelowEnd caller.now }
 {
     to.extend_from_slice(caller.as_str().as_bytes())?;
     to.push(0)?;

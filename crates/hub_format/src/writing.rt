@@ -7,8 +7,8 @@ ghost use Rattle.std.specs.List.{AllByRecursion};
 ghost use Rattle.hub_format.specs.Areas.{grants_area, marks_area, versions_area};
 ghost use Rattle.hub_format.specs.Edits.{put_at, puts};
 ghost use Rattle.hub_format.specs.Format.{FitsGrant, FitsMark, grant_entry, grants_under, mark_entry, version_entry};
-ghost use Rattle.hub_format.specs.Pieces.{AreSized, HasNoZero, IsReadBack, IsSized, caller_label, change_body};
-ghost use Rattle.hub_format.specs.Pieces.{grant_body, mark_body, mark_label, number, row_body};
+ghost use Rattle.hub_format.specs.Pieces.{AreSized, HasNoZero, IsReadBack, IsSized, StaysBelowEnd, caller_label};
+ghost use Rattle.hub_format.specs.Pieces.{change_body, grant_body, mark_body, mark_label, number, row_body};
 
 use crate::area::HubArea;
 use crate::pieces::{
@@ -123,7 +123,7 @@ pub(crate) fn put_grants(
 fn mark_label(alloc: Global, caller: &Name, number: u64) -> Result<Bytes, NoMemory>
     ensures label { IfOk result (λ label. label ≡ mark_label (caller.now, number)) }
     ensures good { OnOk result (HasNoZero caller.now) }
-    ensures below { OnOk result (AllByRecursion (λ b. b < 255) caller.now) }
+    ensures below { OnOk result (StaysBelowEnd caller.now) }
     ensures small { OnOk result (number < 2 ^ 64) }
 {
     let mut label = Vec::new(alloc);

@@ -11,6 +11,12 @@ use std::test::Fail;
 use std::{env, fs, process};
 use test_lake::words_of;
 
+// One byte more than a file of a set may have.
+const OVERLONG_FILE: u64 = 67_108_865;
+
+// One byte more than the body of a write may have.
+const OVERLONG_BODY: u64 = 131_073;
+
 // Words, their file, its first bytes, its length, and what is printed.
 struct Case {
     line: &'static str,
@@ -32,14 +38,14 @@ static CASES: [Case; 5] = [
         line: "show orgs",
         file: "orgs.csv",
         bytes: b"sourcedId",
-        length: 67_108_865,
+        length: OVERLONG_FILE,
         want: "refused: orgs.csv: too large\n",
     },
     Case {
         line: "publish a=one",
         file: "one/orgs.csv",
         bytes: b"sourcedId",
-        length: 67_108_865,
+        length: OVERLONG_FILE,
         want: "refused: orgs.csv: too large\n",
     },
     Case {
@@ -53,7 +59,7 @@ static CASES: [Case; 5] = [
         line: "enter put categories c2 c2.json",
         file: "c2.json",
         bytes: b"{",
-        length: 131_073,
+        length: OVERLONG_BODY,
         want: "refused: c2.json: too large\n",
     },
 ];

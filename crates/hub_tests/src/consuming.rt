@@ -1,6 +1,6 @@
 //! Synchronisations over replies that are given beforehand, and what the copy holds then.
 
-use crate::runs::{Given, Keepers, Turn, assert_each, assert_scene, assert_turns};
+use crate::runs::{Given, KEPT, Keepers, Turn, assert_each, assert_scene, assert_turns};
 use keeper_memory::{CopyTables, LAST, MemCopy, MemHub};
 use std::alloc::Global;
 use std::test::Fail;
@@ -221,7 +221,7 @@ static LAST_TURNS: [Turn; 2] = [
 #[test]
 fn no_number_follows_the_last(rt: HostRuntime) -> Result<(), Fail> {
     let mut keepers = Keepers {
-        hub: MemHub::new(rt.alloc(), 9),
+        hub: MemHub::new(rt.alloc(), KEPT),
         copy: last_copy(rt.alloc()),
     };
     let asserted = assert_turns(&rt, rt.alloc(), &mut keepers, &LAST_TURNS);

@@ -2,7 +2,9 @@
 //! with the status of its port, and once the same words are run again all stands as if nothing had failed.
 
 use crate::consuming::{HELD, PAGES};
-use crate::runs::{Given, Keepers, Ports, Turn, assert_turns, files_of, new_keepers, run_line};
+use crate::runs::{
+    Given, KEPT, Keepers, Ports, Turn, assert_turns, files_of, new_keepers, run_line,
+};
 use exchange_link::PeerLink;
 use keeper_memory::{CopyKeeper, HubKeeper, MemCopy, MemHub};
 use outside_ports::{Folder, MemFolder, MemSink, Sink};
@@ -10,7 +12,7 @@ use std::alloc::Global;
 use std::process::Abort;
 use std::test::Fail;
 
-// Whose calls are counted; a commit fails before it acts or behind that.
+// Whose calls are counted. A commit fails before it acts, or once it has.
 #[derive(Clone, Copy, PartialEq, Eq)]
 enum Port {
     Folder,
@@ -59,6 +61,7 @@ static PORTS: [PortEnd; 6] = [
     },
 ];
 
+// A request that puts a category.
 const STREAM: &str =
     "PUT /ims/oneroster/v1p1/categories/c2 HTTP/1.1\r\nHost: hub\r\nAuthorization: Bearer tok-e\r\nContent-Length: 29\r\n\r\n{\"category\":{\"title\":\"Quiz\"}}";
 
@@ -67,9 +70,11 @@ const FILES: Given = Given::Files(&[
     ("", "r.http", STREAM),
 ]);
 
+// What is run before any call fails.
 static BEGUN: [Turn; 1] = [("sync tok-e 100 1", PAGES, 0, "complete 2\n")];
 
-// The commits of that: of a run, a stage, a page of each kind and the swap.
+// How many commits of the copy's keeper `BEGUN` makes: of its run, of the stage, of a page of each kind, and of the
+// swap.
 const BEGUN_COMMITS: u64 = 16;
 
 // What is run then. Where a commit fails at a request, its reply says so, and the request behind it makes up for that.
@@ -85,6 +90,9 @@ static LINES: [&str; 9] = [
     "export orgs since new",
 ];
 
+// The bytes that a sink has room for: more than all these lines write.
+const ROOM_FOR_ALL: u64 = 65_536;
+
 // The newest version of the hub, and what the copy holds.
 static STANDS: [Turn; 3] = [
     ("grant g.csv", Given::Nothing, 0, "grants unchanged 4\n"),
@@ -92,7 +100,7 @@ static STANDS: [Turn; 3] = [
     ("list orgs", Given::Nothing, 0, HELD),
 ];
 
-// The number, where it is that of a call of the port.
+// The number, where it counts calls of this port.
 fn listed(alloc: Global, number: u64, is_one: bool) -> Result<Vec<u64>, Fail> {
     let mut numbers = Vec::new(alloc);
     if is_one {
@@ -101,10 +109,11 @@ fn listed(alloc: Global, number: u64, is_one: bool) -> Result<Vec<u64>, Fail> {
     Ok(numbers)
 }
 
+// The ports of a run. Where the port is the folder or the sink, its call of this number fails.
 fn ports_with(alloc: Global, port: Port, number: u64) -> Result<Ports, Fail> {
     let of_folder = listed(alloc, number, port == Port::Folder)?;
     let of_sink = listed(alloc, number, port == Port::Sink)?;
-    let sink = MemSink::new(alloc, 65_536, of_sink)?;
+    let sink = MemSink::new(alloc, ROOM_FOR_ALL, of_sink)?;
     Ok(Ports {
         folder: MemFolder::new(files_of(alloc, FILES)?, of_folder),
         link: PeerLink::new(alloc, Vec::new(alloc)),
@@ -112,6 +121,7 @@ fn ports_with(alloc: Global, port: Port, number: u64) -> Result<Ports, Fail> {
     })
 }
 
+// Lets the commit of this number fail, where the port is a keeper; the copy's are counted behind those of `BEGUN`.
 fn plan(keepers: &mut Keepers, port: Port, number: u64) -> Result<(), Fail> {
     match port {
         Port::Hub { acted } => Ok(keepers.hub.list_commit(acted, number)?),
@@ -133,7 +143,7 @@ fn faults(ports: &Ports, keepers: &Keepers) -> u64 {
     outside.saturating_add(kept)
 }
 
-// Runs the words, and where a call fails once more.
+// Runs the words, and runs them again where a call failed: then nothing fails.
 fn assert_line(
     rt: &impl Abort,
     alloc: Global,
@@ -155,7 +165,7 @@ fn assert_line(
     Ok(())
 }
 
-// Runs all; gives whether the call was made.
+// Runs all `LINES`, and tells whether a call failed.
 fn assert_lines(
     rt: &impl Abort,
     alloc: Global,
@@ -169,6 +179,7 @@ fn assert_lines(
     Ok(faults(ports, keepers) != 0)
 }
 
+// Runs all `LINES` with a call that is to fail, and tells whether that call was made.
 fn assert_planned(
     rt: &impl Abort,
     alloc: Global,
@@ -183,6 +194,7 @@ fn assert_planned(
     made
 }
 
+// Does so behind `BEGUN`, and then asserts `STANDS`.
 fn assert_over(
     rt: &impl Abort,
     alloc: Global,
@@ -196,7 +208,7 @@ fn assert_over(
     Ok(made)
 }
 
-// Whether the call that is to fail was made.
+// Does so with keepers that hold nothing yet.
 fn assert_failing(
     rt: &impl Abort,
     alloc: Global,
@@ -212,6 +224,7 @@ fn assert_failing(
 // More than the calls of a port.
 const MOST_CALLS: u64 = 1_000;
 
+// Lets the first call of a port fail, then the second one, and so on until there is none of that number.
 fn assert_port(rt: &impl Abort, alloc: Global, end: &PortEnd) -> Result<(), Fail> {
     for number in 1..MOST_CALLS {
         if !assert_failing(rt, alloc, end, number)? {
@@ -238,11 +251,12 @@ static UNREAD: [Turn; 4] = [
     ("publish sis=lake", Given::Nothing, 0, "sis version 1\n"),
 ];
 
+// Keepers whose first read fails.
 fn unread_keepers(alloc: Global) -> Result<Keepers, Fail> {
     let of_hub = vec![in alloc; 1]?;
     let of_copy = vec![in alloc; 1]?;
     Ok(Keepers {
-        hub: MemHub::new(alloc, 9).with_failures(Vec::new(alloc), Vec::new(alloc), of_hub),
+        hub: MemHub::new(alloc, KEPT).with_failures(Vec::new(alloc), Vec::new(alloc), of_hub),
         copy: MemCopy::new(alloc).with_failures(Vec::new(alloc), Vec::new(alloc), of_copy),
     })
 }

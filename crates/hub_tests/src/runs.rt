@@ -12,6 +12,9 @@ use test_lake::{File, NOON, file, files, words_of};
 /// The bytes that a sink has room for: more than a run writes.
 pub const ROOM: u64 = 8_192;
 
+/// How many versions beside the newest a hub keeps.
+pub const KEPT: u32 = 9;
+
 /// A file: its folder, its name and its text.
 pub type Named = (&'static str, &'static str, &'static str);
 
@@ -37,7 +40,7 @@ pub struct Keepers {
 /// A hub and a copy that hold nothing.
 pub fn new_keepers(alloc: Global) -> Keepers {
     Keepers {
-        hub: MemHub::new(alloc, 9),
+        hub: MemHub::new(alloc, KEPT),
         copy: MemCopy::new(alloc),
     }
 }

@@ -3,9 +3,10 @@ use Rattle.std.specs.Prelude.{ℕ, ◌+◌, ◌==◌, ◌&&◌, ◌||◌, Bool, 
 use Rattle.std.specs.Prelude.{Err, bytes_eq, codes, if◌then◌else◌, drop, is_none, is_some, length, nat_le, nat_lt, suc}
 use Rattle.std.specs.Prelude.{take, true, unwrap_or, zero}
 use Rattle.std.specs.List.{after_first, before_first, list_any, prefix_len}
-use Rattle.hub_words.specs.Tasks.{Task}
+use Rattle.hub_words.specs.Tasks.{Task, largest_count}
 use Rattle.hub_words.specs.declared.task.Feed.{Feed}
 use Rattle.hub_words.specs.declared.task.ServeTask.{ServeTask}
+use Rattle.keeper_memory.specs.copy.Copies.{largest_limit, largest_tries}
 use Rattle.rest_paths.specs.Routes.{is_gradebook}
 use Rattle.roster_base.specs.Reading.{◌>>=◌}
 use Rattle.roster_texts.specs.Digits.{digits_value}
@@ -101,13 +102,6 @@ abbrev pub number_to : ℕ → List ℕ → Option ℕ
 number_to most word = in_bounds most (number_in word)
 
 -- ---- a synchronisation
-
--- how many rows a page has at most, and how often a request is tried at most
-abbrev pub largest_limit : ℕ
-largest_limit = 1000
-
-abbrev pub largest_tries : ℕ
-largest_tries = 100
 
 -- a token, how many rows a page has at most and how often a request is tried, and the words behind them
 abbrev pub tries_words : ℕ → List ℕ → ℕ → List (List ℕ) → Result (Task × List (List ℕ)) ℕ
@@ -229,10 +223,6 @@ export_words place (word ∷ words) =
     if bytes_eq word (codes "manifest") then mode_words (place + 1) words else export_of_kind place (kind_of_word word) words
 
 -- ---- a district
-
--- how many schools are made at most
-abbrev pub largest_count : ℕ
-largest_count = 200
 
 -- how many schools are made, behind `make`
 abbrev pub make_words : ℕ → List (List ℕ) → Result Command ℕ
@@ -397,10 +387,14 @@ abbrev pub root_in : Result Parsed ℕ → List ℕ
 root_in (Ok parsed) = unwrap_or parsed.options.folder []
 root_in (Err place) = []
 
+-- how many versions a new keeper keeps beside the newest where the words don't say
+abbrev pub usual_keep : ℕ
+usual_keep = 10000
+
 -- how many versions a new keeper keeps beside the newest
 abbrev pub keep_in : Result Parsed ℕ → ℕ
-keep_in (Ok parsed) = unwrap_or parsed.options.keep 10000
-keep_in (Err place) = 10000
+keep_in (Ok parsed) = unwrap_or parsed.options.keep usual_keep
+keep_in (Err place) = usual_keep
 
 -- the folder of the hub's store, where the words name one
 abbrev pub store_in : Result Parsed ℕ → Option (List ℕ)

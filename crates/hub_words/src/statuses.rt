@@ -3,7 +3,7 @@
 /// What was asked for is done, and the output is written.
 pub const DONE: u8 = 0;
 
-/// The output couldn't be written, which goes before every other status.
+/// The output couldn't be written. This status goes before every other one.
 pub const OUTPUT_FAILED: u8 = 1;
 
 /// The words are no command.
@@ -36,7 +36,7 @@ pub const NO_SCOPE: u8 = 10;
 /// The peer has taken another write under the mark of an entry.
 pub const MARK_TAKEN: u8 = 11;
 
-/// A reply is none that a hub gives.
+/// A reply isn't one that a hub gives.
 pub const BAD_REPLY: u8 = 12;
 
 /// There are too many rows, or bytes of a file.
@@ -45,10 +45,10 @@ pub const TOO_LARGE: u8 = 13;
 /// The peer's keeper failed.
 pub const PEER_FAILED: u8 = 14;
 
-/// The peer wanted memory.
+/// The peer ran out of memory.
 pub const PEER_NO_MEMORY: u8 = 15;
 
-/// The last number of a run or of an entry is given.
+/// The last number that a run or an entry may have is in use already, so that no new one can begin.
 pub const LAST_NUMBER: u8 = 16;
 
 /// Memory ran out, which says nothing of the input.

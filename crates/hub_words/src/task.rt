@@ -1,7 +1,8 @@
 //! What a synchronisation, an outbox, a publication, a server and the making of a district are asked to do.
 
 ghost use Rattle.std.specs.Prelude.{◌≡◌, ◌<◌, ◌≤◌, true};
-ghost use Rattle.keeper_memory.specs.copy.Copies.{IsGradebook};
+ghost use Rattle.hub_words.specs.Tasks.{largest_count};
+ghost use Rattle.keeper_memory.specs.copy.Copies.{IsGradebook, largest_limit, largest_tries};
 ghost use Rattle.rest_paths.specs.Routes.{is_gradebook};
 
 use roster_base::{Items, Text};
@@ -21,19 +22,20 @@ pub struct SyncTask {
 impl Model for SyncTask {
     ghost use Rattle.std.specs.Prelude.{◌<◌, ◌≤◌};
     ghost use Rattle.hub_words.specs.Tasks.{Task};
+    ghost use Rattle.keeper_memory.specs.copy.Copies.{largest_limit, largest_tries};
 
     ghost Value = { Task };
 
     ghost view = { λ t. record { token = t.token; limit = t.limit; tries = t.tries } };
 
-    ghost invariant = { λ t. (0 < t.limit) × (t.limit ≤ 1000) × (0 < t.tries) × (t.tries ≤ 100) };
+    ghost invariant = { λ t. (0 < t.limit) × (t.limit ≤ largest_limit) × (0 < t.tries) × (t.tries ≤ largest_tries) };
 }
 
 impl SyncTask {
     /// A synchronisation under this token.
     pub fn new(token: Token, limit: u32, tries: u32) -> SyncTask
-        requires limit { (0 < limit) × (limit ≤ 1000) }
-        requires tries { (0 < tries) × (tries ≤ 100) }
+        requires limit { (0 < limit) × (limit ≤ largest_limit) }
+        requires tries { (0 < tries) × (tries ≤ largest_tries) }
         ensures { result ≡ record { token = token; limit = limit; tries = tries } }
     {
         SyncTask {
@@ -53,7 +55,7 @@ impl SyncTask {
     /// How many rows a page has at most.
     pub fn limit(&self) -> u32
         ensures value { result ≡ self.now.limit }
-        ensures bounds { (0 < result) × (result ≤ 1000) }
+        ensures bounds { (0 < result) × (result ≤ largest_limit) }
     {
         self.limit
     }
@@ -61,7 +63,7 @@ impl SyncTask {
     /// How often a request is tried.
     pub fn tries(&self) -> u32
         ensures value { result ≡ self.now.tries }
-        ensures bounds { (0 < result) × (result ≤ 100) }
+        ensures bounds { (0 < result) × (result ≤ largest_tries) }
     {
         self.tries
     }
@@ -77,18 +79,19 @@ pub struct SendTask {
 impl Model for SendTask {
     ghost use Rattle.std.specs.Prelude.{◌<◌, ◌≤◌};
     ghost use Rattle.hub_words.specs.Tasks.{Sending};
+    ghost use Rattle.keeper_memory.specs.copy.Copies.{largest_tries};
 
     ghost Value = { Sending };
 
     ghost view = { λ t. record { token = t.token; tries = t.tries } };
 
-    ghost invariant = { λ t. (0 < t.tries) × (t.tries ≤ 100) };
+    ghost invariant = { λ t. (0 < t.tries) × (t.tries ≤ largest_tries) };
 }
 
 impl SendTask {
     /// Sending under this token.
     pub fn new(token: Token, tries: u32) -> SendTask
-        requires tries { (0 < tries) × (tries ≤ 100) }
+        requires tries { (0 < tries) × (tries ≤ largest_tries) }
         ensures { result ≡ record { token = token; tries = tries } }
     {
         SendTask { token, tries }
@@ -104,7 +107,7 @@ impl SendTask {
     /// How often a request is tried.
     pub fn tries(&self) -> u32
         ensures value { result ≡ self.now.tries }
-        ensures bounds { (0 < result) × (result ≤ 100) }
+        ensures bounds { (0 < result) × (result ≤ largest_tries) }
     {
         self.tries
     }
@@ -118,18 +121,19 @@ pub struct MakeTask {
 
 impl Model for MakeTask {
     ghost use Rattle.std.specs.Prelude.{◌<◌, ◌≤◌, ℕ};
+    ghost use Rattle.hub_words.specs.Tasks.{largest_count};
 
     ghost Value = { ℕ };
 
     ghost view = { λ t. t.schools };
 
-    ghost invariant = { λ t. (0 < t.schools) × (t.schools ≤ 200) };
+    ghost invariant = { λ t. (0 < t.schools) × (t.schools ≤ largest_count) };
 }
 
 impl MakeTask {
     /// The making of a district of so many schools.
     pub fn new(schools: u32) -> MakeTask
-        requires { (0 < schools) × (schools ≤ 200) }
+        requires { (0 < schools) × (schools ≤ largest_count) }
         ensures { result ≡ schools }
     {
         MakeTask { schools }
@@ -138,7 +142,7 @@ impl MakeTask {
     /// How many schools the district has.
     pub fn schools(&self) -> u32
         ensures value { result ≡ self.now }
-        ensures bounds { (0 < result) × (result ≤ 200) }
+        ensures bounds { (0 < result) × (result ≤ largest_count) }
     {
         self.schools
     }

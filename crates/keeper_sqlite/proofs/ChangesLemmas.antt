@@ -8,9 +8,9 @@ use Rattle.version_core.proofs.HistoryLemmas.{all_at}
 use Rattle.version_core.specs.Table.{LeadOn}
 use Rattle.version_core.specs.declared.change.Change.{Change}
 use Rattle.version_core.specs.declared.hub_tables.HubTables.{HubTables}
-use Rattle.hub_format.specs.Format.{FitsChange, items_of, own_grants, own_version}
+use Rattle.hub_format.specs.Format.{FitsChange, items_of, listed_of, own_grants, own_version}
 use Rattle.hub_format.specs.Pieces.{number}
-use Rattle.hub_format.proofs.TableListings.{IsToldBy, changes_told, listed_of, newest_from, none_told}
+use Rattle.hub_format.proofs.TableListings.{IsToldBy, changes_told, newest_from, none_told}
 use Rattle.keeper_sqlite.proofs.HubKeepingLemmas.{listed_alike}
 use Rattle.keeper_sqlite.specs.hub.Rows.{HasChanges}
 

@@ -13,11 +13,10 @@ use Rattle.version_core.specs.Table.{LeadOn}
 use Rattle.version_core.specs.Tables.{AreTables}
 use Rattle.version_core.specs.declared.change.Change.{Change}
 use Rattle.version_core.specs.declared.hub_tables.HubTables.{HubTables}
-use Rattle.hub_format.specs.Format.{Entry, Fit, Keep, format_entry, items_of, new_tables, where_label}
+use Rattle.hub_format.specs.Format.{Entry, Fit, Keep, format_entry, items_of, listed_of, new_tables, where_label}
 use Rattle.hub_format.proofs.Listing.{listed_where}
 use Rattle.hub_format.proofs.Orders.{same_number}
 use Rattle.hub_format.proofs.TableListings.{IsToldBy, base_grants_told, base_rows_told, changes_told, format_told}
-use Rattle.hub_format.proofs.TableListings.{listed_of}
 use Rattle.hub_format.proofs.Unique.{kept_once as kept_once_in_1}
 use Rattle.span_format.specs.Edits.{edits, first_edits, turn_edits}
 use Rattle.span_format.specs.Format.{FitSpans, FitsSpanCommit, KeepSpans, Span, items_in, own_spans}

@@ -7,6 +7,7 @@ ghost use Rattle.roster_base.specs.Faults.{CountsFailure};
 ghost use Rattle.item_maps.specs.Edits.{entry_of};
 ghost use Rattle.item_maps.specs.Items.{Items, listed};
 ghost use Rattle.item_store.specs.Stands.{StandsFor};
+ghost use Rattle.item_store.specs.declared.listing.TheConstants.{MOST_ITEMS};
 ghost use Rattle.keeper_sqlite.specs.Trust.{IsTrusted, MayHold, shown_by};
 ghost use Rattle.keeper_sqlite.specs.hub.Keeping.{Stay};
 
@@ -48,7 +49,7 @@ pub fn all_of<S: Alter>(
 }
 
 /// The first `limit` items of the area whose label is at least `from` and below `to`, in the order of label bytes. The
-/// limit is at most 10^15.
+/// limit is at most `MOST_ITEMS`.
 pub fn part_of<S: Alter>(
     alloc: Global,
     store: &mut ItemStore<S>,
@@ -57,7 +58,7 @@ pub fn part_of<S: Alter>(
     to: &[u8],
     limit: u64,
 ) -> Result<Vec<Item>, KeeperError>
-    requires { limit ≤ 1000000000000000 }
+    requires { limit ≤ MOST_ITEMS }
     ensures items { (m : Items) → StandsFor (state S.Store store.old.connection) m
         → IsTrusted (state S.Store store.new.connection)
         → IfOk result (λ items. map entry_of items.items ≡ take limit (listed area from.now to.now m)) }

@@ -4,7 +4,9 @@ ghost use Rattle.std.specs.Prelude.{◌≡◌, ◌∷◌, ◌++◌, [], IfOk, On
 ghost use Rattle.roster_base.specs.Faults.{CountsFailure};
 ghost use Rattle.item_maps.specs.Edits.{entry_of};
 ghost use Rattle.item_maps.specs.Items.{Items, listed};
+ghost use Rattle.hub_format.specs.Pieces.{labels_end};
 ghost use Rattle.keeper_sqlite.specs.Rest.{rest_of};
+ghost use Rattle.keeper_sqlite.specs.declared.rest.TheConstants.{PIECE};
 ghost use Rattle.keeper_sqlite.specs.hub.Keeping.{Stay};
 
 use crate::stored_items::StoredItems;
@@ -57,9 +59,9 @@ impl Rest {
     // Goes behind these items, which are the first of those that were still to be read.
     fn go_behind(&mut self, alloc: Global, items: &[Item]) -> Result<(), NoMemory>
         requires { self.old.is_over ≡ false }
-        ensures { (m : Items) → map entry_of items.now ≡ take 4096 (listed self.old.area self.old.from (255 ∷ []) m)
+        ensures { (m : Items) → map entry_of items.now ≡ take PIECE (listed self.old.area self.old.from labels_end m)
             → OnOk result (map entry_of items.now ++ rest_of self.new m
-            ≡ listed self.old.area self.old.from (255 ∷ []) m) }
+            ≡ listed self.old.area self.old.from labels_end m) }
     {
         if (items.len() as u64) < PIECE {
             self.is_over = true;

@@ -5,6 +5,7 @@ ghost use Rattle.roster_base.specs.Faults.{CountsError, CountsFailure};
 ghost use Rattle.roster_base.specs.declared.keeper.KeeperError.TheVariants as keeper;
 ghost use Rattle.item_maps.specs.Edits.{after, entry_of};
 ghost use Rattle.item_maps.specs.Items.{Items, listed};
+ghost use Rattle.item_store.specs.declared.listing.TheConstants.{MOST_ITEMS};
 ghost use Rattle.keeper_sqlite.specs.Trust.{Clean, KnownBehind, Sign};
 ghost use Rattle.keeper_sqlite.specs.hub.Keeping.{CameOf, Stay};
 
@@ -19,6 +20,7 @@ pub trait StoredItems: Drop {
     ghost use Rattle.roster_base.specs.declared.keeper.KeeperError.TheVariants as keeper;
     ghost use Rattle.item_maps.specs.Edits.{after, entry_of};
     ghost use Rattle.item_maps.specs.Items.{Items, listed};
+    ghost use Rattle.item_store.specs.declared.listing.TheConstants.{MOST_ITEMS};
     ghost use Rattle.keeper_sqlite.specs.Trust.{Clean, KnownBehind, Sign};
     ghost use Rattle.keeper_sqlite.specs.hub.Keeping.{CameOf, Stay};
 
@@ -63,7 +65,7 @@ pub trait StoredItems: Drop {
         ensures live { shows self.new Clean → OnOk result (is_trusted self.new) };
 
     /// The first `limit` items of the area whose label is at least `from` and below `to`, in the order of label bytes.
-    /// The items stay as they are. The limit is at most 10^15.
+    /// The items stay as they are. The limit is at most `MOST_ITEMS`.
     fn part_of(
         &mut self,
         alloc: Global,
@@ -72,7 +74,7 @@ pub trait StoredItems: Drop {
         to: &[u8],
         limit: u64,
     ) -> Result<Vec<Item>, KeeperError>
-        requires { limit ≤ 1000000000000000 }
+        requires { limit ≤ MOST_ITEMS }
         ensures items { (m : Items) → stands_for self.old m → is_trusted self.new
             → IfOk result (λ items. map entry_of items.items ≡ take limit (listed area from.now to.now m)) }
         ensures same { Stay (stands_for self.old) (stands_for self.new) }

@@ -19,19 +19,19 @@ use Rattle.roster_values.specs.declared.value.Value.{Value}
 abbrev pub is_text : Value → List ℕ → Bool
 is_text v text = str_eq_ignore_ascii_case (cell_text v) text
 
--- it is this one, or isn't; what isn't there is unequal to all
+-- the text is this one where that is wanted, and another one where it isn't; an absent value differs from all texts
 abbrev pub text_passes : Bool → List ℕ → Option Value → Bool
 text_passes true text None = false
 text_passes false text None = true
 text_passes true text (Some v) = is_text v text
 text_passes false text (Some v) = not (is_text v text)
 
--- all predicates but one ask how two things stand in order
+-- all predicates but `~` ask how two things stand in order
 abbrev pub is_of_order : Predicate → Bool
 is_of_order Contains = false
 is_of_order _ = true
 
--- the number of a value stands so to the wanted one, if that could be read; what isn't there is unequal to all
+-- the number of a value compares so with the wanted one, if that could be read; an absent value differs from all
 abbrev pub number_passes : Predicate → Option ℤ → Option Value → Bool
 number_passes predicate wanted None = is_not_equal predicate
 number_passes predicate wanted (Some v) = numbers_pass predicate (number_in (Some v)) wanted

@@ -2,6 +2,6 @@
 use Rattle.hub_spec.specs.rules.Reads as reads
 use Rattle.rest_provider.specs.declared.contents.Contents.{Contents}
 
--- the definition's contents, of the code's
+-- the contents that the code made, as the definition of a hub's reads names them
 abbrev pub contents_shown : Contents → reads.Contents
 contents_shown contents = record { body = contents.body; total = contents.total; links = contents.links }

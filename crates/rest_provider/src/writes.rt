@@ -14,6 +14,7 @@ ghost use Rattle.rest_provider.specs.Steps.{CountsFailed, DidRequest, TakesReque
 ghost use Rattle.rest_provider.specs.Writes.{DidWrite, TakesWrite, asked_at, asked_in_turn, reply_of, stop_reply};
 ghost use Rattle.roster_base.specs.Reading.{Gives};
 ghost use Rattle.version_core.specs.HubStates.{HubState};
+ghost use Rattle.version_core.specs.Outcomes.{deleted_outcome};
 
 use crate::answering::failing;
 use crate::checks::{caller_of, path_of};
@@ -170,11 +171,11 @@ fn cause_of(outcome: Outcome) -> Cause
 
 // The reply that tells what became of a write.
 fn reply_of(alloc: Global, request: &Request, written: Written) -> Reply
-    requires { written.outcome ≤ 9 }
+    requires { written.outcome ≤ deleted_outcome }
     ensures { result ≡ reply_of (wanted_by request.now) written }
 {
     let Some(outcome) = Outcome::from_number(written.outcome) else {
-        // Each number up to 9 is that of an outcome.
+        // Each number up to that of a deleted row is that of an outcome.
         unreachable!();
     };
     let mut reply = refused_at(alloc, request, written.version, cause_of(outcome));

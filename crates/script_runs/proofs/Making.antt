@@ -10,11 +10,12 @@ use Rattle.hub_commands.specs.Answers.{status_of}
 use Rattle.hub_commands.specs.declared.answer.Answer.{Answer}
 use Rattle.hub_commands.specs.declared.answer.End.{End}
 use Rattle.hub_commands.specs.declared.answer.End.TheVariants.{NoMemory, Synced}
+use Rattle.hub_words.specs.Words.{usual_keep}
 use Rattle.made_districts.specs.Districts.{made_files}
 use Rattle.outside_ports.specs.Files.{Stored}
 use Rattle.script_runs.specs.Makings.{CopiesEnd, IsMakeAnswer, MakesDistrict, MakesIn, Publishes, grant_line, set_line}
 use Rattle.script_runs.specs.Plays.{HubStep}
-use Rattle.script_runs.specs.Runs.{Opens, usual_keep}
+use Rattle.script_runs.specs.Runs.{Opens}
 use Rattle.script_runs.specs.declared.play.Play.{Play}
 use Rattle.world_scripts.specs.declared.script.HubLine.{HubLine}
 

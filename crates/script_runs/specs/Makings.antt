@@ -8,13 +8,14 @@ use Rattle.hub_commands.specs.declared.answer.Answer.{Answer}
 use Rattle.hub_commands.specs.declared.answer.End.{End}
 use Rattle.hub_commands.specs.declared.answer.End.TheVariants.{NoMemory, Synced}
 use Rattle.hub_words.specs.Tasks.{Task}
+use Rattle.hub_words.specs.Words.{usual_keep}
 use Rattle.hub_words.specs.declared.task.Feed.{Feed}
-use Rattle.keeper_memory.specs.copy.Copies.{Copy, held_list}
+use Rattle.keeper_memory.specs.copy.Copies.{Copy, held_list, largest_limit}
 use Rattle.made_districts.specs.Districts.{dir, made_files}
 use Rattle.roster_values.specs.Kinds.{all_kinds, plural_of}
 use Rattle.roster_values.specs.declared.kind.Kind.{Kind}
 use Rattle.script_runs.specs.Plays.{HubStep, Synchronises, exchanges_text}
-use Rattle.script_runs.specs.Runs.{Opens, usual_keep}
+use Rattle.script_runs.specs.Runs.{Opens}
 use Rattle.script_runs.specs.declared.play.Play.{Play}
 use Rattle.world_scripts.specs.declared.script.HubLine.{HubLine}
 use Rattle.world_scripts.specs.declared.script.HubLine.TheVariants as line
@@ -31,9 +32,9 @@ set_line = line.Set made_feed
 abbrev pub grant_line : HubLine
 grant_line = line.Grant (codes "grants.csv")
 
--- the synchronisation that copies it, by pages of 1,000 rows, each asked for once
+-- the synchronisation that copies it, by the largest pages, each asked for once
 abbrev pub made_task : Task
-made_task = record { token = codes "make"; limit = 1000; tries = 1 }
+made_task = record { token = codes "make"; limit = largest_limit; tries = 1 }
 
 -- the line that tells how many schools were made
 abbrev pub schools_line : ℕ → List ℕ

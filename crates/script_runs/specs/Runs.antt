@@ -2,6 +2,7 @@
 use Rattle.std.specs.Prelude.{◌≡◌, ◌≤◌, ◌<◌, ⊤, ℕ, ℤ, List, [], ◌∷◌, Option, length, pos, take}
 use Rattle.std.specs.Io.KnownBytes.{Appends}
 use Rattle.std.specs.List.{flat_map}
+use Rattle.hub_words.specs.Words.{usual_keep}
 use Rattle.keeper_memory.specs.Calls.{CallsLead}
 use Rattle.keeper_memory.specs.Failures.{planned}
 use Rattle.keeper_memory.specs.copy.HeldCopy.{empty_copy}
@@ -20,10 +21,6 @@ use Rattle.world_scripts.specs.declared.script.Line.{Line}
 use Rattle.world_scripts.specs.declared.script.Line.TheVariants as line
 
 -- ---- how a world begins
-
--- how many versions a hub keeps beside the newest where nothing says so
-abbrev pub usual_keep : ℕ
-usual_keep = 10_000
 
 -- how many versions the hub of a script keeps beside the newest
 abbrev pub keep_in : List Line → ℕ

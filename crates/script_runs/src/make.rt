@@ -1,6 +1,7 @@
 //! The command `make`.
 
 ghost use Rattle.std.specs.Prelude.{◌≡◌, ◌++◌, ◌≤◌, ℕ, IfOk, List, OnOk, Some, string_bytes};
+ghost use Rattle.hub_words.specs.Tasks.{largest_count};
 ghost use Rattle.script_runs.specs.Makings as makings;
 ghost use Rattle.script_runs.specs.Plays.{HubStep, Sound};
 
@@ -121,7 +122,7 @@ fn summary(alloc: Global, count: u16, play: &mut Play) -> Result<String, NoMemor
 
 // Publishes the district, and grants what its file of grants asks for.
 fn publish(alloc: Global, count: u16, play: &mut Play) -> Result<(), NoMemory>
-    requires count { count ≤ 200 }
+    requires count { count ≤ largest_count }
     requires sound { Sound play.old }
     ensures publishes { OnOk result (makings.Publishes count play.old play.new) }
     ensures sound { OnOk result (Sound play.new) }
@@ -151,7 +152,7 @@ fn copy(alloc: Global, count: u16, play: &mut Play) -> Result<Answer, NoMemory>
 
 // Makes a district in a world that holds nothing.
 fn make_in(alloc: Global, count: u16, play: &mut Play) -> Result<Answer, NoMemory>
-    requires count { count ≤ 200 }
+    requires count { count ≤ largest_count }
     requires sound { Sound play.old }
     ensures { IfOk result (makings.MakesIn count play.old) }
 {
@@ -161,7 +162,7 @@ fn make_in(alloc: Global, count: u16, play: &mut Play) -> Result<Answer, NoMemor
 
 // Makes a district in a world of its own, or finds no memory for it.
 fn made(alloc: Global, count: u16) -> Result<Answer, NoMemory>
-    requires { count ≤ 200 }
+    requires { count ≤ largest_count }
     ensures { IfOk result (λ a. makings.IsMakeAnswer count a.done a.end) }
 {
     match Play::open(alloc, USUAL_KEEP) {

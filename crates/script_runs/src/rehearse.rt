@@ -14,7 +14,7 @@ use roster_base::{Bytes, Refusal, Text};
 use std::alloc::Global;
 use world_scripts::{Script, read_script};
 
-// The end that a script's end brings; none where the sink failed.
+// The end of the command by how its script ended; none where the sink failed, since then nothing can be told.
 fn end_in(end: ScriptEnd) -> Option<End>
     ensures { result ≡ rehearsals.end_in end }
 {
@@ -67,8 +67,9 @@ fn rehearse_bytes<F: Folder, O: Sink>(
 }
 
 /// Runs the script of a file in the root folder, in a world of its own, and writes what its lines print as they are
-/// run. Gives the status of the process: 0 where all lines were run, 1 where the sink failed, 3 where the folder
-/// failed, 4 where the file is refused, 17 where memory ran out.
+/// run. Gives the status of the process, one of `hub_words::statuses`: `DONE` where all lines were run, `OUTPUT_FAILED`
+/// where the sink failed, `FOLDER_FAILED` where the folder failed, `REFUSED` where the file is refused, and `NO_MEMORY`
+/// where memory ran out.
 pub fn rehearse<F: Folder, O: Sink>(alloc: Global, file: &Text, folder: &mut F, out: &mut O) -> u8
     ensures { WritesBetween O.written O.faults out.old out.new result
         (λ a. rehearsals.IsRehearseAnswer (F.files folder.old) (faults_between F.faults folder.old folder.new) file.now a.done a.end) }

@@ -27,7 +27,7 @@ pub enum ScriptEnd {
     NoMemory,
 }
 
-// How many versions the hub keeps beside the newest.
+// How many versions the hub keeps beside the newest: as many as the first line says, or else the usual number.
 fn keep_in(lines: &[Line]) -> u32
     ensures { result ≡ runs.keep_in lines.now }
 {

@@ -9,13 +9,13 @@ use Rattle.version_core.specs.Tables.{AreTables}
 use Rattle.version_core.specs.declared.change.Change.{Change}
 use Rattle.version_core.specs.declared.hub_tables.HubTables.{HubTables}
 use Rattle.hub_format.specs.Format.{Entry, Fit, items_of, of_changes, own_rows, own_version, rows_under, state_entry}
-use Rattle.hub_format.specs.Format.{where_label}
+use Rattle.hub_format.specs.Format.{listed_of, where_label}
 use Rattle.hub_format.specs.Pieces.{key_label, number}
 use Rattle.hub_format.proofs.Acts.{by_area}
 use Rattle.hub_format.proofs.Decoding.{state_back}
 use Rattle.hub_format.proofs.Listing.{listed_sorted}
 use Rattle.hub_format.proofs.Marking.{same_parts}
-use Rattle.hub_format.proofs.TableListings.{IsToldBy, changes_told, listed_of, newest_from, none_told}
+use Rattle.hub_format.proofs.TableListings.{IsToldBy, changes_told, newest_from, none_told}
 use Rattle.hub_format.proofs.Unique.{number_fits, same_tables}
 use Rattle.span_format.specs.Format.{AreSpans, FitSpans, KeepSpans, Span, items_in, own_spans, span_entry, span_key}
 use Rattle.span_format.specs.Format.{spans_from}

@@ -13,13 +13,14 @@ use Rattle.version_core.specs.declared.row_change.RowChange.{RowChange}
 use Rattle.hub_format.specs.Areas.{base_rows_area, change_rows_area, format_area, grants_area, names_area, spans_area}
 use Rattle.hub_format.specs.Areas.{state_area, versions_area}
 use Rattle.hub_format.specs.Edits.{clear_version, mark_edits, moved, put_at, puts}
-use Rattle.hub_format.specs.Format.{Entry, format_entry, own_grants, state_entry, version_entry}
-use Rattle.hub_format.specs.Pieces.{key_label, number}
+use Rattle.hub_format.specs.Format.{Entry, format_entry, own_grants, state_entry, version_entry, written_format}
+use Rattle.hub_format.specs.Pieces.{key_label, labels_end, number}
 use Rattle.span_format.specs.Format.{Span, own_names, own_spans, span_entry, span_key, spans_from}
 
 -- the format, and the state of version 0
 abbrev pub first_edits : ℕ → List Edit
-first_edits keep = put_at format_area (format_entry 2) ∷ put_at state_area (state_entry keep empty_version) ∷ []
+first_edits keep =
+    put_at format_area (format_entry written_format) ∷ put_at state_area (state_entry keep empty_version) ∷ []
 
 -- one change more
 abbrev pub added : Change → List Edit
@@ -71,5 +72,6 @@ brought (change ∷ changes) =
 -- left empty
 abbrev pub turn_edits : HubTables → List Edit
 turn_edits t =
-    put_at format_area (format_entry 2) ∷ Clear base_rows_area [] (255 ∷ []) ∷ Clear change_rows_area [] (255 ∷ [])
+    put_at format_area (format_entry written_format)
+    ∷ Clear base_rows_area [] labels_end ∷ Clear change_rows_area [] labels_end
     ∷ puts spans_area (map span_entry (spans_from t.base.number t.base.rows)) ++ brought t.changes

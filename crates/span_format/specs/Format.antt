@@ -17,7 +17,7 @@ use Rattle.version_core.specs.declared.row_change.RowChange.{RowChange}
 use Rattle.hub_format.specs.Areas.{format_area, grants_area, marks_area, names_area, spans_area, state_area}
 use Rattle.hub_format.specs.Areas.{versions_area}
 use Rattle.hub_format.specs.Format.{Entry, Fit, FitsCommit, format_entry, grants_under, mark_entry, of_changes}
-use Rattle.hub_format.specs.Format.{own_grants, own_version, state_entry}
+use Rattle.hub_format.specs.Format.{own_grants, own_version, state_entry, written_format}
 use Rattle.hub_format.specs.Pieces.{HasNoZero, key_label, number, row_body}
 
 -- a row, and the number of the version in which it came
@@ -55,7 +55,7 @@ own_names change = map (name_entry change.version) change.rows
 -- the entries of each area, by the spans of the base's rows
 abbrev pub area_in : List Span → HubTables → ℕ → List Entry
 area_in base t area =
-    if area == format_area then format_entry 2 ∷ []
+    if area == format_area then format_entry written_format ∷ []
     else if area == state_area then state_entry t.keep t.base ∷ []
     else if area == versions_area then of_changes own_version t.changes
     else if area == grants_area then of_changes own_grants t.changes ++ grants_under t.base.number t.base.grants

@@ -5,7 +5,8 @@ ghost use Rattle.std.specs.List.{AllByRecursion};
 ghost use Rattle.item_maps.specs.declared.item.Edit.TheVariants.{Clear};
 ghost use Rattle.hub_format.specs.Areas.{base_rows_area, change_rows_area, format_area, names_area, spans_area};
 ghost use Rattle.hub_format.specs.Edits.{put_at, puts};
-ghost use Rattle.hub_format.specs.Format.{FitsChange, format_entry};
+ghost use Rattle.hub_format.specs.Format.{FitsChange, format_entry, written_format};
+ghost use Rattle.hub_format.specs.Pieces.{labels_end};
 ghost use Rattle.span_format.specs.Edits.{added, brought, turn_edits};
 ghost use Rattle.span_format.specs.Format.{FitSpans, HasPlainIds, own_names, own_spans};
 
@@ -31,7 +32,8 @@ pub(crate) fn added_edits(alloc: Global, change: &Change) -> Result<Vec<Edit>, N
     Ok(edits)
 }
 
-// Adds the edits that store the spans and the names of a change. Its rows are dropped as they are written.
+// Adds the edits that store the spans and the names of a change from format 1. Its rows are dropped as they are
+// written.
 fn bring(alloc: Global, edits: &mut Vec<Edit>, change: Change) -> Result<(), NoMemory>
     ensures edits { OnOk result
         (edits.new.items ≡ edits.old.items
@@ -59,7 +61,7 @@ fn bring_all(alloc: Global, edits: &mut Vec<Edit>, changes: Items<Change>) -> Re
 
 // The edit that takes away all rows of an area. No label of a row begins with 255.
 fn clear_rows(alloc: Global, area: u32) -> Result<Edit, NoMemory>
-    ensures { IfOk result (λ edit. edit ≡ Clear area [] (255 ∷ [])) }
+    ensures { IfOk result (λ edit. edit ≡ Clear area [] labels_end) }
 {
     Ok(Edit::Clear {
         area,
@@ -72,8 +74,8 @@ fn clear_rows(alloc: Global, area: u32) -> Result<Edit, NoMemory>
 // has for them.
 fn format_edits(alloc: Global) -> Result<Vec<Edit>, NoMemory>
     ensures { IfOk result (λ edits. edits.items
-        ≡ put_at format_area (format_entry 2) ∷ Clear base_rows_area [] (255 ∷ [])
-        ∷ Clear change_rows_area [] (255 ∷ []) ∷ []) }
+        ≡ put_at format_area (format_entry written_format) ∷ Clear base_rows_area [] labels_end
+        ∷ Clear change_rows_area [] labels_end ∷ []) }
 {
     let mut edits = Vec::new(alloc);
     edits.push(put_format(alloc, WRITTEN_FORMAT)?)?;

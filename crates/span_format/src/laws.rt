@@ -1,6 +1,6 @@
 //! Laws on the items of a hub's state in format 2. Each function here does nothing; its contract is a law.
 
-ghost use Rattle.std.specs.Prelude.{◌≡◌, ◌<◌, ◌^◌, ◌+◌, ◌&&◌, [], ◌∷◌, ℕ, List, map};
+ghost use Rattle.std.specs.Prelude.{◌≡◌, ◌<◌, ◌^◌, ◌&&◌, [], ◌∷◌, ℕ, List, map};
 ghost use Rattle.std.specs.List.{AllByRecursion};
 ghost use Rattle.std.specs.Ordering.{is_eq, is_lt, nat_cmp};
 ghost use Rattle.item_maps.specs.Edits.{after};
@@ -13,8 +13,8 @@ ghost use Rattle.version_core.specs.Tables.{AreTables};
 ghost use Rattle.version_core.specs.declared.change.Change.{Change};
 ghost use Rattle.version_core.specs.declared.hub_tables.HubTables.{HubTables};
 ghost use Rattle.hub_format.specs.Areas.{names_area, spans_area};
-ghost use Rattle.hub_format.specs.Format.{Keep, new_tables, where_label};
-ghost use Rattle.hub_format.specs.Pieces.{HasNoZero, number};
+ghost use Rattle.hub_format.specs.Format.{Keep, listed_of, new_tables, where_label};
+ghost use Rattle.hub_format.specs.Pieces.{HasNoZero, labels_end};
 ghost use Rattle.span_format.specs.Edits.{edits, first_edits, turn_edits};
 ghost use Rattle.span_format.specs.Format.{AreSpans, FitSpans, FitsSpanCommit, KeepSpans, Span, items_in, own_names};
 ghost use Rattle.span_format.specs.Format.{own_spans, span_entry, span_label};
@@ -49,18 +49,18 @@ pub fn turned_items_keep_the_state()
 /// each change.
 pub fn items_tell_the_spans()
     ensures base { (base : List Span) (t : HubTables) → AreTables t → AreSpans base t.base → FitSpans t
-        → where_label (came_within 0 t.base.number) (listed spans_area [] (255 ∷ []) (items_in base t))
+        → where_label (came_within 0 t.base.number) (listed spans_area [] labels_end (items_in base t))
         ≡ map span_entry base }
     ensures changes { (base : List Span) (t : HubTables) → AreTables t → AreSpans base t.base → FitSpans t
         → AllByRecursion (λ change. where_label (came_within change.version change.version)
-        (listed spans_area [] (255 ∷ []) (items_in base t)) ≡ own_spans change) t.changes }
+        (listed spans_area [] labels_end (items_in base t)) ≡ own_spans change) t.changes }
 {}
 
 /// Behind the version of the oldest change the names of its rows are listed.
 pub fn items_tell_the_oldest_names()
     ensures { (base : List Span) (t : HubTables) (oldest : Change) (rest : List Change) → AreTables t
         → t.changes ≡ oldest ∷ rest
-        → listed names_area (number oldest.version) (number (oldest.version + 1)) (items_in base t) ≡ own_names oldest }
+        → listed_of names_area oldest.version (items_in base t) ≡ own_names oldest }
 {}
 
 /// Items keep one state at most.

@@ -9,7 +9,7 @@ ghost use Rattle.exchange_link.specs.Synchronised.{Synchronised, held_at};
 ghost use Rattle.hub_core.specs.Standing.{KeeperFits};
 ghost use Rattle.hub_core.specs.Steps.{MakesNext};
 ghost use Rattle.keeper_memory.specs.Kept.{KeptState};
-ghost use Rattle.keeper_memory.specs.copy.Copies.{Copy};
+ghost use Rattle.keeper_memory.specs.copy.Copies.{Copy, largest_limit, largest_tries};
 ghost use Rattle.keeper_sqlite.specs.Stored.{CopyStands, HubStands, IsSound};
 ghost use Rattle.keeper_sqlite.specs.Trust.{IsQuiet, IsTrusted};
 ghost use Rattle.keeper_sqlite.specs.copy.Keeping as copy_keeping;
@@ -47,8 +47,8 @@ pub fn sync_stored<S: Alter + Drop>(
     limit: u32,
     tries: u32,
 ) -> SyncAnswer
-    requires limit { (0 < limit) × (limit ≤ 1000) }
-    requires tries { (0 < tries) × (tries ≤ 100) }
+    requires limit { (0 < limit) × (limit ≤ largest_limit) }
+    requires tries { (0 < tries) × (tries ≤ largest_tries) }
     requires sound { IsSound copy_keeping.KeepOrNew (state S.Store copy.old.1.store.connection)
         (state S.Store copy.old.0.store.connection) }
     requires agree { (c : Copy)
@@ -93,7 +93,7 @@ pub fn send_stored<S: Alter + Drop>(
     token: &Token,
     tries: u32,
 ) -> SendAnswer
-    requires tries { (0 < tries) × (tries ≤ 100) }
+    requires tries { (0 < tries) × (tries ≤ largest_tries) }
     requires sound { IsSound copy_keeping.KeepOrNew (state S.Store copy.old.1.store.connection)
         (state S.Store copy.old.0.store.connection) }
     requires agree { (c : Copy)

@@ -33,7 +33,7 @@ const CATEGORY: Reply = (
     "{\"categories\":[{\"dateLastModified\":\"2024-08-01T12:00:00.000Z\",\"sourcedId\":\"c2\",\"status\":\"active\",\"title\":\"Quiz\"}]}",
 );
 
-/// A kind that the token doesn't open.
+/// A kind that the token doesn't open in version 2.
 pub const SHUT: Reply = ("HTTP/1.1 403 Forbidden\r\nX-Hub-Version: 2", "");
 
 /// The replies to the requests behind the first page of version 2.
@@ -47,7 +47,7 @@ pub const LATER_ORG: Reply = (
     "{\"orgs\":[{\"dateLastModified\":\"2024-09-01T00:00:00.000Z\",\"name\":\"West\",\"sourcedId\":\"s2\",\"status\":\"active\",\"type\":\"school\"}]}",
 );
 
-/// A kind that the token doesn't open.
+/// A kind that the token doesn't open in version 5.
 pub const LATER_SHUT: Reply = ("HTTP/1.1 403 Forbidden\r\nX-Hub-Version: 5", "");
 
 /// The replies to a whole copy of version 5.

@@ -9,14 +9,13 @@ use Rattle.rest_provider.specs.Steps.{CountsFailed}
 use Rattle.status_info.specs.declared.reply.Reply.{Reply}
 use Rattle.status_info.specs.declared.request.Request.{Request}
 use Rattle.sync_world.proofs.WalkLemmas.{by_step}
-use Rattle.sync_world.specs.Deliveries.{Becomes, Carried, Delivered, Gives, IsCome, Notes, OnCome, coming}
+use Rattle.sync_world.specs.Deliveries.{Becomes, Carried, Delivered, Gives, IsCome, Notes, OnCome, Scene, coming}
 use Rattle.sync_world.specs.Happenings.{Passed}
 use Rattle.sync_world.specs.Own.{IsOwnText}
 use Rattle.sync_world.specs.Planned.{events_aside, events_at}
 use Rattle.sync_world.specs.Worlds.{HeldWorld}
-use Rattle.sync_world.specs.declared.acts.Saying.{Saying}
 use Rattle.sync_world.specs.declared.past.Past.{Past}
-use Rattle.sync_world.specs.declared.traffic.Event.{Event}
+use Rattle.sync_world.specs.declared.traffic.Exchange.{Exchange}
 use Rattle.sync_world.specs.declared.traffic.Fate.{Fate}
 
 -- the hub's own reply to a request that it took
@@ -44,16 +43,16 @@ module _ {T : Type 0} (items : T → List ℕ) where
 pub is_delivered : {T S : Type 0} (items : T → List ℕ) (shown : S → List ℕ) (r : Result T IoError) (reply : Result S IoError) (f : Fate) (number : ℕ) (q request : Request) (at : ℤ) (told past past' : List Past) (before after : HeldWorld)
     → request ≡ q → told ≡ past → OnCome shown (Becomes f told request at before after) reply
     → OnCome items (λ came. (would : Option (List ℕ)) × IsCome shown would reply × Notes number request would past past' × (came ≡ coming f would)) r
-    → OnCome items (Delivered f number q at past past' before after) r
+    → OnCome items (Delivered (record { number = number; at = at; fate = f }) q past past' before after) r
 is_delivered items shown r reply f number q request at told past past' before after same here becomes noted =
-    subst (λ (x : Request). OnCome items (Delivered f number x at past past' before after) r) same
-    (on_come_each items (λ came. (would : Option (List ℕ)) × IsCome shown would reply × Notes number request would past past' × (came ≡ coming f would)) (Delivered f number request at past past' before after) r
+    subst (λ (x : Request). OnCome items (Delivered (record { number = number; at = at; fate = f }) x past past' before after) r) same
+    (on_come_each items (λ came. (would : Option (List ℕ)) × IsCome shown would reply × Notes number request would past past' × (came ≡ coming f would)) (Delivered (record { number = number; at = at; fate = f }) request past past' before after) r
     (λ came is. record { would = is.0; becomes = come_is shown (Becomes f past request at before after) is.0 reply is.1 (subst (λ (p : List Past). OnCome shown (Becomes f p request at before after) reply) here becomes); noted = is.2; comes = is.3 }) noted)
 
 -- and what was planned came to pass before
-pub is_carried : {T : Type 0} (items : T → List ℕ) (r : Result T IoError) (f : Fate) (number : ℕ) (q : Request) (at : ℤ) (past past' : List Past) (events events' : List Event) (before mid after : HeldWorld) (said said' : List Saying)
-    → Passed past at (events_at number events) before mid said said' → events' ≡ events_aside number events → OnCome items (Delivered f number q at past past' mid after) r
-    → OnCome items (Carried f number q at past past' events events' before after said said') r
-is_carried items r f number q at past past' events events' before mid after said said' passed aside delivered =
-    on_come_each items (Delivered f number q at past past' mid after) (Carried f number q at past past' events events' before after said said') r
+pub is_carried : {T : Type 0} (items : T → List ℕ) (r : Result T IoError) (exchange : Exchange) (q : Request) (old new : Scene) (mid : HeldWorld)
+    → Passed old.past exchange.at (events_at exchange.number old.events) old.world mid old.said new.said → new.events ≡ events_aside exchange.number old.events
+    → OnCome items (Delivered exchange q old.past new.past mid new.world) r → OnCome items (Carried exchange q old new) r
+is_carried items r exchange q old new mid passed aside delivered =
+    on_come_each items (Delivered exchange q old.past new.past mid new.world) (Carried exchange q old new) r
     (λ came is. record { mid = mid; passed = passed; aside = aside; delivered = is }) delivered

@@ -20,7 +20,7 @@ use Rattle.status_info.specs.declared.request.Request.{Request}
 use Rattle.sync_world.specs.Links.{HeldLink, world_state, world_of}
 use Rattle.sync_world.specs.Deliveries.{Carried}
 use Rattle.sync_world.specs.Planned.{fate_at}
-use Rattle.sync_world.specs.Traffic.{Counts, Keeps, LinkLeads, Round}
+use Rattle.sync_world.specs.Traffic.{Counts, Keeps, LinkLeads, Round, scene_of}
 use Rattle.sync_world.specs.declared.traffic.Fate.{Fate}
 use Rattle.sync_world.specs.Own.{IsOwnText}
 use Rattle.exchange_link.specs.Exchanges.{IsLate}
@@ -177,7 +177,7 @@ noted_or past past' q broken broken' into (inr (is, same)) = inr (into is, ap re
 -- one that wanted no memory
 pub came_leads : (old new : HeldLink) (q : Request) (came : Option (List ℕ)) (fate : Fate) (number : ℕ) → number ≡ one_more old.asked → new.asked ≡ one_more old.asked → fate ≡ fate_at old.fates number → Walks (world_of old) (world_of new)
     → new.sent ≡ q ∷ old.sent → new.clock ≡ old.clock → new.fates ≡ old.fates → new.wanted ≡ old.wanted
-    → Carried fate number q old.clock old.past new.past old.events new.events (world_of old) (world_of new) old.said new.said came → Keeps (is_stale fate) came old new → LinkLeads old new
+    → Carried (record { number = number; at = old.clock; fate = fate }) q (scene_of old) (scene_of new) came → Keeps (is_stale fate) came old new → LinkLeads old new
 came_leads old new q came fate number is_number asked is_fate walks sent clock fates wanted carried keeps =
     let same : number ≡ new.asked = is_number ∙ sym asked in
     let planned : fate ≡ fate_at old.fates new.asked = is_fate ∙ ap (fate_at old.fates) same in
@@ -185,8 +185,8 @@ came_leads old new q came fate number is_number asked is_fate walks sent clock f
       asked = asked;
       request = q;
       came = came;
-      carried = subst (λ (f : Fate). Carried f new.asked q old.clock old.past new.past old.events new.events (world_of old) (world_of new) old.said new.said came) planned
-          (subst (λ (n : ℕ). Carried fate n q old.clock old.past new.past old.events new.events (world_of old) (world_of new) old.said new.said came) same carried);
+      carried = subst (λ (f : Fate). Carried (record { number = new.asked; at = old.clock; fate = f }) q (scene_of old) (scene_of new) came) planned
+          (subst (λ (n : ℕ). Carried (record { number = n; at = old.clock; fate = fate }) q (scene_of old) (scene_of new) came) same carried);
       keeps = subst (λ (f : Fate). Keeps (is_stale f) came old new) planned keeps;
       clock = clock;
       fates = fates;

@@ -14,6 +14,7 @@ use Rattle.sync_world.specs.Worlds.{HeldWorld}
 use Rattle.sync_world.specs.declared.acts.Saying.{Saying}
 use Rattle.sync_world.specs.declared.past.Past.{Past}
 use Rattle.sync_world.specs.declared.traffic.Event.{Event}
+use Rattle.sync_world.specs.declared.traffic.Exchange.{Exchange}
 use Rattle.sync_world.specs.declared.traffic.Fate.{Fate}
 use Rattle.sync_world.specs.declared.traffic.Fate.TheVariants as fate
 
@@ -40,18 +41,26 @@ coming fate.ReplyLost would = None
 coming _ would = would
 
 -- an exchange was made and noted: the reply that comes, or would come, and whether it does
-pub record Delivered (fate : Fate) (number : ℕ) (request : Request) (at : ℤ) (past past' : List Past) (before after : HeldWorld) (came : Option (List ℕ)) : Type 0 where
+pub record Delivered (exchange : Exchange) (request : Request) (past past' : List Past) (before after : HeldWorld) (came : Option (List ℕ)) : Type 0 where
   pub would : Option (List ℕ)
-  pub becomes : Becomes fate past request at before after would
-  pub noted : Notes number request would past past'
-  pub comes : came ≡ coming fate would
+  pub becomes : Becomes exchange.fate past request exchange.at before after would
+  pub noted : Notes exchange.number request would past past'
+  pub comes : came ≡ coming exchange.fate would
+
+-- what an exchange may change: the exchanges that were made, the events that are still to come, the world, and what is
+-- told of what others did
+pub record Scene : Type 0 where
+  pub past : List Past
+  pub events : List Event
+  pub world : HeldWorld
+  pub said : List Saying
 
 -- what was planned for an exchange came to pass, and then it was made
-pub record Carried (fate : Fate) (number : ℕ) (request : Request) (at : ℤ) (past past' : List Past) (events events' : List Event) (before after : HeldWorld) (said said' : List Saying) (came : Option (List ℕ)) : Type 0 where
+pub record Carried (exchange : Exchange) (request : Request) (old new : Scene) (came : Option (List ℕ)) : Type 0 where
   pub mid : HeldWorld
-  pub passed : Passed past at (events_at number events) before mid said said'
-  pub aside : events' ≡ events_aside number events
-  pub delivered : Delivered fate number request at past past' mid after came
+  pub passed : Passed old.past exchange.at (events_at exchange.number old.events) old.world mid old.said new.said
+  pub aside : new.events ≡ events_aside exchange.number old.events
+  pub delivered : Delivered exchange request old.past new.past mid new.world came
 
 -- ---- what calls give
 

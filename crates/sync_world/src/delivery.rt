@@ -81,11 +81,16 @@ fn reply_to(
     }
 }
 
-// Adds an exchange where there is room for it.
-fn push_in_room(past: &mut Vec<Past>, made: Past)
+// Notes an exchange where there is room for it, with the reply that would come.
+fn enter(past: &mut Vec<Past>, exchange: u64, request: Request, reply: Option<Vec<u8>>)
     requires { vec_len past.old < vec_capacity past.old }
-    ensures { past.new.items ≡ past.old.items ++ made ∷ [] }
+    ensures { past.new.items ≡ past.old.items ++ record { exchange = exchange; request = request; reply = reply } ∷ [] }
 {
+    let made = Past {
+        exchange,
+        request,
+        reply,
+    };
     if past.push(made).is_err() {
         unreachable!();
     }
@@ -132,37 +137,16 @@ fn note(
 {
     match reply {
         Err(error) => {
-            push_in_room(
-                past,
-                Past {
-                    exchange,
-                    request,
-                    reply: None,
-                },
-            );
+            enter(past, exchange, request, None);
             Err(error)
         }
         Ok(reply) => match copy_of(alloc, reply.as_slice()) {
             Ok(copy) => {
-                push_in_room(
-                    past,
-                    Past {
-                        exchange,
-                        request,
-                        reply: Some(copy),
-                    },
-                );
+                enter(past, exchange, request, Some(copy));
                 comes(reply, fate)
             }
             Err(NoMemory) => {
-                push_in_room(
-                    past,
-                    Past {
-                        exchange,
-                        request,
-                        reply: None,
-                    },
-                );
+                enter(past, exchange, request, None);
                 Err(IoError::NoMemory)
             }
         },
@@ -187,7 +171,7 @@ pub fn deliver(
     ensures late { is_stale fate ≡ true → IfOk result (λ reply. IsLate (requests_in past.old.items) reply.items) }
     ensures lost { IsLost fate → IsErr result }
     ensures exact { result ≡ Err io_error.Failed → MayFail fate past.old.items }
-    ensures delivered { (q : Asked) → IsTextOf q text.now → OnCome (λ reply. reply.items) (Delivered fate exchange q at past.old.items past.new.items world.old world.new) result }
+    ensures delivered { (q : Asked) → IsTextOf q text.now → OnCome (λ reply. reply.items) (Delivered (record { number = exchange; at = at; fate = fate }) q past.old.items past.new.items world.old world.new) result }
 {
     let alloc = *past.allocator();
     let request = request_of(alloc, text)?;

@@ -1,6 +1,7 @@
 //! The synchronisation over a world.
 
 ghost use Rattle.std.specs.Prelude.{◌≡◌, ◌≢◌, ℕ, ℤ, ◌+◌, ◌<◌, ◌≤◌, Some};
+ghost use Rattle.keeper_memory.specs.copy.Copies.{largest_limit, largest_tries};
 ghost use Rattle.keeper_memory.specs.Failures.{FailurePlan};
 ghost use Rattle.keeper_memory.specs.copy.HeldCopy.{empty_copy};
 ghost use Rattle.keeper_memory.specs.copy.States.{stage_of};
@@ -33,8 +34,8 @@ pub fn sync_over(
     limit: u32,
     tries: u32,
 ) -> SyncAnswer
-    requires limit { (0 < limit) × (limit ≤ 1000) }
-    requires tries { (0 < tries) × (tries ≤ 100) }
+    requires limit { (0 < limit) × (limit ≤ largest_limit) }
+    requires tries { (0 < tries) × (tries ≤ largest_tries) }
     requires agree { StageAgrees copy.old.copy (link_state link.old) }
     // Copy and world agree again, and the copy has become what a synchronisation promises.
     ensures synchronised { Synchronised token.now result copy.old.copy (link_state link.old) copy.new.copy (link_state link.new) }

@@ -83,7 +83,8 @@ fn carry(
     ensures lost { IsLost exchange.now.fate → IsErr result }
     ensures exact { result ≡ Err io_error.Failed → MayFail exchange.now.fate past.old.items }
     ensures carried { (q : Asked) → IsTextOf q request.now → OnCome (λ reply. reply.items)
-        (Carried exchange.now.fate exchange.now.number q exchange.now.at past.old.items past.new.items events.old.items events.new.items world.old world.new said.old.items said.new.items) result }
+        (Carried exchange.now q (record { past = past.old.items; events = events.old.items; world = world.old; said = said.old.items })
+        (record { past = past.new.items; events = events.new.items; world = world.new; said = said.new.items })) result }
 {
     let Exchange { number, at, fate } = *exchange;
     match come_to_pass(world, past.as_slice(), events, number, at, said) {

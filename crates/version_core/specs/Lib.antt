@@ -7,6 +7,7 @@ pub mod Marks
 pub mod MarksInside
 pub mod Merge
 pub mod Order
+pub mod Outcomes
 pub mod RefIndex
 pub mod References
 pub mod Room

@@ -44,7 +44,7 @@ const GONE: &str =
     e2,tobedeleted,2024-08-01T12:00:00.000Z,k2,s2,u2,student,,,\n\
     e3,tobedeleted,2024-08-01T12:00:00.000Z,k2,s2,u3,teacher,true,,\n";
 
-// The set has its category without a date, so that it is always told.
+// The set's category has no date there, so that an export since the set always tells it.
 #[rattlefmt::skip]
 static PRINTED: [Step; 13] = [
     (District, Nothing, "publish sis=lake", 0, "sis version 1\n"),
@@ -81,6 +81,7 @@ fn exported(rt: &impl Abort, alloc: Global, hubs: &mut Hubs) -> Result<MemFolder
     Ok(MemFolder::new(files, Vec::new(alloc)))
 }
 
+// The region copies two sets of the district.
 #[rattlefmt::skip]
 static COPIED: [Step; 3] = [
     (District, Nothing, "publish sis=lake sis=odd", 0, "sis version 1\nsis version 2\n"),
@@ -88,6 +89,7 @@ static COPIED: [Step; 3] = [
     (Region, Nothing, "sync tok-a 100 1", 0, "complete 3\n"),
 ];
 
+// The library publishes the exports of that copy, and the reader copies them from it.
 #[rattlefmt::skip]
 static PUBLISHED: [Step; 3] = [
     (Library, Nothing, "publish up=out", 0, "up version 1\n"),
@@ -95,6 +97,7 @@ static PUBLISHED: [Step; 3] = [
     (Reader, Nothing, "sync tok-a 100 1", 0, "complete 2\n"),
 ];
 
+// The copy of a hub that publishes the exports of a copy holds the same rows as that copy.
 fn assert_published(rt: &impl Abort, alloc: Global, hubs: &mut Hubs) -> Result<(), Fail> {
     assert_steps(rt, alloc, hubs, &COPIED)?;
     let folder = exported(rt, alloc, hubs)?;

@@ -16,9 +16,11 @@ const QUIZ: &str = "{\"category\":{\"title\":\"Quiz\"}}";
 const SET: &str =
     "{\"lineItem\":{\"title\":\"Set 3\",\"assignDate\":\"2024-09-01\",\"dueDate\":\"2024-09-08\",\"class\":{\"sourcedId\":\"k1\"},\"category\":{\"sourcedId\":\"hw\"}}}";
 
+// The manifest of a whole set of orgs.
 const ORGS: &str =
     "propertyName,value\nmanifest.version,1.0\noneroster.version,1.1\nfile.orgs,bulk\n";
 
+// A request for the ids of users.
 const USERS: &str =
     "GET /ims/oneroster/v1p1/users?fields=sourcedId HTTP/1.1\r\nHost: hub\r\nAuthorization: Bearer tok-l\r\n\r\n";
 
@@ -32,13 +34,15 @@ const RENAMED: &str =
 const MOVED: &str =
     "sourcedId,status,dateLastModified,classSourcedId,schoolSourcedId,userSourcedId,role,primary,beginDate,endDate\ne1,active,2024-08-01T08:00:00.000Z,k1,s2,u1,student,,2024-08-12,\n";
 
-// Cells with all that a file has to put into quotes, and the first day.
+// The manifest of a set of changed users.
 const SOME_USERS: &str =
     "propertyName,value\nmanifest.version,1.0\noneroster.version,1.1\nfile.users,delta\n";
 
+// A user whose cells hold all that a file has to put into quotes, and the first day that a row may be of.
 const ODD_USERS: &str =
     "sourcedId,status,dateLastModified,enabledUser,orgSourcedIds,role,username,userIds,givenName,familyName,grades,\"metadata.a \"\"b\"\"\"\n\"0 \"\"a\"\"\",active,0001-01-01T00:00:00.000Z,false,\"s1, s2\",student,=1,\"{a \"\"b\"\":c:d},{SIS:77}\",\"Ann, \"\"A\"\"\",\"Oak\nTree; \u{e9}\u{6f22}\",\"09,\"\"K\"\"\",x\\y'\n";
 
+// The folder, the name and the text of each file.
 static FILES: [(&str, &str, &str); 14] = [
     ("", "g.csv", GRANTS),
     ("", "c2.json", QUIZ),
@@ -60,7 +64,7 @@ static FILES: [(&str, &str, &str); 14] = [
     ("odd", "users.csv", ODD_USERS),
 ];
 
-/// The files.
+/// The files of the folder: these, and those of the example district in `lake`.
 pub fn made(alloc: Global) -> Result<Vec<File>, Fail> {
     let mut made = Vec::new(alloc);
     for (dir, name, text) in &FILES {

@@ -56,9 +56,12 @@ pub enum Fault {
 /// A place, what fails in a run there, its words, its status, and what it writes.
 pub type Step = (Place, Fault, &'static str, u8, &'static str);
 
+// How many versions beside the newest a hub keeps.
+const KEPT: u32 = 100;
+
 fn nothing_kept(alloc: Global) -> Kept {
     Kept {
-        hub: MemHub::new(alloc, 100),
+        hub: MemHub::new(alloc, KEPT),
         copy: MemCopy::new(alloc),
     }
 }

@@ -1,5 +1,6 @@
 -- The consumer's requests for pages, as texts.
 use Rattle.std.specs.Prelude.{◌≤◌, ◌<◌, ◌^◌, ◌++◌, ℕ, false, List, [], Option, Some, None, IfSome, codes, decimal}
+use Rattle.filter_grammar.specs.Queries.{greatest_limit}
 use Rattle.hub_spec.specs.rules.Asking.{Asking}
 use Rattle.roster_values.specs.Kinds.{plural_of}
 use Rattle.roster_values.specs.declared.kind.Kind.{Kind}
@@ -34,9 +35,13 @@ page_request token ask echo = record {
   body = [];
 }
 
--- numbers that a query may have: a limit up to the greatest that is given, and others of 18 digits at most
+-- an offset or a version in a query is below this one: a hub reads 18 digits at most
+abbrev pub query_bound : ℕ
+query_bound = 10 ^ 18
+
+-- numbers that a query may have: a limit up to the greatest that is given, and others below the bound
 pub record CanAsk (ask : Asking) : Type 0 where
   pub some : 1 ≤ ask.limit
-  pub limit : ask.limit ≤ 1000
-  pub offset : ask.offset < 10 ^ 18
-  pub pin : IfSome ask.pin (λ pin. pin < 10 ^ 18)
+  pub limit : ask.limit ≤ greatest_limit
+  pub offset : ask.offset < query_bound
+  pub pin : IfSome ask.pin (λ pin. pin < query_bound)

@@ -12,6 +12,7 @@ use Rattle.status_info.specs.declared.cause.Cause.{Cause}
 use Rattle.status_info.specs.declared.cause.Cause.TheVariants as cause
 use Rattle.status_info.specs.declared.reply.Reply.{Reply}
 use Rattle.version_core.specs.HubStates.{HubState, newest_number}
+use Rattle.version_core.specs.Outcomes.{mark_taken_outcome}
 use Rattle.version_core.specs.declared.mark.Write.{Write}
 use Rattle.hub_spec.specs.rules.Checks.{Entry, check, entry_of, refused_at}
 use Rattle.hub_spec.specs.rules.Reads.{read_result}
@@ -26,7 +27,7 @@ write_result state wanted entry = do
 abbrev pub write_of : Wanted → Path → Write
 write_of wanted path = record { delete = is_delete wanted.verb; kind = kind_of_path path; id = id_at path 0; body = wanted.body }
 
--- the causes of the outcomes, by their numbers from 0 to 9
+-- the causes of the outcomes, in the order of their numbers
 abbrev pub causes : List Cause
 causes =
     cause.Stored ∷ cause.MarkOfAnotherWrite ∷ cause.BadBody ∷ cause.NoSuchObject ∷ cause.OwnedByAnother
@@ -46,7 +47,7 @@ reply_to_write state wanted write (Leads version) = told wanted (mark_number wan
 reply_to_write state wanted write Same = told wanted (mark_number wanted.mark) (newest_number state) (done_of write)
 reply_to_write state wanted write (Repeat kept) = told wanted (mark_number wanted.mark) kept.version kept.outcome
 reply_to_write state wanted write (Refused number) =
-    told wanted (if nat_lt 1 number then mark_number wanted.mark else None) (newest_number state) number
+    told wanted (if nat_lt mark_taken_outcome number then mark_number wanted.mark else None) (newest_number state) number
 
 -- a reply as it is sent: HEAD wants no body
 abbrev pub sent : Wanted → Reply → Reply

@@ -17,6 +17,8 @@ use Rattle.roster_values.specs.declared.value.Value.{Value}
 use Rattle.roster_values.specs.Kinds.{place_of_kind}
 use Rattle.roster_values.specs.Table.{Form, Info, RefForm, RefsForm, table}
 use Rattle.version_core.specs.Changes.{change_key, rows_of}
+use Rattle.version_core.specs.Outcomes.{no_such_object_outcome, outside_grant_outcome, owned_by_another_outcome}
+use Rattle.version_core.specs.Outcomes.{too_many_rows_outcome, wrong_type_outcome}
 use Rattle.version_core.specs.References.{named_in, refs_in}
 use Rattle.version_core.specs.Version.{row_limit}
 use Rattle.version_core.specs.declared.change.BaseVersion.{BaseVersion}
@@ -80,19 +82,19 @@ abbrev pub is_one_too_many : List Record → Kind → Option RowChange → Bool
 is_one_too_many rows kind (Some stored) = false
 is_one_too_many rows kind None = nat_le row_limit (count_of kind rows)
 
--- the first check that a put row fails: another owns the row (4), a reference isn't seen (5) or is of the wrong type
--- (6), too many rows (7)
+-- the first check that a put row fails: another owns the row, a reference isn't seen or is of the wrong type, too many
+-- rows
 abbrev pub put_refusal : BaseVersion → GrantRow → Write → Record → Option ℕ
 put_refusal newest by write row = first_of (
-    refused_if (is_of_other by.caller (stored_at newest write)) 4
-    ∷ refused_if (not (is_within by.grant.schools (rows_of newest.rows) row)) 5
-    ∷ refused_if (not (has_grading_period (rows_of newest.rows) row)) 6
-    ∷ refused_if (is_one_too_many (rows_of newest.rows) write.kind (stored_at newest write)) 7
+    refused_if (is_of_other by.caller (stored_at newest write)) owned_by_another_outcome
+    ∷ refused_if (not (is_within by.grant.schools (rows_of newest.rows) row)) outside_grant_outcome
+    ∷ refused_if (not (has_grading_period (rows_of newest.rows) row)) wrong_type_outcome
+    ∷ refused_if (is_one_too_many (rows_of newest.rows) write.kind (stored_at newest write)) too_many_rows_outcome
     ∷ [])
 
--- the first check that a DELETE fails: no such object is seen (3), another owns the row (4)
+-- the first check that a DELETE fails: no such object is seen, another owns the row
 abbrev pub delete_refusal : BaseVersion → GrantRow → Write → Option ℕ
 delete_refusal newest by write = first_of (
-    refused_if (not (sees by.grant.schools (rows_of newest.rows) write.kind write.id)) 3
-    ∷ refused_if (is_of_other by.caller (stored_at newest write)) 4
+    refused_if (not (sees by.grant.schools (rows_of newest.rows) write.kind write.id)) no_such_object_outcome
+    ∷ refused_if (is_of_other by.caller (stored_at newest write)) owned_by_another_outcome
     ∷ [])

@@ -11,6 +11,8 @@ use Rattle.version_core.specs.Marks.{mark_at}
 use Rattle.version_core.specs.Changes.{change_key}
 use Rattle.version_core.specs.HubStates.{HubState}
 use Rattle.version_core.specs.Order.{put}
+use Rattle.version_core.specs.Outcomes.{bad_body_outcome, last_version_outcome, mark_taken_outcome}
+use Rattle.version_core.specs.Outcomes.{no_such_object_outcome}
 use Rattle.version_core.specs.Version.{empty_version, last_or, last_version}
 use Rattle.version_core.specs.declared.change.BaseVersion.{BaseVersion}
 use Rattle.version_core.specs.declared.grant_row.GrantRow.{GrantRow}
@@ -20,9 +22,7 @@ use Rattle.version_core.specs.declared.mark.Write.{Write}
 use Rattle.version_core.specs.declared.row_change.RowChange.{RowChange}
 use Rattle.hub_spec.specs.rules.Refusals.{delete_refusal, put_refusal, stored_at}
 
--- a new version, nothing new, what was kept under the mark, or the number of a refusal: 1 the mark is another write's,
--- 2 the body tells of no row, 3 no such object is seen, 4 another owns the row, 5 a reference isn't seen, 6 one is of
--- the wrong type, 7 the kind has too many rows, 8 the newest version is the last that may be
+-- a new version, nothing new, what was kept under the mark, or the number of the check that refuses the write
 pub data Verdict : Type 0 where
   Leads : BaseVersion → Verdict
   Same : Verdict
@@ -32,7 +32,7 @@ pub data Verdict : Type 0 where
 -- a row is stored as the next version, unless there is none
 abbrev pub leads_with : BaseVersion → ℤ → RowChange → Verdict
 leads_with newest at change =
-    if newest.number == last_version then Refused 8
+    if newest.number == last_version then Refused last_version_outcome
     else Leads (record newest { number = newest.number + 1; moment = at; rows = put change_key change newest.rows })
 
 -- a put row that equals the stored one in all but the date changes nothing
@@ -43,7 +43,7 @@ PutMakes newest at change (Some stored) verdict =
 
 -- a DELETE marks the row, once
 abbrev pub delete_makes : BaseVersion → ℤ → Option RowChange → Verdict
-delete_makes newest at None = Refused 3
+delete_makes newest at None = Refused no_such_object_outcome
 delete_makes newest at (Some stored) = if is_active stored.row.status then leads_with newest at (marked at stored) else Same
 
 -- the verdict on a row that is put, by the first check that it fails, where it fails one
@@ -53,7 +53,7 @@ PutJudged newest by write at row None verdict = PutMakes newest at (record { row
 
 -- the verdict on a PUT, by what its body tells
 abbrev pub BodyJudged : BaseVersion → GrantRow → Write → ℤ → Result Record JsonFault → Verdict → Type 0
-BodyJudged newest by write at (Err fault) verdict = verdict ≡ Refused 2
+BodyJudged newest by write at (Err fault) verdict = verdict ≡ Refused bad_body_outcome
 BodyJudged newest by write at (Ok row) verdict = PutJudged newest by write at row (put_refusal newest by write row) verdict
 
 -- the verdict on a DELETE, by the first check that it fails, where it fails one
@@ -68,7 +68,7 @@ NewJudged false newest by write at verdict = BodyJudged newest by write at (put_
 
 -- a write whose mark is held: the same write repeats what was kept, another is refused
 abbrev pub repeated : MarkRow → Write → Verdict
-repeated held write = if same_write held.write write then Repeat held.kept else Refused 1
+repeated held write = if same_write held.write write then Repeat held.kept else Refused mark_taken_outcome
 
 -- the verdict on a write, by what is held under its mark
 abbrev pub Judged : Option MarkRow → BaseVersion → GrantRow → Write → ℤ → Verdict → Type 0

@@ -3,21 +3,21 @@ use Rattle.std.specs.Prelude.{ℕ, ◌-◌, ◌==◌, List, [], ◌∷◌, ◌++
 use Rattle.hub_spec.specs.rules.Verdicts.{Leads, Refused, Repeat, Same, Verdict}
 use Rattle.version_core.specs.Marks.{with_mark}
 use Rattle.version_core.specs.HubStates.{HubState}
+use Rattle.version_core.specs.Outcomes.{deleted_outcome, mark_taken_outcome, stored_outcome}
 use Rattle.version_core.specs.declared.change.BaseVersion.{BaseVersion}
 use Rattle.version_core.specs.declared.mark.MarkRow.{MarkRow}
 use Rattle.version_core.specs.declared.mark.Write.{Write}
 
--- the outcome of a write that is done: 9 of one that deletes, 0 of one that puts
+-- the outcome of a write that is done: the row is deleted, or it is stored
 abbrev pub done_of : Write → ℕ
-done_of write = if write.delete then 9 else 0
+done_of write = if write.delete then deleted_outcome else stored_outcome
 
--- what is to be kept of a verdict: nothing where the mark said it already, and nothing of refusal 1, since the mark is
--- another write's
+-- what is to be kept of a verdict: nothing where the mark keeps it already, or is another write's
 abbrev pub outcome_of : Write → Verdict → Option ℕ
 outcome_of write (Leads version) = Some (done_of write)
 outcome_of write Same = Some (done_of write)
 outcome_of write (Repeat kept) = None
-outcome_of write (Refused number) = if number == 1 then None else Some number
+outcome_of write (Refused number) = if number == mark_taken_outcome then None else Some number
 
 -- the published versions after a verdict
 abbrev pub published_after : List BaseVersion → Verdict → List BaseVersion

@@ -74,9 +74,17 @@ IsGradebook LineItems = ⊤
 IsGradebook Results = ⊤
 IsGradebook kind = ⊥
 
--- the most bytes of a body
+-- the most bytes of a body: as many as a hub reads in a request
 abbrev pub max_body : ℕ
 max_body = 131_072
+
+-- the most rows of a page that a consumer asks for: a hub gives no more, whatever a request says
+abbrev pub largest_limit : ℕ
+largest_limit = 1000
+
+-- how often a consumer tries a request at most: so few that a run counts all its exchanges in 64 bits
+abbrev pub largest_tries : ℕ
+largest_tries = 100
 
 -- a write that may be entered
 pub record IsOutWrite (write : Write) : Type 0 where

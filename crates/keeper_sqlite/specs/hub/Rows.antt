@@ -1,5 +1,5 @@
 -- Stores that stand for the items of tables, and where these have their rows.
-use Rattle.std.specs.Prelude.{◌≡◌, ◌+◌, ◌<◌, ℕ, List, [], ◌∷◌, map, unwrap_or}
+use Rattle.std.specs.Prelude.{◌≡◌, ◌<◌, ℕ, List, [], map, unwrap_or}
 use Rattle.std.specs.BTreeMap.{BTreeMap, get}
 use Rattle.std.specs.List.{AllByRecursion}
 use Rattle.std.specs.Ordering.{nat_cmp}
@@ -13,8 +13,8 @@ use Rattle.version_core.specs.declared.hub_tables.HubTables.{HubTables}
 use Rattle.version_core.specs.declared.row_change.RowChange.{RowChange}
 use Rattle.hub_format.specs.Areas.{base_rows_area, change_rows_area, grants_area, marks_area, spans_area, state_area}
 use Rattle.hub_format.specs.Areas.{versions_area}
-use Rattle.hub_format.specs.Format.{Entry, Fit, items_of, own_rows, rows_under, where_label}
-use Rattle.hub_format.specs.Pieces.{number}
+use Rattle.hub_format.specs.Format.{Entry, Fit, items_of, listed_of, own_rows, rows_under, where_label}
+use Rattle.hub_format.specs.Pieces.{labels_end}
 use Rattle.span_format.specs.Format.{AreSpans, FitSpans, Span, items_in, own_spans, span_entry}
 use Rattle.span_format.specs.Reading.{FitsSpan, came_within}
 use Rattle.keeper_sqlite.specs.declared.hub.rows.ChangeRows.{ChangeRows}
@@ -44,17 +44,16 @@ pub record HasSpans (stand : Items → Type 0) (t : HubTables) : Type 0 where
 
 -- the rows of a base: the items of their area, or the spans that came up to its version
 abbrev pub TellBase : StoredRows → Items → BaseVersion → Type 0
-TellBase Areas m base = listed base_rows_area [] (255 ∷ []) m ≡ rows_under [] base.rows
+TellBase Areas m base = listed base_rows_area [] labels_end m ≡ rows_under [] base.rows
 TellBase Spans m base = (spans : List Span)
-    × (where_label (came_within 0 base.number) (listed spans_area [] (255 ∷ []) m) ≡ map span_entry spans)
+    × (where_label (came_within 0 base.number) (listed spans_area [] labels_end m) ≡ map span_entry spans)
     × AreSpans spans base
 
 -- the rows of a change: the items behind its version in their area, or the spans that came in it
 abbrev pub TellChange : StoredRows → Items → Change → Type 0
-TellChange Areas m change =
-    listed change_rows_area (number change.version) (number (change.version + 1)) m ≡ own_rows change
+TellChange Areas m change = listed_of change_rows_area change.version m ≡ own_rows change
 TellChange Spans m change =
-    where_label (came_within change.version change.version) (listed spans_area [] (255 ∷ []) m) ≡ own_spans change
+    where_label (came_within change.version change.version) (listed spans_area [] labels_end m) ≡ own_spans change
 
 -- the rows of the spans among these entries that came up to a version
 abbrev pub AreMade : ℕ → List Entry → List RowChange → Type 0

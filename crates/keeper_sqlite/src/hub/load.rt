@@ -6,15 +6,15 @@ ghost use Rattle.std.specs.List.{AllByRecursion};
 ghost use Rattle.std.specs.Option.{ForSome};
 ghost use Rattle.roster_base.specs.Faults.{CountsFailure};
 ghost use Rattle.item_maps.specs.Edits.{entry_of};
-ghost use Rattle.item_maps.specs.Items.{Items as Kept, listed};
+ghost use Rattle.item_maps.specs.Items.{Items as Kept};
 ghost use Rattle.version_core.specs.Version.{last_version};
 ghost use Rattle.version_core.specs.declared.change.Change.{Change as ChangeValue};
 ghost use Rattle.version_core.specs.declared.grant_row.GrantRow.{GrantRow as GrantValue};
 ghost use Rattle.version_core.specs.declared.hub_tables.HubTables.{HubTables as Tables};
 ghost use Rattle.hub_format.specs.Areas.{grants_area, versions_area};
-ghost use Rattle.hub_format.specs.Format.{Entry, FitsChange, FitsGrant, grants_under, own_grants, own_version};
-ghost use Rattle.hub_format.specs.Format.{some_grants};
-ghost use Rattle.hub_format.specs.Pieces.{has_grants, number};
+ghost use Rattle.hub_format.specs.Format.{Entry, FitsChange, FitsGrant, grants_under, listed_of, own_grants};
+ghost use Rattle.hub_format.specs.Format.{own_version, some_grants};
+ghost use Rattle.hub_format.specs.Pieces.{has_grants};
 ghost use Rattle.keeper_sqlite.specs.hub.Keeping.{Stay};
 ghost use Rattle.keeper_sqlite.specs.hub.Rows.{HasChanges, HasTables, TellLater};
 ghost use Rattle.keeper_sqlite.specs.Trust.{Clean};
@@ -38,7 +38,7 @@ pub(crate) fn grants_at<S: StoredItems>(
 ) -> Result<Items<GrantRow>, KeeperError>
     requires { version + 1 < 2 ^ 64 }
     ensures grants { (m : Kept) (grants : List GrantValue) → S.stands_for store.old m → AllByRecursion FitsGrant grants
-        → listed grants_area (number version) (number (version + 1)) m ≡ grants_under version grants
+        → listed_of grants_area version m ≡ grants_under version grants
         → S.is_trusted store.new → IfOk result (λ found. found ≡ grants) }
     ensures same { Stay (S.stands_for store.old) (S.stands_for store.new) }
     ensures cause { CountsFailure (S.fault_count store.old) (S.fault_count store.new) result }
@@ -84,7 +84,7 @@ fn own_grants_at<S: StoredItems>(
     requires { version + 1 < 2 ^ 64 }
     ensures grants { (m : Kept) (grants : Option (List GrantValue)) → S.stands_for store.old m
         → ForSome grants (AllByRecursion FitsGrant) → flag ≡ has_grants grants
-        → listed grants_area (number version) (number (version + 1)) m ≡ some_grants version grants
+        → listed_of grants_area version m ≡ some_grants version grants
         → S.is_trusted store.new → IfOk result (λ found. found ≡ grants) }
     ensures same { Stay (S.stands_for store.old) (S.stands_for store.new) }
     ensures cause { CountsFailure (S.fault_count store.old) (S.fault_count store.new) result }
@@ -110,7 +110,7 @@ fn change_of<S: StoredItems>(
     requires { version + 1 < 2 ^ 64 }
     ensures change { (m : Kept) (change : ChangeValue) → S.stands_for store.old m → FitsChange change
         → version ≡ change.version → map entry_of items.now ≡ own_version change
-        → TellLater later.now m change → listed grants_area (number version) (number (version + 1)) m ≡ own_grants change
+        → TellLater later.now m change → listed_of grants_area version m ≡ own_grants change
         → S.is_trusted store.new → IfOk result (λ found. found ≡ change) }
     ensures same { Stay (S.stands_for store.old) (S.stands_for store.new) }
     ensures cause { CountsFailure (S.fault_count store.old) (S.fault_count store.new) result }
@@ -149,12 +149,12 @@ fn change_at<S: StoredItems>(
     requires { version + 1 < 2 ^ 64 }
     ensures change { (m : Kept) (change : ChangeValue) → S.stands_for store.old m → FitsChange change
         → version ≡ change.version
-        → listed versions_area (number version) (number (version + 1)) m ≡ own_version change
+        → listed_of versions_area version m ≡ own_version change
         → TellLater later.now m change
-        → listed grants_area (number version) (number (version + 1)) m ≡ own_grants change → S.is_trusted store.new
+        → listed_of grants_area version m ≡ own_grants change → S.is_trusted store.new
         → IfOk result (λ found. found ≡ Some change) }
     ensures none { (m : Kept) → S.stands_for store.old m
-        → listed versions_area (number version) (number (version + 1)) m ≡ [] → S.is_trusted store.new
+        → listed_of versions_area version m ≡ [] → S.is_trusted store.new
         → IfOk result (λ found. found ≡ None) }
     ensures same { Stay (S.stands_for store.old) (S.stands_for store.new) }
     ensures cause { CountsFailure (S.fault_count store.old) (S.fault_count store.new) result }

@@ -7,6 +7,7 @@ ghost use Rattle.item_maps.specs.Edits.{entry_of};
 ghost use Rattle.item_maps.specs.Items.{Items as Kept, listed};
 ghost use Rattle.hub_format.specs.Areas.{spans_area};
 ghost use Rattle.hub_format.specs.Format.{Entry};
+ghost use Rattle.hub_format.specs.Pieces.{labels_end};
 ghost use Rattle.span_format.specs.Reading.{came};
 ghost use Rattle.keeper_sqlite.specs.hub.Keeping.{Stay};
 ghost use Rattle.keeper_sqlite.specs.hub.Rows.{AreLaid, AreMade, AreRead, laid_at};
@@ -125,7 +126,7 @@ fn read_all<S: StoredItems>(
 ) -> Result<(), KeeperError>
     ensures read { (m : Kept) → S.stands_for store.old m → S.is_trusted store.new
         → AreRead base [] read.old.rows.items read.old.later
-        → OnOk result (AreRead base (listed spans_area [] (255 ∷ []) m) read.new.rows.items read.new.later) }
+        → OnOk result (AreRead base (listed spans_area [] labels_end m) read.new.rows.items read.new.later) }
     ensures same { Stay (S.stands_for store.old) (S.stands_for store.new) }
     ensures cause { CountsFailure (S.fault_count store.old) (S.fault_count store.new) result }
     ensures trust { S.is_trusted store.new → S.is_trusted store.old }
@@ -152,7 +153,7 @@ pub(crate) fn span_rows<S: StoredItems>(
     base: u64,
 ) -> Result<SpanRows, KeeperError>
     ensures read { (m : Kept) → S.stands_for store.old m → S.is_trusted store.new
-        → IfOk result (λ read. AreRead base (listed spans_area [] (255 ∷ []) m) read.rows.items read.later) }
+        → IfOk result (λ read. AreRead base (listed spans_area [] labels_end m) read.rows.items read.later) }
     ensures same { Stay (S.stands_for store.old) (S.stands_for store.new) }
     ensures cause { CountsFailure (S.fault_count store.old) (S.fault_count store.new) result }
     ensures trust { S.is_trusted store.new → S.is_trusted store.old }

@@ -5,13 +5,12 @@ ghost use Rattle.std.specs.Int.{w64};
 ghost use Rattle.std.specs.Int.RustNames.{FitsSigned};
 ghost use Rattle.roster_base.specs.Faults.{CountsFailure};
 ghost use Rattle.item_maps.specs.Edits.{entry_of};
-ghost use Rattle.item_maps.specs.Items.{Items, listed};
+ghost use Rattle.item_maps.specs.Items.{Items};
 ghost use Rattle.version_core.specs.Version.{last_version};
 ghost use Rattle.version_core.specs.declared.change.BaseVersion.{BaseVersion};
 ghost use Rattle.version_core.specs.declared.hub_tables.HubTables.{HubTables};
 ghost use Rattle.hub_format.specs.Areas.{area_number};
-ghost use Rattle.hub_format.specs.Format.{state_entry};
-ghost use Rattle.hub_format.specs.Pieces.{number};
+ghost use Rattle.hub_format.specs.Format.{listed_of, state_entry};
 ghost use Rattle.keeper_sqlite.specs.hub.Keeping.{Stay};
 ghost use Rattle.keeper_sqlite.specs.hub.Rows.{HasTables};
 
@@ -71,8 +70,7 @@ pub(crate) fn items_of_version<S: StoredItems>(
 ) -> Result<Vec<Item>, KeeperError>
     requires { version + 1 < 2 ^ 64 }
     ensures items { (m : Items) → S.stands_for store.old m → S.is_trusted store.new
-        → IfOk result (λ items. map entry_of items.items
-        ≡ listed (area_number area) (number version) (number (version + 1)) m) }
+        → IfOk result (λ items. map entry_of items.items ≡ listed_of (area_number area) version m) }
     ensures same { Stay (S.stands_for store.old) (S.stands_for store.new) }
     ensures cause { CountsFailure (S.fault_count store.old) (S.fault_count store.new) result }
     ensures trust { S.is_trusted store.new → S.is_trusted store.old }

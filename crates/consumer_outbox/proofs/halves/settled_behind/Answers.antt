@@ -5,4 +5,4 @@ use Rattle.consumer_outbox.proofs.halves.settled_behind.Goals as goal
 pub returns-clause-settled : goal.returns-clause-settled
 returns-clause-settled g c d stands =
     let entries = (g.met.C.CopyKeeper.is_copy c.entry.new.self d stands).entries in
-    settled_up_to 0 c.args.after d.entries c.in-Ok-Some.entry c.in-Some.field-0 entries.rise entries.settled (sym (sym c.in-Ok-Some.field-0-is ∙ c.in-Ok-Some.ensures.shown d stands)) c.in-Some.is
+    settled_up_to 0 c.args.after d.entries c.in-Some.entry c.in-Some-settled.field-0 entries.rise entries.settled (sym (sym c.in-Some.is ∙ c.in_ok-entry.ensures.shown d stands)) c.in-Some-settled.is

@@ -34,6 +34,6 @@ pub returns-clause-delivered : goal.returns-clause-delivered
 returns-clause-delivered c q is =
     let replied : c.as_slice.result.now ≡ c.reserve.new.self.items = cc in
     let same : c.reserve.new.self.items ≡ c.args.past.now.items = cc in
-    subst (λ (p : List Past). OnCome (λ v. v.items) (Delivered c.args.fate c.args.exchange q c.args.at p c.note.new.past.items c.args.world.now c.reply_to-reply.new.world) c.note.result) same
+    subst (λ (p : List Past). OnCome (λ v. v.items) (Delivered (record { number = c.args.exchange; at = c.args.at; fate = c.args.fate }) q p c.note.new.past.items c.args.world.now c.reply_to-reply.new.world) c.note.result) same
     (is_delivered (λ v. v.items) (λ v. v.items) c.note.result c.reply_to-reply.result c.args.fate c.args.exchange q _ c.args.at c.as_slice.result.now c.reserve.new.self.items c.note.new.past.items c.args.world.now c.reply_to-reply.new.world
     (c.in_ok-request.ensures q is) replied c.reply_to-reply.ensures.becomes c.note.ensures.noted)

@@ -14,8 +14,10 @@ returns-in-Ok-clause-own c e q is xs ys =
 pub returns-in-Ok-clause-carried : goal.returns-in-Ok-clause-carried
 returns-in-Ok-clause-carried c q is =
     let same : c.as_slice.result.now ≡ c.args.past.now.items = cc in
-    is_carried (λ v. v.items) c.deliver.result c.args.exchange.now.fate c.args.exchange.now.number q c.args.exchange.now.at c.args.past.now.items c.deliver.new.past.items c.args.events.now.items c.come_to_pass.new.events.items c.args.world.now c.come_to_pass.new.world
-    c.deliver.new.world c.args.said.now.items c.come_to_pass.new.said.items
+    is_carried (λ v. v.items) c.deliver.result c.args.exchange.now q
+    (record { past = c.args.past.now.items; events = c.args.events.now.items; world = c.args.world.now; said = c.args.said.now.items })
+    (record { past = c.deliver.new.past.items; events = c.come_to_pass.new.events.items; world = c.deliver.new.world; said = c.come_to_pass.new.said.items })
+    c.come_to_pass.new.world
     (subst (λ (p : List Past). Passed p c.args.exchange.now.at (events_at c.args.exchange.now.number c.args.events.now.items) c.args.world.now c.come_to_pass.new.world c.args.said.now.items c.come_to_pass.new.said.items) same c.in-Ok.ensures.passed)
     c.in-Ok.ensures.aside (c.deliver.ensures.delivered q is)
 

@@ -1,7 +1,7 @@
 use Rattle.std.proofs.Common.{rules, ◌≡◌, ◌+◌, ap, sym, ◌∙◌}
-use Rattle.hub_format.specs.Format.{grants_under, items_of}
+use Rattle.hub_format.specs.Format.{grants_under, items_of, listed_of}
 use Rattle.hub_format.specs.Pieces.{number}
-use Rattle.hub_format.proofs.TableListings.{base_grants_told, listed_of}
+use Rattle.hub_format.proofs.TableListings.{base_grants_told}
 use Rattle.keeper_sqlite.proofs.HubKeepingLemmas.{listed_alike, tables_stay}
 use Rattle.keeper_sqlite.proofs.RowsLemmas.{changes_later}
 use Rattle.keeper_sqlite.proofs.hub.reading.read_tables.Goals as goal

@@ -45,8 +45,10 @@ returns-in-Err-Failed-clause-leads c = rw (← c.self.view_is)
     let failed : c.carry-came.result ≡ Err io_error.Failed = search rules in
     came_leads (link_in c.self.inside) _ q None c.fate_of-fate.result c.saturating_add-number.result c.saturating_add-number.ensures c.count-in-Err-Failed.ensures.asked
     (c.fate_of-fate.ensures ∙ ap (λ fates. fate_at fates c.saturating_add-number.result) c.as_slice.ensures.value) c.carry-came.ensures.walks (sure (c.carry-came.ensures.sent q is) (λ none. cc (none.0, failed))) refl refl refl
-    (subst (λ r. OnCome (λ v. v.items) (Carried c.fate_of-fate.result c.saturating_add-number.result q c.self.inside.at c.self.inside.past.items c.carry-came.new.past.items c.self.inside.events.items c.carry-came.new.events.items
-    c.self.inside.world c.carry-came.new.world c.self.inside.said.items c.carry-came.new.said.items) r) failed (c.carry-came.ensures.carried q is))
+    (subst (λ r. OnCome (λ v. v.items) (Carried (record { number = c.saturating_add-number.result; at = c.self.inside.at; fate = c.fate_of-fate.result }) q
+    (record { past = c.self.inside.past.items; events = c.self.inside.events.items; world = c.self.inside.world; said = c.self.inside.said.items })
+    (record { past = c.carry-came.new.past.items; events = c.carry-came.new.events.items; world = c.carry-came.new.world; said = c.carry-came.new.said.items })) r)
+    failed (c.carry-came.ensures.carried q is))
     (c.new.ensures.items, c.count-in-Err-Failed.ensures.rose refl))
 
 pub returns-in-Err-Failed-clause-told : goal.returns-in-Err-Failed-clause-told
