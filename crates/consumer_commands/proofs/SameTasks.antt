@@ -1,6 +1,6 @@
 -- A task as it was asked for.
 use Rattle.std.proofs.Common.{◌≡◌, ℕ, List, refl, subst}
-use Rattle.consumer_commands.specs.Consumers.{CopyRun, LinkRun}
+use Rattle.exchange_link.specs.Between.{CopyRun, LinkRun}
 use Rattle.consumer_commands.specs.Deltas.{IsDeltaOf}
 use Rattle.consumer_commands.specs.Sends.{IsSendOf}
 use Rattle.consumer_commands.specs.Syncs.{IsSyncOf}

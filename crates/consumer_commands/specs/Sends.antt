@@ -4,10 +4,10 @@ use Rattle.std.specs.Prelude.{◌≡◌, ◌≢◌, ℕ, ◌*◌, ◌+◌, ◌�
 use Rattle.keeper_memory.specs.copy.Copies.{Copy}
 use Rattle.keeper_memory.specs.declared.copy.state.TheConstants.{LAST}
 use Rattle.exchange_link.specs.Asked.{AsksWrites}
-use Rattle.exchange_link.specs.Causes.{RoseBy}
 use Rattle.exchange_link.specs.Entering.{EntersWrite}
 use Rattle.exchange_link.specs.Exchanges.{LinkState}
 use Rattle.exchange_link.specs.Marks.{Agree}
+use Rattle.exchange_link.specs.Pairs.{AtEach}
 use Rattle.exchange_link.specs.SendCauses.{SendCaused, SendLastLaw}
 use Rattle.exchange_link.specs.SendCompleteness.{CanSendAll, IsFine}
 use Rattle.exchange_link.specs.Sent.{SendLeaves, unsettled}
@@ -18,7 +18,7 @@ use Rattle.exchange_link.specs.declared.send_answer.SendAnswer.{SendAnswer}
 use Rattle.roster_base.specs.Faults.{Rose}
 use Rattle.version_core.specs.HubStates.{newest_number}
 use Rattle.version_core.specs.declared.mark.Write.{Write}
-use Rattle.consumer_commands.specs.Consumers.{CopyRun, FromBefore, FromBoth, LinkRun}
+use Rattle.exchange_link.specs.Between.{CopyRun, FromBefore, FromBoth, LinkRun, copy_with}
 use Rattle.hub_words.specs.Tasks.{Sending}
 
 -- ---- entering
@@ -34,7 +34,7 @@ pub record IsEnterOf (write : Write) (r : Result ℕ EnterError) (copies : CopyR
 
 -- copy and link agreed before, where both tell, on the stage and on the marks
 abbrev pub AgreedAll : CopyRun → LinkRun → Type 0
-AgreedAll copy link = (c : Copy) (t : LinkState) → copy.stood c → link.told t → Agree c t
+AgreedAll copy link = AtEach copy.stood link.told Agree
 
 -- what holds of a sending with the answer `a`, in the words of `IsSyncOf`
 pub record IsSendOf (task : Sending) (a : SendAnswer) (copies : CopyRun) (link : LinkRun) : Type 0 where
@@ -42,11 +42,10 @@ pub record IsSendOf (task : Sending) (a : SendAnswer) (copies : CopyRun) (link :
   pub copy : (after : Copy) → copies.stands after → (before : Copy) × copies.stood before × SendLeaves a before after
       × (link.asked_now ≤ link.asked_before + task.tries * unsettled before.entries)
   pub last_run : FromBefore copies (SendLastLaw a)
-  pub cause : SendCaused task.token copies.stands link.tells link.asked_before link.asked_now link.kept
-      (λ n. (task.tries ≤ link.missed) × (task.tries ≤ n) × RoseBy task.tries link.faults_before link.faults_now) (Rose copies.faults_before copies.faults_now) a
+  pub cause : SendCaused task.token task.tries copies link a
   -- over one that tells
   pub asks : FromBoth copies link
-      (λ before told after tells. AsksWrites task.token task.tries link.asked_before link.asked_now a before after told.sent tells.sent)
+      (λ before told after tells. AsksWrites task.token task.tries link a (copy_with before told) (copy_with after tells))
   pub told : AgreedAll copies link → FromBoth copies link (WasSent task.token a)
   -- where no call of the link and of the copy's keeper failed
   pub complete : AgreedAll copies link → ¬ Rose link.faults_before link.faults_now → ¬ Rose copies.faults_before copies.faults_now

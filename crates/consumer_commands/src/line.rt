@@ -3,6 +3,7 @@
 ghost use Rattle.std.specs.Prelude.{◌≡◌, ◌≢◌, ◌++◌, IfOk, codes, decimal, string_bytes};
 ghost use Rattle.consumer_commands.specs.DeltaLines.{delta_status, delta_text};
 ghost use Rattle.consumer_commands.specs.SyncLines as lines;
+ghost use Rattle.hub_words.specs.Statuses.{output_failed_status};
 
 use consumer_deltas::DeltaAnswer;
 use exchange_link::SyncAnswer;
@@ -32,7 +33,7 @@ pub(crate) const NO_MEMORY: &str = "no memory\n";
 /// The status of the process after a synchronisation: each cause of a stop has its own.
 pub fn sync_status(answer: SyncAnswer) -> u8
     ensures value { result ≡ lines.sync_status answer }
-    ensures other { result ≢ 1 }
+    ensures other { result ≢ output_failed_status }
 {
     match answer {
         SyncAnswer::Complete { .. } => statuses::DONE,
@@ -106,7 +107,7 @@ pub fn sync_line(alloc: Global, answer: SyncAnswer) -> Result<String, NoMemory>
 /// no base is held, or the hub keeps it no longer.
 pub fn delta_status(answer: DeltaAnswer) -> u8
     ensures value { result ≡ delta_status answer }
-    ensures other { result ≢ 1 }
+    ensures other { result ≢ output_failed_status }
 {
     match answer {
         DeltaAnswer::Ended { answer } => sync_status(answer),

@@ -2,6 +2,7 @@
 
 ghost use Rattle.std.specs.Prelude.{◌≡◌, ◌≢◌, IfOk, string_bytes};
 ghost use Rattle.consumer_commands.specs.SendLines as lines;
+ghost use Rattle.hub_words.specs.Statuses.{output_failed_status};
 
 use crate::line::{
     COPY_FAILED, HUB_FAILED, HUB_NO_MEMORY, LAST_NUMBER, NO_MEMORY, UNKNOWN_TOKEN, fixed_line,
@@ -15,7 +16,7 @@ use std::alloc::Global;
 /// The status of the process after the entries were sent: each cause of a stop has its own.
 pub fn send_status(answer: SendAnswer) -> u8
     ensures value { result ≡ lines.send_status answer }
-    ensures other { result ≢ 1 }
+    ensures other { result ≢ output_failed_status }
 {
     match answer {
         SendAnswer::Settled { .. } => statuses::DONE,
@@ -71,7 +72,7 @@ pub fn entered_line(alloc: Global, number: u64) -> Result<String, NoMemory>
 /// The status of the process where a write wasn't entered: each cause has its own.
 pub fn enter_status(error: EnterError) -> u8
     ensures value { result ≡ lines.enter_status error }
-    ensures other { result ≢ 1 }
+    ensures other { result ≢ output_failed_status }
 {
     match error {
         EnterError::KeeperFault => statuses::COPY_FAILED,

@@ -1,6 +1,6 @@
 //! A synchronisation, with all that is promised of it in one word.
 
-ghost use Rattle.consumer_commands.specs.Consumers.{copy_between, link_between};
+ghost use Rattle.exchange_link.specs.Between.{copy_between, link_between};
 ghost use Rattle.consumer_commands.specs.Deltas.{IsDeltaOf};
 ghost use Rattle.consumer_commands.specs.Syncs.{IsSyncOf};
 

@@ -1,7 +1,7 @@
 //! The outbox, with all that is promised of it in one word.
 
 ghost use Rattle.keeper_memory.specs.copy.Copies.{IsOutWrite};
-ghost use Rattle.consumer_commands.specs.Consumers.{copy_between, link_between};
+ghost use Rattle.exchange_link.specs.Between.{copy_between, link_between};
 ghost use Rattle.consumer_commands.specs.Sends.{IsEnterOf, IsSendOf};
 
 use consumer_outbox::{enter, send};

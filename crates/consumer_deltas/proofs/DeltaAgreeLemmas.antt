@@ -14,7 +14,7 @@ use Rattle.keeper_memory.specs.declared.copy.state.StageState.{StageState}
 use Rattle.exchange_link.proofs.CutLemmas.{IsGood, cut_whole, list_good}
 use Rattle.exchange_link.specs.Agreement.{AreSeen, CopyFits, HeldFitsIf, IsFrontOf, StageFits, StageFitsIf}
 use Rattle.exchange_link.specs.Places.{kind_at, kinds_of, pin_of, staged_of}
-use Rattle.exchange_link.specs.Sayings.{knows, list_of}
+use Rattle.exchange_link.specs.Sayings.{knows, list_at}
 use Rattle.exchange_link.specs.declared.answer.SyncAnswer.{SyncAnswer}
 use Rattle.hub_spec.proofs.CutDeltas.{cut_to_cut}
 use Rattle.hub_spec.proofs.Versions.{version_is}
@@ -62,17 +62,17 @@ pin_stands None (Some s) h base token x y has = absurd has
 pin_stands (Some held) (Some s) h base token x y has = (x.standing, subst (λ n. n ≤ s.pin) has.0 y.below)
 
 -- the next list of a stage, under its token
-list_at : (s : Stage) (h : HubState) (token : List ℕ) → s.token ≡ token → length s.done < kind_count
-    → list_of (version_at h s.pin) token (place_of_kind (kind_at (length s.done))) ≡ list_of (version_at h s.pin) s.token (length s.done)
-list_at s h token et lt = ap (list_of (version_at h s.pin) token) (place_at (length s.done) lt) ∙ ap (λ t. list_of (version_at h s.pin) t (length s.done)) (sym et)
+list_as_asked : (s : Stage) (h : HubState) (token : List ℕ) → s.token ≡ token → length s.done < kind_count
+    → list_at (version_at h s.pin) token (place_of_kind (kind_at (length s.done))) ≡ list_at (version_at h s.pin) s.token (length s.done)
+list_as_asked s h token et lt = ap (list_at (version_at h s.pin) token) (place_at (length s.done) lt) ∙ ap (λ t. list_at (version_at h s.pin) t (length s.done)) (sym et)
 
 staged_some : (stage : Option Stage) (h : HubState) (token : List ℕ) → HasToken token (option_map state_of stage) → StageFitsIf stage h → kinds_of (option_map state_of stage) < kind_count
     → (staged_of (option_map state_of stage) == 0) ≡ false
-    → IsSomeAnd (pin_of (option_map state_of stage)) (λ pin. list_of (version_at h pin) token (place_of_kind (kind_at (kinds_of (option_map state_of stage)))) ≢ [])
+    → IsSomeAnd (pin_of (option_map state_of stage)) (λ pin. list_at (version_at h pin) token (place_of_kind (kind_at (kinds_of (option_map state_of stage)))) ≢ [])
 staged_some None h token et x lt fresh = cc
 staged_some (Some s) h token et x lt fresh = λ none.
     let some : length s.present ≢ 0 = grind (arith, nat_tests, fresh) in
-    some (omega (arith, ap length (x.fits.present).1, length-append s.present (x.fits.present).0, ap length (sym (list_at s h token et lt) ∙ none)))
+    some (omega (arith, ap length (x.fits.present).1, length-append s.present (x.fits.present).0, ap length (sym (list_as_asked s h token et lt) ∙ none)))
 
 -- what is held of a kind is the list of the base
 held_is : (o : Option Held) (stage : Option Stage) (h : HubState) (base : ℕ) (token : List ℕ) (kind : Kind) → HeldFitsIf o stage h → IsBase base token o → option_map_or (λ (held : Held). get_or held.lists (place_of_kind kind) []) o [] ≡ list_in (version_at h base) token kind
@@ -93,7 +93,7 @@ may_ask c stage h token base limit held e et lt x has shown = subst (λ s. MayAs
 -- ---- stages
 
 begun_fits : (h : HubState) (pin : ℕ) (token : List ℕ) → pin < length h.published → knows (version_at h pin) token ≡ true → StageFits (begun pin token) h
-begun_fits h pin token lt known = record { standing = lt; fits = record { known = known; done = refl; present = (list_of (version_at h pin) token 0, refl); total = tt } }
+begun_fits h pin token lt known = record { standing = lt; fits = record { known = known; done = refl; present = (list_at (version_at h pin) token 0, refl); total = tt } }
 
 opened_fits : (o : Option Stage) (h : HubState) (pin : ℕ) (token : List ℕ) → StageFitsIf o h → pin < length h.published → knows (version_at h pin) token ≡ true → StageFits (unwrap_or o (begun pin token)) h
 opened_fits None h pin token x lt known = begun_fits h pin token lt known
@@ -111,11 +111,11 @@ pin_held (Some s) a pin from = from
 -- a list with which the next kind of a stage ends
 module _ (a h : HubState) (token : List ℕ) (pin : ℕ) (l : List Record) (up : ascends None l ≡ true) (stands : pin < length h.published) (known : knows (version_at h pin) token ≡ true) where
   abbrev IsNext : Option Stage → Type 0
-  IsNext o = l ≡ list_of (version_at h pin) token (kinds_of (option_map state_of o))
+  IsNext o = l ≡ list_at (version_at h pin) token (kinds_of (option_map state_of o))
 
   front_of : (s : Stage) → s.token ≡ token → pin ≡ s.pin → IsNext (Some s) → StageFits s h → IsFrontOf s.present l
   front_of s et ep is x =
-      let same : list_of (version_at h s.pin) s.token (length s.done) ≡ l = (λ i. list_of (version_at h (sym ep i)) (et i) (length s.done)) ∙ sym is in
+      let same : list_at (version_at h s.pin) s.token (length s.done) ≡ l = (λ i. list_at (version_at h (sym ep i)) (et i) (length s.done)) ∙ sym is in
       ((x.fits.present).0, (x.fits.present).1 ∙ same)
 
   -- what follows is what is left of the list
@@ -127,7 +127,7 @@ module _ (a h : HubState) (token : List ℕ) (pin : ℕ) (l : List Record) (up :
       → StandsIn (option_map state_of o) a h token (length l) (rest_of (option_map state_of o) pin l)
   rest_stands o et lt ep is x =
       let n = staged_of (option_map state_of o) in
-      let L = list_of (version_at h pin) token (kinds_of (option_map state_of o)) in
+      let L = list_at (version_at h pin) token (kinds_of (option_map state_of o)) in
       let rest = rest_rows o et ep is x in
       let few : length (drop n L) ≤ length l = omega (arith, length-drop n L, ap length is) in
       let done : (length (following (option_map state_of o) l) == length l - n) ≡ true = let e = ap length rest ∙ length-drop n l in grind (arith, nat_tests, e) in
@@ -148,9 +148,9 @@ module _ (a h : HubState) (token : List ℕ) (pin : ℕ) (l : List Record) (up :
   rest_fits o et lt ep is x = taken_agrees o a h token (length l) (rest_of (option_map state_of o) pin l) et x (rest_stands o et lt ep is x)
 
   -- and a part of it
-  part_on : (s : Stage) (rows : List Record) → s.pin ≡ pin → s.token ≡ token → StageFits s h → IsFrontOf (s.present ++ rows) l → l ≡ list_of (version_at h pin) token (length s.done) → StageFits (stage_after s rows (length l) false) h
+  part_on : (s : Stage) (rows : List Record) → s.pin ≡ pin → s.token ≡ token → StageFits s h → IsFrontOf (s.present ++ rows) l → l ≡ list_at (version_at h pin) token (length s.done) → StageFits (stage_after s rows (length l) false) h
   part_on s rows ep et x front is =
-      let same : l ≡ list_of (version_at h s.pin) s.token (length s.done) = is ∙ (λ i. list_of (version_at h (sym ep i)) (sym et i) (length s.done)) in
+      let same : l ≡ list_at (version_at h s.pin) s.token (length s.done) = is ∙ (λ i. list_at (version_at h (sym ep i)) (sym et i) (length s.done)) in
       record {
         standing = x.standing;
         fits = record { known = x.fits.known; done = x.fits.done; present = (front.0, front.1 ∙ same); total = ap length same };
@@ -209,7 +209,7 @@ module _ (c after : Copy) (stage : Option StageState) (a h : HubState) (hub : Is
   -- a kind that isn't opened
   pub closed_fits : (pin : ℕ) (r : Option SyncAnswer) → base ≤ pin → IsPinFrom (pin_of stage) a pin → IsShutAt h token (first_place stage base limit) pin → Adds (no_page pin) token r c after → CopyFits after h × ((r ≡ None) ⊎ IsBroken r)
   closed_fits pin r low from shut adds =
-      let is : [] ≡ list_of (version_at h pin) token (kinds_of (option_map state_of c.stage)) = sym shut.none ∙ ap (list_of (version_at h pin) token) place_is in
+      let is : [] ≡ list_at (version_at h pin) token (kinds_of (option_map state_of c.stage)) = sym shut.none ∙ ap (list_at (version_at h pin) token) place_is in
       let done : (0 == 0 - staged_of (option_map state_of c.stage)) ≡ true = grind (arith, nat_tests) in
       let stands : StandsIn (option_map state_of c.stage) a h token 0 (no_page pin) = record {
         standing = shut.standing;
@@ -231,8 +231,8 @@ module _ (c after : Copy) (stage : Option StageState) (a h : HubState) (hub : Is
     whole : merged_with kind entries c ≡ list_in (version_at h pin) token kind
     whole = (λ i. merged (old i) (is.puts i) (is.gone i)) ∙ cut_to_cut (version_at h base) (version_at h pin) was now token kind
 
-    next : merged_with kind entries c ≡ list_of (version_at h pin) token (kinds_of (option_map state_of c.stage))
-    next = whole ∙ ap (list_of (version_at h pin) token) place_is
+    next : merged_with kind entries c ≡ list_at (version_at h pin) token (kinds_of (option_map state_of c.stage))
+    next = whole ∙ ap (list_at (version_at h pin) token) place_is
 
     good : IsGood (merged_with kind entries c)
     good = subst IsGood (sym next) (list_good h hub pin token (kinds_of (option_map state_of c.stage)) is.standing)

@@ -19,10 +19,11 @@ use Rattle.roster_values.specs.declared.kind.Kind.{Kind}
 use Rattle.row_deltas.proofs.DeltaLemmas.{Ascends-delta}
 use Rattle.row_deltas.proofs.EntryLemmas.{all_entries}
 use Rattle.row_deltas.proofs.MergeLemmas.{ids_gone-append, rows_put-append, rows_put_above}
-use Rattle.row_deltas.specs.Deltas.{AreOf, delta_of, entry_key, gone_entry, id_key, ids_gone, rows_put}
+use Rattle.row_deltas.specs.Deltas.{AreOf, delta_of, entry_key, gone_entry, ids_gone, rows_put}
 use Rattle.row_deltas.specs.declared.entry.DeltaEntry.{DeltaEntry}
 use Rattle.row_deltas.specs.declared.entry.DeltaEntry.TheVariants.{Gone, Put}
 use Rattle.version_core.specs.Order.{by_order, overlaid, put}
+use Rattle.version_core.specs.Spans.{key_in}
 use Rattle.consumer_deltas.proofs.DeltaFitLemmas.{all_below}
 use Rattle.consumer_deltas.proofs.DeltaToldLemmas.{entry_count, rest_is}
 use Rattle.consumer_deltas.specs.DeltaGathering.{AreFirst}
@@ -81,7 +82,7 @@ module _ (kind : Kind) where
   any_gone [] = tt
   any_gone (row ∷ rows) = (tt, any_gone rows)
 
-  gone_first : (id : List ℕ) (ids : List (List ℕ)) → AllByRecursion (λ other. key_cmp (id_key kind id) (id_key kind other) ≡ Less) ids → First (Some id) ids
+  gone_first : (id : List ℕ) (ids : List (List ℕ)) → AllByRecursion (λ other. key_cmp (key_in kind id) (key_in kind other) ≡ Less) ids → First (Some id) ids
   gone_first id [] below = tt
   gone_first id (other ∷ ids) below = ap is_lt (sym (same_kind (place_of_kind kind) id other) ∙ below.0)
 
@@ -89,7 +90,7 @@ module _ (kind : Kind) where
   gone_ascend last [] up first = refl
   gone_ascend last (Put row ∷ es) up first = gone_ascend last es (and_second _ _ up) first
   gone_ascend last (Gone id ∷ es) up first =
-      and_from _ _ first (gone_ascend (Some id) es (and_second _ _ up) (gone_first id (ids_gone es) (all_below kind (id_key kind id) es (and_first _ _ up))))
+      and_from _ _ first (gone_ascend (Some id) es (and_second _ _ up) (gone_first id (ids_gone es) (all_below kind (key_in kind id) es (and_first _ _ up))))
 
   module _ (old new : List Record) (are_old : AreOf kind old) (are_new : AreOf kind new) (up : Ascends row_key old) (up' : Ascends row_key new) where
     abbrev all : List DeltaEntry

@@ -16,11 +16,12 @@ use Rattle.roster_types.specs.Records.{Record}
 use Rattle.roster_values.specs.declared.kind.Kind.{Kind}
 use Rattle.row_deltas.proofs.DeltaLemmas.{Ascends-delta, look_up-delta}
 use Rattle.row_deltas.proofs.MergeLemmas.{ids_gone-append, look_up-rows_put, put_of, rows_put-append}
-use Rattle.row_deltas.specs.Deltas.{AreOf, delta_of, difference, entry_key, id_key, ids_gone, rows_put}
+use Rattle.row_deltas.specs.Deltas.{AreOf, delta_of, difference, entry_key, ids_gone, rows_put}
 use Rattle.row_deltas.specs.declared.entry.DeltaEntry.{DeltaEntry}
 use Rattle.row_deltas.specs.declared.entry.DeltaEntry.TheVariants.{Gone, Put}
 use Rattle.version_core.proofs.Places.{greater_from_less}
 use Rattle.version_core.proofs.PutLemmas.{key_same}
+use Rattle.version_core.specs.Spans.{key_in}
 use Rattle.consumer_deltas.specs.DeltaFits.{apart, fits, has_id, has_row}
 use Rattle.consumer_deltas.specs.DeltaGathering.{AreFirst}
 use Rattle.consumer_deltas.specs.DeltaJudging.{Sofar}
@@ -33,26 +34,26 @@ gone_old (Some o) n id e = refl
 
 module _ (kind : Kind) where
   abbrev FoundIn : List DeltaEntry → List ℕ → Type 0
-  FoundIn es id = look_up (entry_key kind) (id_key kind id) es ≡ Some (Gone id)
+  FoundIn es id = look_up (entry_key kind) (key_in kind id) es ≡ Some (Gone id)
 
   -- what is gone behind a key is above it
-  pub all_below : (k : Key) (es : List DeltaEntry) → entries.below_all key_cmp k (keyed (entry_key kind) es) ≡ true → AllByRecursion (λ id. key_cmp k (id_key kind id) ≡ Less) (ids_gone es)
+  pub all_below : (k : Key) (es : List DeltaEntry) → entries.below_all key_cmp k (keyed (entry_key kind) es) ≡ true → AllByRecursion (λ id. key_cmp k (key_in kind id) ≡ Less) (ids_gone es)
   all_below k [] below = tt
   all_below k (Put row ∷ es) below = all_below k es (and_second _ _ below)
   all_below k (Gone id ∷ es) below = (less_from_is_lt _ (and_first _ _ below), all_below k es (and_second _ _ below))
 
   -- behind an entry that is below them
-  deeper : (e : DeltaEntry) (es : List DeltaEntry) (ids : List (List ℕ)) → AllByRecursion (λ id. key_cmp (entry_key kind e) (id_key kind id) ≡ Less) ids → AllByRecursion (FoundIn es) ids → AllByRecursion (FoundIn (e ∷ es)) ids
+  deeper : (e : DeltaEntry) (es : List DeltaEntry) (ids : List (List ℕ)) → AllByRecursion (λ id. key_cmp (entry_key kind e) (key_in kind id) ≡ Less) ids → AllByRecursion (FoundIn es) ids → AllByRecursion (FoundIn (e ∷ es)) ids
   deeper e es [] below found = tt
   deeper e es (id ∷ ids) below found =
-      (ap (λ o. cond (is_eq o) (Some e) (look_up (entry_key kind) (id_key kind id) es)) (greater_from_less (entry_key kind e) (id_key kind id) below.0) ∙ found.0, deeper e es ids below.1 found.1)
+      (ap (λ o. cond (is_eq o) (Some e) (look_up (entry_key kind) (key_in kind id) es)) (greater_from_less (entry_key kind e) (key_in kind id) below.0) ∙ found.0, deeper e es ids below.1 found.1)
 
   found_gone : (es : List DeltaEntry) → Ascends (entry_key kind) es → AllByRecursion (FoundIn es) (ids_gone es)
   found_gone [] up = tt
   found_gone (Put row ∷ es) up = deeper (Put row) es (ids_gone es) (all_below (row_key row) es (and_first _ _ up)) (found_gone es (and_second _ _ up))
   found_gone (Gone id ∷ es) up = (
-    ap (λ o. cond (is_eq o) (Some (Gone id)) (look_up (entry_key kind) (id_key kind id) es)) (key_same (id_key kind id)),
-    deeper (Gone id) es (ids_gone es) (all_below (id_key kind id) es (and_first _ _ up)) (found_gone es (and_second _ _ up)),
+    ap (λ o. cond (is_eq o) (Some (Gone id)) (look_up (entry_key kind) (key_in kind id) es)) (key_same (key_in kind id)),
+    deeper (Gone id) es (ids_gone es) (all_below (key_in kind id) es (and_first _ _ up)) (found_gone es (and_second _ _ up)),
   )
 
   module _ (old new : List Record) (are_old : AreOf kind old) (are_new : AreOf kind new) (up : Ascends row_key old) (up' : Ascends row_key new) where
@@ -62,7 +63,7 @@ module _ (kind : Kind) where
     each_fits : (ids : List (List ℕ)) → AllByRecursion (FoundIn all) ids → fits kind old (rows_put all) ids ≡ true
     each_fits [] found = refl
     each_fits (id ∷ ids) found =
-        let k = id_key kind id in
+        let k = key_in kind id in
         let was : is_some (look_up row_key k old) ≡ true = gone_old (look_up row_key k old) (look_up row_key k new) id (sym (look_up-delta kind old new are_old are_new up up' k) ∙ found.0) in
         let apart : not (is_some (look_up row_key k (rows_put all))) ≡ true = ap (λ o. not (is_some o)) (look_up-rows_put kind k all (Ascends-delta kind old new are_old are_new up up') ∙ ap put_of found.0) in
         and_from _ _ was (and_from _ _ apart (each_fits ids found.1))
@@ -111,7 +112,7 @@ module _ (kind : Kind) where
   has_joined : (rows more : List Record) (id : List ℕ) → has_id kind (rows ++ more) id ≡ (has_id kind rows id || has_id kind more id)
   has_joined [] more id = refl
   has_joined (row ∷ rows) more id =
-      let k = id_key kind id in
+      let k = key_in kind id in
       elim (is_eq (key_cmp k (row_key row))) as (λ b. is_some (cond b (Some row) (look_up row_key k (rows ++ more))) ≡ (is_some (cond b (Some row) (look_up row_key k rows)) || has_id kind more id)) [
         | true ↦ refl
         | false ↦ has_joined rows more id
@@ -182,10 +183,10 @@ module _ (kind : Kind) where
   apart_row : (row : Record) (rows : List Record) (ids : List (List ℕ)) → apart kind (row ∷ rows) ids ≡ (not (has_row kind ids row) && apart kind rows ids)
   apart_row row rows [] = refl
   apart_row row rows (id ∷ ids) =
-      let k = id_key kind id in
+      let k = key_in kind id in
       ap (λ b. not (has_id kind (row ∷ rows) id) && b) (apart_row row rows ids)
-      ∙ apart_both (is_eq (key_cmp k (row_key row))) row (look_up row_key k rows) id (look_up (id_key kind) (row_key row) ids) (apart kind rows ids)
-      ∙ ap (λ b. not (is_some (cond b (Some id) (look_up (id_key kind) (row_key row) ids))) && (not (has_id kind rows id) && apart kind rows ids)) (same_either_way k (row_key row))
+      ∙ apart_both (is_eq (key_cmp k (row_key row))) row (look_up row_key k rows) id (look_up (key_in kind) (row_key row) ids) (apart kind rows ids)
+      ∙ ap (λ b. not (is_some (cond b (Some id) (look_up (key_in kind) (row_key row) ids))) && (not (has_id kind rows id) && apart kind rows ids)) (same_either_way k (row_key row))
 
   -- at a row of a list
   module _ (rows : List Record) (n : ℕ) (row d : Record) (ids : List (List ℕ)) (within : n < length rows) (is : row ≡ get_or rows n d) where

@@ -18,14 +18,15 @@ use Rattle.roster_values.proofs.KindLaws.{kind_from_place}
 use Rattle.roster_values.specs.Kinds.{place_of_kind}
 use Rattle.roster_values.specs.declared.kind.Kind.{Kind}
 use Rattle.row_deltas.proofs.DeltaLemmas.{all_overlaid}
-use Rattle.row_deltas.specs.Deltas.{AreOf, id_key, merged}
+use Rattle.row_deltas.specs.Deltas.{AreOf, merged}
 use Rattle.version_core.proofs.LookUps.{Ascends-filter, all_kept}
 use Rattle.version_core.proofs.OrderLemmas.{Ascends-overlaid}
+use Rattle.version_core.specs.Spans.{key_in}
 use Rattle.consumer_deltas.proofs.DeltaFollowLemmas.{lower}
 use Rattle.consumer_deltas.specs.DeltaJudging.{ids_ascend, last_id}
 
 module _ (kind : Kind) where
-  key_less : (a b : List ℕ) → is_lt (slice_cmp nat_cmp a b) ≡ true → is_lt (key_cmp (id_key kind a) (id_key kind b)) ≡ true
+  key_less : (a b : List ℕ) → is_lt (slice_cmp nat_cmp a b) ≡ true → is_lt (key_cmp (key_in kind a) (key_in kind b)) ≡ true
   key_less a b e = ap is_lt (same_kind (place_of_kind kind) a b) ∙ e
 
   -- ids
@@ -34,13 +35,13 @@ module _ (kind : Kind) where
   ids_lower a b [] less up = refl
   ids_lower a b (id ∷ ids) less up = and_from _ _ (lower a b id less (and_first _ _ up)) (and_second (is_lt (slice_cmp nat_cmp b id)) _ up)
 
-  ids_below : (id : List ℕ) (ids : List (List ℕ)) → ids_ascend (Some id) ids ≡ true → entries.below_all key_cmp (id_key kind id) (keyed (id_key kind) ids) ≡ true
+  ids_below : (id : List ℕ) (ids : List (List ℕ)) → ids_ascend (Some id) ids ≡ true → entries.below_all key_cmp (key_in kind id) (keyed (key_in kind) ids) ≡ true
   ids_below id [] up = refl
   ids_below id (other ∷ ids) up =
       let less = and_first (is_lt (slice_cmp nat_cmp id other)) _ up in
       and_from _ _ (key_less id other less) (ids_below id ids (ids_lower id other ids less (and_second (is_lt (slice_cmp nat_cmp id other)) _ up)))
 
-  pub ids_rise : (last : Option (List ℕ)) (ids : List (List ℕ)) → ids_ascend last ids ≡ true → Ascends (id_key kind) ids
+  pub ids_rise : (last : Option (List ℕ)) (ids : List (List ℕ)) → ids_ascend last ids ≡ true → Ascends (key_in kind) ids
   ids_rise last [] up = refl
   ids_rise None (id ∷ ids) up = and_from _ _ (ids_below id ids up) (ids_rise (Some id) ids up)
   ids_rise (Some last) (id ∷ ids) up =
@@ -56,16 +57,16 @@ module _ (kind : Kind) where
   rows_lower a b [] less up = refl
   rows_lower a b (row ∷ rows) less up = and_from _ _ (lower a b row.id less (and_first _ _ up)) (and_second (is_lt (slice_cmp nat_cmp b row.id)) _ up)
 
-  rows_below : (id : List ℕ) (rows : List Record) → AreRows rows → ascends (Some id) rows ≡ true → entries.below_all key_cmp (id_key kind id) (keyed row_key rows) ≡ true
+  rows_below : (id : List ℕ) (rows : List Record) → AreRows rows → ascends (Some id) rows ≡ true → entries.below_all key_cmp (key_in kind id) (keyed row_key rows) ≡ true
   rows_below id [] are up = refl
   rows_below id (row ∷ rows) are up =
       let less = and_first (is_lt (slice_cmp nat_cmp id row.id)) _ up in
-      and_from _ _ (ap (λ (k : Kind). is_lt (key_cmp (id_key kind id) (id_key k row.id))) are.0 ∙ key_less id row.id less)
+      and_from _ _ (ap (λ (k : Kind). is_lt (key_cmp (key_in kind id) (key_in k row.id))) are.0 ∙ key_less id row.id less)
       (rows_below id rows are.1 (rows_lower id row.id rows less (and_second (is_lt (slice_cmp nat_cmp id row.id)) _ up)))
 
   -- a row in front of others
-  first : (row : Record) (rows : List Record) → row.kind ≡ kind → entries.below_all key_cmp (id_key kind row.id) (keyed row_key rows) ≡ true → Ascends row_key rows → Ascends row_key (row ∷ rows)
-  first row rows of below up = and_from _ _ (ap (λ (k : Kind). entries.below_all key_cmp (id_key k row.id) (keyed row_key rows)) of ∙ below) up
+  first : (row : Record) (rows : List Record) → row.kind ≡ kind → entries.below_all key_cmp (key_in kind row.id) (keyed row_key rows) ≡ true → Ascends row_key rows → Ascends row_key (row ∷ rows)
+  first row rows of below up = and_from _ _ (ap (λ (k : Kind). entries.below_all key_cmp (key_in k row.id) (keyed row_key rows)) of ∙ below) up
 
   rise : (last : Option (List ℕ)) (rows : List Record) → AreRows rows → ascends last rows ≡ true → Ascends row_key rows
   rise last [] are up = refl

@@ -13,7 +13,7 @@ use Rattle.exchange_link.specs.Exchanges.{LinkState}
 use Rattle.exchange_link.specs.Owning.{IsOwnRead}
 use Rattle.exchange_link.specs.Owning.Gives.{Answers as GivesAnswer, Broke as GivesFault, Wants as GivesWant}
 use Rattle.exchange_link.specs.Pages.{Page, asked_by}
-use Rattle.exchange_link.specs.Sayings.{knows, list_of}
+use Rattle.exchange_link.specs.Sayings.{knows, list_at}
 use Rattle.http_wire.specs.declared.reply_reading.WireReply.{WireReply}
 use Rattle.hub_spec.proofs.CutDeltas.{list_ascends, list_is_of}
 use Rattle.hub_spec.proofs.Growing.{Grew-refl}
@@ -102,7 +102,7 @@ said_of a b p base n w can small own = record {
 
 -- a kind that is opened, or of which rows are seen
 abbrev pub Shows : HubState → List ℕ → Kind → ℕ → Type 0
-Shows h token kind pin = (opens_kind (version_at h pin) token kind ≡ true) ⊎ (list_of (version_at h pin) token (place_of_kind kind) ≢ [])
+Shows h token kind pin = (opens_kind (version_at h pin) token kind ≡ true) ⊎ (list_at (version_at h pin) token (place_of_kind kind) ≢ [])
 
 -- the entries that came are the first of the delta at the pin
 pub record IsFirstPart (h : HubState) (token : List ℕ) (here : Place) (sofar : Sofar) (total pin : ℕ) : Type 0 where
@@ -120,7 +120,7 @@ pub record Knows (h : HubState) (token : List ℕ) (here : Place) (sofar : Sofar
   pub staged : here.is_fresh ≡ false → IsSomeAnd here.pin (λ pin. Shows h token here.kind pin)
   pub came : Came h token here sofar sofar.total
 
-shows_seen : (h : HubState) (token : List ℕ) (kind : Kind) (o : Option ℕ) → IsSomeAnd o (λ pin. list_of (version_at h pin) token (place_of_kind kind) ≢ []) → IsSomeAnd o (λ pin. Shows h token kind pin)
+shows_seen : (h : HubState) (token : List ℕ) (kind : Kind) (o : Option ℕ) → IsSomeAnd o (λ pin. list_at (version_at h pin) token (place_of_kind kind) ≢ []) → IsSomeAnd o (λ pin. Shows h token kind pin)
 shows_seen h token kind None x = absurd x
 shows_seen h token kind (Some pin) x = inr x
 
@@ -142,7 +142,7 @@ module _ (a b : HubState) (grew : Grew a b) where
   shows_on : (base : ℕ) (token : List ℕ) (kind : Kind) (o : Option ℕ) → IfSome o (λ pin. (pin < length a.published) × (base ≤ pin)) → IsSomeAnd o (λ pin. Shows a token kind pin) → IsSomeAnd o (λ pin. Shows b token kind pin)
   shows_on base token kind None stands x = absurd x
   shows_on base token kind (Some pin) stands x = subst
-      (λ (v : BaseVersion). (opens_kind v token kind ≡ true) ⊎ (list_of v token (place_of_kind kind) ≢ [])) (sym (grew.same pin stands.0)) x
+      (λ (v : BaseVersion). (opens_kind v token kind ≡ true) ⊎ (list_at v token (place_of_kind kind) ≢ [])) (sym (grew.same pin stands.0)) x
 
   came_at : (token : List ℕ) (here : Place) (sofar : Sofar) (total : ℕ) (o : Option ℕ) → here.base < length a.published → IfSome o (λ pin. (pin < length a.published) × (here.base ≤ pin))
       → IsSomeAnd o (λ pin. IsFirstPart a token here sofar total pin) → IsSomeAnd o (λ pin. IsFirstPart b token here sofar total pin)
@@ -215,7 +215,7 @@ module _ (a mid b : HubState) (from : Grew a mid) (to : Grew mid b) (token : Lis
         record {
           standing = omega (arith, stands, longer);
           known = ap (λ version. knows version token) (to.same pin stands) ∙ ap (λ n. knows (version_at mid n) token) (sym is) ∙ read.known;
-          none = ap (λ version. list_of version token (place_of_kind here.kind)) (to.same pin stands) ∙ ap (λ n. list_of (version_at mid n) token (place_of_kind here.kind)) (sym is) ∙ none;
+          none = ap (λ version. list_at version token (place_of_kind here.kind)) (to.same pin stands) ∙ ap (λ n. list_at (version_at mid n) token (place_of_kind here.kind)) (sym is) ∙ none;
         },
         pin_from a mid from here.pin pin (sym is ∙ read.pinned),
       )
@@ -285,7 +285,7 @@ same_delta_at h token here place pin entries base kind x =
 
 pub same_shut_at : (h : HubState) (token : List ℕ) (here place : Place) (pin : ℕ) → here.kind ≡ place.kind → IsShutAt h token here pin → IsShutAt h token place pin
 same_shut_at h token here place pin kind x =
-    record { standing = x.standing; known = x.known; none = ap (λ k. list_of (version_at h pin) token (place_of_kind k)) (sym kind) ∙ x.none }
+    record { standing = x.standing; known = x.known; none = ap (λ k. list_at (version_at h pin) token (place_of_kind k)) (sym kind) ∙ x.none }
 
 -- ---- a reply that ends the pages
 
@@ -370,7 +370,7 @@ module _ (a b : LinkState) (token : List ℕ) (here : Place) (sofar : Sofar) (w 
       subst Ends (sym (judged_at here sofar w 404 status ∙ ap (lost_act here.base here.pin) is)) (lost_ends version by read found law status is out here.pin refl)
 
   not_opened : (version : ℕ) → version ≡ unwrap_or here.pin (newest_number mid) → w.status ≡ 403 → w.version ≡ Some version → opens_kind (version_at mid version) token here.kind ≡ false
-      → list_of (version_at mid version) token (place_of_kind here.kind) ≡ [] → ⊥
+      → list_at (version_at mid version) token (place_of_kind here.kind) ≡ [] → ⊥
   not_opened version read status is shut none =
       let pinned : agrees here.pin version ≡ true = agrees_pin here.pin version (newest_number mid) read in
       let judged : delta_judged here sofar w ≡ (if here.is_fresh then act.Close version else act.BadReply) =
@@ -379,7 +379,7 @@ module _ (a b : LinkState) (token : List ℕ) (here : Place) (sofar : Sofar) (w 
         | true ↦ λ _ e. goes (act.Close version) (closes_on version) e
         | false ↦ λ late _.
             let shows = at_pin mid (λ pin. Shows mid token here.kind pin) here.pin version (pin_from mid mid (Grew-refl mid) here.pin version read) (x.staged late) in
-            ⊎_elim (λ (opened : opens_kind (version_at mid version) token here.kind ≡ true). both_ways _ shut opened) (λ (some : list_of (version_at mid version) token (place_of_kind here.kind) ≢ []). some none) shows
+            ⊎_elim (λ (opened : opens_kind (version_at mid version) token here.kind ≡ true). both_ways _ shut opened) (λ (some : list_at (version_at mid version) token (place_of_kind here.kind) ≢ []). some none) shows
       ] refl judged
 
   module _ (version : ℕ) (standing : version < length mid.published) (read : version ≡ unwrap_or here.pin (newest_number mid)) where
@@ -479,11 +479,16 @@ module _ (before : HubState) (a b : LinkState) (hub : IsHub a.hub) (grew : Grew 
   said : IsSaid a b (page_asked token here (count_in sofar)) here.base w
   said = own_said a b hub token here sofar n w some few came x.known own
 
+  -- what a page that is taken means
+  page_means : (pin : ℕ) (page : Entries) (total : ℕ) → act.Take pin page total ≡ delta_judged here sofar w
+      → TakenMeans a.hub b.hub token here sofar pin page total
+  page_means pin page total e = taken_means a b token here sofar w said pin page total (sym e)
+
   -- at the next page
   pub gathering_next : (pin : ℕ) (page : Entries) (total : ℕ) → act.Take pin page total ≡ delta_judged here sofar w → (next : Sofar) (there : Place) → next ≡ with_page sofar page total → there ≡ next_place here pin
       → Gathering before b.hub token place there next
   gathering_next pin page total e next there joined at =
-      let means = taken_means a b token here sofar w said pin page total (sym e) in
+      let means = page_means pin page total e in
       let on : Gathering before b.hub token place (next_place here pin) (with_page sofar page total) = record {
         known = knows_next a.hub b.hub token here sofar pin page total grew x.known means;
         pin = λ v is. subst (λ m. IsPinFrom place.pin before m) (sym is) (x.pin pin means.from);
@@ -494,7 +499,7 @@ module _ (before : HubState) (a b : LinkState) (hub : IsHub a.hub) (grew : Grew 
   pub whole_tells : here.base ≡ place.base → here.kind ≡ place.kind → (pin : ℕ) (page : Entries) (total : ℕ) → act.Take pin page total ≡ delta_judged here sofar w → (all : Sofar) → all ≡ with_page sofar page total → is_whole all ≡ true
       → IsDelta b.hub token place pin all × IsPinFrom place.pin before pin
   whole_tells base kind pin page total e all joined whole =
-      let means = taken_means a b token here sofar w said pin page total (sym e) in
+      let means = page_means pin page total e in
       let told = whole_told a.hub b.hub token here sofar pin page total grew x.known means (ap is_whole (sym joined) ∙ whole) in
       (subst (λ s. IsDelta b.hub token place pin s) (sym joined) (same_delta_at b.hub token here place pin (with_page sofar page total) base kind told), x.pin pin means.from)
 
@@ -502,7 +507,7 @@ module _ (before : HubState) (a b : LinkState) (hub : IsHub a.hub) (grew : Grew 
   pub paged_on : here.base ≡ place.base → here.kind ≡ place.kind → here.limit ≡ place.limit → (pin : ℕ) (page : Entries) (total : ℕ) → act.Take pin page total ≡ delta_judged here sofar w → (next : Sofar) (there : Place) → next ≡ with_page sofar page total
       → there ≡ next_place here pin → count_in (with_page sofar page total) < total → (from at to tries : ℕ) → from ≤ at → at ≤ to → to ≤ at + tries → Paged before a.hub token place here sofar tries (at - from) → Paged before b.hub token place there next tries (to - from)
   paged_on base kind limit pin page total e next there joined at less start mid to tries le le' most so =
-      let means = taken_means a b token here sofar w said pin page total (sym e) in
+      let means = page_means pin page total e in
       let part = part_taken here sofar w pin page total (sym e) in
       let all : total ≡ length (delta (version_at b.hub place.base) (version_at b.hub pin) token place.kind) =
       means.part.total_is ∙ (λ i. length (delta (version_at b.hub (base i)) (version_at b.hub pin) token (kind i))) in

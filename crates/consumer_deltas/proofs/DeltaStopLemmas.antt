@@ -82,35 +82,44 @@ either : (P : DeltaAct → Type 0) (b : Bool) (x y : DeltaAct) → (b ≡ true �
 either P true x y f g = f refl
 either P false x y f g = g refl
 
-abbrev IsKept : DeltaAct → Type 0
-IsKept x = IsGoneAct x → ⊥
+-- the act doesn't say that the pinned version is gone
+abbrev SparesPin : DeltaAct → Type 0
+SparesPin x = IsGoneAct x → ⊥
 
-kept_base : (base oldest : ℕ) → IsKept (base_act base oldest)
-kept_base base oldest = either IsKept (nat_lt base oldest) (act.BaseGone oldest) act.BadReply (λ _ is. is) (λ _ is. is)
+base_spares : (base oldest : ℕ) → SparesPin (base_act base oldest)
+base_spares base oldest = either SparesPin (nat_lt base oldest) (act.BaseGone oldest)
+    act.BadReply (λ _ is. is) (λ _ is. is)
 
-kept_part : (kind : Kind) (sofar : Sofar) (limit v t : ℕ) (page : Entries) → IsKept (part_act kind sofar limit v t page)
-kept_part kind sofar limit v t page =
-    either IsKept (not (length page.puts + length page.gone == min limit (t - count_in sofar))) _ _ (λ _ is. is)
-    (λ _. either IsKept (not (ascends (last_from None sofar.puts) page.puts)) _ _ (λ _ is. is) (λ _. either IsKept (not (ids_ascend (last_id None sofar.gone) page.gone)) _ _ (λ _ is. is)
-    (λ _. either IsKept (not (fits_held kind (with_page sofar page t))) _ _ (λ _ is. is) (λ _ is. is))))
+part_spares : (kind : Kind) (sofar : Sofar) (limit v t : ℕ) (page : Entries)
+    → SparesPin (part_act kind sofar limit v t page)
+part_spares kind sofar limit v t page =
+    either SparesPin (not (length page.puts + length page.gone == min limit (t - count_in sofar))) _ _ (λ _ is. is)
+    (λ _. either SparesPin (not (ascends (last_from None sofar.puts) page.puts)) _ _ (λ _ is. is)
+    (λ _. either SparesPin (not (ids_ascend (last_id None sofar.gone) page.gone)) _ _ (λ _ is. is)
+    (λ _. either SparesPin (not (fits_held kind (with_page sofar page t))) _ _ (λ _ is. is) (λ _ is. is))))
 
-kept_read : (kind : Kind) (sofar : Sofar) (limit v t : ℕ) (o : Option Entries) → IsKept (read_act kind sofar limit v t o)
-kept_read kind sofar limit v t None = λ is. is
-kept_read kind sofar limit v t (Some page) = kept_part kind sofar limit v t page
+read_spares : (kind : Kind) (sofar : Sofar) (limit v t : ℕ) (o : Option Entries)
+    → SparesPin (read_act kind sofar limit v t o)
+read_spares kind sofar limit v t None = λ is. is
+read_spares kind sofar limit v t (Some page) = part_spares kind sofar limit v t page
 
-kept_page : (place : Place) (sofar : Sofar) (v t : ℕ) (body : List ℕ) → IsKept (page_act place.kind sofar place.pin place.limit v t body)
-kept_page place sofar v t body =
-    either IsKept (not (agrees place.pin v)) _ _ (λ _ is. is)
-    (λ _. either IsKept (nat_lt entry_limit t) _ _ (λ _ is. is) (λ _. either IsKept (not (agrees sofar.total t)) _ _ (λ _ is. is) (λ _. kept_read place.kind sofar place.limit v t (entries_of place.kind body))))
+page_spares : (place : Place) (sofar : Sofar) (v t : ℕ) (body : List ℕ)
+    → SparesPin (page_act place.kind sofar place.pin place.limit v t body)
+page_spares place sofar v t body =
+    either SparesPin (not (agrees place.pin v)) _ _ (λ _ is. is)
+    (λ _. either SparesPin (nat_lt entry_limit t) _ _ (λ _ is. is)
+    (λ _. either SparesPin (not (agrees sofar.total t)) _ _ (λ _ is. is) (λ _. read_spares place.kind sofar place.limit v t (entries_of place.kind body))))
 
-kept_differing : (place : Place) (sofar : Sofar) (v t : Option ℕ) (body : List ℕ) → IsKept (differing_act place.kind sofar place.pin place.limit v t body)
-kept_differing place sofar (Some v) (Some t) body = kept_page place sofar v t body
-kept_differing place sofar (Some v) None body = λ is. is
-kept_differing place sofar None t body = λ is. is
+differing_spares : (place : Place) (sofar : Sofar) (v t : Option ℕ) (body : List ℕ)
+    → SparesPin (differing_act place.kind sofar place.pin place.limit v t body)
+differing_spares place sofar (Some v) (Some t) body = page_spares place sofar v t body
+differing_spares place sofar (Some v) None body = λ is. is
+differing_spares place sofar None t body = λ is. is
 
-kept_closed : (pin : Option ℕ) (is_fresh : Bool) (v : Option ℕ) → IsKept (closed_act pin is_fresh v)
-kept_closed pin is_fresh None = λ is. is
-kept_closed pin is_fresh (Some v) = either IsKept (agrees pin v && is_fresh) (act.Close v) act.BadReply (λ _ is. is) (λ _ is. is)
+closed_spares : (pin : Option ℕ) (is_fresh : Bool) (v : Option ℕ) → SparesPin (closed_act pin is_fresh v)
+closed_spares pin is_fresh None = λ is. is
+closed_spares pin is_fresh (Some v) = either SparesPin (agrees pin v && is_fresh) (act.Close v)
+    act.BadReply (λ _ is. is) (λ _ is. is)
 
 lost_gone : (base : ℕ) (pin oldest : Option ℕ) → IsGoneAct (lost_act base pin oldest) → is_some oldest ≡ true
 lost_gone base pin None is = absurd is
@@ -121,8 +130,10 @@ SaysOldest w x = IsGoneAct x → (w.status ≡ 404) × (is_some w.oldest ≡ tru
 
 gone_says : (place : Place) (sofar : Sofar) (w : WireReply) → SaysOldest w (delta_judged place sofar w)
 gone_says place sofar w =
-    either (SaysOldest w) (w.status == 200) _ _ (λ _ is. absurd (kept_differing place sofar w.version w.total w.body is))
-    (λ _. either (SaysOldest w) (w.status == 403) _ _ (λ _ is. absurd (kept_closed place.pin place.is_fresh w.version is))
+    either (SaysOldest w) (w.status == 200) _ _
+    (λ _ is. absurd (differing_spares place sofar w.version w.total w.body is))
+    (λ _. either (SaysOldest w) (w.status == 403) _ _
+    (λ _ is. absurd (closed_spares place.pin place.is_fresh w.version is))
     (λ _. either (SaysOldest w) (w.status == 404) _ _ (λ e is. (eqb-true w.status 404 e, lost_gone place.base place.pin w.oldest is))
     (λ _. either (SaysOldest w) (w.status == 401) _ _ (λ _ is. absurd is)
     (λ _. either (SaysOldest w) (w.status == 500) _ _ (λ _ is. absurd is)
@@ -141,20 +152,23 @@ abbrev pub GoneAt : Option ℕ → DeltaAct → Type 0
 GoneAt pin (act.PinGone v oldest) = pin ≡ Some v
 GoneAt pin x = Unit {0}
 
-kept_at : (pin : Option ℕ) (x : DeltaAct) → IsKept x → GoneAt pin x
-kept_at pin (act.PinGone v oldest) kept = absurd (kept tt)
-kept_at pin x kept = tt
+spares_at : (pin : Option ℕ) (x : DeltaAct) → SparesPin x → GoneAt pin x
+spares_at pin (act.PinGone v oldest) spares = absurd (spares tt)
+spares_at pin x spares = tt
 
 lost_at : (base : ℕ) (pin oldest : Option ℕ) → GoneAt pin (lost_act base pin oldest)
 lost_at base pin None = tt
-lost_at base None (Some oldest) = kept_at None (base_act base oldest) (kept_base base oldest)
+lost_at base None (Some oldest) = spares_at None (base_act base oldest) (base_spares base oldest)
 lost_at base (Some pin) (Some oldest) =
-    either (GoneAt (Some pin)) (nat_lt pin oldest) (act.PinGone pin oldest) (base_act base oldest) (λ _. refl) (λ _. kept_at (Some pin) (base_act base oldest) (kept_base base oldest))
+    either (GoneAt (Some pin)) (nat_lt pin oldest) (act.PinGone pin oldest) (base_act base oldest)
+    (λ _. refl) (λ _. spares_at (Some pin) (base_act base oldest) (base_spares base oldest))
 
 pub gone_at : (place : Place) (sofar : Sofar) (w : WireReply) → GoneAt place.pin (delta_judged place sofar w)
 gone_at place sofar w =
-    either (GoneAt place.pin) (w.status == 200) _ _ (λ _. kept_at place.pin (differing_act place.kind sofar place.pin place.limit w.version w.total w.body) (kept_differing place sofar w.version w.total w.body))
-    (λ _. either (GoneAt place.pin) (w.status == 403) _ _ (λ _. kept_at place.pin (closed_act place.pin place.is_fresh w.version) (kept_closed place.pin place.is_fresh w.version))
+    either (GoneAt place.pin) (w.status == 200) _ _
+    (λ _. spares_at place.pin (differing_act place.kind sofar place.pin place.limit w.version w.total w.body) (differing_spares place sofar w.version w.total w.body))
+    (λ _. either (GoneAt place.pin) (w.status == 403) _ _
+    (λ _. spares_at place.pin (closed_act place.pin place.is_fresh w.version) (closed_spares place.pin place.is_fresh w.version))
     (λ _. either (GoneAt place.pin) (w.status == 404) _ _ (λ _. lost_at place.base place.pin w.oldest)
     (λ _. either (GoneAt place.pin) (w.status == 401) _ _ (λ _. tt)
     (λ _. either (GoneAt place.pin) (w.status == 500) _ _ (λ _. tt)

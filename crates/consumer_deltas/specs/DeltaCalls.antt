@@ -8,6 +8,7 @@ use Rattle.consumer_deltas.specs.declared.answer.DeltaAnswer.{DeltaAnswer}
 use Rattle.consumer_deltas.specs.declared.answer.DeltaAnswer.TheVariants.{BaseGone, Ended, NoBase}
 use Rattle.exchange_link.specs.Agreement.{StageAgrees}
 use Rattle.exchange_link.specs.Asked.{SendsOn}
+use Rattle.exchange_link.specs.Between.{Call, CopyRun, LinkRun}
 use Rattle.exchange_link.specs.Bounds.{pages}
 use Rattle.exchange_link.specs.Causes.{IsAside, IsMore}
 use Rattle.exchange_link.specs.Completeness.{IsDone}
@@ -33,15 +34,15 @@ AsksSome (BaseGone held oldest) count = 1 ≤ count
 AsksSome a count = ⊤
 
 -- each request of the call is for a page of what differs from the held version on, numbered from 1 on under its run
-pub record AsksDeltas (token : List ℕ) (limit tries : ℕ) (befores copies : Copy → Type 0) (asked_before asked_after : ℕ) (a : DeltaAnswer) (before after : List Request) : Type 0 where
+pub record AsksDeltas (call : Call) (copies : CopyRun) (link : LinkRun) (a : DeltaAnswer) (before after : List Request) : Type 0 where
   pub run : ℕ
   pub count : ℕ
   pub base : ℕ
-  pub held : 1 ≤ count → (c : Copy) → copies c → (before : Copy) × befores before × HasBase base token before
-  pub runs : 1 ≤ count → (c : Copy) → copies c → c.run ≡ run
-  pub counts : IsMore asked_before count asked_after
+  pub held : 1 ≤ count → (c : Copy) → copies.stands c → (before : Copy) × copies.stood before × HasBase base call.token before
+  pub runs : 1 ≤ count → (c : Copy) → copies.stands c → c.run ≡ run
+  pub counts : IsMore link.asked_before count link.asked_now
   pub some : AsksSome a count
-  pub each : SendsOn (IsDeltaUnder token limit base) run 0 count (a ≡ Ended answer.NoMemory) before after
+  pub each : SendsOn (IsDeltaUnder call.token call.limit base) run 0 count (a ≡ Ended answer.NoMemory) before after
 
 -- ---- how many exchanges
 

@@ -6,10 +6,12 @@ use Rattle.consumer_deltas.specs.DeltaFilling.{Halts}
 use Rattle.consumer_deltas.specs.declared.answer.DeltaAnswer.{DeltaAnswer}
 use Rattle.consumer_deltas.specs.declared.answer.DeltaAnswer.TheVariants.{Ended, BaseGone, NoBase}
 use Rattle.consumer_deltas.specs.declared.judging.Place.{Place}
-use Rattle.exchange_link.specs.Causes.{IsMore, IsOwnReply, IsPageStatus}
+use Rattle.exchange_link.specs.Between.{Call, CopyRun, LinkRun}
+use Rattle.exchange_link.specs.Causes.{IsMore, IsOwnReply, IsPageStatus, MissedAll}
 use Rattle.exchange_link.specs.declared.answer.SyncAnswer.TheVariants as answer
 use Rattle.http_wire.specs.declared.reply_reading.WireReply.{WireReply}
 use Rattle.keeper_memory.specs.copy.Copies.{Copy}
+use Rattle.roster_base.specs.Faults.{Rose}
 
 -- no base or no run, and so nothing asked for; every kind staged and swapped in, keeper or memory gave up, or the cause
 -- of a kind that ended the call
@@ -38,15 +40,16 @@ abbrev pub RepliesOn : Place → WireReply → Option DeltaAnswer → Type 0
 RepliesOn place w None = IsPageStatus w.status
 RepliesOn place w (Some a) = RepliesIf place w a
 
--- the cause of an answer, where the keeper stood for `befores` and then stands for `copies`: the run, the number of
--- exchanges of the call, and the first page of the kind at which it ended
-pub record DeltaCaused (token : List ℕ) (limit : ℕ) (befores copies : Copy → Type 0) (asked_before asked_after : ℕ) (kept : List ℕ) (missed : ℕ → Type 0) (broke : Type 0) (a : DeltaAnswer) : Type 0 where
+-- the cause of an answer: the run, the number of exchanges of the call, and the first page of the kind at which it ended
+pub record DeltaCaused (call : Call) (copies : CopyRun) (link : LinkRun) (a : DeltaAnswer) : Type 0 where
   pub run : ℕ
   pub count : ℕ
   pub place : Place
-  pub held : 1 ≤ count → (c : Copy) → copies c → (before : Copy) × befores before × HasBase place.base token before
-  pub few : 1 ≤ count → place.limit ≡ limit
-  pub counts : IsMore asked_before count asked_after
-  pub runs : 1 ≤ count → (c : Copy) → copies c → c.run ≡ run
-  pub only : DeltaCause kept run count (missed count) broke copies place a
-  pub exact : (w : WireReply) → IsOwnReply kept run count w → RepliesIf place w a
+  pub held : 1 ≤ count → (c : Copy) → copies.stands c
+      → (before : Copy) × copies.stood before × HasBase place.base call.token before
+  pub few : 1 ≤ count → place.limit ≡ call.limit
+  pub counts : IsMore link.asked_before count link.asked_now
+  pub runs : 1 ≤ count → (c : Copy) → copies.stands c → c.run ≡ run
+  pub only : DeltaCause link.kept run count (MissedAll call.tries link count)
+      (Rose copies.faults_before copies.faults_now) copies.stands place a
+  pub exact : (w : WireReply) → IsOwnReply link.kept run count w → RepliesIf place w a

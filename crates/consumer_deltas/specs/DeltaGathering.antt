@@ -14,13 +14,13 @@ use Rattle.exchange_link.specs.Causes.{IsOwnReply}
 use Rattle.exchange_link.specs.declared.answer.SyncAnswer.TheVariants as answer
 use Rattle.http_wire.specs.Answers.{IsNoReply}
 use Rattle.http_wire.specs.declared.reply_reading.WireReply.{WireReply}
-use Rattle.exchange_link.specs.Sayings.{knows, list_of}
+use Rattle.exchange_link.specs.Sayings.{knows}
 use Rattle.hub_spec.specs.rules.Checks.{version_at}
+use Rattle.hub_spec.specs.views.Cuts.{list_in}
 use Rattle.hub_spec.specs.views.Deltas.{delta as what_differs}
 use Rattle.hub_spec.specs.views.Pages.{slice}
 use Rattle.keeper_memory.specs.declared.copy.state.TheConstants.{LAST}
 use Rattle.roster_types.specs.Records.{Record}
-use Rattle.roster_values.specs.Kinds.{place_of_kind}
 use Rattle.roster_values.specs.declared.kind.Kind.{Kind}
 use Rattle.row_deltas.specs.Deltas.{ids_gone, rows_put}
 use Rattle.row_deltas.specs.declared.entry.DeltaEntry.{DeltaEntry}
@@ -98,7 +98,7 @@ pub record IsDelta (h : HubState) (token : List ℕ) (place : Place) (pin : ℕ)
 pub record IsShutAt (h : HubState) (token : List ℕ) (place : Place) (pin : ℕ) : Type 0 where
   pub standing : pin < length h.published
   pub known : knows (version_at h pin) token ≡ true
-  pub none : list_of (version_at h pin) token (place_of_kind place.kind) ≡ []
+  pub none : list_in (version_at h pin) token place.kind ≡ []
 
 -- what came is the first entries of a list
 pub record AreFirst (sofar : Sofar) (all : List DeltaEntry) : Type 0 where

@@ -10,12 +10,10 @@ use Rattle.consumer_deltas.specs.declared.gathering.Delta.TheVariants as delta
 use Rattle.consumer_deltas.specs.declared.judging.Place.{Place}
 use Rattle.exchange_link.specs.Bounds.{pages}
 use Rattle.exchange_link.specs.Exchanges.{LinkState}
-use Rattle.exchange_link.specs.Sayings.{list_of}
 use Rattle.exchange_link.specs.declared.answer.SyncAnswer.TheVariants as answer
 use Rattle.hub_spec.specs.rules.Checks.{version_at}
 use Rattle.hub_spec.specs.views.Cuts.{list_in}
 use Rattle.roster_types.specs.Records.{Record}
-use Rattle.roster_values.specs.Kinds.{place_of_kind}
 use Rattle.version_core.specs.HubStates.{HubState, newest_number}
 
 -- the pin, or else a version not older than the newest then
@@ -29,7 +27,7 @@ pub record MayAsk (h : HubState) (token : List ℕ) (place : Place) (held : List
   pub based : place.base < length h.published
   pub shown : held ≡ list_in (version_at h place.base) token place.kind
   pub pinned : IfSome place.pin (λ pin. (pin < length h.published) × (place.base ≤ pin))
-  pub staged : place.is_fresh ≡ false → IsSomeAnd place.pin (λ pin. list_of (version_at h pin) token (place_of_kind place.kind) ≢ [])
+  pub staged : place.is_fresh ≡ false → IsSomeAnd place.pin (λ pin. list_in (version_at h pin) token place.kind ≢ [])
 
 -- what is gathered is the delta between the cuts of the base and of the pin
 abbrev pub Tells : HubState → HubState → List ℕ → Place → Delta → Type 0

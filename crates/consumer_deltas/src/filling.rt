@@ -18,6 +18,7 @@ ghost use Rattle.exchange_link.specs.Asked.{SendsOn};
 ghost use Rattle.exchange_link.specs.Calls.{CanTry, IsRunNumber, last_exchange};
 ghost use Rattle.exchange_link.specs.Causes.{IsMore, IsOwnReply, IsPageStatus, RoseBy};
 ghost use Rattle.exchange_link.specs.Exchanges.{LinkState};
+ghost use Rattle.exchange_link.specs.Pairs.{AtEach, CopyFrom, LinkFrom};
 ghost use Rattle.exchange_link.specs.Places.{kind_at, kinds_of};
 ghost use Rattle.exchange_link.specs.Requests.{Asks, IsReady};
 ghost use Rattle.exchange_link.specs.Synchronised.{StageOn};
@@ -44,7 +45,7 @@ use std::alloc::Global;
 
 // Lets the stage go whose pin is gone, and keeps it under any other answer.
 fn let_go<C: CopyKeeper>(alloc: Global, copy: &mut C, answer: DeltaAnswer) -> DeltaAnswer
-    ensures told { (after : Copy) → C.stands_for copy.new after → (before : Copy) × C.stands_for copy.old before × LetsGo answer result before after }
+    ensures told { CopyFrom (C.stands_for copy.old) (C.stands_for copy.new) (LetsGo answer result) }
     ensures ends { (result ≡ answer) ⊎ (((result ≡ DeltaAnswer.Ended SyncAnswer.KeeperFault) × Rose (C.fault_count copy.old) (C.fault_count copy.new)) ⊎ (result ≡ DeltaAnswer.Ended SyncAnswer.NoMemory)) }
     ensures keeps { (IsPinGone answer → ⊥) → result ≡ answer }
     ensures later { C.fault_count copy.old ≤ C.fault_count copy.new }
@@ -92,8 +93,7 @@ fn stage_kind<C: CopyKeeper>(
     requires held { (c : Copy) → C.stands_for copy.old c → StandsOn (held_list c (kind_at (kinds_of stage.old))) delta }
     ensures on { result ≡ None → stage.new ≡ Some (paged (opened stage.old (pin_in delta) token.now) [] 0 true) }
     ensures holds { result ≡ None → (c : Copy) → C.stands_for copy.new c → stage_of c ≡ stage.new }
-    ensures told { (after : Copy) → C.stands_for copy.new after → (before : Copy) × C.stands_for copy.old before
-        × StagesKind delta (kind_at (kinds_of stage.old)) stage.old token.now result before after }
+    ensures told { CopyFrom (C.stands_for copy.old) (C.stands_for copy.new) (StagesKind delta (kind_at (kinds_of stage.old)) stage.old token.now result) }
     ensures ends { IfSome result (Unstaged (Rose (C.fault_count copy.old) (C.fault_count copy.new)) (C.stands_for copy.new) (kind_at (kinds_of stage.old)) delta) }
     ensures later { C.fault_count copy.old ≤ C.fault_count copy.new }
     ensures copy_leads { C.leads copy.old copy.new }
@@ -141,18 +141,19 @@ fn fill_kind<C: CopyKeeper, L: Link>(
     ensures exact { IfSome result (λ a. (w : Reply) → IsOwnReply (L.kept link.new) by.entry.run count.new w → RepliesIf (first_place stage.old by.entry.base by.entry.limit) w a) }
     ensures count { (count.old ≤ count.new) × (count.new ≤ count.old + most_asked) }
     ensures asked { IsMore (L.asked link.old) (count.new - count.old) (L.asked link.new) }
-    ensures link { (after : LinkState) → L.tells link.new after → (before : LinkState) × L.tells link.old before × Asks by.entry.run count.old count.new IsUnmarked before after }
-    ensures asks { (after : LinkState) → L.tells link.new after → (before : LinkState) × L.tells link.old before
-        × SendsOn (IsDeltaUnder by.entry.token.now by.entry.limit by.entry.base) by.entry.run count.old count.new (result ≡ Some (DeltaAnswer.Ended SyncAnswer.NoMemory)) before.sent after.sent }
+    ensures link { LinkFrom (L.tells link.old) (L.tells link.new) (Asks by.entry.run count.old count.new IsUnmarked) }
+    ensures asks { LinkFrom (L.tells link.old) (L.tells link.new) (λ before after.
+        SendsOn (IsDeltaUnder by.entry.token.now by.entry.limit by.entry.base) by.entry.run count.old count.new (result ≡ Some (DeltaAnswer.Ended SyncAnswer.NoMemory)) before.sent after.sent) }
     ensures link_later { L.fault_count link.old ≤ L.fault_count link.new }
     ensures later { C.fault_count copy.old ≤ C.fault_count copy.new }
     ensures copy_leads { C.leads copy.old copy.new }
     ensures link_leads { L.leads link.old link.new }
     // Over a link that tells, where no number was used twice, and copy and link agree.
-    ensures told { (after : Copy) (t : LinkState) → C.stands_for copy.new after → L.tells link.new t
-        → (before : Copy) × (told : LinkState) × C.stands_for copy.old before × L.tells link.old told × Asks by.entry.run count.old count.new IsUnmarked told t
+    ensures told { AtEach (C.stands_for copy.new) (L.tells link.new) (λ after t.
+        (before : Copy) × (told : LinkState) × C.stands_for copy.old before × L.tells link.old told
+        × Asks by.entry.run count.old count.new IsUnmarked told t
         × (IsReady by.entry.run count.old told.sent → CopyFits before told.hub → HasBase by.entry.base by.entry.token.now before
-        → KindTold by.entry.token.now by.entry.limit by.entry.tries by.entry.base (count.new - count.old) stage.old stage.new result told t after) }
+        → KindTold by.entry.token.now by.entry.limit by.entry.tries by.entry.base (count.new - count.old) stage.old stage.new result told t after)) }
 {
     let place = first_page(stage, by);
     match copy.held(alloc, place.kind) {
@@ -189,19 +190,21 @@ pub fn fill<C: CopyKeeper, L: Link>(
     ensures cause { (place : Placed) × (n : ℕ) × (place.base ≡ by.entry.base) × (place.limit ≡ by.entry.limit) × IsMore (L.asked link.old) n (L.asked link.new)
         × IfSome result (Halts (L.kept link.new) by.entry.run n ((by.entry.tries ≤ L.missed link.new) × (by.entry.tries ≤ n) × RoseBy by.entry.tries (L.fault_count link.old) (L.fault_count link.new)) (Rose (C.fault_count copy.old) (C.fault_count copy.new)) (C.stands_for copy.new) place)
         × ((w : Reply) → IsOwnReply (L.kept link.new) by.entry.run n w → RepliesOn place w result) }
-    ensures link { (after : LinkState) → L.tells link.new after → (before : LinkState) × L.tells link.old before × (count : ℕ) × Asks by.entry.run 0 count IsUnmarked before after }
+    ensures link { (after : LinkState) → L.tells link.new after → (before : LinkState) × L.tells link.old before
+        × (count : ℕ) × Asks by.entry.run 0 count IsUnmarked before after }
     ensures asks { (count : ℕ) × IsMore (L.asked link.old) count (L.asked link.new) × IfSome result (λ a. AsksSome a count)
-        × ((after : LinkState) → L.tells link.new after → (before : LinkState) × L.tells link.old before
-        × SendsOn (IsDeltaUnder by.entry.token.now by.entry.limit by.entry.base) by.entry.run 0 count (result ≡ Some (DeltaAnswer.Ended SyncAnswer.NoMemory)) before.sent after.sent) }
+        × LinkFrom (L.tells link.old) (L.tells link.new) (λ before after.
+        SendsOn (IsDeltaUnder by.entry.token.now by.entry.limit by.entry.base) by.entry.run 0 count (result ≡ Some (DeltaAnswer.Ended SyncAnswer.NoMemory)) before.sent after.sent) }
     ensures later { C.fault_count copy.old ≤ C.fault_count copy.new }
     ensures link_later { L.fault_count link.old ≤ L.fault_count link.new }
     ensures copy_leads { C.leads copy.old copy.new }
     ensures link_leads { L.leads link.old link.new }
     // Over a link that tells, where no number was used twice, and copy and link agree.
-    ensures told { ((c : Copy) (t : LinkState) → C.stands_for copy.old c → L.tells link.old t → CopyFits c t.hub × IsReady by.entry.run 0 t.sent × HasBase by.entry.base by.entry.token.now c)
-        → (c : Copy) (t : LinkState) → C.stands_for copy.new c → L.tells link.new t
-        → (before : LinkState) × L.tells link.old before × (n : ℕ) × (L.asked link.new ≤ L.asked link.old + n) × Asks by.entry.run 0 n IsUnmarked before t
-        × FillTold by.entry.token.now by.entry.limit by.entry.tries by.entry.base n stage.old stage.new result before t c }
+    ensures told { AtEach (C.stands_for copy.old) (L.tells link.old) (λ c t.
+        CopyFits c t.hub × IsReady by.entry.run 0 t.sent × HasBase by.entry.base by.entry.token.now c)
+        → AtEach (C.stands_for copy.new) (L.tells link.new) (λ c t.
+        (before : LinkState) × L.tells link.old before × (n : ℕ) × (L.asked link.new ≤ L.asked link.old + n) × Asks by.entry.run 0 n IsUnmarked before t
+        × FillTold by.entry.token.now by.entry.limit by.entry.tries by.entry.base n stage.old stage.new result before t c) }
 {
     let mut count: u64 = 0;
     'kinds: while kinds_done(stage) < KINDS {

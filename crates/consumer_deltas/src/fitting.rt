@@ -5,7 +5,7 @@ ghost use Rattle.consumer_deltas.specs.DeltaFits.{apart, fits, has_id, has_row};
 ghost use Rattle.consumer_deltas.specs.DeltaJudging.{MayCome};
 ghost use Rattle.keeper_memory.specs.copy.Lists.{IsList};
 ghost use Rattle.roster_types.specs.Keys.{Ascends, row_key};
-ghost use Rattle.row_deltas.specs.Deltas.{id_key};
+ghost use Rattle.version_core.specs.Spans.{key_in};
 
 use crate::gathered::{Entries, Gathered};
 use reference_rules::order;
@@ -26,7 +26,7 @@ fn has_id(kind: Kind, rows: &[Row], id: &Id) -> bool
 
 // Whether one of the ids is that of a row; the ids ascend.
 fn has_row(kind: Kind, ids: &[Id], row: &Row) -> bool
-    requires { Ascends (id_key kind) ids.now }
+    requires { Ascends (key_in kind) ids.now }
     ensures { result ≡ has_row kind ids.now row.now }
 {
     match ids.binary_search_by(|id| order::compare(kind, id, row.kind(), row.id())) {
@@ -50,7 +50,7 @@ fn are_apart(kind: Kind, rows: &[Row], ids: &[Id]) -> bool
 
 // Whether none of the ids is that of a row, each row looked for among all ids.
 fn stand_apart(kind: Kind, rows: &[Row], ids: &[Id]) -> bool
-    requires { Ascends (id_key kind) ids.now }
+    requires { Ascends (key_in kind) ids.now }
     ensures { result ≡ apart kind rows.now ids.now }
 {
     for row in rows {

@@ -8,12 +8,13 @@ ghost use Rattle.consumer_deltas.specs.DeltaJudging.{ArePuts, MayCome, count_in,
 ghost use Rattle.consumer_deltas.specs.DeltaRequests.{IsDeltaUnder, page_asked};
 ghost use Rattle.consumer_deltas.specs.DeltaTelling.{MayAsk, PagesTold};
 ghost use Rattle.consumer_sync.specs.Requests.{IsUnmarked};
+ghost use Rattle.exchange_link.specs.Exchanges.{LinkState};
 ghost use Rattle.exchange_link.specs.Asked.{SendsOn};
 ghost use Rattle.exchange_link.specs.Calls.{CanTry, CountsOn, IsRunNumber, last_exchange};
 ghost use Rattle.exchange_link.specs.Causes.{IsMore, IsOwnReply, IsPageStatus, RoseBy};
 ghost use Rattle.exchange_link.specs.DeltaPages.{delta_page_request};
-ghost use Rattle.exchange_link.specs.Exchanges.{LinkState};
 ghost use Rattle.exchange_link.specs.Owning.{IsOwnRead};
+ghost use Rattle.exchange_link.specs.Pairs.{LinkFrom};
 ghost use Rattle.exchange_link.specs.Requests.{Asks, IsReady, number};
 ghost use Rattle.http_wire.specs.declared.reply_reading.WireReply.{WireReply as Reply};
 ghost use Rattle.keeper_memory.specs.copy.Copies.{largest_limit};
@@ -94,8 +95,8 @@ fn next_act<L: Link>(
         × Asks by.entry.run count.old count.new IsUnmarked before after
         × (IsReady by.entry.run count.old before.sent → IfOk result (λ a. (w : Reply) × IsOwnRead before after (delta_page_request (page_asked by.entry.token.now place (count_in sofar.now)) place.base (number by.entry.run count.new)) w × (a ≡ delta_judged place sofar.now w)))
         × IfErr result (DeltaTold by.entry.token.now before after) }
-    ensures asks { (after : LinkState) → L.tells link.new after → (before : LinkState) × L.tells link.old before
-        × SendsOn (IsDeltaUnder by.entry.token.now place.limit place.base) by.entry.run count.old count.new (result ≡ Err (DeltaAnswer.Ended SyncAnswer.NoMemory)) before.sent after.sent }
+    ensures asks { LinkFrom (L.tells link.old) (L.tells link.new) (λ before after.
+        SendsOn (IsDeltaUnder by.entry.token.now place.limit place.base) by.entry.run count.old count.new (result ≡ Err (DeltaAnswer.Ended SyncAnswer.NoMemory)) before.sent after.sent) }
 {
     let kind = place.kind;
     let offset = sofar.count();
@@ -158,10 +159,11 @@ pub fn gather<L: Link>(
     ensures later { L.fault_count link.old ≤ L.fault_count link.new }
     ensures link_leads { L.leads link.old link.new }
     ensures page { IfOk result (λ d. (w : Reply) → IsOwnReply (L.kept link.new) by.entry.run count.new w → IsPageStatus w.status) }
-    ensures asks { (after : LinkState) → L.tells link.new after → (before : LinkState) × L.tells link.old before
-        × SendsOn (IsDeltaUnder by.entry.token.now place.limit place.base) by.entry.run count.old count.new (result ≡ Err (DeltaAnswer.Ended SyncAnswer.NoMemory)) before.sent after.sent }
+    ensures asks { LinkFrom (L.tells link.old) (L.tells link.new) (λ before after.
+        SendsOn (IsDeltaUnder by.entry.token.now place.limit place.base) by.entry.run count.old count.new (result ≡ Err (DeltaAnswer.Ended SyncAnswer.NoMemory)) before.sent after.sent) }
     // Over a link that tells; and where no number was used twice.
-    ensures told { (after : LinkState) → L.tells link.new after → (before : LinkState) × L.tells link.old before × Asks by.entry.run count.old count.new IsUnmarked before after
+    ensures told { (after : LinkState) → L.tells link.new after → (before : LinkState) × L.tells link.old before
+        × Asks by.entry.run count.old count.new IsUnmarked before after
         × (IsReady by.entry.run count.old before.sent → MayAsk before.hub by.entry.token.now place held → PagesTold before after by.entry.token.now place by.entry.tries (count.new - count.old) result) }
 {
     let mut sofar = Gathered::new(alloc, held);

@@ -184,11 +184,10 @@ fn judge_page(
     if !is_none_or(sofar.total(), total) {
         return Ok(DeltaAct::BadReply);
     }
-    match read_page(alloc, place.kind, body) {
-        Ok(Some(page)) => Ok(judge_part(place, sofar, version, total, page)),
-        Ok(None) => Ok(DeltaAct::BadReply),
-        Err(error) => Err(error),
-    }
+    let Some(page) = read_page(alloc, place.kind, body)? else {
+        return Ok(DeltaAct::BadReply);
+    };
+    Ok(judge_part(place, sofar, version, total, page))
 }
 
 // A reply that tells what differs, where it tells up to which version, and how many entries there are in all.

@@ -6,6 +6,7 @@ ghost use Rattle.consumer_deltas.specs.DeltaJudging.{MayCome};
 ghost use Rattle.consumer_deltas.specs.DeltaMerging.{Merges, StagesList, Unmerged};
 ghost use Rattle.consumer_sync.specs.Judging.{opened, paged};
 ghost use Rattle.consumer_sync.specs.Staging.{IsBroken};
+ghost use Rattle.exchange_link.specs.Pairs.{CopyFrom};
 ghost use Rattle.exchange_link.specs.Places.{kind_at, kinds_of};
 ghost use Rattle.keeper_memory.specs.copy.Copies.{Copy, held_list};
 ghost use Rattle.keeper_memory.specs.copy.Lists.{IsList, kind_count};
@@ -42,8 +43,7 @@ fn stage_list<C: CopyKeeper>(
     requires rows { IsList (kind_at (kinds_of stage.old)) (map (λ row. row.now) rows.now) }
     ensures on { result ≡ None → stage.new ≡ Some (paged (opened stage.old pin token.now) [] 0 true) }
     ensures holds { result ≡ None → (c : Copy) → C.stands_for copy.new c → stage_of c ≡ stage.new }
-    ensures told { (after : Copy) → C.stands_for copy.new after → (before : Copy) × C.stands_for copy.old before
-        × StagesList (kind_at (kinds_of stage.old)) stage.old pin token.now (map (λ row. row.now) rows.now) result before after }
+    ensures told { CopyFrom (C.stands_for copy.old) (C.stands_for copy.new) (StagesList (kind_at (kinds_of stage.old)) stage.old pin token.now (map (λ row. row.now) rows.now) result) }
     ensures ends { (result ≡ None) ⊎ (IsBroken result ⊎ ((row_limit < length rows.now) × (result ≡ Some (SyncAnswer.TooLarge (kind_at (kinds_of stage.old)) (length rows.now))))) }
     ensures later { C.fault_count copy.old ≤ C.fault_count copy.new }
     ensures copy_leads { C.leads copy.old copy.new }
@@ -87,8 +87,7 @@ pub fn stage_delta<C: CopyKeeper>(
     requires held { (c : Copy) → C.stands_for copy.old c → entries.now.held ≡ held_list c (kind_at (kinds_of stage.old)) }
     ensures on { result ≡ None → stage.new ≡ Some (paged (opened stage.old pin token.now) [] 0 true) }
     ensures holds { result ≡ None → (c : Copy) → C.stands_for copy.new c → stage_of c ≡ stage.new }
-    ensures told { (after : Copy) → C.stands_for copy.new after → (before : Copy) × C.stands_for copy.old before
-        × Merges (kind_at (kinds_of stage.old)) entries.now stage.old pin token.now result before after }
+    ensures told { CopyFrom (C.stands_for copy.old) (C.stands_for copy.new) (Merges (kind_at (kinds_of stage.old)) entries.now stage.old pin token.now result) }
     ensures ends { IfSome result (Unmerged (Rose (C.fault_count copy.old) (C.fault_count copy.new)) (C.stands_for copy.new) (kind_at (kinds_of stage.old)) entries.now) }
     ensures later { C.fault_count copy.old ≤ C.fault_count copy.new }
     ensures copy_leads { C.leads copy.old copy.new }

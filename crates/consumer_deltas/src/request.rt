@@ -9,6 +9,7 @@ ghost use Rattle.exchange_link.specs.Causes.{IsLast, IsMore, IsOwnReply, RoseBy}
 ghost use Rattle.exchange_link.specs.DeltaPages.{delta_page_request};
 ghost use Rattle.exchange_link.specs.Exchanges.{LinkState};
 ghost use Rattle.exchange_link.specs.Owning.{IsOwnRead};
+ghost use Rattle.exchange_link.specs.Pairs.{LinkFrom};
 ghost use Rattle.exchange_link.specs.Requests.{Asks, IfOwn, IsReady, number, numbered};
 ghost use Rattle.http_wire.specs.Sending.{CanSend, IsSentEcho};
 ghost use Rattle.hub_spec.specs.requests.DeltaRequests.{delta_query};
@@ -111,8 +112,8 @@ pub fn fetch<L: Link>(
         × (IsReady by.entry.run count.old before.sent → IfOwn result (λ w. IsOwnRead before after (delta_page_request (page_asked by.entry.token.now place offset) place.base (number by.entry.run count.new)) w)) }
     ensures last { result ≢ Outcome.NoMemory → (after : LinkState) → L.tells link.new after
         → IsLast (delta_page_request (page_asked by.entry.token.now place offset) place.base (number by.entry.run count.new)) after.sent }
-    ensures asks { (after : LinkState) → L.tells link.new after → (before : LinkState) × L.tells link.old before
-        × SendsOn (IsTry (delta_page_request (page_asked by.entry.token.now place offset) place.base)) by.entry.run count.old count.new (result ≡ Outcome.NoMemory) before.sent after.sent }
+    ensures asks { LinkFrom (L.tells link.old) (L.tells link.new) (λ before after.
+        SendsOn (IsTry (delta_page_request (page_asked by.entry.token.now place offset) place.base)) by.entry.run count.old count.new (result ≡ Outcome.NoMemory) before.sent after.sent) }
 {
     match page_request(alloc, by.token, place, offset) {
         Ok(request) => ask(alloc, link, request, by.run, count, by.tries),

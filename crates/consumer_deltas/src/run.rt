@@ -6,10 +6,11 @@ ghost use Rattle.consumer_deltas.specs.DeltaCalls.{AnswersPin, AsksDeltas, Delta
 ghost use Rattle.consumer_deltas.specs.DeltaCalls.{DeltaSynchronised, IsDeltaDone, IsNewPin};
 ghost use Rattle.consumer_deltas.specs.DeltaCauses.{DeltaCaused};
 ghost use Rattle.exchange_link.specs.Agreement.{StagesAgree};
-ghost use Rattle.exchange_link.specs.Causes.{RoseBy};
+ghost use Rattle.exchange_link.specs.Between.{call_with, copy_between, link_between};
 ghost use Rattle.exchange_link.specs.Completeness.{StandsAt, first_pin};
 ghost use Rattle.exchange_link.specs.Exchanges.{LinkState};
 ghost use Rattle.exchange_link.specs.Marks.{MarksTold};
+ghost use Rattle.exchange_link.specs.Pairs.{AtEach, AtSome, CopyFrom, LinkFrom};
 ghost use Rattle.exchange_link.specs.Synchronised.{own_state};
 ghost use Rattle.keeper_memory.specs.copy.Copies.{Copy, largest_limit, largest_tries};
 ghost use Rattle.keeper_memory.specs.copy.States.{stage_of};
@@ -69,42 +70,46 @@ pub fn delta_sync<C: CopyKeeper, L: Link>(
     requires limit { (0 < limit) × (limit ≤ largest_limit) }
     requires tries { (0 < tries) × (tries ≤ largest_tries) }
     // Over any link.
-    ensures copy { (after : Copy) → C.stands_for copy.new after → (before : Copy) × C.stands_for copy.old before × DeltaLeaves token.now result before after }
-    ensures base { (after : Copy) → C.stands_for copy.new after → (before : Copy) × C.stands_for copy.old before × BaseLaw token.now result before }
+    ensures copy { CopyFrom (C.stands_for copy.old) (C.stands_for copy.new) (DeltaLeaves token.now result) }
+    ensures base { CopyFrom (C.stands_for copy.old) (C.stands_for copy.new) (λ before after.
+        BaseLaw token.now result before) }
     // Where the keeper failed, a stage under this token ends at the swap alone, or where the hub's reply says that its
     // pin isn't kept.
-    ensures faulted { (after : Copy) → C.stands_for copy.new after → (before : Copy) × C.stands_for copy.old before × DeltaFaultLaw token.now (L.kept link.new) result before after }
-    ensures last_run { (after : Copy) → C.stands_for copy.new after → (before : Copy) × C.stands_for copy.old before × DeltaLastLaw result before after }
-    ensures cause { DeltaCaused token.now limit (C.stands_for copy.old) (C.stands_for copy.new) (L.asked link.old) (L.asked link.new) (L.kept link.new)
-        (λ n. (tries ≤ L.missed link.new) × (tries ≤ n) × RoseBy tries (L.fault_count link.old) (L.fault_count link.new)) (Rose (C.fault_count copy.old) (C.fault_count copy.new)) result }
+    ensures faulted { CopyFrom (C.stands_for copy.old) (C.stands_for copy.new) (DeltaFaultLaw token.now (L.kept link.new) result) }
+    ensures last_run { CopyFrom (C.stands_for copy.old) (C.stands_for copy.new) (DeltaLastLaw result) }
+    ensures cause { DeltaCaused (call_with token.now limit tries) (copy_between C.stands_for C.fault_count copy.old copy.new)
+        (link_between L.tells L.asked L.missed L.kept L.fault_count link.old link.new) result }
     ensures later { C.fault_count copy.old ≤ C.fault_count copy.new }
     ensures link_later { L.fault_count link.old ≤ L.fault_count link.new }
     ensures copy_leads { C.leads copy.old copy.new }
     ensures link_leads { L.leads link.old link.new }
     // Over one that tells. Each request asks from the held version on.
-    ensures asks { (after : LinkState) → L.tells link.new after → (before : LinkState) × L.tells link.old before
-        × AsksDeltas token.now limit tries (C.stands_for copy.old) (C.stands_for copy.new) (L.asked link.old) (L.asked link.new) result before.sent after.sent }
+    ensures asks { LinkFrom (L.tells link.old) (L.tells link.new) (λ before after.
+        AsksDeltas (call_with token.now limit tries) (copy_between C.stands_for C.fault_count copy.old copy.new)
+        (link_between L.tells L.asked L.missed L.kept L.fault_count link.old link.new) result before.sent after.sent) }
     // Over one that tells, where copy and link agree.
     ensures told { StagesAgree (C.stands_for copy.old) (L.tells link.old)
-        → (after : Copy) (tells : LinkState) → C.stands_for copy.new after → L.tells link.new tells
-        → (before : Copy) × (told : LinkState) × C.stands_for copy.old before × L.tells link.old told × DeltaSynchronised token.now result before told after tells }
+        → AtEach (C.stands_for copy.new) (L.tells link.new) (λ after tells.
+        AtSome (C.stands_for copy.old) (L.tells link.old) (λ before told.
+        DeltaSynchronised token.now result before told after tells)) }
     ensures bound { StagesAgree (C.stands_for copy.old) (L.tells link.old)
-        → (after : Copy) (tells : LinkState) → C.stands_for copy.new after → L.tells link.new tells
-        → (before : Copy) × (told : LinkState) × C.stands_for copy.old before × L.tells link.old told × (n : ℕ) × (L.asked link.new ≤ L.asked link.old + n)
+        → AtEach (C.stands_for copy.new) (L.tells link.new) (λ after tells.
+        (before : Copy) × (told : LinkState) × C.stands_for copy.old before × L.tells link.old told
+        × (n : ℕ) × (L.asked link.new ≤ L.asked link.old + n)
         × ((n ≡ 0) ⊎ ((base : ℕ) × HasBase base token.now before
-        × DeltaBounded n tries limit token.now base (own_state token.now (stage_of before)) (IsNewPin (AnswersPin result) after told.hub tells.hub) tells.hub)) }
+        × DeltaBounded n tries limit token.now base (own_state token.now (stage_of before)) (IsNewPin (AnswersPin result) after told.hub tells.hub) tells.hub))) }
     ensures cause_told { StagesAgree (C.stands_for copy.old) (L.tells link.old)
-        → (after : Copy) (tells : LinkState) → C.stands_for copy.new after → L.tells link.new tells
-        → (told : LinkState) × L.tells link.old told × DeltaTold token.now told tells result }
+        → AtEach (C.stands_for copy.new) (L.tells link.new) (λ after tells.
+        (told : LinkState) × L.tells link.old told × DeltaTold token.now told tells result) }
     ensures complete { StagesAgree (C.stands_for copy.old) (L.tells link.old)
         → ¬ Rose (L.fault_count link.old) (L.fault_count link.new) → ¬ Rose (C.fault_count copy.old) (C.fault_count copy.new)
-        → (after : Copy) (tells : LinkState) → C.stands_for copy.new after → L.tells link.new tells
-        → (before : Copy) × (told : LinkState) × C.stands_for copy.old before × L.tells link.old told
-        × (before.run ≢ LAST → ¬ Rose told.hub_faults tells.hub_faults → StandsAt (first_pin (own_state token.now (stage_of before)) told.hub) token.now tells.hub
-        → (base : ℕ) → HasBase base token.now before → StandsAt base token.now tells.hub → IsDeltaDone result) }
+        → AtEach (C.stands_for copy.new) (L.tells link.new) (λ after tells.
+        AtSome (C.stands_for copy.old) (L.tells link.old) (λ before told.
+        before.run ≢ LAST → ¬ Rose told.hub_faults tells.hub_faults → StandsAt (first_pin (own_state token.now (stage_of before)) told.hub) token.now tells.hub
+        → (base : ℕ) → HasBase base token.now before → StandsAt base token.now tells.hub → IsDeltaDone result)) }
     // Where they agreed on marks before, they still do.
-    ensures marks { ((c : Copy) (t : LinkState) → C.stands_for copy.old c → L.tells link.old t → MarksTold c t)
-        → (after : Copy) (tells : LinkState) → C.stands_for copy.new after → L.tells link.new tells → MarksTold after tells }
+    ensures marks { AtEach (C.stands_for copy.old) (L.tells link.old) MarksTold
+        → AtEach (C.stands_for copy.new) (L.tells link.new) MarksTold }
 {
     let base = match base_under(alloc, copy, token) {
         Ok(Some(base)) => base,

@@ -7,6 +7,7 @@ ghost use Rattle.std.specs.List.{All};
 ghost use Rattle.consumer_deltas.specs.DeltaStaging.{Stages, above, following};
 ghost use Rattle.consumer_sync.specs.Judging.{opened, paged};
 ghost use Rattle.consumer_sync.specs.Staging.{Adds, IsBroken};
+ghost use Rattle.exchange_link.specs.Pairs.{CopyFrom};
 ghost use Rattle.exchange_link.specs.Places.{kinds_of, last_of, staged_of};
 ghost use Rattle.keeper_memory.specs.copy.Copies.{Copy};
 ghost use Rattle.keeper_memory.specs.copy.Lists.{IsList, ascends, kind_count};
@@ -113,8 +114,7 @@ fn stage_page<C: CopyKeeper>(
     requires fits { staged_of stage.old + length rows.now < 2 ^ 64 }
     ensures on { result ≡ None → stage.new ≡ Some (paged (opened stage.old list.entry.pin list.entry.token.now) (map (λ row. row.now) rows.now) list.entry.total done) }
     ensures holds { result ≡ None → (c : Copy) → C.stands_for copy.new c → stage_of c ≡ stage.new }
-    ensures told { (after : Copy) → C.stands_for copy.new after → (before : Copy) × C.stands_for copy.old before
-        × Adds (record { pin = list.entry.pin; rows = map (λ row. row.now) rows.now; total = list.entry.total; done = done }) list.entry.token.now result before after }
+    ensures told { CopyFrom (C.stands_for copy.old) (C.stands_for copy.new) (Adds (record { pin = list.entry.pin; rows = map (λ row. row.now) rows.now; total = list.entry.total; done = done }) list.entry.token.now result) }
     ensures broken { (result ≡ None) ⊎ IsBroken result }
     ensures later { C.fault_count copy.old ≤ C.fault_count copy.new }
     ensures copy_leads { C.leads copy.old copy.new }
@@ -150,8 +150,7 @@ pub fn stage_rows<C: CopyKeeper>(
     requires rows { IsList list.kind (map (λ row. row.now) rows.now) }
     ensures on { result ≡ None → stage.new ≡ Some (paged (opened stage.old list.entry.pin list.entry.token.now) [] 0 true) }
     ensures holds { result ≡ None → (c : Copy) → C.stands_for copy.new c → stage_of c ≡ stage.new }
-    ensures told { (after : Copy) → C.stands_for copy.new after → (before : Copy) × C.stands_for copy.old before
-        × Stages (record { pin = list.entry.pin; rows = following stage.old (map (λ row. row.now) rows.now); total = list.entry.total; done = true }) list.entry.token.now result before after }
+    ensures told { CopyFrom (C.stands_for copy.old) (C.stands_for copy.new) (Stages (record { pin = list.entry.pin; rows = following stage.old (map (λ row. row.now) rows.now); total = list.entry.total; done = true }) list.entry.token.now result) }
     ensures broken { (result ≡ None) ⊎ IsBroken result }
     ensures later { C.fault_count copy.old ≤ C.fault_count copy.new }
     ensures copy_leads { C.leads copy.old copy.new }

@@ -7,7 +7,7 @@ use Rattle.keeper_memory.specs.copy.Changes.{copy_after}
 use Rattle.keeper_memory.specs.copy.Copies.{Copy, IsCopy, first_unsettled}
 use Rattle.keeper_memory.specs.declared.copy.change.CopyChange.TheVariants.{Settle}
 use Rattle.keeper_memory.specs.declared.copy.entry.OutEntry.{OutEntry}
-use Rattle.exchange_link.specs.Causes.{IsMore, RoseBy}
+use Rattle.exchange_link.specs.Causes.{IsMore, RoseBy, kept_of}
 use Rattle.exchange_link.specs.Exchanges.{LinkState}
 use Rattle.exchange_link.specs.SendCauses.{EndsAtEntry, IsBetween, IsSendAside, SendCauseOf, SendToldCause}
 use Rattle.exchange_link.specs.SendCompleteness.{CanSendAll, IsFine}
@@ -111,7 +111,7 @@ aside_fine answer.NoMemory x n = tt
 aside_fine answer.KeeperFault x n = absurd (n refl)
 aside_fine a x n = absurd x
 
-pub aside_cause : (kept : List ℕ) (run n : ℕ) (missed broke : Type 0) (a : SendAnswer) → IsSendAside a → (a ≡ answer.KeeperFault → broke) → SendCauseOf kept run n missed broke a
+pub aside_cause : (kept : List ℕ) (run n : ℕ) (missed broke : Type 0) (a : SendAnswer) → IsSendAside a → (a ≡ answer.KeeperFault → broke) → SendCauseOf (kept_of kept run n) missed broke a
 aside_cause kept run n missed broke answer.NoMemory x f = tt
 aside_cause kept run n missed broke answer.KeeperFault x f = f refl
 aside_cause kept run n missed broke a x f = absurd x
@@ -142,7 +142,7 @@ end_names (answer.MarkTaken number) entries entry e f named = names_first (answe
 end_names (answer.HubFault number) entries entry e f named = names_first (answer.HubFault number) entries entry (f tt) named
 end_names (answer.HubNoMemory number) entries entry e f named = names_first (answer.HubNoMemory number) entries entry (f tt) named
 
-pub cause_more : (kept : List ℕ) (run n : ℕ) (missed broke wide more : Type 0) (a : SendAnswer) → (missed → wide) → (broke → more) → SendCauseOf kept run n missed broke a → SendCauseOf kept run n wide more a
+pub cause_more : (kept : List ℕ) (run n : ℕ) (missed broke wide more : Type 0) (a : SendAnswer) → (missed → wide) → (broke → more) → SendCauseOf (kept_of kept run n) missed broke a → SendCauseOf (kept_of kept run n) wide more a
 cause_more kept run n missed broke wide more (answer.Settled count) f h x = tt
 cause_more kept run n missed broke wide more answer.LastRun f h x = tt
 cause_more kept run n missed broke wide more answer.NoMemory f h x = tt

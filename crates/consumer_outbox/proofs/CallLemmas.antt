@@ -5,9 +5,12 @@ use Rattle.keeper_memory.specs.copy.Changes.{Commits, copy_after}
 use Rattle.keeper_memory.specs.copy.Copies.{Copy}
 use Rattle.keeper_memory.specs.declared.copy.change.CopyChange.TheVariants.{Enter, Run}
 use Rattle.exchange_link.specs.Agreement.{CopyFits, HeldFitsIf, NoneAbove, StageFitsIf}
+use Rattle.exchange_link.specs.Between.{CopyRun, LinkRun}
+use Rattle.exchange_link.specs.Causes.{IsMore}
 use Rattle.exchange_link.specs.Exchanges.{LinkState}
 use Rattle.exchange_link.specs.Marks.{Agree}
 use Rattle.hub_spec.proofs.AgreeLemmas.{entering_keeps}
+use Rattle.roster_base.specs.Faults.{Rose}
 use Rattle.roster_base.specs.declared.keeper.KeeperError.{KeeperError}
 use Rattle.roster_base.specs.declared.keeper.KeeperError.TheVariants as fault
 use Rattle.keeper_memory.specs.declared.copy.state.CopyState.{CopyState}
@@ -24,7 +27,6 @@ use Rattle.exchange_link.specs.Beginning.{Enters, EntersRun}
 use Rattle.exchange_link.specs.Requests.{Moved}
 use Rattle.exchange_link.specs.declared.beginning.NoRun.{NoRun}
 use Rattle.exchange_link.specs.declared.beginning.NoRun.TheVariants as why
-use Rattle.consumer_outbox.proofs.AllLemmas.{more_none}
 use Rattle.consumer_outbox.proofs.WalkLemmas.{settles_none}
 use Rattle.consumer_outbox.specs.Sends.{Ready, SoFar, not_begun}
 use Rattle.version_core.specs.HubStates.{HubState}
@@ -99,15 +101,16 @@ start_fine why.LastRun broke before after x f quiet low = absurd (low x.0)
 start_fine why.KeeperFault broke before after x f quiet low = absurd (quiet (f refl))
 start_fine why.NoMemory broke before after x f quiet low = tt
 
-pub start_caused : (cause : NoRun) (token : List ℕ) (copies : Copy → Type 0) (tells : LinkState → Type 0) (asked : ℕ) (kept : List ℕ) (missed : ℕ → Type 0) (broke : Type 0) → (cause ≡ why.KeeperFault → broke)
-    → SendCaused token copies tells asked asked kept missed broke (not_begun cause)
-start_caused why.LastRun token copies tells asked kept missed broke f = record { run = 0; count = 0; counts = more_none asked; runs = λ p. absurd (omega (arith, p)); only = tt; exact = λ w own. absurd (omega (arith, own.from)); names = λ c stands. tt; last = λ ends. absurd ends }
-start_caused why.KeeperFault token copies tells asked kept missed broke f = record { run = 0; count = 0; counts = more_none asked; runs = λ p. absurd (omega (arith, p)); only = f refl; exact = λ w own. absurd (omega (arith, own.from)); names = λ c stands. tt; last = λ ends. absurd ends }
-start_caused why.NoMemory token copies tells asked kept missed broke f = record { run = 0; count = 0; counts = more_none asked; runs = λ p. absurd (omega (arith, p)); only = tt; exact = λ w own. absurd (omega (arith, own.from)); names = λ c stands. tt; last = λ ends. absurd ends }
+module _ (token : List ℕ) (tries : ℕ) (copies : CopyRun) (link : LinkRun) (none : IsMore link.asked_before 0 link.asked_now) where
+  start_caused : (cause : NoRun) → (cause ≡ why.KeeperFault → Rose copies.faults_before copies.faults_now)
+      → SendCaused token tries copies link (not_begun cause)
+  start_caused why.LastRun f = record { run = 0; count = 0; counts = none; runs = λ p. absurd (omega (arith, p)); only = tt; exact = λ w own. absurd (omega (arith, own.from)); names = λ c stands. tt; last = λ ends. absurd ends }
+  start_caused why.KeeperFault f = record { run = 0; count = 0; counts = none; runs = λ p. absurd (omega (arith, p)); only = f refl; exact = λ w own. absurd (omega (arith, own.from)); names = λ c stands. tt; last = λ ends. absurd ends }
+  start_caused why.NoMemory f = record { run = 0; count = 0; counts = none; runs = λ p. absurd (omega (arith, p)); only = tt; exact = λ w own. absurd (omega (arith, own.from)); names = λ c stands. tt; last = λ ends. absurd ends }
 
-pub started_caused : (cause : NoRun) (a : SendAnswer) (token : List ℕ) (copies : Copy → Type 0) (tells : LinkState → Type 0) (asked : ℕ) (kept : List ℕ) (missed : ℕ → Type 0) (broke : Type 0) → a ≡ not_begun cause → (cause ≡ why.KeeperFault → broke)
-    → SendCaused token copies tells asked asked kept missed broke a
-started_caused cause a token copies tells asked kept missed broke e f = subst (λ a. SendCaused token copies tells asked asked kept missed broke a) (sym e) (start_caused cause token copies tells asked kept missed broke f)
+  pub started_caused : (cause : NoRun) (a : SendAnswer) → a ≡ not_begun cause
+      → (cause ≡ why.KeeperFault → Rose copies.faults_before copies.faults_now) → SendCaused token tries copies link a
+  started_caused cause a e f = subst (λ a. SendCaused token tries copies link a) (sym e) (start_caused cause f)
 
 -- ---- what a copy agrees on
 

@@ -5,6 +5,7 @@ use Rattle.keeper_memory.specs.copy.Changes.{copy_after}
 use Rattle.keeper_memory.specs.copy.Copies.{Copy}
 use Rattle.keeper_memory.specs.declared.copy.change.CopyChange.TheVariants.{Settle}
 use Rattle.keeper_memory.specs.declared.copy.entry.OutEntry.{OutEntry}
+use Rattle.exchange_link.specs.Causes.{kept_of}
 use Rattle.exchange_link.specs.Exchanges.{LinkState}
 use Rattle.exchange_link.specs.Marks.{MarksTold}
 use Rattle.exchange_link.specs.SendCauses.{AnswersSend, EndsAtEntry, IsSendAside, SendCauseOf, SendToldCause}
@@ -82,7 +83,7 @@ IsEntryEnd a = ⊤
 
 -- the entry is settled, or the answer has its cause
 abbrev pub CauseIf : List ℕ → ℕ → ℕ → Type 0 → Type 0 → Option SendAnswer → Type 0
-CauseIf kept run count missed broke result = IfSome result (λ a. IsEntryEnd a × SendCauseOf kept run count missed broke a)
+CauseIf kept run count missed broke result = IfSome result (λ a. IsEntryEnd a × SendCauseOf (kept_of kept run count) missed broke a)
 
 -- what the own reply forces: an answer, or nothing more where it settled the entry
 abbrev pub ExactIf : WireReply → Option SendAnswer → Type 0

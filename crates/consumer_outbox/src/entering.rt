@@ -5,6 +5,7 @@ ghost use Rattle.keeper_memory.specs.copy.Copies.{Copy, IsOutWrite};
 ghost use Rattle.exchange_link.specs.Entering.{EntersWrite};
 ghost use Rattle.exchange_link.specs.Exchanges.{LinkState};
 ghost use Rattle.exchange_link.specs.Marks.{Agree};
+ghost use Rattle.exchange_link.specs.Pairs.{CopyFrom};
 ghost use Rattle.roster_base.specs.Faults.{Rose};
 ghost use Rattle.consumer_outbox.specs.Entered.{entry_error};
 
@@ -28,7 +29,7 @@ fn entry_error(error: KeeperError) -> EnterError
 /// was put there or not, after the other errors it was not.
 pub fn enter<C: CopyKeeper>(alloc: Global, copy: &mut C, write: Write) -> Result<u64, EnterError>
     requires { IsOutWrite write }
-    ensures told { (after : Copy) → C.stands_for copy.new after → (before : Copy) × C.stands_for copy.old before × EntersWrite write result before after }
+    ensures told { CopyFrom (C.stands_for copy.old) (C.stands_for copy.new) (EntersWrite write result) }
     // Over any link that agrees with the copy before.
     ensures agree { (told : LinkState) → ((c : Copy) → C.stands_for copy.old c → Agree c told) → (c : Copy) → C.stands_for copy.new c → Agree c told }
     ensures later { C.fault_count copy.old ≤ C.fault_count copy.new }

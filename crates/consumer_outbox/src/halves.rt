@@ -51,10 +51,9 @@ pub fn settled_from<C: CopyKeeper>(
     let mut waiting = last;
     'halves: while settled < waiting {
         let middle = settled + (waiting - settled) / 2;
-        match settled_behind(alloc, copy, middle) {
-            Err(error) => return Err(error),
-            Ok(None) => waiting = middle,
-            Ok(Some(number)) => settled = number,
+        match settled_behind(alloc, copy, middle)? {
+            None => waiting = middle,
+            Some(number) => settled = number,
         }
     }
     Ok(settled)

@@ -4,9 +4,9 @@ ghost use Rattle.std.specs.Prelude.{◌≡◌, ◌≢◌, ◌+◌, ◌*◌, ◌<
 ghost use Rattle.keeper_memory.specs.copy.Copies.{Copy, largest_tries};
 ghost use Rattle.keeper_memory.specs.declared.copy.state.TheConstants.{LAST};
 ghost use Rattle.exchange_link.specs.Asked.{AsksWrites};
-ghost use Rattle.exchange_link.specs.Causes.{RoseBy};
-ghost use Rattle.exchange_link.specs.Exchanges.{LinkState};
+ghost use Rattle.exchange_link.specs.Between.{copy_between, copy_with, link_between};
 ghost use Rattle.exchange_link.specs.Marks.{Agree};
+ghost use Rattle.exchange_link.specs.Pairs.{AtEach, AtSome, CopyFrom};
 ghost use Rattle.exchange_link.specs.SendCauses.{SendCaused, SendLastLaw};
 ghost use Rattle.exchange_link.specs.SendCompleteness.{CanSendAll, IsFine};
 ghost use Rattle.exchange_link.specs.Sent.{SendLeaves, unsettled};
@@ -43,26 +43,29 @@ pub fn send<C: CopyKeeper, L: Link>(
 ) -> SendAnswer
     requires tries { (0 < tries) × (tries ≤ largest_tries) }
     // Over any link.
-    ensures copy { (after : Copy) → C.stands_for copy.new after → (before : Copy) × C.stands_for copy.old before × SendLeaves result before after
+    ensures copy { (after : Copy) → C.stands_for copy.new after → (before : Copy) × C.stands_for copy.old before
+        × SendLeaves result before after
         × (L.asked link.new ≤ L.asked link.old + tries * unsettled before.entries) }
-    ensures last_run { (after : Copy) → C.stands_for copy.new after → (before : Copy) × C.stands_for copy.old before × SendLastLaw result before after }
+    ensures last_run { CopyFrom (C.stands_for copy.old) (C.stands_for copy.new) (SendLastLaw result) }
     ensures copy_leads { C.leads copy.old copy.new }
     ensures link_leads { L.leads link.old link.new }
-    ensures cause { SendCaused token.now (C.stands_for copy.new) (L.tells link.new) (L.asked link.old) (L.asked link.new) (L.kept link.new)
-        (λ n. (tries ≤ L.missed link.new) × (tries ≤ n) × RoseBy tries (L.fault_count link.old) (L.fault_count link.new)) (Rose (C.fault_count copy.old) (C.fault_count copy.new)) result }
+    ensures cause { SendCaused token.now tries (copy_between C.stands_for C.fault_count copy.old copy.new)
+        (link_between L.tells L.asked L.missed L.kept L.fault_count link.old link.new) result }
     // Over one that tells.
-    ensures asks { (after : Copy) (tells : LinkState) → C.stands_for copy.new after → L.tells link.new tells
-        → (before : Copy) × (told : LinkState) × C.stands_for copy.old before × L.tells link.old told
-        × AsksWrites token.now tries (L.asked link.old) (L.asked link.new) result before after told.sent tells.sent }
+    ensures asks { AtEach (C.stands_for copy.new) (L.tells link.new) (λ after tells.
+        AtSome (C.stands_for copy.old) (L.tells link.old) (λ before told.
+        AsksWrites token.now tries (link_between L.tells L.asked L.missed L.kept L.fault_count link.old link.new) result
+        (copy_with before told) (copy_with after tells))) }
     // Over one that tells, where copy and link agree.
-    ensures told { ((c : Copy) (t : LinkState) → C.stands_for copy.old c → L.tells link.old t → Agree c t)
-        → (after : Copy) (tells : LinkState) → C.stands_for copy.new after → L.tells link.new tells
-        → (before : Copy) × (told : LinkState) × C.stands_for copy.old before × L.tells link.old told × WasSent token.now result before told after tells }
-    ensures complete { ((c : Copy) (t : LinkState) → C.stands_for copy.old c → L.tells link.old t → Agree c t)
+    ensures told { AtEach (C.stands_for copy.old) (L.tells link.old) Agree
+        → AtEach (C.stands_for copy.new) (L.tells link.new) (λ after tells.
+        AtSome (C.stands_for copy.old) (L.tells link.old) (λ before told.
+        WasSent token.now result before told after tells)) }
+    ensures complete { AtEach (C.stands_for copy.old) (L.tells link.old) Agree
         → ¬ Rose (L.fault_count link.old) (L.fault_count link.new) → ¬ Rose (C.fault_count copy.old) (C.fault_count copy.new)
-        → (after : Copy) (tells : LinkState) → C.stands_for copy.new after → L.tells link.new tells
-        → (before : Copy) × (told : LinkState) × C.stands_for copy.old before × L.tells link.old told
-        × (before.run ≢ LAST → ¬ Rose told.hub_faults tells.hub_faults → CanSendAll token.now (newest_number told.hub) before.entries tells.hub → IsFine result) }
+        → AtEach (C.stands_for copy.new) (L.tells link.new) (λ after tells.
+        AtSome (C.stands_for copy.old) (L.tells link.old) (λ before told.
+        before.run ≢ LAST → ¬ Rose told.hub_faults tells.hub_faults → CanSendAll token.now (newest_number told.hub) before.entries tells.hub → IsFine result)) }
 {
     match begin_run(alloc, copy) {
         Err(why) => not_begun(why),

@@ -7,7 +7,7 @@ ghost use Rattle.keeper_memory.specs.copy.States.{CanBeEntry};
 ghost use Rattle.keeper_memory.specs.declared.copy.state.TheConstants.{LAST};
 ghost use Rattle.exchange_link.specs.Asked.{IsTry, IsWriteUnder, SendsOn, TriedEntry};
 ghost use Rattle.exchange_link.specs.Calls.{CanTry, CountsOn, IsRunNumber, KeepsNoOwn, KeepsNoReply, last_exchange};
-ghost use Rattle.exchange_link.specs.Causes.{IsLast, IsMore, IsOwnReply, RoseBy};
+ghost use Rattle.exchange_link.specs.Causes.{IsLast, IsMore, IsOwnReply, RoseBy, kept_of};
 ghost use Rattle.exchange_link.specs.Exchanges.{LinkState};
 ghost use Rattle.exchange_link.specs.SendCauses.{CarriesFirst, EndsAtEntry, IsSendAside, AnswersSend, SendCauseOf};
 ghost use Rattle.exchange_link.specs.SendCauses.{SendToldCause};
@@ -17,6 +17,7 @@ ghost use Rattle.http_wire.specs.declared.reply_reading.WireReply.{WireReply as 
 ghost use Rattle.hub_spec.specs.marks.Marked.{mark_of, marked_by};
 ghost use Rattle.roster_base.specs.Faults.{Rose};
 ghost use Rattle.exchange_link.specs.Owning.{IsOwnRead};
+ghost use Rattle.exchange_link.specs.Pairs.{AtEach, AtSome, CopyFrom, LinkFrom};
 ghost use Rattle.exchange_link.specs.Requests.{Asks, IfOwn, IsReady, Moved, number, numbered};
 ghost use Rattle.version_core.specs.HubStates.{newest_number};
 ghost use Rattle.consumer_outbox.specs.Sends.{Carries, CauseIf, EndsIf, ExactIf, IsBroken, IsFineIf};
@@ -62,7 +63,7 @@ fn settle<C: CopyKeeper>(
     version: u64,
 ) -> Option<SendAnswer>
     requires { (c : Copy) → C.stands_for copy.old c → IsSomeAnd (first_unsettled c.entries) (λ entry. entry.number ≡ number) }
-    ensures told { (after : Copy) → C.stands_for copy.new after → (before : Copy) × C.stands_for copy.old before × Takes (Verdict.Settles status version) number result before after }
+    ensures told { CopyFrom (C.stands_for copy.old) (C.stands_for copy.new) (Takes (Verdict.Settles status version) number result) }
     ensures broken { (result ≡ None) ⊎ IsBroken result }
     ensures later { C.fault_count copy.old ≤ C.fault_count copy.new }
     ensures copy_leads { C.leads copy.old copy.new }
@@ -89,7 +90,7 @@ fn take_reply<C: CopyKeeper>(
     reply: &WireReply,
 ) -> Option<SendAnswer>
     requires { (c : Copy) → C.stands_for copy.old c → IsSomeAnd (first_unsettled c.entries) (λ entry. entry.number ≡ number) }
-    ensures told { (after : Copy) → C.stands_for copy.new after → (before : Copy) × C.stands_for copy.old before × Takes (verdict_of number reply.now) number result before after }
+    ensures told { CopyFrom (C.stands_for copy.old) (C.stands_for copy.new) (Takes (verdict_of number reply.now) number result) }
     ensures answer { (result ≡ answer_of (verdict_of number reply.now) number) ⊎ (IsBroken result × (does_settle (verdict_of number reply.now) ≡ true)) }
     ensures later { C.fault_count copy.old ≤ C.fault_count copy.new }
     ensures copy_leads { C.leads copy.old copy.new }
@@ -134,8 +135,8 @@ fn ask_for<L: Link>(
         × (IsReady by.entry.run count.old before.sent → IfOwn result (λ w. IsOwnRead before after (numbered (request_of by.entry.token.now entry) (number by.entry.run count.new)) w)) }
     ensures last { result ≢ Outcome.NoMemory → (marked_by (numbered (request_of by.entry.token.now entry) (number by.entry.run count.new)) ≡ Some (mark_of entry))
         × ((after : LinkState) → L.tells link.new after → IsLast (numbered (request_of by.entry.token.now entry) (number by.entry.run count.new)) after.sent) }
-    ensures asks { (after : LinkState) → L.tells link.new after → (before : LinkState) × L.tells link.old before
-        × SendsOn (IsTry (numbered (request_of by.entry.token.now entry))) by.entry.run count.old count.new (result ≡ Outcome.NoMemory) before.sent after.sent }
+    ensures asks { LinkFrom (L.tells link.old) (L.tells link.new) (λ before after.
+        SendsOn (IsTry (numbered (request_of by.entry.token.now entry))) by.entry.run count.old count.new (result ≡ Outcome.NoMemory) before.sent after.sent) }
 {
     match request_for(alloc, by.token, entry) {
         Ok(request) => ask(alloc, link, request, by.run, count, by.tries),
@@ -164,25 +165,25 @@ fn send_entry<C: CopyKeeper, L: Link>(
     ensures link_leads { L.leads link.old link.new }
     ensures later { C.fault_count copy.old ≤ C.fault_count copy.new }
     ensures copy_leads { C.leads copy.old copy.new }
-    ensures copy { (after : Copy) → C.stands_for copy.new after → (before : Copy) × C.stands_for copy.old before × TakesAny entry.number result before after }
-    ensures link { (after : LinkState) → L.tells link.new after → (before : LinkState) × L.tells link.old before × Moved before after }
-    ensures agree { ((c : Copy) (t : LinkState) → C.stands_for copy.old c → L.tells link.old t → Ready by.entry.run count.old c t)
-        → (c : Copy) (t : LinkState) → C.stands_for copy.new c → L.tells link.new t → Ready by.entry.run count.new c t }
-    ensures told { ((c : Copy) (t : LinkState) → C.stands_for copy.old c → L.tells link.old t → Ready by.entry.run count.old c t)
-        → (c : Copy) (t : LinkState) → C.stands_for copy.new c → L.tells link.new t
-        → (before : LinkState) × L.tells link.old before × ToldIf by.entry.token.now before t c.entries result }
-    ensures complete { ((c : Copy) (t : LinkState) → C.stands_for copy.old c → L.tells link.old t → Ready by.entry.run count.old c t)
+    ensures copy { CopyFrom (C.stands_for copy.old) (C.stands_for copy.new) (TakesAny entry.number result) }
+    ensures link { LinkFrom (L.tells link.old) (L.tells link.new) Moved }
+    ensures agree { AtEach (C.stands_for copy.old) (L.tells link.old) (Ready by.entry.run count.old)
+        → AtEach (C.stands_for copy.new) (L.tells link.new) (Ready by.entry.run count.new) }
+    ensures told { AtEach (C.stands_for copy.old) (L.tells link.old) (Ready by.entry.run count.old)
+        → AtEach (C.stands_for copy.new) (L.tells link.new) (λ c t.
+        (before : LinkState) × L.tells link.old before × ToldIf by.entry.token.now before t c.entries result) }
+    ensures complete { AtEach (C.stands_for copy.old) (L.tells link.old) (Ready by.entry.run count.old)
         → ¬ Rose (L.fault_count link.old) (L.fault_count link.new) → ¬ Rose (C.fault_count copy.old) (C.fault_count copy.new)
-        → (c : Copy) (t : LinkState) → C.stands_for copy.new c → L.tells link.new t
-        → (before : LinkState) × L.tells link.old before
-        × (¬ Rose before.hub_faults t.hub_faults → CanSendAll by.entry.token.now (newest_number before.hub) (entry ∷ []) t.hub → IsFineIf result) }
+        → AtEach (C.stands_for copy.new) (L.tells link.new) (λ c t. (before : LinkState) × L.tells link.old before
+        × (¬ Rose before.hub_faults t.hub_faults → CanSendAll by.entry.token.now (newest_number before.hub) (entry ∷ []) t.hub → IsFineIf result)) }
     ensures cause { CauseIf (L.kept link.new) by.entry.run count.new ((by.entry.tries ≤ L.missed link.new) × (by.entry.tries ≤ count.new) × RoseBy by.entry.tries (L.fault_count link.old) (L.fault_count link.new)) (Rose (C.fault_count copy.old) (C.fault_count copy.new)) result }
     ensures exact { (w : Reply) → IsOwnReply (L.kept link.new) by.entry.run count.new w → ExactIf w result }
     ensures names { IfSome result (λ a. IfSome (number_in a) (λ n. n ≡ entry.number)) }
     ensures stays { (c : Copy) → C.stands_for copy.new c → EndsIf result → first_unsettled c.entries ≡ Some entry }
-    ensures last { EndsIf result → (1 ≤ count.new) × ((c : Copy) (t : LinkState) → C.stands_for copy.new c → L.tells link.new t → CarriesFirst by.entry.token.now (number by.entry.run count.new) c.entries t.sent) }
-    ensures asks { (after : LinkState) → L.tells link.new after → (before : LinkState) × L.tells link.old before
-        × SendsOn (IsTry (numbered (request_of by.entry.token.now entry))) by.entry.run count.old count.new (result ≡ Some SendAnswer.NoMemory) before.sent after.sent }
+    ensures last { EndsIf result → (1 ≤ count.new) × AtEach (C.stands_for copy.new) (L.tells link.new) (λ c t.
+        CarriesFirst by.entry.token.now (number by.entry.run count.new) c.entries t.sent) }
+    ensures asks { LinkFrom (L.tells link.old) (L.tells link.new) (λ before after.
+        SendsOn (IsTry (numbered (request_of by.entry.token.now entry))) by.entry.run count.old count.new (result ≡ Some SendAnswer.NoMemory) before.sent after.sent) }
     ensures full { IsInterrupted result → count.new ≡ count.old + by.entry.tries }
 {
     let number = entry.number;
@@ -241,29 +242,30 @@ pub fn send_all<C: CopyKeeper, L: Link>(
     ensures copy { (after : Copy) → C.stands_for copy.new after → (before : Copy) × C.stands_for copy.old before
         × ((settled : ℕ) × SoFar settled before after × AllSettled result settled after.entries)
         × (L.asked link.new ≤ L.asked link.old + by.entry.tries * unsettled before.entries) }
-    ensures link { (after : LinkState) → L.tells link.new after → (before : LinkState) × L.tells link.old before × Moved before after }
-    ensures agree { ((c : Copy) (t : LinkState) → C.stands_for copy.old c → L.tells link.old t → Ready by.entry.run 0 c t)
-        → (c : Copy) (t : LinkState) → C.stands_for copy.new c → L.tells link.new t → (count : ℕ) × Ready by.entry.run count c t }
-    ensures told { ((c : Copy) (t : LinkState) → C.stands_for copy.old c → L.tells link.old t → Ready by.entry.run 0 c t)
-        → (c : Copy) (t : LinkState) → C.stands_for copy.new c → L.tells link.new t
-        → (before : LinkState) × L.tells link.old before × SendToldCause by.entry.token.now before t c.entries result }
-    ensures complete { ((c : Copy) (t : LinkState) → C.stands_for copy.old c → L.tells link.old t → Ready by.entry.run 0 c t)
+    ensures link { LinkFrom (L.tells link.old) (L.tells link.new) Moved }
+    ensures agree { AtEach (C.stands_for copy.old) (L.tells link.old) (Ready by.entry.run 0)
+        → AtEach (C.stands_for copy.new) (L.tells link.new) (λ c t. (count : ℕ) × Ready by.entry.run count c t) }
+    ensures told { AtEach (C.stands_for copy.old) (L.tells link.old) (Ready by.entry.run 0)
+        → AtEach (C.stands_for copy.new) (L.tells link.new) (λ c t.
+        (before : LinkState) × L.tells link.old before × SendToldCause by.entry.token.now before t c.entries result) }
+    ensures complete { AtEach (C.stands_for copy.old) (L.tells link.old) (Ready by.entry.run 0)
         → ¬ Rose (L.fault_count link.old) (L.fault_count link.new) → ¬ Rose (C.fault_count copy.old) (C.fault_count copy.new)
-        → (c : Copy) (t : LinkState) → C.stands_for copy.new c → L.tells link.new t
-        → (b : Copy) × (before : LinkState) × C.stands_for copy.old b × L.tells link.old before
-        × (¬ Rose before.hub_faults t.hub_faults → CanSendAll by.entry.token.now (newest_number before.hub) b.entries t.hub → IsFine result) }
+        → AtEach (C.stands_for copy.new) (L.tells link.new) (λ c t.
+        AtSome (C.stands_for copy.old) (L.tells link.old) (λ b before.
+        ¬ Rose before.hub_faults t.hub_faults → CanSendAll by.entry.token.now (newest_number before.hub) b.entries t.hub → IsFine result)) }
     ensures later { C.fault_count copy.old ≤ C.fault_count copy.new }
     ensures copy_leads { C.leads copy.old copy.new }
     ensures not_last { result ≢ SendAnswer.LastRun }
     ensures link_leads { L.leads link.old link.new }
     ensures cause { (n : ℕ) × IsMore (L.asked link.old) n (L.asked link.new)
-        × SendCauseOf (L.kept link.new) by.entry.run n ((by.entry.tries ≤ L.missed link.new) × (by.entry.tries ≤ n) × RoseBy by.entry.tries (L.fault_count link.old) (L.fault_count link.new)) (Rose (C.fault_count copy.old) (C.fault_count copy.new)) result
+        × SendCauseOf (kept_of (L.kept link.new) by.entry.run n) ((by.entry.tries ≤ L.missed link.new) × (by.entry.tries ≤ n) × RoseBy by.entry.tries (L.fault_count link.old) (L.fault_count link.new)) (Rose (C.fault_count copy.old) (C.fault_count copy.new)) result
         × ((w : Reply) → IsOwnReply (L.kept link.new) by.entry.run n w → IsSendAside result ⊎ AnswersSend w result)
         × ((c : Copy) → C.stands_for copy.new c → NamesFirst result c.entries)
-        × (EndsAtEntry result → (1 ≤ n) × ((c : Copy) (t : LinkState) → C.stands_for copy.new c → L.tells link.new t → CarriesFirst by.entry.token.now (number by.entry.run n) c.entries t.sent)) }
+        × (EndsAtEntry result → (1 ≤ n) × AtEach (C.stands_for copy.new) (L.tells link.new) (λ c t.
+        CarriesFirst by.entry.token.now (number by.entry.run n) c.entries t.sent)) }
     ensures asks { (n : ℕ) × IsMore (L.asked link.old) n (L.asked link.new)
-        × ((after : Copy) (tells : LinkState) → C.stands_for copy.new after → L.tells link.new tells
-        → (before : Copy) × (told : LinkState) × C.stands_for copy.old before × L.tells link.old told
+        × AtEach (C.stands_for copy.new) (L.tells link.new) (λ after tells.
+        (before : Copy) × (told : LinkState) × C.stands_for copy.old before × L.tells link.old told
         × SendsOn (IsWriteUnder by.entry.token.now before.entries) by.entry.run 0 n (result ≡ SendAnswer.NoMemory) told.sent tells.sent
         × TriedEntry result by.entry.token.now by.entry.run n by.entry.tries after.entries tells.sent) }
 {

@@ -15,7 +15,7 @@ use Rattle.keeper_memory.specs.declared.copy.state.StageState.{StageState}
 use Rattle.exchange_link.specs.Agreement.{CopyFits, FitsVersion, HeldFitsIf, IsFrontOf, StageFits, StageFitsIf}
 use Rattle.exchange_link.specs.Exchanges.{LinkState}
 use Rattle.exchange_link.specs.Owning.Gives.{Wants as GivesWant, Broke as GivesFault, Answers as GivesAnswer}
-use Rattle.exchange_link.specs.Sayings.{Gone, IsRead, Listed, Shut, Tells, Unknown, knows, list_of}
+use Rattle.exchange_link.specs.Sayings.{Gone, IsRead, Listed, Shut, Tells, Unknown, knows, list_at}
 use Rattle.hub_spec.specs.views.Cuts.{cut}
 use Rattle.hub_spec.specs.rules.Checks.{version_at}
 use Rattle.hub_spec.specs.rules.Growth.{Grew}
@@ -83,8 +83,8 @@ said_of a b stage run count token limit w can own = record {
 pub record FromVersion (v : BaseVersion) (token : List ℕ) (limit kinds staged : ℕ) (k : Taking) : Type 0 where
   pub known : knows v token ≡ true
   pub kind : kinds < length (cut v token)
-  pub rows : k.rows ≡ take limit (drop staged (list_of v token kinds))
-  pub total : k.total ≡ length (list_of v token kinds)
+  pub rows : k.rows ≡ take limit (drop staged (list_at v token kinds))
+  pub total : k.total ≡ length (list_at v token kinds)
   pub done : k.done ≡ (length k.rows == k.total - staged)
 
 -- a front with the next rows
@@ -107,11 +107,11 @@ page_fits : (s : Stage) (v : BaseVersion) (limit : ℕ) (k : Taking) (done : Boo
 page_fits s v limit k false h p e = record {
   known = h.known;
   done = h.done;
-  present = front_more s.present (list_of v s.token (length s.done)) k.rows limit h.present p.rows;
+  present = front_more s.present (list_at v s.token (length s.done)) k.rows limit h.present p.rows;
   total = p.total;
 }
 page_fits s v limit k true h p e =
-    let l : List Record = list_of v s.token (length s.done) in
+    let l : List Record = list_at v s.token (length s.done) in
     let f : IsFrontOf (s.present ++ k.rows) l = front_more s.present l k.rows limit h.present p.rows in
     let all : length k.rows ≡ k.total - length s.present = grind (arith, nat_tests, sym p.done ∙ e) in
     let fit : length s.present ≤ length l = omega (arith, sym (length-append s.present (h.present).0) ∙ ap length (h.present).1) in
@@ -144,7 +144,7 @@ pub ok_rows : {a b : List Record} → (let x : Result (List Record) JsonFault = 
 ok_rows e = cc
 
 read_page : (a mid b : HubState) (stage : Option StageState) (token : List ℕ) (limit v : ℕ) (k : Taking) → Grew a mid → Grew mid b → kinds_of stage < kind_count → IsRead mid (next_page token limit stage) v → v ≡ k.pin
-    → k.rows ≡ take limit (drop (staged_of stage) (list_of (version_at mid v) token (kinds_of stage))) → k.total ≡ length (list_of (version_at mid v) token (kinds_of stage)) → k.done ≡ (length k.rows == k.total - staged_of stage) → StandsIn stage a b token limit k
+    → k.rows ≡ take limit (drop (staged_of stage) (list_at (version_at mid v) token (kinds_of stage))) → k.total ≡ length (list_at (version_at mid v) token (kinds_of stage)) → k.done ≡ (length k.rows == k.total - staged_of stage) → StandsIn stage a b token limit k
 read_page a mid b stage token limit v k g h lt read e rows total done =
     let V = version_at mid v in
     let from : FromVersion V token limit (kinds_of stage) (staged_of stage) k = record {
@@ -171,7 +171,7 @@ says_page a mid b stage token limit w k g h lt page from (Gone p by e kn st x y)
 says_page a mid b stage token limit w k g h lt page from (Shut v read st ver none) = ⊎_elim
     (λ (f : IsListed stage w k). let u = f.status in absurd (omega (arith, u, st)))
     (λ (f : IsShut stage w k).
-    let none2 : list_of (version_at mid v) token (kinds_of stage) ≡ [] = ap (list_of (version_at mid v) token) (sym (place_at (kinds_of stage) lt)) ∙ none in
+    let none2 : list_at (version_at mid v) token (kinds_of stage) ≡ [] = ap (list_at (version_at mid v) token) (sym (place_at (kinds_of stage) lt)) ∙ none in
     read_page a mid b stage token limit v k g h lt read (same_Some _ _ (sym ver ∙ f.version))
     (f.rows ∙ sym (ap (λ l. take limit (drop (staged_of stage) l)) none2 ∙ ap (λ n. take limit (drop n [])) f.none ∙ nothing limit))
     (f.total ∙ sym (ap length none2)) page.done)
@@ -181,7 +181,7 @@ says_page a mid b stage token limit w k g h lt page from (Shut v read st ver non
     nothing limit = take_all limit [] (omega arith)
 says_page a mid b stage token limit w k g h lt page from (Listed v read st ver tot rows) = ⊎_elim
     (λ (f : IsListed stage w k).
-    let at : list_of (version_at mid v) token (place_of_kind (kind_at (kinds_of stage))) ≡ list_of (version_at mid v) token (kinds_of stage) = ap (list_of (version_at mid v) token) (place_at (kinds_of stage) lt) in
+    let at : list_at (version_at mid v) token (place_of_kind (kind_at (kinds_of stage))) ≡ list_at (version_at mid v) token (kinds_of stage) = ap (list_at (version_at mid v) token) (place_at (kinds_of stage) lt) in
     read_page a mid b stage token limit v k g h lt read (same_Some _ _ (sym ver ∙ f.version))
     (ok_rows (sym f.rows ∙ rows) ∙ ap (λ l. take limit (drop (staged_of stage) l)) at) (same_Some _ _ (sym f.total ∙ tot) ∙ ap length at) page.done)
     (λ (f : IsShut stage w k). let u = f.status in absurd (omega (arith, u, st)))
@@ -199,7 +199,7 @@ own_page a b stage token limit w k own lt e =
     ]
 
 begun_fits : (v : BaseVersion) (pin : ℕ) (token : List ℕ) → knows v token ≡ true → FitsVersion (begun pin token) v
-begun_fits v pin token e = record { known = e; done = refl; present = (list_of v token 0, refl); total = tt }
+begun_fits v pin token e = record { known = e; done = refl; present = (list_at v token 0, refl); total = tt }
 
 after_agrees : (s : Stage) (h : HubState) (limit : ℕ) (k : Taking) → StageFits s h → FromVersion (version_at h s.pin) s.token limit (length s.done) (length s.present) k → StageFits (stage_after s k.rows k.total k.done) h
 after_agrees s h limit k x from =

@@ -18,7 +18,7 @@ use Rattle.exchange_link.specs.Causes.{IsLast}
 use Rattle.exchange_link.specs.Requests.{number}
 use Rattle.status_info.specs.declared.request.Request.{Request}
 use Rattle.hub_spec.specs.views.Cuts.{cut}
-use Rattle.exchange_link.specs.Sayings.{list_of}
+use Rattle.exchange_link.specs.Sayings.{list_at}
 use Rattle.hub_spec.specs.rules.Checks.{version_at}
 use Rattle.hub_spec.specs.rules.Growth.{Grew}
 use Rattle.exchange_link.specs.Places.{kinds_of, next_page, pin_of, staged_of}
@@ -28,7 +28,7 @@ use Rattle.exchange_link.proofs.CutLemmas.{cut_whole}
 use Rattle.roster_types.specs.Records.{Record}
 use Rattle.version_core.specs.HubStates.{HubState}
 use Rattle.version_core.specs.declared.change.BaseVersion.{BaseVersion}
-use Rattle.consumer_sync.specs.Filling.{BoundSoFar, CauseIf, IsCallPinIf, PinLaw, request_of}
+use Rattle.consumer_sync.specs.Filling.{BoundSoFar, CauseIf, IsCallPinIf, LastAsked, PinLaw, request_of}
 use Rattle.consumer_sync.specs.Judging.{opened, paged}
 use Rattle.consumer_sync.specs.Staging.{MayEnd, Performs, Taking}
 use Rattle.consumer_sync.specs.Staging.Adds.{Stays, Opened, Takes}
@@ -49,15 +49,15 @@ page_less limit n m pos e =
 round_less : (limit staged more : ℕ) (l : List Record) (ls : List (List Record)) → 0 < limit → length l - staged ≡ length l - (staged + more) + limit → rounds limit (staged + more) (l ∷ ls) + 1 ≤ rounds limit staged (l ∷ ls)
 round_less limit staged more l ls pos e = let p = page_less limit (length l - staged) (length l - (staged + more)) pos e in omega (arith, p)
 
-less : (s : StageState) (v : BaseVersion) (token : List ℕ) (limit total : ℕ) (rows : List Record) (done d : Bool) → 0 < limit → s.kinds_done < length (cut v token) → total ≡ length (list_of v token s.kinds_done) → length rows ≡ min limit (total - s.staged)
+less : (s : StageState) (v : BaseVersion) (token : List ℕ) (limit total : ℕ) (rows : List Record) (done d : Bool) → 0 < limit → s.kinds_done < length (cut v token) → total ≡ length (list_at v token s.kinds_done) → length rows ≡ min limit (total - s.staged)
     → done ≡ (length rows == total - s.staged) → done ≡ d → work limit token (Some (paged s rows total d)) v + 1 ≤ work limit token (Some s) v
 less s v token limit total rows done true pos lt tot count e f =
     let at = drop_more (cut v token) s.kinds_done [] lt in
-    let b : work limit token (Some s) v ≡ rounds limit s.staged (list_of v token s.kinds_done ∷ drop (s.kinds_done + 1) (cut v token)) = ap (rounds limit s.staged) at in
+    let b : work limit token (Some s) v ≡ rounds limit s.staged (list_at v token s.kinds_done ∷ drop (s.kinds_done + 1) (cut v token)) = ap (rounds limit s.staged) at in
     omega (arith, b)
 less s v token limit total rows done false pos lt tot count e f =
     let at = drop_more (cut v token) s.kinds_done [] lt in
-    let l : List Record = list_of v token s.kinds_done in
+    let l : List Record = list_at v token s.kinds_done in
     let more : length rows ≢ total - s.staged = grind (arith, nat_tests, sym e ∙ f) in
     let p = round_less limit s.staged (length rows) l (drop (s.kinds_done + 1) (cut v token)) pos (omega (arith, more, count, tot)) in
     let a : work limit token (Some s) v ≡ rounds limit s.staged (l ∷ drop (s.kinds_done + 1) (cut v token)) = ap (rounds limit s.staged) at in
@@ -73,7 +73,7 @@ work_less (Some s) v limit token k pos p f = less s v token limit k.total k.rows
 -- while a kind is left so is a round
 pub some_work : (stage : Option StageState) (v : BaseVersion) (token : List ℕ) (limit : ℕ) → kinds_of stage < length (cut v token) → 1 ≤ work limit token stage v
 some_work stage v token limit lt =
-    let b : work limit token stage v ≡ rounds limit (staged_of stage) (list_of v token (kinds_of stage) ∷ drop (kinds_of stage + 1) (cut v token)) = ap (rounds limit (staged_of stage)) (drop_more (cut v token) (kinds_of stage) [] lt) in
+    let b : work limit token stage v ≡ rounds limit (staged_of stage) (list_at v token (kinds_of stage) ∷ drop (kinds_of stage + 1) (cut v token)) = ap (rounds limit (staged_of stage)) (drop_more (cut v token) (kinds_of stage) [] lt) in
     omega (arith, b)
 
 times_less : (t a b : ℕ) → a + 1 ≤ b → t + t * a ≤ t * b
@@ -161,16 +161,18 @@ pub bounded_zero : (tries limit : ℕ) (token : List ℕ) (first : Option StageS
 bounded_zero tries limit token (Some s) P h = omega arith
 bounded_zero tries limit token None P h = inl (omega arith)
 
-pub call_pin : (result : Option SyncAnswer) (c : Copy) (sent : List Request) (stage : Option StageState) (token : List ℕ) (limit : ℕ) (kept : List ℕ) (run n : ℕ) (missed broke : Type 0) → CauseIf stage limit kept run n missed broke result
-    → IsLast (request_of stage run n token limit) sent → (s : StageState) → stage ≡ Some s → PinLeft result s.pin c.stage → IsCallPinIf result c sent s.pin
-call_pin None c sent stage token limit kept run n missed broke k last s e (inl h) = h
-call_pin None c sent stage token limit kept run n missed broke k last s e (inr x) = absurd x.0
-call_pin (Some (answer.Complete p)) c sent stage token limit kept run n missed broke k last s e h = absurd k
-call_pin (Some (answer.PinGone p old)) c sent stage token limit kept run n missed broke k last s e h = same_Some _ _ (sym (ap pin_of e) ∙ k.4)
-call_pin (Some answer.KeeperFault) c sent stage token limit kept run n missed broke k last s e (inl h) = inl h
-call_pin (Some answer.KeeperFault) c sent stage token limit kept run n missed broke k last s e (inr x) = inr (x.1, inr (next_page token limit stage, number run n, ap pin_of e, last))
-call_pin (Some a) c sent stage token limit kept run n missed broke k last s e (inl h) = h
-call_pin (Some a) c sent stage token limit kept run n missed broke k last s e (inr x) = absurd x.0
+pub call_pin : (result : Option SyncAnswer) (c : Copy) (sent : List Request) (asked : LastAsked) (token : List ℕ) (missed broke : Type 0)
+    → CauseIf asked missed broke result → IsLast (request_of asked.stage asked.own.run asked.own.count token asked.limit) sent
+    → (s : StageState) → asked.stage ≡ Some s → PinLeft result s.pin c.stage → IsCallPinIf result c sent s.pin
+call_pin None c sent asked token missed broke k last s e (inl h) = h
+call_pin None c sent asked token missed broke k last s e (inr x) = absurd x.0
+call_pin (Some (answer.Complete p)) c sent asked token missed broke k last s e h = absurd k
+call_pin (Some (answer.PinGone p old)) c sent asked token missed broke k last s e h = same_Some _ _ (sym (ap pin_of e) ∙ k.4)
+call_pin (Some answer.KeeperFault) c sent asked token missed broke k last s e (inl h) = inl h
+call_pin (Some answer.KeeperFault) c sent asked token missed broke k last s e (inr x) =
+    inr (x.1, inr (next_page token asked.limit asked.stage, number asked.own.run asked.own.count, ap pin_of e, last))
+call_pin (Some a) c sent asked token missed broke k last s e (inl h) = h
+call_pin (Some a) c sent asked token missed broke k last s e (inr x) = absurd x.0
 
 -- at the last step
 pub swap_pin : (e : SyncAnswer) (st : StageState) (c a : Copy) (sent : List Request) (v : ℕ) → stage_of c ≡ Some st → SwapsIn e st.pin c a → HasPin v c.stage → IsCallPin e a sent v

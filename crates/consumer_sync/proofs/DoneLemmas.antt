@@ -16,7 +16,7 @@ use Rattle.exchange_link.specs.Agreement.{FitsTotal, FitsVersion, IsFrontOf, Sta
 use Rattle.exchange_link.specs.Causes.{ToldCause}
 use Rattle.exchange_link.specs.Completeness.{StandsAt, first_pin}
 use Rattle.exchange_link.specs.Exchanges.{LinkState}
-use Rattle.exchange_link.specs.Sayings.{Gone, IsRead, Listed, Shut, Unknown, list_of}
+use Rattle.exchange_link.specs.Sayings.{Gone, IsRead, Listed, Shut, Unknown, list_at}
 use Rattle.version_core.specs.Grants.{grant_of}
 use Rattle.hub_spec.specs.rules.Verdicts.{newest_in}
 use Rattle.hub_spec.specs.rules.Checks.{version_at}
@@ -118,18 +118,18 @@ listed_done o limit v kind offset w l pin good total p es el front st ver tot ro
 -- a list as the version has it, whatever stage stands
 read_done : (o : Option Stage) (token : List ℕ) (limit v : ℕ) (w : WireReply) (mid : HubState) (kind : Kind) (offset : ℕ) → IsHub mid → HasToken token (option_map state_of o) → StageFitsIf o mid → kinds_of (option_map state_of o) < kind_count
     → IsRead mid (next_page token limit (option_map state_of o)) v
-    → w.status ≡ 200 → w.version ≡ Some v → w.total ≡ Some (length (list_of (version_at mid v) token (place_of_kind (kind_at (kinds_of (option_map state_of o))))))
-    → rows_of (kind_at (kinds_of (option_map state_of o))) w.body ≡ Ok (take limit (drop (staged_of (option_map state_of o)) (list_of (version_at mid v) token (place_of_kind (kind_at (kinds_of (option_map state_of o)))))))
+    → w.status ≡ 200 → w.version ≡ Some v → w.total ≡ Some (length (list_at (version_at mid v) token (place_of_kind (kind_at (kinds_of (option_map state_of o))))))
+    → rows_of (kind_at (kinds_of (option_map state_of o))) w.body ≡ Ok (take limit (drop (staged_of (option_map state_of o)) (list_at (version_at mid v) token (place_of_kind (kind_at (kinds_of (option_map state_of o)))))))
     → answer_of (judged (option_map state_of o) limit w) kind offset ≡ None
 read_done None token limit v w mid kind offset is_hub et x lt read st ver tot rows =
-    let l = list_of (version_at mid v) token (place_of_kind (kind_at 0)) in
+    let l = list_at (version_at mid v) token (place_of_kind (kind_at 0)) in
     listed_done None limit v kind offset w l refl (list_good mid is_hub v token (place_of_kind (kind_at 0)) read.standing) tt [] refl refl (l, refl) st ver tot rows
 read_done (Some s) token limit v w mid kind offset is_hub et x lt read st ver tot rows =
     let e : v ≡ s.pin = read.pinned in
     let fits : FitsVersion s (version_at mid v) = subst (λ p. FitsVersion s (version_at mid p)) (sym e) x.fits in
-    let at : list_of (version_at mid v) token (place_of_kind (kind_at (length s.done))) ≡ list_of (version_at mid v) s.token (length s.done) =
-    ap (list_of (version_at mid v) token) (place_at (length s.done) lt) ∙ ap (λ t. list_of (version_at mid v) t (length s.done)) (sym et) in
-    let l = list_of (version_at mid v) s.token (length s.done) in
+    let at : list_at (version_at mid v) token (place_of_kind (kind_at (length s.done))) ≡ list_at (version_at mid v) s.token (length s.done) =
+    ap (list_at (version_at mid v) token) (place_at (length s.done) lt) ∙ ap (λ t. list_at (version_at mid v) t (length s.done)) (sym et) in
+    let l = list_at (version_at mid v) s.token (length s.done) in
     listed_done (Some s) limit v kind offset w l (eq-eqb s.pin v (sym e)) (list_good mid is_hub v s.token (length s.done) read.standing) fits.total s.present refl refl fits.present st ver
     (tot ∙ ap (λ (xs : List Record). Some (length xs)) at)
     (rows ∙ ap (λ (xs : List Record). let o : Result (List Record) JsonFault = Ok (take limit (drop (length s.present) xs)) in o) at)
@@ -137,14 +137,14 @@ read_done (Some s) token limit v w mid kind offset is_hub et x lt read st ver to
 -- a kind that isn't opened
 shut_done : (o : Option Stage) (token : List ℕ) (limit v : ℕ) (w : WireReply) (mid : HubState) (kind : Kind) (offset : ℕ) → HasToken token (option_map state_of o) → StageFitsIf o mid → kinds_of (option_map state_of o) < kind_count
     → IsRead mid (next_page token limit (option_map state_of o)) v
-    → w.status ≡ 403 → w.version ≡ Some v → list_of (version_at mid v) token (place_of_kind (kind_at (kinds_of (option_map state_of o)))) ≡ [] → answer_of (judged (option_map state_of o) limit w) kind offset ≡ None
+    → w.status ≡ 403 → w.version ≡ Some v → list_at (version_at mid v) token (place_of_kind (kind_at (kinds_of (option_map state_of o)))) ≡ [] → answer_of (judged (option_map state_of o) limit w) kind offset ≡ None
 shut_done None token limit v w mid kind offset et x lt read st ver none =
     done_close _ v kind offset (judged_at None limit w 403 st ∙ ap (shut_act None) ver)
 shut_done (Some s) token limit v w mid kind offset et x lt read st ver none =
     let e : v ≡ s.pin = read.pinned in
     let fits : FitsVersion s (version_at mid v) = subst (λ p. FitsVersion s (version_at mid p)) (sym e) x.fits in
-    let at : list_of (version_at mid v) token (place_of_kind (kind_at (length s.done))) ≡ list_of (version_at mid v) s.token (length s.done) =
-    ap (list_of (version_at mid v) token) (place_at (length s.done) lt) ∙ ap (λ t. list_of (version_at mid v) t (length s.done)) (sym et) in
+    let at : list_at (version_at mid v) token (place_of_kind (kind_at (length s.done))) ≡ list_at (version_at mid v) s.token (length s.done) =
+    ap (list_at (version_at mid v) token) (place_at (length s.done) lt) ∙ ap (λ t. list_at (version_at mid v) t (length s.done)) (sym et) in
     let nought : length s.present ≡ 0 = let h = ap length (fits.present).1 in let g = length-append s.present (fits.present).0 in let i = ap length (sym at ∙ none) in omega (arith, h, g, i) in
     done_close _ v kind offset (judged_at (Some (state_of s)) limit w 403 st ∙ ap (shut_act (Some (state_of s))) ver ∙ cond-true _ _ _ (and_from (s.pin == v) (length s.present == 0) (eq-eqb s.pin v (sym e)) (eq-eqb (length s.present) 0 nought)))
 

@@ -6,7 +6,7 @@ use Rattle.consumer_sync.proofs.CauseLemmas.{answer_cause}
 use Rattle.consumer_sync.proofs.FillLemmas.{grows_refl}
 use Rattle.consumer_sync.proofs.SyncLemmas.{enter_fails, swap_leaves}
 use Rattle.consumer_sync.specs.Faulted.{FaultLaw, SaysGone}
-use Rattle.consumer_sync.specs.Filling.{Ends}
+use Rattle.consumer_sync.specs.Filling.{Ends, last_asked}
 use Rattle.consumer_sync.specs.Judging.{judged}
 use Rattle.consumer_sync.specs.Staging.{IsGone, answer_of}
 use Rattle.consumer_sync.specs.Starting.{Aborts, SwapsIn, unentered, without_other}
@@ -21,7 +21,7 @@ use Rattle.keeper_memory.specs.copy.Lists.{kind_count}
 use Rattle.keeper_memory.specs.copy.States.{stage_of}
 use Rattle.keeper_memory.specs.declared.copy.change.CopyChange.TheVariants.{Run, Swap}
 use Rattle.keeper_memory.specs.declared.copy.state.StageState.{StageState}
-use Rattle.exchange_link.specs.Causes.{IsOwnReply}
+use Rattle.exchange_link.specs.Causes.{IsOwnReply, kept_of}
 use Rattle.exchange_link.specs.Places.{kind_at, kinds_of, staged_of}
 use Rattle.exchange_link.specs.Synchronised.{IsSwapped, StageOn, own_stage}
 use Rattle.exchange_link.specs.declared.answer.SyncAnswer.{SyncAnswer}
@@ -42,7 +42,9 @@ gone_is act.HubNoMemory is = absurd is
 pub says_gone : (stage : Option StageState) (limit : ℕ) (w : WireReply) (kept : List ℕ) (run n : ℕ) → IsOwnReply kept run n w → IsGone (judged stage limit w) → SaysGone kept
 says_gone stage limit w kept run n own is =
     let (pin, oldest, same) = gone_is (judged stage limit w) is in
-    let (r, from, status, old, _) = answer_cause stage limit w kept run n (Some (answer.PinGone pin oldest)) (Unit {0}) (Unit {0}) own (sym (ap (λ a. answer_of a (kind_at (kinds_of stage)) (staged_of stage)) same)) in
+    let asked = last_asked stage limit (kept_of kept run n) in
+    let gives = ap (λ a. answer_of a (kind_at (kinds_of stage)) (staged_of stage)) same in
+    let (r, from, status, old, _) = answer_cause asked w (Some (answer.PinGone pin oldest)) (Unit {0}) (Unit {0}) own (sym gives) in
     (r, from.text, status, ap (λ o. is_some o) old)
 
 own_goes : (token : List ℕ) (old new : Option Stage) → new ≡ old → (own_stage token old ≡ None) ⊎ StageOn token (own_stage token old) new

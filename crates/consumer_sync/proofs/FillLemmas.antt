@@ -14,7 +14,7 @@ use Rattle.exchange_link.specs.Agreement.{IsFrontOf, StageFitsIf}
 use Rattle.hub_spec.specs.rules.Growth.{Grew}
 use Rattle.exchange_link.specs.Pages.{asked_by}
 use Rattle.exchange_link.specs.Places.{kinds_of, next_page}
-use Rattle.exchange_link.specs.Sayings.{list_of}
+use Rattle.exchange_link.specs.Sayings.{list_at}
 use Rattle.hub_spec.specs.requests.PageRequests.{CanAsk}
 use Rattle.hub_spec.proofs.Versions.{number_at, version_is}
 use Rattle.hub_spec.specs.rules.Checks.{version_at}
@@ -87,7 +87,7 @@ small_fits h hub None fits = tt
 small_fits h hub (Some s) fits =
     let good = list_good h hub s.pin s.token (length s.done) fits.standing in
     let front = fits.fits.present in
-    let long : length s.present + length front.0 ≡ length (list_of (version_at h s.pin) s.token (length s.done)) = sym (length-append s.present front.0) ∙ ap length front.1 in
+    let long : length s.present + length front.0 ≡ length (list_at (version_at h s.pin) s.token (length s.done)) = sym (length-append s.present front.0) ∙ ap length front.1 in
     let is = version_is h hub.state s.pin (omega (arith, fits.standing)) in
     let at = number_at h hub.state s.pin (omega (arith, fits.standing)) in
     (omega (arith, long, good.few), omega (arith, is.number, at))

@@ -15,7 +15,7 @@ use Rattle.keeper_memory.specs.declared.copy.state.StageState.{StageState}
 use Rattle.keeper_memory.specs.declared.copy.state.TheConstants.{LAST}
 use Rattle.exchange_link.specs.Agreement.{CopyFits, HeldFits, HeldFitsIf, NoneAbove, StageAgrees, StageFits}
 use Rattle.exchange_link.specs.Agreement.{StageFitsIf}
-use Rattle.exchange_link.specs.Causes.{AsksOn, CauseOf, LastLaw, IsAside}
+use Rattle.exchange_link.specs.Causes.{AsksOn, CauseOf, LastLaw, IsAside, kept_of}
 use Rattle.exchange_link.specs.Completeness.{IsDone}
 use Rattle.exchange_link.specs.Exchanges.{LinkState}
 use Rattle.hub_spec.specs.views.Cuts.{cut}
@@ -35,7 +35,7 @@ use Rattle.exchange_link.proofs.StageLemmas.{on_token}
 use Rattle.exchange_link.specs.Beginning.{Enters, EntersRun}
 use Rattle.exchange_link.specs.declared.beginning.NoRun.{NoRun}
 use Rattle.exchange_link.specs.declared.beginning.NoRun.TheVariants as no_run
-use Rattle.consumer_sync.specs.Filling.{CauseIf, Ends, HasToken, IsEnd, IsEndIf, PinLaw, StageEnds}
+use Rattle.consumer_sync.specs.Filling.{CauseIf, Ends, HasToken, IsEnd, IsEndIf, LastAsked, PinLaw, StageEnds}
 use Rattle.exchange_link.specs.Requests.{Asks, IsReady}
 use Rattle.consumer_sync.specs.Requests.{IsUnmarked}
 use Rattle.consumer_sync.specs.Starting.{Aborts, Drops, StartCause, SwapsIn, unentered, without_other}
@@ -309,10 +309,15 @@ drop_done answer.KeeperFault K k quiet = absurd (quiet k.1)
 drop_done answer.NoMemory K k quiet = tt
 drop_done e K k quiet = absurd k.1
 
+-- how the kinds end, from the copy with which they begin
+ends_begun : (token : List ℕ) (b d c : Copy) → d ≡ without_other token (copy_after (Run (b.run + 1)) b)
+    → Ends token None d c → Ends token None (without_other token (copy_after (Run (b.run + 1)) b)) c
+ends_begun token b d c is ends = subst (λ (d : Copy). Ends token None d c) is ends
+
 -- the last step over any link
 pub swap_leaves : (token : List ℕ) (b d c a : Copy) (st : StageState) (e : SyncAnswer) → d ≡ without_other token (copy_after (Run (b.run + 1)) b) → Ends token None d c → stage_of c ≡ Some st → st.kinds_done ≡ kind_count → SwapsIn e st.pin c a → Leaves token e b a
 swap_leaves token b d c a st (answer.Complete v) ed x0 state all x =
-    let y : Ends token None (without_other token (copy_after (Run (b.run + 1)) b)) c = subst (λ (d : Copy). Ends token None d c) ed x0 in
+    let y = ends_begun token b d c ed x0 in
     let s = stage_some c.stage st state in
     subst (λ (v : ℕ). Leaves token (answer.Complete v) b a) (sym x.0)
     (subst (λ (d : Copy). Leaves token (answer.Complete st.pin) b d) (sym (x.1 ∙ swap_to c s.0 s.1)) (record {
@@ -323,7 +328,7 @@ swap_leaves token b d c a st (answer.Complete v) ed x0 state all x =
       stage = inr (inl (tt, refl));
     }))
 swap_leaves token b d c a st answer.KeeperFault ed x0 state all x =
-    let y : Ends token None (without_other token (copy_after (Run (b.run + 1)) b)) c = subst (λ (d : Copy). Ends token None d c) ed x0 in
+    let y = ends_begun token b d c ed x0 in
     let s = stage_some c.stage st state in
     ⊎_elim (λ (h : a ≡ c). subst (λ (d : Copy). Leaves token answer.KeeperFault b d) (sym h) (record { run = inr y.run; entries = y.entries; last_number = y.last_number; held = inl y.held; stage = inl y.stage }))
     (λ (h : a ≡ copy_after Swap c). subst (λ (d : Copy). Leaves token answer.KeeperFault b d) (sym (h ∙ swap_to c s.0 s.1)) (record {
@@ -334,22 +339,23 @@ swap_leaves token b d c a st answer.KeeperFault ed x0 state all x =
       stage = inr (inl (tt, refl));
     })) x
 swap_leaves token b d c a st answer.NoMemory ed x0 state all x =
-    let y : Ends token None (without_other token (copy_after (Run (b.run + 1)) b)) c = subst (λ (d : Copy). Ends token None d c) ed x0 in
+    let y = ends_begun token b d c ed x0 in
     subst (λ (d : Copy). Leaves token answer.NoMemory b d) (sym x) (record { run = inr y.run; entries = y.entries; last_number = y.last_number; held = y.held; stage = inl y.stage })
 swap_leaves token b d c a st e ed x0 state all x = absurd x
 
 -- an answer of the pages is one of their own
-pub cause_end : (stage : Option StageState) (limit : ℕ) (kept : List ℕ) (run n : ℕ) (missed broke : Type 0) (result : Option SyncAnswer) → CauseIf stage limit kept run n missed broke result → IsEndIf result
-cause_end stage limit kept run n missed broke None c = tt
-cause_end stage limit kept run n missed broke (Some (answer.Complete v)) c = c
-cause_end stage limit kept run n missed broke (Some answer.LastRun) c = c
-cause_end stage limit kept run n missed broke (Some a) c = tt
+pub cause_end : (asked : LastAsked) (missed broke : Type 0) (result : Option SyncAnswer) → CauseIf asked missed broke result → IsEndIf result
+cause_end asked missed broke None c = tt
+cause_end asked missed broke (Some (answer.Complete v)) c = c
+cause_end asked missed broke (Some answer.LastRun) c = c
+cause_end asked missed broke (Some a) c = tt
 
-pub cause_whole : (stage : Option StageState) (limit : ℕ) (kept : List ℕ) (run n : ℕ) (missed broke more : Type 0) (a : SyncAnswer) → (broke → more) → CauseIf stage limit kept run n missed broke (Some a) → CauseOf stage limit kept run n missed more a
-cause_whole stage limit kept run n missed broke more (answer.Complete v) f c = absurd c
-cause_whole stage limit kept run n missed broke more answer.LastRun f c = absurd c
-cause_whole stage limit kept run n missed broke more answer.KeeperFault f c = f c
-cause_whole stage limit kept run n missed broke more a f c = c
+pub cause_whole : (asked : LastAsked) (missed broke more : Type 0) (a : SyncAnswer) → (broke → more) → CauseIf asked missed broke (Some a)
+    → CauseOf asked.stage asked.limit asked.own missed more a
+cause_whole asked missed broke more (answer.Complete v) f c = absurd c
+cause_whole asked missed broke more answer.LastRun f c = absurd c
+cause_whole asked missed broke more answer.KeeperFault f c = f c
+cause_whole asked missed broke more a f c = c
 
 own_token_if : (b : Bool) (s : StageState) (token : List ℕ) → (b ≡ true → s.token ≡ token) → HasToken token (if b then Some s else None)
 own_token_if true s token e = e refl
@@ -370,7 +376,7 @@ own_few token (Some s) le = own_few_if (bytes_eq s.token token) s le
 
 -- ---- causes at the beginning and at the end
 
-pub start_cause : (limit : ℕ) (kept : List ℕ) (missed broke more : Type 0) (e : SyncAnswer) → (broke → more) → StartCause broke e → CauseOf None limit kept 0 0 missed more e
+pub start_cause : (limit : ℕ) (kept : List ℕ) (missed broke more : Type 0) (e : SyncAnswer) → (broke → more) → StartCause broke e → CauseOf None limit (kept_of kept 0 0) missed more e
 start_cause limit kept missed broke more answer.LastRun f k = tt
 start_cause limit kept missed broke more answer.KeeperFault f k = f k
 start_cause limit kept missed broke more answer.NoMemory f k = tt

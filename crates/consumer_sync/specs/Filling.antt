@@ -4,13 +4,15 @@ use Rattle.keeper_memory.specs.copy.Copies.{Copy, Stage}
 use Rattle.keeper_memory.specs.copy.Lists.{kind_count}
 use Rattle.keeper_memory.specs.declared.copy.state.StageState.{StageState}
 use Rattle.keeper_memory.specs.declared.copy.state.TheConstants.{LAST}
+use Rattle.exchange_link.specs.Agreement.{CopyFits}
 use Rattle.exchange_link.specs.Asked.{TriedFor}
 use Rattle.exchange_link.specs.Bounds.{HasPin, IsCallPin, work}
-use Rattle.exchange_link.specs.Causes.{AnswersTo, AsksOn, CauseOf, IsAside, IsPageStatus, ToldCause}
+use Rattle.exchange_link.specs.Causes.{AnswersTo, AsksOn, CauseOf, IsAside, IsPageStatus, KeptOf, ToldCause}
 use Rattle.exchange_link.specs.Completeness.{IsDone}
 use Rattle.exchange_link.specs.Exchanges.{LinkState}
 use Rattle.hub_spec.specs.rules.Checks.{version_at}
 use Rattle.exchange_link.specs.Pages.{page_request}
+use Rattle.exchange_link.specs.Pairs.{AtEach}
 use Rattle.exchange_link.specs.Places.{kinds_of, next_page, staged_of}
 use Rattle.exchange_link.specs.Synchronised.{StageOn}
 use Rattle.exchange_link.specs.declared.answer.SyncAnswer.{SyncAnswer}
@@ -19,11 +21,15 @@ use Rattle.http_wire.specs.declared.reply_reading.WireReply.{WireReply}
 use Rattle.status_info.specs.declared.request.Request.{Request}
 use Rattle.version_core.specs.HubStates.{HubState, newest_number}
 use Rattle.version_core.specs.Version.{row_limit}
-use Rattle.exchange_link.specs.Requests.{number}
+use Rattle.exchange_link.specs.Requests.{IsReady, number}
 
 -- the request for the next page of a stage
 abbrev pub request_of : Option StageState → ℕ → ℕ → List ℕ → ℕ → Request
 request_of stage run count token limit = page_request (next_page token limit stage) (number run count)
+
+-- each of these copies fits the hub of each of these states of a link, and there the run's next number is a new one
+abbrev pub AreReady : ℕ → (Copy → Type 0) → (LinkState → Type 0) → Type 0
+AreReady run copies tells = AtEach copies tells (λ copy told. CopyFits copy told.hub × IsReady run 0 told.sent)
 
 -- a stage is under this token
 abbrev pub HasToken : List ℕ → Option StageState → Type 0
@@ -83,12 +89,24 @@ abbrev pub ToldIf : List ℕ → LinkState → LinkState → Option SyncAnswer �
 ToldIf token before after None = Unit {0}
 ToldIf token before after (Some a) = ToldCause token before after a
 
--- the pages go on, or their end has its cause; no run has ended with them, nor was a stage swapped in
-abbrev pub CauseIf : Option StageState → ℕ → List ℕ → ℕ → ℕ → Type 0 → Type 0 → Option SyncAnswer → Type 0
-CauseIf stage limit kept run n missed broke None = Unit {0}
-CauseIf stage limit kept run n missed broke (Some (answer.Complete v)) = ⊥
-CauseIf stage limit kept run n missed broke (Some answer.LastRun) = ⊥
-CauseIf stage limit kept run n missed broke (Some a) = CauseOf stage limit kept run n missed broke a
+-- the last request of the pages: the stage that it asked on, how many rows it asked for, and its exchange with what the
+-- link keeps
+pub record LastAsked : Type 0 where
+  pub stage : Option StageState
+  pub limit : ℕ
+  pub own : KeptOf
+
+-- the same from its parts
+abbrev pub last_asked : Option StageState → ℕ → KeptOf → LastAsked
+last_asked stage limit own = record { stage = stage; limit = limit; own = own }
+
+-- the pages go on, or their end has its cause, where each try was missed or the keeper's count rose, as these say; no run
+-- has ended with them, nor was a stage swapped in
+abbrev pub CauseIf : LastAsked → Type 0 → Type 0 → Option SyncAnswer → Type 0
+CauseIf asked missed broke None = Unit {0}
+CauseIf asked missed broke (Some (answer.Complete v)) = ⊥
+CauseIf asked missed broke (Some answer.LastRun) = ⊥
+CauseIf asked missed broke (Some a) = CauseOf asked.stage asked.limit asked.own missed broke a
 
 -- the pin of the pages, so far or at their end
 abbrev pub IsCallPinIf : Option SyncAnswer → Copy → List Request → ℕ → Type 0

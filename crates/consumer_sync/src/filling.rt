@@ -7,18 +7,21 @@ ghost use Rattle.keeper_memory.specs.copy.States.{stage_of};
 ghost use Rattle.keeper_memory.specs.declared.copy.state.StageState.{StageState as State};
 ghost use Rattle.exchange_link.specs.Agreement.{CopyFits};
 ghost use Rattle.exchange_link.specs.Asked.{IsPageUnder, SendsOn};
+ghost use Rattle.exchange_link.specs.Between.{link_between};
 ghost use Rattle.exchange_link.specs.Bounds.{Bounded};
 ghost use Rattle.exchange_link.specs.Calls.{CanTry, IsRunNumber};
-ghost use Rattle.exchange_link.specs.Causes.{IsLast, IsMore, IsOwnReply, RoseBy};
+ghost use Rattle.exchange_link.specs.Causes.{IsLast, IsMore, IsOwnReply, MissedAll, kept_of};
 ghost use Rattle.exchange_link.specs.Completeness.{StandsAt, first_pin};
 ghost use Rattle.exchange_link.specs.Exchanges.{LinkState};
+ghost use Rattle.exchange_link.specs.Pairs.{AtEach, CopyFrom};
 ghost use Rattle.exchange_link.specs.Places.{kinds_of, pin_of};
 ghost use Rattle.http_wire.specs.declared.reply_reading.WireReply.{WireReply as Reply};
 ghost use Rattle.roster_base.specs.Faults.{Rose};
 ghost use Rattle.consumer_sync.specs.Faulted.{SaysGone};
 ghost use Rattle.exchange_link.specs.Synchronised.{StageOn};
-ghost use Rattle.consumer_sync.specs.Filling.{AsksOnIf, CauseIf, Ends, ExactIf, HasToken, IsCallPinIf, IsDoneIf};
-ghost use Rattle.consumer_sync.specs.Filling.{IsEndIf, IsSmall, PinLaw, ToldIf, TriedIf, request_of};
+ghost use Rattle.consumer_sync.specs.Filling.{AreReady, AsksOnIf, CauseIf, Ends, ExactIf, HasToken, IsCallPinIf};
+ghost use Rattle.consumer_sync.specs.Filling.{IsDoneIf, IsEndIf, IsSmall, PinLaw, ToldIf, TriedIf, last_asked};
+ghost use Rattle.consumer_sync.specs.Filling.{request_of};
 ghost use Rattle.consumer_sync.specs.Requests.{IsUnmarked};
 ghost use Rattle.exchange_link.specs.Requests.{Asks, IsReady};
 
@@ -49,29 +52,32 @@ pub fn fill<C: CopyKeeper, L: Link>(
     requires tries { CanTry by.tries }
     ensures holds { result ≡ None → (c : Copy) → C.stands_for copy.new c → stage_of c ≡ stage.new }
     ensures done { result ≡ None → kinds_of stage.new ≡ kind_count }
-    ensures copy { (after : Copy) → C.stands_for copy.new after → (before : Copy) × C.stands_for copy.old before × Ends by.entry.token.now result before after }
+    ensures copy { CopyFrom (C.stands_for copy.old) (C.stands_for copy.new) (Ends by.entry.token.now result) }
     ensures faulted { result ≡ Some SyncAnswer.KeeperFault → (after : Copy) → C.stands_for copy.new after → (before : Copy) × C.stands_for copy.old before
         × (Ends by.entry.token.now result before after × (StageOn by.entry.token.now before.stage after.stage ⊎ SaysGone (L.kept link.new))) }
-    ensures link { (after : LinkState) → L.tells link.new after → (before : LinkState) × L.tells link.old before × (count : ℕ) × Asks by.entry.run 0 count IsUnmarked before after
+    ensures link { (after : LinkState) → L.tells link.new after → (before : LinkState) × L.tells link.old before
+        × (count : ℕ) × Asks by.entry.run 0 count IsUnmarked before after
         × (result ≡ None → IsSmall stage.old → IsReady by.entry.run 0 before.sent → PinLaw stage.old before.hub stage.new) }
-    ensures agree { ((c : Copy) (t : LinkState) → C.stands_for copy.old c → L.tells link.old t → CopyFits c t.hub × IsReady by.entry.run 0 t.sent)
-        → (c : Copy) (t : LinkState) → C.stands_for copy.new c → L.tells link.new t → CopyFits c t.hub }
-    ensures bound { ((c : Copy) (t : LinkState) → C.stands_for copy.old c → L.tells link.old t → CopyFits c t.hub × IsReady by.entry.run 0 t.sent)
-        → (c : Copy) (t : LinkState) → C.stands_for copy.new c → L.tells link.new t
-        → (n : ℕ) × (L.asked link.new ≤ L.asked link.old + n) × Bounded n by.entry.tries by.entry.limit by.entry.token.now stage.old (λ v. IsCallPinIf result c t.sent v) t.hub }
-    ensures complete { ((c : Copy) (t : LinkState) → C.stands_for copy.old c → L.tells link.old t → CopyFits c t.hub × IsReady by.entry.run 0 t.sent)
+    ensures agree { AreReady by.entry.run (C.stands_for copy.old) (L.tells link.old)
+        → AtEach (C.stands_for copy.new) (L.tells link.new) (λ c t. CopyFits c t.hub) }
+    ensures bound { AreReady by.entry.run (C.stands_for copy.old) (L.tells link.old)
+        → AtEach (C.stands_for copy.new) (L.tells link.new) (λ c t.
+        (n : ℕ) × (L.asked link.new ≤ L.asked link.old + n) × Bounded n by.entry.tries by.entry.limit by.entry.token.now stage.old (λ v. IsCallPinIf result c t.sent v) t.hub) }
+    ensures complete { AreReady by.entry.run (C.stands_for copy.old) (L.tells link.old)
         → ¬ Rose (L.fault_count link.old) (L.fault_count link.new) → ¬ Rose (C.fault_count copy.old) (C.fault_count copy.new)
-        → (c : Copy) (t : LinkState) → C.stands_for copy.new c → L.tells link.new t
-        → (before : LinkState) × L.tells link.old before × (¬ Rose before.hub_faults t.hub_faults → StandsAt (first_pin stage.old before.hub) by.entry.token.now t.hub → IsDoneIf result) }
-    ensures told { ((c : Copy) (t : LinkState) → C.stands_for copy.old c → L.tells link.old t → CopyFits c t.hub × IsReady by.entry.run 0 t.sent)
-        → (c : Copy) (t : LinkState) → C.stands_for copy.new c → L.tells link.new t
-        → (before : LinkState) × L.tells link.old before × ToldIf by.entry.token.now before t result }
+        → AtEach (C.stands_for copy.new) (L.tells link.new) (λ c t.
+        (before : LinkState) × L.tells link.old before × (¬ Rose before.hub_faults t.hub_faults → StandsAt (first_pin stage.old before.hub) by.entry.token.now t.hub → IsDoneIf result)) }
+    ensures told { AreReady by.entry.run (C.stands_for copy.old) (L.tells link.old)
+        → AtEach (C.stands_for copy.new) (L.tells link.new) (λ c t.
+        (before : LinkState) × L.tells link.old before × ToldIf by.entry.token.now before t result) }
     ensures ends { IsEndIf result }
     ensures later { C.fault_count copy.old ≤ C.fault_count copy.new }
     ensures copy_leads { C.leads copy.old copy.new }
     ensures link_leads { L.leads link.old link.new }
     ensures cause { (asked : Option State) × (n : ℕ) × IsMore (L.asked link.old) n (L.asked link.new)
-        × CauseIf asked by.entry.limit (L.kept link.new) by.entry.run n ((by.entry.tries ≤ L.missed link.new) × (by.entry.tries ≤ n) × RoseBy by.entry.tries (L.fault_count link.old) (L.fault_count link.new)) (Rose (C.fault_count copy.old) (C.fault_count copy.new)) result
+        × CauseIf (last_asked asked by.entry.limit (kept_of (L.kept link.new) by.entry.run n))
+        (MissedAll by.entry.tries (link_between L.tells L.asked L.missed L.kept L.fault_count link.old link.new) n)
+        (Rose (C.fault_count copy.old) (C.fault_count copy.new)) result
         × ((w : Reply) → IsOwnReply (L.kept link.new) by.entry.run n w → ExactIf (pin_of asked) w result)
         × (1 ≤ n → result ≢ Some SyncAnswer.NoMemory → (t : LinkState) → L.tells link.new t → IsLast (request_of asked by.entry.run n by.entry.token.now by.entry.limit) t.sent)
         × (AsksOnIf result → (1 ≤ n) × ((c : Copy) → C.stands_for copy.new c → stage_of c ≡ asked)) }

@@ -12,6 +12,7 @@ ghost use Rattle.hub_spec.specs.requests.PageRequests.{page_path, page_query, pi
 ghost use Rattle.http_wire.specs.Sending.{CanSend, IsSentEcho};
 ghost use Rattle.status_info.specs.declared.request.Echo.{Echo as Number};
 ghost use Rattle.exchange_link.specs.Owning.{IsOwnRead};
+ghost use Rattle.exchange_link.specs.Pairs.{LinkFrom};
 ghost use Rattle.exchange_link.specs.Requests.{Asks, IfOwn, IsReady, numbered};
 ghost use Rattle.consumer_sync.specs.Filling.{request_of};
 ghost use Rattle.consumer_sync.specs.Requests.{IsUnmarked, read_request, unnumbered};
@@ -151,8 +152,8 @@ pub fn fetch<L: Link>(
         × Asks by.entry.run count.old count.new IsUnmarked before after
         × (IsReady by.entry.run count.old before.sent → IfOwn result (λ w. IsOwnRead before after (request_of stage.now by.entry.run count.new by.entry.token.now by.entry.limit) w)) }
     ensures last { result ≢ Outcome.NoMemory → (after : LinkState) → L.tells link.new after → IsLast (request_of stage.now by.entry.run count.new by.entry.token.now by.entry.limit) after.sent }
-    ensures asks { (after : LinkState) → L.tells link.new after → (before : LinkState) × L.tells link.old before
-        × SendsOn (IsTry (request_under (next_page by.entry.token.now by.entry.limit stage.now))) by.entry.run count.old count.new (result ≡ Outcome.NoMemory) before.sent after.sent }
+    ensures asks { LinkFrom (L.tells link.old) (L.tells link.new) (λ before after.
+        SendsOn (IsTry (request_under (next_page by.entry.token.now by.entry.limit stage.now))) by.entry.run count.old count.new (result ≡ Outcome.NoMemory) before.sent after.sent) }
 {
     match page_request(alloc, by.token, by.limit, stage) {
         Ok(request) => ask(alloc, link, request, by.run, count, by.tries),

@@ -14,7 +14,7 @@ ghost use Rattle.copy_format.specs.Roots.{root_entry};
 use crate::area::CopyArea;
 use crate::pieces::{push_optional_id, push_optional_number, push_optional_settled, push_write};
 use crate::root::CopyRoot;
-use hub_format::{number_bytes, push_number, push_sized};
+use hub_format::{END_BYTE, number_bytes, push_number, push_sized};
 use item_maps::Edit;
 use keeper_memory::{OutEntry, StageState};
 use roster_base::{Bytes, NoMemory};
@@ -149,7 +149,7 @@ fn clear_rows(alloc: Global, side: u8, kind: Kind) -> Result<Edit, NoMemory>
     Ok(Edit::Clear {
         area: CopyArea::Rows { side, kind }.number(),
         from: Bytes::from_vec(Vec::new(alloc)),
-        to: Bytes::from_vec(Vec::from_slice(alloc, &[255])?),
+        to: Bytes::from_vec(Vec::from_slice(alloc, &[END_BYTE])?),
     })
 }
 

@@ -20,7 +20,7 @@ use Rattle.csv_sets.specs.declared.fault.SetFile.TheVariants.{Manifest, RowsOf}
 use Rattle.std.specs.Str.{is_utf8}
 use Rattle.roster_texts.specs.Texts.{is_id}
 use Rattle.csv_sets.specs.Files.{file_of, has_id, in_record, largest, rows_after, rows_of}
-use Rattle.csv_sets.specs.Folders.{ReadsFolder}
+use Rattle.csv_sets.specs.Folders.{ReadsFolder, folder_read}
 use Rattle.csv_sets.specs.Headers.{Header, columns_checked, columns_of, has_column, header_of, in_file, is_metadata}
 use Rattle.csv_sets.specs.Headers.{is_read, key_in, required_checked}
 use Rattle.csv_sets.specs.Manifests.{manifest_of}
@@ -90,7 +90,7 @@ told (Some fs) P R f p = f fs p
 
 -- what was read of bytes, where these are what the folder's files mean
 pub from_given : {X Y : Type 0} (view : X → Y) (files : Option (List Stored)) (before now : ℕ) (r : Result X (Refusal SetFault)) (meaning : Result Y SetFault) (whole : List Stored → Result Y SetFault)
-    → Gives view r meaning → NoFolder meaning → now ≡ before → IfSome files (λ fs. whole fs ≡ meaning) → ReadsFolder view files before now r whole
+    → Gives view r meaning → NoFolder meaning → now ≡ before → IfSome files (λ fs. whole fs ≡ meaning) → ReadsFolder view (folder_read files before now) r whole
 from_given view files before now (Ok x) meaning whole g nf n t = (n, told files _ _ (λ fs e. e ∙ g) t)
 from_given view files before now (Err (refusal.Fault f)) meaning whole g nf n t = inr (rw g at nf, n, told files _ _ (λ fs e. e ∙ g) t)
 from_given view files before now (Err refusal.NoMemory) meaning whole g nf n t = n

@@ -23,7 +23,7 @@ use Rattle.csv_sets.specs.declared.fault.SetFault.TheVariants as fault
 use Rattle.csv_sets.specs.declared.fault.SetFile.TheVariants as file
 use Rattle.csv_sets.specs.declared.manifest.ListedFile.{ListedFile}
 use Rattle.csv_sets.specs.declared.manifest.Manifest.{Manifest}
-use Rattle.csv_sets.specs.Folders.{FaultOf, ReadsFolder}
+use Rattle.csv_sets.specs.Folders.{FaultOf, ReadsFolder, folder_read}
 use Rattle.csv_sets.specs.Manifests.{RisingFiles, manifest_of}
 use Rattle.csv_sets.specs.Files.{file_of}
 use Rattle.roster_types.specs.declared.set_row.SetRow.{SetRow}
@@ -87,8 +87,8 @@ looks_on {dir} {listed} {kinds} {first} {place = place} new later kind l d read 
 }
 
 pub looks_fail : {dir : List ℕ} {listed : List ListedFile} {kinds : List Kind} {first now : Option (List Stored)} {before after place : ℕ} (later : ℕ) (kind : Kind) (e : Refusal SetFault)
-    → Looks dir listed kinds first now before after place → drop place kinds ≡ kind ∷ drop (place + 1) kinds → ReadsFolder {X = Unit {0}} (λ _. true) now after later (Err e) (stands_at dir listed kind)
-    → ReadsFolder {X = Unit {0}} (λ _. true) first before later (Err e) (all_stand dir listed kinds)
+    → Looks dir listed kinds first now before after place → drop place kinds ≡ kind ∷ drop (place + 1) kinds → ReadsFolder {X = Unit {0}} (λ _. true) (folder_read now after later) (Err e) (stands_at dir listed kind)
+    → ReadsFolder {X = Unit {0}} (λ _. true) (folder_read first before later) (Err e) (all_stand dir listed kinds)
 looks_fail later kind refusal.NoMemory l d h = h ∙ l.count
 looks_fail {dir} {listed} {kinds} {first} {now} {before} {after} {place} later kind (refusal.Fault f) l d h =
     fault_on first now before after later f (stands_at dir listed kind) (all_stand dir listed kinds) _ l.files l.count l.same (λ fs p q. stand_fail dir listed (drop place kinds) (drop (place + 1) kinds) kind fs _ f d p q) h
@@ -159,8 +159,8 @@ parts_on {dir} {listed} {parts} {first} {place = place} new later file part s d 
 }
 
 pub parts_fail : {dir : List ℕ} {listed : List ListedFile} {parts : List SetPart} {first now : Option (List Stored)} {before after place : ℕ} (later : ℕ) (file : ListedFile) (e : Refusal SetFault)
-    → Parts dir listed parts first now before after place → drop place listed ≡ file ∷ drop (place + 1) listed → ReadsFolder {X = SetPart} (λ p. p) now after later (Err e) (part_at dir file)
-    → ReadsFolder {X = Vec SetPart Global} (λ v. v.items) first before later (Err e) (parts_at dir listed)
+    → Parts dir listed parts first now before after place → drop place listed ≡ file ∷ drop (place + 1) listed → ReadsFolder {X = SetPart} (λ p. p) (folder_read now after later) (Err e) (part_at dir file)
+    → ReadsFolder {X = Vec SetPart Global} (λ v. v.items) (folder_read first before later) (Err e) (parts_at dir listed)
 parts_fail later file refusal.NoMemory s d h = h ∙ s.count
 parts_fail {dir} {listed} {parts} {first} {now} {before} {after} {place} later file (refusal.Fault f) s d h =
     fault_on first now before after later f (part_at dir file) (parts_at dir listed) _ s.files s.count s.same (λ fs p q. parts_bad dir (drop place listed) (drop (place + 1) listed) file parts fs _ f d p q) h
@@ -196,7 +196,7 @@ unfolding manifest_at
 manifest_told dir files bytes h = told files _ _ (λ fs e. rw e refl) h
 
 pub manifest_read : (dir : List ℕ) (files : Option (List Stored)) (before now : ℕ) (bytes : List ℕ) (r : Result Manifest (Refusal SetFault)) → (now ≡ before) × IfSome files (λ fs. bytes_of file.Manifest (bytes_at fs dir file.Manifest) ≡ Ok bytes)
-    → Gives (λ m. m.files) r (listed_in bytes) → ReadsFolder (λ m. m.files) files before now r (manifest_at dir)
+    → Gives (λ m. m.files) r (listed_in bytes) → ReadsFolder (λ m. m.files) (folder_read files before now) r (manifest_at dir)
 manifest_read dir files before now bytes r read g = from_given (λ m. m.files) files before now r (listed_in bytes) (manifest_at dir) g (no_listed bytes) read.0 (manifest_told dir files bytes read.1)
 
 rows_told : (dir : List ℕ) (listed : ListedFile) (files : Option (List Stored)) (bytes : List ℕ) (f : SetFault) → file_of listed.kind listed.mode bytes ≡ Err f → IfSome files (λ fs. bytes_of (file.RowsOf listed.kind) (bytes_at fs dir (file.RowsOf listed.kind)) ≡ Ok bytes)
@@ -206,6 +206,6 @@ rows_told dir listed files bytes f g h = told files _ _ (λ fs e. rw e (rw g ref
 
 -- a fault of a listed file
 pub part_refused : (dir : List ℕ) (listed : ListedFile) (files : Option (List Stored)) (before now : ℕ) (bytes : List ℕ) (e : Refusal SetFault) → (now ≡ before) × IfSome files (λ fs. bytes_of (file.RowsOf listed.kind) (bytes_at fs dir (file.RowsOf listed.kind)) ≡ Ok bytes)
-    → Fails e (file_of listed.kind listed.mode bytes) → ReadsFolder {X = SetPart} (λ p. p) files before now (Err e) (part_at dir listed)
+    → Fails e (file_of listed.kind listed.mode bytes) → ReadsFolder {X = SetPart} (λ p. p) (folder_read files before now) (Err e) (part_at dir listed)
 part_refused dir listed files before now bytes refusal.NoMemory read g = read.0
 part_refused dir listed files before now bytes (refusal.Fault f) read g = inr (rw g at (no_file listed.kind listed.mode bytes), read.0, rows_told dir listed files bytes f g read.1)

@@ -13,10 +13,21 @@ FaultOf files before now fault meaning =
     ((fault ≡ Folder) × Rose before now)
     ⊎ ((fault ≢ Folder) × (now ≡ before) × IfSome files (λ fs. meaning fs ≡ Err fault))
 
+-- a folder that a call reads: its files, where they are told, and how many faults it has counted before the call and
+-- by its end
+pub record FolderRead : Type 0 where
+  pub files : Option (List Stored)
+  pub before : ℕ
+  pub now : ℕ
+
+-- the same from its parts
+abbrev pub folder_read : Option (List Stored) → ℕ → ℕ → FolderRead
+folder_read files before now = record { files = files; before = before; now = now }
+
 -- what a call read, seen by `view`, is what the folder's files mean, where they are told; the count of faults stands
 -- still but where the folder failed
-abbrev pub ReadsFolder : {X Y : Type 0} → (X → Y) → Option (List Stored) → ℕ → ℕ → Result X (Refusal SetFault)
+abbrev pub ReadsFolder : {X Y : Type 0} → (X → Y) → FolderRead → Result X (Refusal SetFault)
     → (List Stored → Result Y SetFault) → Type 0
-ReadsFolder view files before now (Ok x) meaning = (now ≡ before) × IfSome files (λ fs. meaning fs ≡ Ok (view x))
-ReadsFolder view files before now (Err (refusal.Fault f)) meaning = FaultOf files before now f meaning
-ReadsFolder view files before now (Err refusal.NoMemory) meaning = now ≡ before
+ReadsFolder view read (Ok x) meaning = (read.now ≡ read.before) × IfSome read.files (λ fs. meaning fs ≡ Ok (view x))
+ReadsFolder view read (Err (refusal.Fault f)) meaning = FaultOf read.files read.before read.now f meaning
+ReadsFolder view read (Err refusal.NoMemory) meaning = read.now ≡ read.before

@@ -7,7 +7,7 @@ ghost use Rattle.csv_sets.specs.declared.fault.SetFile.TheVariants.{RowsOf};
 ghost use Rattle.csv_sets.specs.Manifests.{RisingFiles, manifest_of};
 ghost use Rattle.roster_base.specs.Reading.{Gives};
 ghost use Rattle.roster_types.specs.Sets.{IsPart};
-ghost use Rattle.csv_sets.specs.Folders.{ReadsFolder};
+ghost use Rattle.csv_sets.specs.Folders.{ReadsFolder, folder_read};
 ghost use Rattle.csv_sets.specs.Sets as spec;
 
 use crate::fault::{SetError, SetFault, SetFile};
@@ -28,8 +28,8 @@ fn read_bytes<F: Folder>(
     dir: &str,
     file: SetFile,
 ) -> Result<Bytes, SetError>
-    ensures bytes { ReadsFolder (λ b. b) (F.files folder.old) (F.faults folder.old) (F.faults folder.new) result
-        (λ fs. spec.bytes_of file (spec.bytes_at fs dir.now file)) }
+    ensures bytes { ReadsFolder (λ b. b) (folder_read (F.files folder.old) (F.faults folder.old)
+        (F.faults folder.new)) result (λ fs. spec.bytes_of file (spec.bytes_at fs dir.now file)) }
     ensures files { F.files folder.new ≡ F.files folder.old }
 {
     match folder.read(alloc, dir, file.name(), LARGEST as u64) {
@@ -70,8 +70,8 @@ fn listed_in(alloc: Global, bytes: &[u8]) -> Result<Manifest, SetError>
 // What the manifest of a folder says.
 #[tactic(auto, unfolding(crate::specs::Sets::manifest_at))]
 fn manifest_at<F: Folder>(alloc: Global, folder: &mut F, dir: &str) -> Result<Manifest, SetError>
-    ensures listed { ReadsFolder (λ m. m.files) (F.files folder.old) (F.faults folder.old) (F.faults folder.new) result
-        (spec.manifest_at dir.now) }
+    ensures listed { ReadsFolder (λ m. m.files) (folder_read (F.files folder.old) (F.faults folder.old)
+        (F.faults folder.new)) result (spec.manifest_at dir.now) }
     ensures files { F.files folder.new ≡ F.files folder.old }
     ensures rise { IfOk result (λ m. RisingFiles m.files) }
     ensures some { IfOk result (λ m. spec.AreListed m.files) }
@@ -105,8 +105,8 @@ fn is_there<F: Folder>(
     dir: &str,
     kind: Kind,
 ) -> Result<bool, SetError>
-    ensures there { ReadsFolder (λ b. b) (F.files folder.old) (F.faults folder.old) (F.faults folder.new) result
-        (λ fs. Ok (is_some (spec.bytes_at fs dir.now (RowsOf kind)))) }
+    ensures there { ReadsFolder (λ b. b) (folder_read (F.files folder.old) (F.faults folder.old)
+        (F.faults folder.new)) result (λ fs. Ok (is_some (spec.bytes_at fs dir.now (RowsOf kind)))) }
     ensures files { F.files folder.new ≡ F.files folder.old }
 {
     match folder.read(alloc, dir, kind.file_name(), 0) {
@@ -125,8 +125,8 @@ fn check_file<F: Folder>(
     listed: &[ListedFile],
     kind: Kind,
 ) -> Result<(), SetError>
-    ensures stands { ReadsFolder (λ _. true) (F.files folder.old) (F.faults folder.old) (F.faults folder.new) result
-        (spec.stands_at dir.now listed.now kind) }
+    ensures stands { ReadsFolder (λ _. true) (folder_read (F.files folder.old) (F.faults folder.old)
+        (F.faults folder.new)) result (spec.stands_at dir.now listed.now kind) }
     ensures files { F.files folder.new ≡ F.files folder.old }
 {
     let there = is_there(alloc, folder, dir, kind)?;
@@ -141,8 +141,8 @@ fn check_files<F: Folder>(
     listed: &[ListedFile],
     kinds: &[Kind],
 ) -> Result<(), SetError>
-    ensures stand { ReadsFolder (λ _. true) (F.files folder.old) (F.faults folder.old) (F.faults folder.new) result
-        (spec.all_stand dir.now listed.now kinds.now) }
+    ensures stand { ReadsFolder (λ _. true) (folder_read (F.files folder.old) (F.faults folder.old)
+        (F.faults folder.new)) result (spec.all_stand dir.now listed.now kinds.now) }
     ensures files { F.files folder.new ≡ F.files folder.old }
 {
     for kind in kinds {
@@ -159,8 +159,8 @@ fn read_part<F: Folder>(
     dir: &str,
     listed: &ListedFile,
 ) -> Result<SetPart, SetError>
-    ensures part { ReadsFolder (λ p. p) (F.files folder.old) (F.faults folder.old) (F.faults folder.new) result
-        (spec.part_at dir.now listed.now) }
+    ensures part { ReadsFolder (λ p. p) (folder_read (F.files folder.old) (F.faults folder.old)
+        (F.faults folder.new)) result (spec.part_at dir.now listed.now) }
     ensures files { F.files folder.new ≡ F.files folder.old }
     ensures listed { IfOk result (λ p. spec.listed_as p ≡ listed.now) }
     ensures good { IfOk result IsPart }
@@ -184,8 +184,8 @@ fn read_parts<F: Folder>(
     dir: &str,
     listed: &[ListedFile],
 ) -> Result<Vec<SetPart>, SetError>
-    ensures parts { ReadsFolder (λ v. v.items) (F.files folder.old) (F.faults folder.old) (F.faults folder.new) result
-        (spec.parts_at dir.now listed.now) }
+    ensures parts { ReadsFolder (λ v. v.items) (folder_read (F.files folder.old) (F.faults folder.old)
+        (F.faults folder.new)) result (spec.parts_at dir.now listed.now) }
     ensures files { F.files folder.new ≡ F.files folder.old }
     ensures listed { IfOk result (λ v. map spec.listed_as v.items ≡ listed.now) }
     ensures good { IfOk result (λ v. All IsPart v.items) }
@@ -207,8 +207,8 @@ fn set_among<F: Folder>(
     feed: &Name,
     kinds: &[Kind],
 ) -> Result<RosterSet, SetError>
-    ensures set { ReadsFolder (λ s. s) (F.files folder.old) (F.faults folder.old) (F.faults folder.new) result
-        (spec.set_among kinds.now dir.now feed.now) }
+    ensures set { ReadsFolder (λ s. s) (folder_read (F.files folder.old) (F.faults folder.old)
+        (F.faults folder.new)) result (spec.set_among kinds.now dir.now feed.now) }
     ensures files { F.files folder.new ≡ F.files folder.old }
     ensures feed { IfOk result (λ s. s.feed ≡ feed.now) }
     ensures some { IfOk result (λ s. spec.AreSpelled s.parts) }
@@ -231,8 +231,8 @@ pub fn read_set<F: Folder>(
     dir: &str,
     feed: &Name,
 ) -> Result<RosterSet, SetError>
-    ensures set { ReadsFolder (λ s. s) (F.files folder.old) (F.faults folder.old) (F.faults folder.new) result
-        (spec.set_of dir.now feed.now) }
+    ensures set { ReadsFolder (λ s. s) (folder_read (F.files folder.old) (F.faults folder.old)
+        (F.faults folder.new)) result (spec.set_of dir.now feed.now) }
     ensures files { F.files folder.new ≡ F.files folder.old }
     // The two clauses below hold whether or not the folder tells its files.
     ensures feed { IfOk result (λ s. s.feed ≡ feed.now) }

@@ -17,16 +17,17 @@ use Rattle.roster_values.specs.Kinds.{place_of_kind}
 use Rattle.roster_values.specs.declared.kind.Kind.{Kind}
 use Rattle.row_deltas.proofs.AtLemmas.{delta-at}
 use Rattle.version_core.proofs.LookUps.{Ascends-filter, if_kept, look_up-filter}
-use Rattle.row_deltas.specs.Deltas.{Cover, delta_of, difference, entries_at, id_key, ids_gone, rows_put}
+use Rattle.version_core.specs.Spans.{key_in}
+use Rattle.row_deltas.specs.Deltas.{Cover, delta_of, difference, entries_at, ids_gone, rows_put}
 use Rattle.row_deltas.specs.declared.entry.DeltaEntry.{DeltaEntry}
 
 -- a row of the kind is found among all as among those of the kind
-pub kind_look_up : (kind : Kind) (id : List ℕ) (rows : List Record) → Ascends row_key rows → look_up row_key (id_key kind id) (filter (is_of_kind kind) rows) ≡ look_up row_key (id_key kind id) rows
-kind_look_up kind id rows up = look_up-filter row_key (is_of_kind kind) (id_key kind id) rows up ∙ by (look_up row_key (id_key kind id) rows) refl
+pub kind_look_up : (kind : Kind) (id : List ℕ) (rows : List Record) → Ascends row_key rows → look_up row_key (key_in kind id) (filter (is_of_kind kind) rows) ≡ look_up row_key (key_in kind id) rows
+kind_look_up kind id rows up = look_up-filter row_key (is_of_kind kind) (key_in kind id) rows up ∙ by (look_up row_key (key_in kind id) rows) refl
   where
-    by : (o : Option Record) → look_up row_key (id_key kind id) rows ≡ o → option_and_then (if_kept row_key (is_of_kind kind)) o ≡ o
+    by : (o : Option Record) → look_up row_key (key_in kind id) rows ≡ o → option_and_then (if_kept row_key (is_of_kind kind)) o ≡ o
     by None e = refl
-    by (Some row) e = ap (λ b. cond b (Some row) None) (ap (λ (k : Key). k.0 == place_of_kind kind) (found_key row_key (id_key kind id) rows row e) ∙ eq-eqb (place_of_kind kind) (place_of_kind kind) refl)
+    by (Some row) e = ap (λ b. cond b (Some row) None) (ap (λ (k : Key). k.0 == place_of_kind kind) (found_key row_key (key_in kind id) rows row e) ∙ eq-eqb (place_of_kind kind) (place_of_kind kind) refl)
 
 -- what is found so far, with what differs of the ids that are left, is the part of the whole
 pub record Lists (kind : Kind) (old new : List Record) (limit offset : ℕ) (whole : List DeltaEntry) (count : ℕ) (found : List DeltaEntry) (left : List (List ℕ)) : Type 0 where
@@ -37,7 +38,7 @@ module _ (kind : Kind) (limit offset : ℕ) (befores afters : List Record) where
   abbrev pub whole : List DeltaEntry
   whole = delta_of kind (filter (is_of_kind kind) befores) (filter (is_of_kind kind) afters)
 
-  pub list_start : (ids : List (List ℕ)) (found : List DeltaEntry) → Ascends row_key befores → Ascends row_key afters → Ascends (id_key kind) ids
+  pub list_start : (ids : List (List ℕ)) (found : List DeltaEntry) → Ascends row_key befores → Ascends row_key afters → Ascends (key_in kind) ids
       → Cover kind (filter (is_of_kind kind) befores) (filter (is_of_kind kind) afters) ids → found ≡ []
       → Lists kind (filter (is_of_kind kind) befores) (filter (is_of_kind kind) afters) limit offset whole 0 found ids
   list_start ids found up up' rise cover none =
@@ -51,13 +52,13 @@ module _ (kind : Kind) (limit offset : ℕ) (befores afters : List Record) where
 
   pub list_on : (count : ℕ) (found : List DeltaEntry) (left : List (List ℕ)) (id : List ℕ) (rest : List (List ℕ)) (count' : ℕ) (found' : List DeltaEntry) → Ascends row_key befores → Ascends row_key afters
       → Lists kind (filter (is_of_kind kind) befores) (filter (is_of_kind kind) afters) limit offset whole count found left → left ≡ id ∷ rest
-      → let o = difference (look_up row_key (id_key kind id) befores) (look_up row_key (id_key kind id) afters) in
+      → let o = difference (look_up row_key (key_in kind id) befores) (look_up row_key (key_in kind id) afters) in
       count' ≡ count_on count o → found' ≡ with_option limit offset count o found
       → Lists kind (filter (is_of_kind kind) befores) (filter (is_of_kind kind) afters) limit offset whole count' found' rest
   list_on count found left id rest count' found' up up' lists here counts finds =
       let old = filter (is_of_kind kind) befores in
       let new = filter (is_of_kind kind) afters in
-      let o = difference (look_up row_key (id_key kind id) befores) (look_up row_key (id_key kind id) afters) in
+      let o = difference (look_up row_key (key_in kind id) befores) (look_up row_key (key_in kind id) afters) in
       let first : entries_at kind old new left ≡ option_to_list o ++ entries_at kind old new rest =
       ap (entries_at kind old new) here ∙ (λ i. option_to_list (difference (kind_look_up kind id befores up i) (kind_look_up kind id afters up' i)) ++ entries_at kind old new rest) in
       rw (counts, finds) (record {

@@ -48,7 +48,8 @@ module _ (kind : Kind) where
     pub length-kinds : length (delta_of kind (filter (is_of_kind kind) befores) (filter (is_of_kind kind) afters)) ≤ count_of kind befores + count_of kind afters
     length-kinds = omega (arith, length-delta kind (filter (is_of_kind kind) befores) (filter (is_of_kind kind) afters), length-filter (is_of_kind kind) befores, length-filter (is_of_kind kind) afters)
 
-  module _ (limit offset : ℕ) (whole : List DeltaEntry) (count : ℕ) (found : List DeltaEntry) (old new : List Record) (walks : Walks kind limit offset whole count found old new) where
+  module _ {limit offset : ℕ} {whole : List DeltaEntry} {count : ℕ} {found : List DeltaEntry} {old new : List Record}
+      (walks : Walks kind limit offset whole count found old new) where
     pub walk_on : (turn : TurnParts) (count' : ℕ) (found' : List DeltaEntry) (old' new' : List Record) → turn_of (slice_get old 0) (slice_get new 0) ≡ Some turn
         → count' ≡ count_on count turn.entry → found' ≡ with_option limit offset count turn.entry found → old' ≡ passed turn.is_old old → new' ≡ passed turn.is_new new
         → Walks kind limit offset whole count' found' old' new'

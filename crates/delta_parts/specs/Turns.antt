@@ -25,16 +25,24 @@ pub record TurnParts : Type 0 where
 abbrev pub turn_shown : Turn → TurnParts
 turn_shown turn = record { entry = option_map entry_shown turn.entry; is_old = turn.is_old; is_new = turn.is_new }
 
+-- the turn of a row that stands in the old list alone
+abbrev pub turn_of_old : Record → TurnParts
+turn_of_old old = record { entry = Some (Gone old.id); is_old = true; is_new = false }
+
+-- the turn of a row that stands in the new list alone
+abbrev pub turn_of_new : Record → TurnParts
+turn_of_new new = record { entry = Some (Put new); is_old = false; is_new = true }
+
 -- what differs of the first of two rows, or of both where they have one id
 abbrev pub turn_of_both : Record → Record → TurnParts
 turn_of_both old new = by_order (key_cmp (row_key old) (row_key new))
-    (record { entry = Some (Gone old.id); is_old = true; is_new = false })
+    (turn_of_old old)
     (record { entry = if same_row new old then None else Some (Put new); is_old = true; is_new = true })
-    (record { entry = Some (Put new); is_old = false; is_new = true })
+    (turn_of_new new)
 
 -- what differs of the rows in front of both lists, where there are any
 abbrev pub turn_of : Option Record → Option Record → Option TurnParts
 turn_of None None = None
-turn_of (Some old) None = Some (record { entry = Some (Gone old.id); is_old = true; is_new = false })
-turn_of None (Some new) = Some (record { entry = Some (Put new); is_old = false; is_new = true })
+turn_of (Some old) None = Some (turn_of_old old)
+turn_of None (Some new) = Some (turn_of_new new)
 turn_of (Some old) (Some new) = Some (turn_of_both old new)

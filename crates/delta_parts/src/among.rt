@@ -4,7 +4,8 @@ ghost use Rattle.std.specs.Prelude.{◌≡◌, ◌+◌, ◌<◌, ◌^◌, IfOk, 
 ghost use Rattle.delta_parts.specs.Parts.{part_of_delta};
 ghost use Rattle.delta_parts.specs.Turns.{entry_shown};
 ghost use Rattle.roster_types.specs.Keys.{Ascends, count_of, is_of_kind};
-ghost use Rattle.row_deltas.specs.Deltas.{Cover, delta_of, difference, id_key};
+ghost use Rattle.row_deltas.specs.Deltas.{Cover, delta_of, difference};
+ghost use Rattle.version_core.specs.Spans.{key_in};
 
 use crate::part::{DeltaPart, Paging, add_within, parted};
 use crate::turn::{EntryRef, changed};
@@ -38,7 +39,7 @@ pub fn delta_part_among<A: Refs, B: Refs>(
     paging: Paging,
 ) -> Result<DeltaPart, NoMemory>
     requires few { count_of kind (A.rows before.now) + count_of kind (B.rows after.now) + 1 < 2 ^ 64 }
-    requires order { Ascends (id_key kind) (map (λ id. id.now) ids.now) }
+    requires order { Ascends (key_in kind) (map (λ id. id.now) ids.now) }
     requires cover { Cover kind (filter (is_of_kind kind) (A.rows before.now)) (filter (is_of_kind kind) (B.rows after.now)) (map (λ id. id.now) ids.now) }
     ensures { IfOk result (λ p. p ≡ part_of_delta paging.limit paging.offset (delta_of kind (filter (is_of_kind kind) (A.rows before.now)) (filter (is_of_kind kind) (B.rows after.now)))) }
 {

@@ -31,7 +31,7 @@ use Rattle.version_core.specs.Version.{row_limit}
 use Rattle.version_core.specs.declared.change.BaseVersion.{BaseVersion}
 use Rattle.version_core.specs.declared.grant_row.GrantRow.{GrantRow}
 use Rattle.version_core.specs.declared.row_change.RowChange.{RowChange}
-use Rattle.exchange_link.specs.Sayings.{list_of}
+use Rattle.exchange_link.specs.Sayings.{list_at}
 
 -- the first of some rows, where there is one, is above an id
 abbrev pub First : Option (List ℕ) → List Record → Type 0
@@ -110,7 +110,7 @@ whole (Some by) rows = length-map all_kinds (kind_cut by.grant rows)
 pub cut_whole : (version : BaseVersion) (token : List ℕ) → length (cut version token) ≡ kind_count
 cut_whole version token = whole (grant_of token version.grants) (rows_of version.rows)
 
-pub list_good : (state : HubState) → IsHub state → (v : ℕ) (token : List ℕ) (place : ℕ) → v < length state.published → IsGood (list_of (version_at state v) token place)
+pub list_good : (state : HubState) → IsHub state → (v : ℕ) (token : List ℕ) (place : ℕ) → v < length state.published → IsGood (list_at (version_at state v) token place)
 list_good state hub v token place lt =
     let version = version_at state v in
     let is = version_is state hub.state v (omega (arith, lt)) in

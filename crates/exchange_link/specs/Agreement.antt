@@ -9,7 +9,8 @@ use Rattle.status_info.specs.declared.request.Request.{Request}
 use Rattle.version_core.specs.HubStates.{HubState}
 use Rattle.version_core.specs.declared.change.BaseVersion.{BaseVersion}
 use Rattle.exchange_link.specs.Exchanges.{SentAs, LinkState}
-use Rattle.exchange_link.specs.Sayings.{knows, list_of}
+use Rattle.exchange_link.specs.Pairs.{AtEach}
+use Rattle.exchange_link.specs.Sayings.{knows, list_at}
 
 -- the first rows are a front of the others
 abbrev pub IsFrontOf : List Record → List Record → Type 0
@@ -24,8 +25,8 @@ FitsTotal (Some total) n = total ≡ n
 pub record FitsVersion (s : Stage) (version : BaseVersion) : Type 0 where
   pub known : knows version s.token ≡ true
   pub done : take (length s.done) (cut version s.token) ≡ s.done
-  pub present : IsFrontOf s.present (list_of version s.token (length s.done))
-  pub total : FitsTotal s.total (length (list_of version s.token (length s.done)))
+  pub present : IsFrontOf s.present (list_at version s.token (length s.done))
+  pub total : FitsTotal s.total (length (list_at version s.token (length s.done)))
 
 -- the stage is a front of what its token sees of the pinned version
 pub record StageFits (s : Stage) (h : HubState) : Type 0 where
@@ -81,4 +82,4 @@ pub record StageAgrees (c : Copy) (told : LinkState) : Type 0 where
 
 -- each of these copies agrees with what each of these states of a link tells
 abbrev pub StagesAgree : (Copy → Type 0) → (LinkState → Type 0) → Type 0
-StagesAgree copies tells = (c : Copy) (t : LinkState) → copies c → tells t → StageAgrees c t
+StagesAgree copies tells = AtEach copies tells StageAgrees

@@ -4,6 +4,7 @@ use Rattle.keeper_memory.specs.copy.Copies.{Copy, first_unsettled}
 use Rattle.keeper_memory.specs.declared.copy.entry.OutEntry.{OutEntry}
 use Rattle.hub_spec.specs.marks.Marked.{mark_of}
 use Rattle.hub_spec.specs.marks.Sending.{write_request}
+use Rattle.exchange_link.specs.Between.{Call, CopyAndLink, CopyRun, LinkRun}
 use Rattle.exchange_link.specs.Causes.{IsMore}
 use Rattle.exchange_link.specs.Pages.{Page, page_request}
 use Rattle.exchange_link.specs.Requests.{number}
@@ -48,13 +49,13 @@ TriedFor (answer.Interrupted kind offset) token limit run count tries sent =
 TriedFor a token limit run count tries sent = ⊤
 
 -- all requests of the call are for pages of this token and limit, numbered from 1 on under its run
-pub record AsksPages (token : List ℕ) (limit tries : ℕ) (copies : Copy → Type 0) (asked_before asked_after : ℕ) (a : SyncAnswer) (before after : List Request) : Type 0 where
+pub record AsksPages (call : Call) (copies : CopyRun) (link : LinkRun) (a : SyncAnswer) (before after : List Request) : Type 0 where
   pub run : ℕ
   pub count : ℕ
-  pub runs : 1 ≤ count → (c : Copy) → copies c → c.run ≡ run
-  pub counts : IsMore asked_before count asked_after
-  pub pages : SendsOn (IsPageUnder token limit) run 0 count (a ≡ answer.NoMemory) before after
-  pub tried : TriedFor a token limit run count tries after
+  pub runs : 1 ≤ count → (c : Copy) → copies.stands c → c.run ≡ run
+  pub counts : IsMore link.asked_before count link.asked_now
+  pub pages : SendsOn (IsPageUnder call.token call.limit) run 0 count (a ≡ answer.NoMemory) before after
+  pub tried : TriedFor a call.token call.limit run count call.tries after
 
 -- ---- sending the entries
 
@@ -74,10 +75,11 @@ TriedEntry (send.Interrupted number) token run count tries entries sent =
 TriedEntry a token run count tries entries sent = ⊤
 
 -- all requests of the call are for writes that weren't settled before it, numbered from 1 on under its run
-pub record AsksWrites (token : List ℕ) (tries asked_before asked_after : ℕ) (a : SendAnswer) (before after : Copy) (sent sent_now : List Request) : Type 0 where
+pub record AsksWrites (token : List ℕ) (tries : ℕ) (link : LinkRun) (a : SendAnswer) (before after : CopyAndLink) : Type 0 where
   pub run : ℕ
   pub count : ℕ
-  pub runs : 1 ≤ count → after.run ≡ run
-  pub counts : IsMore asked_before count asked_after
-  pub writes : SendsOn (IsWriteUnder token before.entries) run 0 count (a ≡ send.NoMemory) sent sent_now
-  pub tried : TriedEntry a token run count tries after.entries sent_now
+  pub runs : 1 ≤ count → after.copy.run ≡ run
+  pub counts : IsMore link.asked_before count link.asked_now
+  pub writes : SendsOn (IsWriteUnder token before.copy.entries) run 0 count (a ≡ send.NoMemory) before.told.sent
+      after.told.sent
+  pub tried : TriedEntry a token run count tries after.copy.entries after.told.sent

@@ -7,9 +7,9 @@ use Rattle.http_wire.specs.declared.reply_reading.WireReply.{WireReply}
 use Rattle.keeper_memory.specs.copy.Copies.{largest_tries}
 use Rattle.keeper_memory.specs.declared.copy.state.TheConstants.{LAST}
 
--- the greatest count of an exchange of a run: 100 tries of each of so many requests
+-- the greatest count of an exchange of a run: all tries of each of so many requests
 abbrev pub last_exchange : ℕ
-last_exchange = 100 * LAST
+last_exchange = largest_tries * LAST
 
 -- the number of a run that may be
 abbrev pub IsRunNumber : ℕ → Type 0

@@ -17,6 +17,7 @@ use Rattle.version_core.specs.Version.{row_limit}
 use Rattle.version_core.specs.declared.grant_row.GrantRow.{GrantRow}
 use Rattle.exchange_link.specs.declared.answer.SyncAnswer.{SyncAnswer}
 use Rattle.exchange_link.specs.declared.answer.SyncAnswer.TheVariants as answer
+use Rattle.exchange_link.specs.Between.{Call, CopyRun, LinkRun}
 use Rattle.exchange_link.specs.Exchanges.{LinkState}
 use Rattle.exchange_link.specs.Sayings.{knows}
 use Rattle.exchange_link.specs.Places.{kind_at, kinds_of, last_of, next_page, pin_of, staged_of, total_of}
@@ -36,6 +37,20 @@ pub record IsOwnReply (kept : List ℕ) (run count : ℕ) (w : WireReply) : Type
   pub text : IsReplyText kept w
   pub number : w.echo ≡ Some (record { run = run; count = count })
   pub from : 1 ≤ count
+
+-- the exchange to which a link keeps the reply, and what it keeps
+pub record KeptOf : Type 0 where
+  pub kept : List ℕ
+  pub run : ℕ
+  pub count : ℕ
+
+-- the same from its parts
+abbrev pub kept_of : List ℕ → ℕ → ℕ → KeptOf
+kept_of kept run count = record { kept = kept; run = run; count = count }
+
+-- the own reply to that exchange
+abbrev pub IsKept : KeptOf → WireReply → Type 0
+IsKept own w = IsOwnReply own.kept own.run own.count w
 
 -- ---- replies that no hub gives
 
@@ -60,18 +75,18 @@ pub data IsBad (stage : Option StageState) (limit : ℕ) (w : WireReply) : Type 
 -- ---- only where
 
 -- the cause of an answer: what the link keeps, that it missed each try, that the keeper's count rose
-abbrev pub CauseOf : Option StageState → ℕ → List ℕ → ℕ → ℕ → Type 0 → Type 0 → SyncAnswer → Type 0
-CauseOf stage limit kept run n missed broke (answer.Complete v) = Unit {0}
-CauseOf stage limit kept run n missed broke answer.LastRun = Unit {0}
-CauseOf stage limit kept run n missed broke (answer.Interrupted kind offset) = missed × (kind ≡ kind_at (kinds_of stage)) × (offset ≡ staged_of stage)
-CauseOf stage limit kept run n missed broke answer.KeeperFault = broke
-CauseOf stage limit kept run n missed broke answer.NoMemory = Unit {0}
-CauseOf stage limit kept run n missed broke (answer.PinGone pin oldest) = (w : WireReply) × IsOwnReply kept run n w × (w.status ≡ 404) × (w.oldest ≡ Some oldest) × (pin_of stage ≡ Some pin)
-CauseOf stage limit kept run n missed broke answer.UnknownToken = (w : WireReply) × IsOwnReply kept run n w × (w.status ≡ 401)
-CauseOf stage limit kept run n missed broke (answer.TooLarge kind total) = (w : WireReply) × IsOwnReply kept run n w × (w.status ≡ 200) × (w.total ≡ Some total) × (row_limit < total) × (kind ≡ kind_at (kinds_of stage))
-CauseOf stage limit kept run n missed broke (answer.BadReply kind offset) = (IsNoReply kept ⊎ ((w : WireReply) × IsOwnReply kept run n w × IsBad stage limit w)) × (kind ≡ kind_at (kinds_of stage)) × (offset ≡ staged_of stage)
-CauseOf stage limit kept run n missed broke answer.HubFault = (w : WireReply) × IsOwnReply kept run n w × (w.status ≡ 500)
-CauseOf stage limit kept run n missed broke answer.HubNoMemory = (w : WireReply) × IsOwnReply kept run n w × (w.status ≡ 503)
+abbrev pub CauseOf : Option StageState → ℕ → KeptOf → Type 0 → Type 0 → SyncAnswer → Type 0
+CauseOf stage limit own missed broke (answer.Complete v) = Unit {0}
+CauseOf stage limit own missed broke answer.LastRun = Unit {0}
+CauseOf stage limit own missed broke (answer.Interrupted kind offset) = missed × (kind ≡ kind_at (kinds_of stage)) × (offset ≡ staged_of stage)
+CauseOf stage limit own missed broke answer.KeeperFault = broke
+CauseOf stage limit own missed broke answer.NoMemory = Unit {0}
+CauseOf stage limit own missed broke (answer.PinGone pin oldest) = (w : WireReply) × IsKept own w × (w.status ≡ 404) × (w.oldest ≡ Some oldest) × (pin_of stage ≡ Some pin)
+CauseOf stage limit own missed broke answer.UnknownToken = (w : WireReply) × IsKept own w × (w.status ≡ 401)
+CauseOf stage limit own missed broke (answer.TooLarge kind total) = (w : WireReply) × IsKept own w × (w.status ≡ 200) × (w.total ≡ Some total) × (row_limit < total) × (kind ≡ kind_at (kinds_of stage))
+CauseOf stage limit own missed broke (answer.BadReply kind offset) = (IsNoReply own.kept ⊎ ((w : WireReply) × IsKept own w × IsBad stage limit w)) × (kind ≡ kind_at (kinds_of stage)) × (offset ≡ staged_of stage)
+CauseOf stage limit own missed broke answer.HubFault = (w : WireReply) × IsKept own w × (w.status ≡ 500)
+CauseOf stage limit own missed broke answer.HubNoMemory = (w : WireReply) × IsKept own w × (w.status ≡ 503)
 
 -- ---- exactly where
 
@@ -109,18 +124,24 @@ AsksOn answer.LastRun = ⊥
 AsksOn answer.NoMemory = ⊥
 AsksOn a = Unit {0}
 
--- the cause of an answer, where the keeper then stands for `copies` and the link tells `tells`: the run, the number of
--- exchanges of the call, and where the stage stood when the last request was sent
-pub record Caused (token : List ℕ) (limit : ℕ) (copies : Copy → Type 0) (tells : LinkState → Type 0) (asked_before asked_after : ℕ) (kept : List ℕ) (missed : ℕ → Type 0) (broke : Type 0) (a : SyncAnswer) : Type 0 where
+-- each try of a call's last request was missed
+abbrev pub MissedAll : ℕ → LinkRun → ℕ → Type 0
+MissedAll tries link n = (tries ≤ link.missed) × (tries ≤ n) × RoseBy tries link.faults_before link.faults_now
+
+-- the cause of an answer: the run, the number of exchanges of the call, and where the stage stood when the last request
+-- was sent
+pub record Caused (call : Call) (copies : CopyRun) (link : LinkRun) (a : SyncAnswer) : Type 0 where
   pub run : ℕ
   pub count : ℕ
   pub asked : Option StageState
-  pub counts : IsMore asked_before count asked_after
-  pub runs : 1 ≤ count → (c : Copy) → copies c → c.run ≡ run
-  pub only : CauseOf asked limit kept run count (missed count) broke a
-  pub exact : (w : WireReply) → IsOwnReply kept run count w → IsAside a ⊎ AnswersTo (pin_of asked) w a
-  pub last : 1 ≤ count → a ≢ answer.NoMemory → (t : LinkState) → tells t → IsLast (page_request (next_page token limit asked) (record { run = run; count = count })) t.sent
-  pub on : AsksOn a → (1 ≤ count) × ((c : Copy) → copies c → stage_of c ≡ asked)
+  pub counts : IsMore link.asked_before count link.asked_now
+  pub runs : 1 ≤ count → (c : Copy) → copies.stands c → c.run ≡ run
+  pub only : CauseOf asked call.limit (kept_of link.kept run count) (MissedAll call.tries link count)
+      (Rose copies.faults_before copies.faults_now) a
+  pub exact : (w : WireReply) → IsOwnReply link.kept run count w → IsAside a ⊎ AnswersTo (pin_of asked) w a
+  pub last : 1 ≤ count → a ≢ answer.NoMemory → (t : LinkState) → link.tells t
+      → IsLast (page_request (next_page call.token call.limit asked) (record { run = run; count = count })) t.sent
+  pub on : AsksOn a → (1 ≤ count) × ((c : Copy) → copies.stands c → stage_of c ≡ asked)
 
 -- `LastRun` comes exactly where the run number is the last one, and changes nothing
 pub record LastLaw (a : SyncAnswer) (before after : Copy) : Type 0 where

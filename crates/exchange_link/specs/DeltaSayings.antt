@@ -8,10 +8,10 @@ use Rattle.hub_spec.specs.rules.Checks.{version_at}
 use Rattle.hub_spec.specs.rules.Verdicts.{newest_in}
 use Rattle.hub_spec.specs.views.Deltas.{delta}
 use Rattle.hub_spec.specs.views.Pages.{slice}
-use Rattle.roster_values.specs.Kinds.{place_of_kind}
 use Rattle.roster_values.specs.declared.kind.Kind.{Kind}
 use Rattle.hub_spec.specs.Below.Deltas.{ids_gone, rows_put}
 use Rattle.hub_spec.specs.Below.DeltaEntry.{DeltaEntry}
+use Rattle.hub_spec.specs.views.Cuts.{list_in}
 use Rattle.row_json.specs.Deltas.{gone_of}
 use Rattle.row_json.specs.Reading.{rows_of as rows_in_text}
 use Rattle.version_core.specs.Grants.{grant_of}
@@ -19,7 +19,7 @@ use Rattle.version_core.specs.HubStates.{HubState, newest_number, oldest_number}
 use Rattle.version_core.specs.declared.change.BaseVersion.{BaseVersion}
 use Rattle.version_core.specs.declared.grant_row.GrantRow.{GrantRow}
 use Rattle.exchange_link.specs.Pages.{Page}
-use Rattle.exchange_link.specs.Sayings.{IsRead, knows, list_of}
+use Rattle.exchange_link.specs.Sayings.{IsRead, knows}
 
 -- what differs of the page's kind between the cuts of both versions to its token
 abbrev pub delta_at : HubState → Page → ℕ → ℕ → List DeltaEntry
@@ -39,7 +39,7 @@ pub data TellsFrom (state : HubState) (page : Page) (base : ℕ) (seen : WireRep
       → ((pin < oldest_number state) ⊎ ((pin < by.grant.since) ⊎ (newest_number state < pin))) → TellsFrom state page base seen
   NotOpened : (version : ℕ) → IsRead state page version → seen.status ≡ 403 → seen.version ≡ Some version
       → opens_kind (version_at state version) page.token page.kind ≡ false
-      → list_of (version_at state version) page.token (place_of_kind page.kind) ≡ [] → TellsFrom state page base seen
+      → list_in (version_at state version) page.token page.kind ≡ [] → TellsFrom state page base seen
   BaseGone : (version : ℕ) (by : GrantRow) → IsRead state page version → grant_of page.token (version_at state version).grants ≡ Some by
       → seen.status ≡ 404 → seen.oldest ≡ Some (max (oldest_number state) by.grant.since)
       → ((base < oldest_number state) ⊎ ((base < by.grant.since) ⊎ (version < base))) → TellsFrom state page base seen

@@ -1,6 +1,5 @@
 -- What one exchange over a link does.
-use Rattle.std.specs.Prelude.{◌≡◌, ◌⊎◌, ◌≤◌, ℕ, ℤ, ◌+◌, ◌-◌, ◌^◌, true, List, [], ◌∷◌, Option, Some, Result, Err, OnOk}
-use Rattle.std.specs.Prelude.{min}
+use Rattle.std.specs.Prelude.{◌≡◌, ◌⊎◌, ◌≤◌, ℕ, ℤ, true, List, [], ◌∷◌, Option, Some, Result, Err, OnOk}
 use Rattle.std.specs.Str.{is_utf8}
 use Rattle.http_wire.specs.Answers.{IsReplyText}
 use Rattle.http_wire.specs.Replies.{body_text, reply_text}
@@ -13,7 +12,7 @@ use Rattle.hub_spec.specs.rules.Runs.{Replied, Steps, Take}
 use Rattle.hub_spec.specs.rules.States.{IsHub}
 use Rattle.outside_ports.specs.declared.failed.IoError.{IoError}
 use Rattle.outside_ports.specs.declared.failed.IoError.TheVariants as io_error
-use Rattle.roster_base.specs.Faults.{Rose}
+use Rattle.roster_base.specs.Faults.{Rose, one_more}
 use Rattle.status_info.specs.declared.reply.Reply.{Reply}
 use Rattle.status_info.specs.declared.request.Echo.{Echo}
 use Rattle.status_info.specs.declared.request.Request.{Request}
@@ -91,5 +90,5 @@ pub record Exchanged (q : Request) (result : Result (Unit {0}) IoError) (rose : 
 
 -- the count of exchanges in a row at which the count of faults rose: one more where it rose, and else none
 pub record Misses (rose : Type 0) (before after : ℕ) : Type 0 where
-  pub again : rose → after ≡ min (before + 1) (2 ^ 64 - 1)
+  pub again : rose → after ≡ one_more before
   pub none : (rose → ⊥) → after ≡ 0

@@ -1,5 +1,6 @@
 pub mod Agreement
 pub mod Asked
+pub mod Between
 pub mod Bounds
 pub mod Calls
 pub mod Causes
@@ -11,6 +12,7 @@ pub mod Entering
 pub mod Exchanges
 pub mod Marks
 pub mod Pages
+pub mod Pairs
 pub mod Places
 pub mod Sayings
 pub mod SendCauses

@@ -23,13 +23,13 @@ IsNumbered request q = (n : Echo) × (q ≡ numbered request n)
 abbrev pub number : ℕ → ℕ → Echo
 number run count = record { run = run; count = count }
 
--- each number is of an earlier run, or of this run and at most this count
+-- a number is of an earlier run than this, or of this one and at most this count: no exchange to come has it
 abbrev pub IsSpent : ℕ → ℕ → Echo → Type 0
 IsSpent run count n = (n.run < run) ⊎ ((n.run ≡ run) × (n.count ≤ count))
 
--- the numbers of all these requests are
+-- the numbers of all these requests are spent
 abbrev pub AllSpent : ℕ → ℕ → List Request → Type 0
-AllSpent run count [] = Unit {0}
+AllSpent run count [] = ⊤
 AllSpent run count (q ∷ qs) = ((n : Echo) → q.echo ≡ Some n → IsSpent run count n) × AllSpent run count qs
 
 -- the next count of this run is a new number

@@ -19,8 +19,10 @@ use Rattle.version_core.specs.HubStates.{HubState}
 use Rattle.version_core.specs.Marks.{mark_at}
 use Rattle.version_core.specs.declared.grant_row.GrantRow.{GrantRow}
 use Rattle.version_core.specs.declared.mark.MarkRow.{MarkRow}
-use Rattle.exchange_link.specs.Causes.{IsLast, IsMore, IsOwnReply}
+use Rattle.exchange_link.specs.Between.{CopyRun, LinkRun}
+use Rattle.exchange_link.specs.Causes.{IsKept, IsLast, IsMore, IsOwnReply, KeptOf, MissedAll, kept_of}
 use Rattle.exchange_link.specs.Exchanges.{LinkState}
+use Rattle.exchange_link.specs.Pairs.{AtEach}
 use Rattle.exchange_link.specs.Sayings.{knows}
 use Rattle.exchange_link.specs.Sent.{NamesFirst}
 use Rattle.exchange_link.specs.declared.send_answer.SendAnswer.{SendAnswer}
@@ -41,18 +43,18 @@ pub data IsBadAnswer (number : ℕ) (w : WireReply) : Type 0 where
 -- ---- only where
 
 -- the cause of an answer: what the link keeps, that it missed each try, that the keeper's count rose
-abbrev pub SendCauseOf : List ℕ → ℕ → ℕ → Type 0 → Type 0 → SendAnswer → Type 0
-SendCauseOf kept run n missed broke (answer.Settled count) = ⊤
-SendCauseOf kept run n missed broke answer.LastRun = ⊤
-SendCauseOf kept run n missed broke answer.NoMemory = ⊤
-SendCauseOf kept run n missed broke (answer.Interrupted number) = missed
-SendCauseOf kept run n missed broke answer.KeeperFault = broke
-SendCauseOf kept run n missed broke answer.UnknownToken = (w : WireReply) × IsOwnReply kept run n w × (w.status ≡ 401)
-SendCauseOf kept run n missed broke (answer.NoScope number) = (w : WireReply) × IsOwnReply kept run n w × (w.status ≡ 403) × (w.mark ≡ None)
-SendCauseOf kept run n missed broke (answer.MarkTaken number) = (w : WireReply) × IsOwnReply kept run n w × (w.status ≡ 422) × (w.mark ≡ None)
-SendCauseOf kept run n missed broke (answer.BadReply number) = IsNoReply kept ⊎ ((w : WireReply) × IsOwnReply kept run n w × IsBadAnswer number w)
-SendCauseOf kept run n missed broke (answer.HubFault number) = (w : WireReply) × IsOwnReply kept run n w × (w.status ≡ 500)
-SendCauseOf kept run n missed broke (answer.HubNoMemory number) = (w : WireReply) × IsOwnReply kept run n w × (w.status ≡ 503)
+abbrev pub SendCauseOf : KeptOf → Type 0 → Type 0 → SendAnswer → Type 0
+SendCauseOf own missed broke (answer.Settled count) = ⊤
+SendCauseOf own missed broke answer.LastRun = ⊤
+SendCauseOf own missed broke answer.NoMemory = ⊤
+SendCauseOf own missed broke (answer.Interrupted number) = missed
+SendCauseOf own missed broke answer.KeeperFault = broke
+SendCauseOf own missed broke answer.UnknownToken = (w : WireReply) × IsKept own w × (w.status ≡ 401)
+SendCauseOf own missed broke (answer.NoScope number) = (w : WireReply) × IsKept own w × (w.status ≡ 403) × (w.mark ≡ None)
+SendCauseOf own missed broke (answer.MarkTaken number) = (w : WireReply) × IsKept own w × (w.status ≡ 422) × (w.mark ≡ None)
+SendCauseOf own missed broke (answer.BadReply number) = IsNoReply own.kept ⊎ ((w : WireReply) × IsKept own w × IsBadAnswer number w)
+SendCauseOf own missed broke (answer.HubFault number) = (w : WireReply) × IsKept own w × (w.status ≡ 500)
+SendCauseOf own missed broke (answer.HubNoMemory number) = (w : WireReply) × IsKept own w × (w.status ≡ 503)
 
 -- ---- exactly where
 
@@ -89,17 +91,17 @@ EndsAtEntry a = ⊤
 
 -- ---- all of it
 
--- the cause of an answer, where the keeper then stands for `copies` and the link tells `tells`: the run, and the number
--- of exchanges of the call
-pub record SendCaused (token : List ℕ) (copies : Copy → Type 0) (tells : LinkState → Type 0) (asked_before asked_after : ℕ) (kept : List ℕ) (missed : ℕ → Type 0) (broke : Type 0) (a : SendAnswer) : Type 0 where
+-- the cause of an answer: the run, and the number of exchanges of the call
+pub record SendCaused (token : List ℕ) (tries : ℕ) (copies : CopyRun) (link : LinkRun) (a : SendAnswer) : Type 0 where
   pub run : ℕ
   pub count : ℕ
-  pub counts : IsMore asked_before count asked_after
-  pub runs : 1 ≤ count → (c : Copy) → copies c → c.run ≡ run
-  pub only : SendCauseOf kept run count (missed count) broke a
-  pub exact : (w : WireReply) → IsOwnReply kept run count w → IsSendAside a ⊎ AnswersSend w a
-  pub names : (c : Copy) → copies c → NamesFirst a c.entries
-  pub last : EndsAtEntry a → (1 ≤ count) × ((c : Copy) (t : LinkState) → copies c → tells t → CarriesFirst token (record { run = run; count = count }) c.entries t.sent)
+  pub counts : IsMore link.asked_before count link.asked_now
+  pub runs : 1 ≤ count → (c : Copy) → copies.stands c → c.run ≡ run
+  pub only : SendCauseOf (kept_of link.kept run count) (MissedAll tries link count) (Rose copies.faults_before copies.faults_now) a
+  pub exact : (w : WireReply) → IsOwnReply link.kept run count w → IsSendAside a ⊎ AnswersSend w a
+  pub names : (c : Copy) → copies.stands c → NamesFirst a c.entries
+  pub last : EndsAtEntry a → (1 ≤ count) × AtEach copies.stands link.tells (λ c t.
+      CarriesFirst token (record { run = run; count = count }) c.entries t.sent)
 
 -- `LastRun` comes exactly where the run number is the last one, and changes nothing
 pub record SendLastLaw (a : SendAnswer) (before after : Copy) : Type 0 where
@@ -122,7 +124,7 @@ pub record IsBetween (before after : LinkState) (mid : HubState) : Type 0 where
   pub from : Grew before.hub mid
   pub to : Grew mid after.hub
 
--- the state at which the hub gave the reply
+-- what it adds to the cause: a state of the hub at which the reply was due, or that its keeper failed
 abbrev pub SendToldCause : List ℕ → LinkState → LinkState → List OutEntry → SendAnswer → Type 0
 SendToldCause token before after entries (answer.BadReply number) = ⊥
 SendToldCause token before after entries (answer.HubFault number) = Rose before.hub_faults after.hub_faults

@@ -14,6 +14,7 @@ ghost use Rattle.exchange_link.specs.Requests.{Asks, IfOwn, IsNumbered, IsReady,
 ghost use Rattle.exchange_link.specs.Asked.{IsTry, SendsOn};
 ghost use Rattle.exchange_link.specs.Calls.{CanTry, CountsOn, IsRunNumber, KeepsNoOwn, KeepsNoReply, last_exchange};
 ghost use Rattle.exchange_link.specs.Causes.{IsLast, IsMore, RoseBy};
+ghost use Rattle.exchange_link.specs.Pairs.{LinkFrom};
 
 use crate::link::Link;
 use http_wire::{WireFault, WireReply, parse_reply, write_request};
@@ -96,8 +97,7 @@ fn once<L: Link>(alloc: Global, link: &mut L, text: &[u8], number: Echo) -> Outc
     ensures asked { IsMore (L.asked link.old) 1 (L.asked link.new) }
     ensures later { L.fault_count link.old ≤ L.fault_count link.new }
     ensures link_leads { L.leads link.old link.new }
-    ensures told { (q : Asked) → IsTextOf q text.now → (after : LinkState) → L.tells link.new after
-        → (before : LinkState) × L.tells link.old before × Tries q result before after }
+    ensures told { (q : Asked) → IsTextOf q text.now → LinkFrom (L.tells link.old) (L.tells link.new) (Tries q result) }
 {
     match link.exchange(alloc, text) {
         Ok(()) => read_kept(alloc, link, number),
@@ -134,8 +134,8 @@ pub fn ask<L: Link>(
         × (IsReady run count.old before.sent → IfOwn result (λ w. IsOwnRead before after (numbered request (number run count.new)) w)) }
     ensures last { result ≢ Outcome.NoMemory → (after : LinkState) → L.tells link.new after → IsLast (numbered request (number run count.new)) after.sent }
     // Each exchange sent this request, under the next count.
-    ensures asks { (after : LinkState) → L.tells link.new after → (before : LinkState) × L.tells link.old before
-        × SendsOn (IsTry (numbered request)) run count.old count.new (result ≡ Outcome.NoMemory) before.sent after.sent }
+    ensures asks { LinkFrom (L.tells link.old) (L.tells link.new) (λ before after.
+        SendsOn (IsTry (numbered request)) run count.old count.new (result ≡ Outcome.NoMemory) before.sent after.sent) }
 {
     for i in 0..tries {
         let number = Echo {

@@ -8,6 +8,7 @@ ghost use Rattle.keeper_memory.specs.declared.copy.state.TheConstants.{LAST};
 ghost use Rattle.exchange_link.specs.Places.{kinds_of};
 ghost use Rattle.roster_base.specs.Faults.{Rose};
 ghost use Rattle.exchange_link.specs.Beginning.{Enters, no_run};
+ghost use Rattle.exchange_link.specs.Pairs.{CopyFrom};
 
 use keeper_memory::{CopyChange, CopyKeeper, CopyState, LAST};
 use roster_base::KeeperError;
@@ -24,13 +25,14 @@ pub enum NoRun {
     NoMemory,
 }
 
-// Why no run was entered where the keeper couldn't do its work.
-fn no_run(error: KeeperError) -> NoRun
-    ensures { result ≡ no_run error }
-{
-    match error {
-        KeeperError::Failed => NoRun::KeeperFault,
-        KeeperError::NoMemory => NoRun::NoMemory,
+impl From<KeeperError> for NoRun {
+    ghost from_gives = { λ k e. e ≡ no_run k };
+
+    fn from(error: KeeperError) -> NoRun {
+        match error {
+            KeeperError::Failed => NoRun::KeeperFault,
+            KeeperError::NoMemory => NoRun::NoMemory,
+        }
     }
 }
 
@@ -39,28 +41,16 @@ pub fn begin_run<C: CopyKeeper>(alloc: Global, copy: &mut C) -> Result<CopyState
     ensures holds { IfOk result (λ s. (c : Copy) → C.stands_for copy.new c → (c.run ≡ s.run) × (stage_of c ≡ s.stage)) }
     ensures few { IfOk result (λ s. kinds_of s.stage ≤ kind_count) }
     ensures run { IfOk result (λ s. (1 ≤ s.run) × (s.run ≤ LAST)) }
-    ensures told { (after : Copy) → C.stands_for copy.new after → (before : Copy) × C.stands_for copy.old before × Enters result before after }
+    ensures told { CopyFrom (C.stands_for copy.old) (C.stands_for copy.new) (Enters result) }
     ensures later { C.fault_count copy.old ≤ C.fault_count copy.new }
     ensures copy_leads { C.leads copy.old copy.new }
     ensures cause { IfErr result (λ e. e ≡ NoRun.KeeperFault → Rose (C.fault_count copy.old) (C.fault_count copy.new)) }
 {
-    match copy.state(alloc) {
-        Err(error) => Err(no_run(error)),
-        Ok(state) => {
-            if state.run >= LAST {
-                return Err(NoRun::LastRun);
-            }
-            let run = state.run + 1;
-            match copy.commit(alloc, CopyChange::Run { run }) {
-                Err(error) => Err(no_run(error)),
-                Ok(()) => Ok(CopyState {
-                    run,
-                    held: state.held,
-                    held_token: state.held_token,
-                    stage: state.stage,
-                    last_number: state.last_number,
-                }),
-            }
-        }
+    let state = copy.state(alloc)?;
+    if state.run >= LAST {
+        return Err(NoRun::LastRun);
     }
+    let run = state.run + 1;
+    copy.commit(alloc, CopyChange::Run { run })?;
+    Ok(CopyState { run, ..state })
 }

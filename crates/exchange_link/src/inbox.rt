@@ -1,10 +1,10 @@
 //! What a link keeps of its exchanges.
 
-ghost use Rattle.std.specs.Prelude.{◌≡◌, ◌⊎◌, ◌≤◌, ◌+◌, ◌-◌, ◌^◌, IfSome, OnErr, OnOk, [], min, Err};
+ghost use Rattle.std.specs.Prelude.{◌≡◌, ◌⊎◌, ◌≤◌, IfSome, OnErr, OnOk, [], Err};
 ghost use Rattle.exchange_link.specs.Exchanges.{Carries, IsSentText, IsTextOf, Misses};
 ghost use Rattle.http_wire.specs.Answers.{IsReplyText};
 ghost use Rattle.outside_ports.specs.declared.failed.IoError.TheVariants as io_error;
-ghost use Rattle.roster_base.specs.Faults.{Rose};
+ghost use Rattle.roster_base.specs.Faults.{Rose, one_more};
 ghost use Rattle.status_info.specs.declared.request.Request.{Request};
 
 use crate::arrival::Arrival;
@@ -33,7 +33,7 @@ impl Inbox {
 
     // Counts an exchange that brought nothing.
     fn miss(&mut self, error: IoError) -> Result<(), IoError>
-        ensures asked { self.new.tally.asked ≡ min (self.old.tally.asked + 1) (2 ^ 64 - 1) }
+        ensures asked { self.new.tally.asked ≡ one_more self.old.tally.asked }
         ensures missed { Misses (Rose self.old.tally.faults self.new.tally.faults) self.old.tally.missed self.new.tally.missed }
         ensures later { self.old.tally.faults ≤ self.new.tally.faults }
         ensures failed { error ≡ io_error.Failed → Rose self.old.tally.faults self.new.tally.faults }
@@ -48,7 +48,7 @@ impl Inbox {
     fn keep(&mut self, alloc: Global, request: &[u8], came: Arrival) -> Result<(), IoError>
         requires sent { IsSentText request.now }
         requires empty { self.old.kept ≡ [] }
-        ensures asked { self.new.tally.asked ≡ min (self.old.tally.asked + 1) (2 ^ 64 - 1) }
+        ensures asked { self.new.tally.asked ≡ one_more self.old.tally.asked }
         ensures missed { Misses (Rose self.old.tally.faults self.new.tally.faults) self.old.tally.missed self.new.tally.missed }
         ensures later { self.old.tally.faults ≤ self.new.tally.faults }
         ensures failed { result ≡ Err io_error.Failed → Rose self.old.tally.faults self.new.tally.faults }
@@ -73,7 +73,7 @@ impl Inbox {
         came: Result<Arrival, IoError>,
     ) -> Result<(), IoError>
         requires { IsSentText request.now }
-        ensures asked { self.new.tally.asked ≡ min (self.old.tally.asked + 1) (2 ^ 64 - 1) }
+        ensures asked { self.new.tally.asked ≡ one_more self.old.tally.asked }
         ensures missed { Misses (Rose self.old.tally.faults self.new.tally.faults) self.old.tally.missed self.new.tally.missed }
         ensures later { self.old.tally.faults ≤ self.new.tally.faults }
         ensures failed { result ≡ Err io_error.Failed → Rose self.old.tally.faults self.new.tally.faults }

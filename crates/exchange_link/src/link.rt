@@ -1,7 +1,7 @@
 //! The link to a hub.
 
-ghost use Rattle.std.specs.Prelude.{◌≡◌, ◌⊎◌, ◌≤◌, ℕ, ◌+◌, ◌-◌, ◌^◌, List, [], min, IfSome, OnErr, OnOk, Err};
-ghost use Rattle.roster_base.specs.Faults.{Rose};
+ghost use Rattle.std.specs.Prelude.{◌≡◌, ◌⊎◌, ◌≤◌, ℕ, List, [], IfSome, OnErr, OnOk, Err};
+ghost use Rattle.roster_base.specs.Faults.{Rose, one_more};
 ghost use Rattle.outside_ports.specs.declared.failed.IoError.TheVariants as io_error;
 ghost use Rattle.status_info.specs.declared.request.Request.{Request};
 
@@ -39,7 +39,7 @@ pub trait Link {
     /// out; then nothing is kept.
     fn exchange(&mut self, alloc: Global, request: &[u8]) -> Result<(), IoError>
         requires { IsSentText request.now }
-        ensures asked { asked self.new ≡ min (asked self.old + 1) (2 ^ 64 - 1) }
+        ensures asked { asked self.new ≡ one_more (asked self.old) }
         ensures missed { Misses (Rose (fault_count self.old) (fault_count self.new)) (missed self.old) (missed self.new) }
         ensures later { fault_count self.old ≤ fault_count self.new }
         ensures leads { leads self.old self.new }

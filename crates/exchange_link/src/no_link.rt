@@ -1,9 +1,9 @@
 //! A link to no hub.
 
-ghost use Rattle.std.specs.Prelude.{◌≡◌, ◌≤◌, ◌+◌, ◌-◌, ◌^◌, min, Err};
+ghost use Rattle.std.specs.Prelude.{◌≡◌, ◌≤◌, Err};
 ghost use Rattle.exchange_link.specs.Exchanges.{IsSentText, Misses};
 ghost use Rattle.outside_ports.specs.declared.failed.IoError.TheVariants as io_error;
-ghost use Rattle.roster_base.specs.Faults.{Rose};
+ghost use Rattle.roster_base.specs.Faults.{Rose, one_more};
 
 use crate::link::Link;
 use outside_ports::IoError;
@@ -45,7 +45,7 @@ impl Link for NoLink {
 
     fn exchange(&mut self, _alloc: Global, request: &[u8]) -> Result<(), IoError>
         requires { IsSentText request.now }
-        ensures asked { self.new.faults ≡ min (self.old.faults + 1) (2 ^ 64 - 1) }
+        ensures asked { self.new.faults ≡ one_more self.old.faults }
         ensures missed { Misses (Rose self.old.faults self.new.faults) self.old.faults self.new.faults }
         ensures later { self.old.faults ≤ self.new.faults }
         ensures rose { Rose self.old.faults self.new.faults }

@@ -1,8 +1,8 @@
 //! The counts of a link.
 
-ghost use Rattle.std.specs.Prelude.{◌≡◌, ◌≤◌, ◌+◌, ◌-◌, ◌^◌, IsTrue, false, min};
+ghost use Rattle.std.specs.Prelude.{◌≡◌, ◌≤◌, IsTrue, false};
 ghost use Rattle.exchange_link.specs.Exchanges.{Misses};
-ghost use Rattle.roster_base.specs.Faults.{Rose};
+ghost use Rattle.roster_base.specs.Faults.{Rose, one_more};
 
 /// How many exchanges were made, how many in a row up to the last one raised the count of faults, and how many failed
 /// or brought another reply. The counts stay at the end of `u64`.
@@ -28,7 +28,7 @@ impl Tally {
     /// Counts an exchange, and a fault where it has one. Where the count of faults stands at its end, each exchange
     /// counts as one that missed.
     pub fn count(&mut self, has_fault: bool)
-        ensures asked { self.new.asked ≡ min (self.old.asked + 1) (2 ^ 64 - 1) }
+        ensures asked { self.new.asked ≡ one_more self.old.asked }
         ensures missed { Misses (Rose self.old.faults self.new.faults) self.old.missed self.new.missed }
         ensures later { self.old.faults ≤ self.new.faults }
         ensures rose { IsTrue has_fault → Rose self.old.faults self.new.faults }

@@ -30,6 +30,7 @@ use Rattle.keeper_memory.specs.Parts.{IsPartOf}
 use Rattle.keeper_memory.specs.declared.hub_commit.HubCommit.{HubCommit}
 use Rattle.version_core.specs.HubStates.{HubState, IsHubState}
 use Rattle.version_core.specs.Marks.{AreMarks, CanMark, is_outcome, mark_at, mark_key, same_mark}
+use Rattle.version_core.specs.Outcomes.{deleted_outcome, stored_outcome}
 use Rattle.version_core.specs.Version.{Versions, after, empty_version, last_or, newest_of}
 use Rattle.version_core.specs.declared.change.BaseVersion.{BaseVersion}
 use Rattle.version_core.specs.declared.grant_row.GrantRow.{GrantRow}
@@ -218,17 +219,17 @@ found_has P key (mark ∷ marks) held all found =
       | false ↦ λ there. found_has P key marks held all.1 there
     ] found
 
-kept_low : (delete : Bool) (n : ℕ) → is_outcome delete n ≡ true → n ≤ 9
+kept_low : (delete : Bool) (n : ℕ) → is_outcome delete n ≡ true → n ≤ deleted_outcome
 kept_low delete n is = elim (or_cases (n == cond delete 9 0) (nat_le 2 n && nat_le n 8) is) [
   | inl same ↦ let here = eqb-true n (cond delete 9 0) same in
-      subst (λ m. m ≤ 9) (sym here) (elim delete as (λ b. cond b 9 0 ≤ 9) [ true ↦ omega arith | false ↦ omega arith ])
+      subst (λ m. m ≤ deleted_outcome) (sym here) (elim delete as (λ b. cond b deleted_outcome stored_outcome ≤ deleted_outcome) [ true ↦ omega arith | false ↦ omega arith ])
   | inr between ↦ let high = leb-true n 8 (and_parts (nat_le 2 n) (nat_le n 8) between).1 in omega arith
 ]
 
-done_low : (write : Write) → done_of write ≤ 9
-done_low write = elim write.delete as (λ b. cond b 9 0 ≤ 9) [ true ↦ omega arith | false ↦ omega arith ]
+done_low : (write : Write) → done_of write ≤ deleted_outcome
+done_low write = elim write.delete as (λ b. cond b deleted_outcome stored_outcome ≤ deleted_outcome) [ true ↦ omega arith | false ↦ omega arith ]
 
-check_low : (failed : Check) → check_number failed ≤ 9
+check_low : (failed : Check) → check_number failed ≤ deleted_outcome
 check_low check.MarkOfAnotherWrite = omega arith
 check_low check.BadBody = omega arith
 check_low check.NoSuchObject = omega arith
@@ -240,10 +241,10 @@ check_low check.LastVersion = omega arith
 
 -- what is told of a judgement is the number of an outcome
 pub told_low : (top : ℕ) (marks : List MarkRow) → AreMarks top marks → (newest : BaseVersion) (mark : Option ℕ) (write : Write) (made : Judgement)
-    → RepeatsOneOf marks made → (written_by newest mark write made).outcome ≤ 9
+    → RepeatsOneOf marks made → (written_by newest mark write made).outcome ≤ deleted_outcome
 told_low top marks are newest mark write (judgement.New change) repeats = done_low write
 told_low top marks are newest mark write judgement.Same repeats = done_low write
 told_low top marks are newest mark write (judgement.Repeat kept) repeats =
     let has = found_has (λ m. is_outcome m.write.delete m.kept.outcome ≡ true) repeats.key marks repeats.held are.outcomes repeats.found in
-    subst (λ (k : Kept). k.outcome ≤ 9) (sym repeats.is) (kept_low repeats.held.write.delete repeats.held.kept.outcome has)
+    subst (λ (k : Kept). k.outcome ≤ deleted_outcome) (sym repeats.is) (kept_low repeats.held.write.delete repeats.held.kept.outcome has)
 told_low top marks are newest mark write (judgement.Refused failed) repeats = check_low failed

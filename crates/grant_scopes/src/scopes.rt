@@ -1,7 +1,7 @@
 //! Sets of scope words.
 
 ghost use Rattle.std.specs.Prelude.{◌≡◌, ◌<◌, ℕ};
-ghost use Rattle.grant_scopes.specs.Scopes.{scopes_of};
+ghost use Rattle.grant_scopes.specs.Scopes.{scopes_end, scopes_of};
 ghost use Rattle.grant_scopes.specs.Words.{scopes_in};
 
 use crate::scope_info::ScopeInfo;
@@ -9,6 +9,9 @@ use crate::words::{are_scopes, bits_among};
 use roster_base::{NoMemory, Same, TryCopy};
 use std::alloc::Global;
 use std::marker::Model;
+
+/// Where the numbers of sets end: each of the seven words is one bit.
+const END: u8 = 1 << 7;
 
 /// A set of the seven scope words of OneRoster 1.1, one bit each. From bit 0 they are `roster.readonly`,
 /// `roster-core.readonly`, `roster-demographics.readonly`, `gradebook.readonly`, `gradebook.createput`,
@@ -23,7 +26,7 @@ impl Model for Scopes {
 
     ghost view = { λ s. s.bits };
 
-    ghost invariant = { λ s. s.bits < 128 };
+    ghost invariant = { λ s. s.bits < scopes_end };
 
     ghost inverse = { λ n. record { bits = n } };
 }
@@ -33,7 +36,7 @@ impl Scopes {
     pub fn from_bits(bits: u8) -> Option<Scopes>
         ensures { result ≡ scopes_of bits }
     {
-        if bits < 128 {
+        if bits < END {
             Some(Scopes { bits })
         } else {
             None
@@ -55,7 +58,7 @@ impl Scopes {
     /// The bits of the set.
     pub fn bits(self) -> u8
         ensures bits { result ≡ self }
-        ensures seven { result < 128 }
+        ensures seven { result < scopes_end }
     {
         self.bits
     }

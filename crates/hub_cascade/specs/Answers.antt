@@ -1,5 +1,6 @@
 -- What a cascade answers.
-use Rattle.std.specs.Prelude.{◌≡◌, ⊤, ℕ, ◌+◌, ◌-◌, ◌^◌, min, Bool, false, true, Result, Ok, Err}
+use Rattle.std.specs.Prelude.{◌≡◌, ⊤, ℕ, Bool, false, true, Result, Ok, Err}
+use Rattle.roster_base.specs.Faults.{one_more}
 use Rattle.roster_base.specs.declared.keeper.KeeperError.{KeeperError}
 use Rattle.roster_base.specs.declared.keeper.KeeperError.TheVariants as keeper
 use Rattle.hub_core.specs.Steps.{MakesNext}
@@ -49,12 +50,12 @@ TellsHeld copies (Err error.NothingHeld) = HoldNothing copies
 
 -- a failure of the hub's keeper is counted once there, and nothing else is
 abbrev pub CountsHub : ℕ → ℕ → Result Published CascadeError → Type 0
-CountsHub before now (Err error.HubKeeper) = now ≡ min (before + 1) (2 ^ 64 - 1)
+CountsHub before now (Err error.HubKeeper) = now ≡ one_more before
 CountsHub before now result = now ≡ before
 
 -- a failure of the copy's keeper is counted once there, and nothing else is
 abbrev pub CountsCopy : ℕ → ℕ → Result Published CascadeError → Type 0
-CountsCopy before now (Err error.CopyKeeper) = now ≡ min (before + 1) (2 ^ 64 - 1)
+CountsCopy before now (Err error.CopyKeeper) = now ≡ one_more before
 CountsCopy before now result = now ≡ before
 
 -- a commit of the hub is left open exactly by a failure of its keeper, where it was asked

@@ -1,5 +1,5 @@
 -- What is found on the way from a copy to what it makes of a version.
-use Rattle.std.specs.Prelude.{◌≡◌, ◌+◌, ◌-◌, ◌^◌, ℕ, ℤ, min, true, List, [], ◌∷◌, None, Result, Ok, Err, map}
+use Rattle.std.specs.Prelude.{◌≡◌, ℕ, ℤ, true, List, [], ◌∷◌, None, Result, Ok, Err, map}
 use Rattle.hub_core.specs.Steps.{MakesNext}
 use Rattle.hub_core.specs.declared.hub_error.HubError.{HubError}
 use Rattle.hub_core.specs.declared.published.Published.{Published}
@@ -15,6 +15,7 @@ use Rattle.roster_values.specs.declared.mode.Mode.TheVariants.{Bulk}
 use Rattle.version_changes.specs.sets.Applying.{LeadsOn, is_whole, rows_in}
 use Rattle.version_core.specs.declared.change.BaseVersion.{BaseVersion}
 use Rattle.version_core.specs.declared.change.Change.{Change}
+use Rattle.roster_base.specs.Faults.{one_more}
 use Rattle.hub_cascade.specs.Cascading.{Cascades}
 use Rattle.hub_cascade.specs.Held.{AreHeld, HoldNothing, HoldSomething}
 use Rattle.hub_cascade.specs.declared.error.CascadeError.{CascadeError}
@@ -60,7 +61,7 @@ pub record ListsHeld (copies : Copy → Type 0) (feed : List ℕ) (set : SetReco
 -- the set of a copy is had where something is held, and else the answer tells why not
 abbrev pub ReadsHeld : (Copy → Type 0) → ℕ → ℕ → Result SetRecord CascadeError → Type 0
 ReadsHeld copies before now (Ok set) = HoldSomething copies × (now ≡ before)
-ReadsHeld copies before now (Err error.CopyKeeper) = now ≡ min (before + 1) (2 ^ 64 - 1)
+ReadsHeld copies before now (Err error.CopyKeeper) = now ≡ one_more before
 ReadsHeld copies before now (Err error.NoMemory) = now ≡ before
 ReadsHeld copies before now (Err error.NothingHeld) = HoldNothing copies × (now ≡ before)
 ReadsHeld copies before now (Err error.HubKeeper) = ⊥

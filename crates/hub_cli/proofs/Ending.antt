@@ -1,7 +1,7 @@
 -- What an answer's status says, and answers for want of memory.
 use Rattle.std.proofs.Common.{◌≡◌, ◌≢◌, ◌⊎◌, ℕ, ℤ, List, [], ◌++◌, Option, Some, None, Result, Ok, Err, IsErr}
 use Rattle.std.proofs.Common.{append-nil, length, refl, sym, ap, subst, ◌∙◌, inl, inr}
-use Rattle.script_runs.specs.Below.Consumers.{CopyRun, LinkRun}
+use Rattle.exchange_link.specs.Between.{CopyRun, LinkRun}
 use Rattle.script_runs.specs.Below.SyncLines.{sync_status, sync_text}
 use Rattle.script_runs.specs.Below.Deltas.{IsDeltaOf}
 use Rattle.script_runs.specs.Below.Syncs.{IsSyncOf}
@@ -38,9 +38,9 @@ use Rattle.roster_values.specs.declared.kind.Kind.{Kind}
 use Rattle.roster_values.specs.declared.mode.Mode.{Mode}
 use Rattle.roster_values.specs.declared.mode.Mode.TheVariants.{Bulk}
 use Rattle.script_runs.specs.Below.Answers.{IsPrinted, status_of, text_of}
-use Rattle.script_runs.specs.Below.Cascades.{IsCascadeAnswer}
+use Rattle.script_runs.specs.Below.CascadeAnswers.{IsCascadeAnswer, cascade_run}
 use Rattle.script_runs.specs.Below.ConsumerAnswers.{IsDeltaAnswer, IsListAnswer, IsSyncAnswer, ReadEnds}
-use Rattle.script_runs.specs.Below.Follows.{IsFollowAnswer}
+use Rattle.script_runs.specs.Below.FollowAnswers.{IsFollowAnswer}
 use Rattle.script_runs.specs.Below.ExportAnswers.{ExportEnds, HasTooMany, IsChangesExport, IsExport, IsExportAnswer}
 use Rattle.script_runs.specs.Below.ExportAnswers.{IsManifestAnswer, IsSinceAnswer, RefusesExport, earlier_feed, rows_in}
 use Rattle.script_runs.specs.Below.OutboxAnswers.{IsEnterAnswer, IsEntered, IsOutboxAnswer, IsSendAnswer, IsWriteOf}
@@ -49,7 +49,7 @@ use Rattle.script_runs.specs.Below.Outside.{HaveRisen, HaveStood, NothingFailed,
 use Rattle.script_runs.specs.Below.Runs.{IsShowAnswer, LeadsFrom, WantsMemory}
 use Rattle.hub_cli.specs.Runs.{ConsumerRests, IsAnswer, IsCommandAnswer}
 use Rattle.script_runs.specs.Below.Steps.{ReadsSet}
-use Rattle.script_runs.specs.Below.Shows.{IsShown, answer_of_file, answer_of_rows}
+use Rattle.script_runs.specs.Below.ShowAnswers.{IsShown, answer_of_file, answer_of_rows}
 use Rattle.hub_words.specs.Words.{command_in}
 use Rattle.script_runs.specs.Below.Answer.{Answer}
 use Rattle.script_runs.specs.Below.End.{End}
@@ -270,10 +270,10 @@ module _ (o : Outside) (copy : CopyRun) (link : LinkRun) where
   told-says : (end : End) → CascadeSays o.keeper copy end → Tells end
   told-says end says = record { words = says.words; folder = λ e. absurd (says.folder e); keeper = says.keeper; copy_says = says.copy_says }
 
-  cascade-tells : (feed : List ℕ) (a : Answer) (before after : KeptState) → IsCascadeAnswer feed o.moment o.keeper copy a before after → Tells a.end
+  cascade-tells : (feed : List ℕ) (a : Answer) (before after : KeptState) → IsCascadeAnswer (cascade_run feed o.moment o.keeper copy) a before after → Tells a.end
   cascade-tells feed a before after is = told-says a.end (cascade-says feed o.moment o.keeper copy a before after is)
 
-  follow-tells : (task : Task) (feed : List ℕ) (a : Answer) (before after : KeptState) → IsFollowAnswer task feed o.moment o.keeper copy link a before after → Tells a.end
+  follow-tells : (task : Task) (feed : List ℕ) (a : Answer) (before after : KeptState) → IsFollowAnswer task (cascade_run feed o.moment o.keeper copy) link a before after → Tells a.end
   follow-tells task feed a before after is = told-says a.end (follow-says task feed o.moment o.keeper copy link a before after is)
 
   read-tells : (is_text : List ℕ → Type 0) (a : Answer) → ReadEnds is_text copy a → Tells a.end
@@ -495,16 +495,16 @@ module _ (o : Outside) (copy : CopyRun) (link : LinkRun) where
       leads-told stands stands parsed (SyncDelta task) same answer (leads-nowhere stands (IsCommandAnswer (SyncDelta task) o copy link answer) (λ kept. (refl, nothing, is)))
 
   pub leads-cascaded : (old new : KeptState → Type 0) (parsed : Parsed) (feed : List ℕ) → parsed.command ≡ Cascade feed → HaveStood o.folder → link.same → (answer : Answer)
-      → LeadsFrom old new (IsCascadeAnswer feed o.moment o.keeper copy answer) → (a : Answer) → IsPrinted answer a → LeadsFrom old new (IsAnswer (Ok parsed) o copy link a)
+      → LeadsFrom old new (IsCascadeAnswer (cascade_run feed o.moment o.keeper copy) answer) → (a : Answer) → IsPrinted answer a → LeadsFrom old new (IsAnswer (Ok parsed) o copy link a)
   leads-cascaded old new parsed feed same stood rests answer from =
       leads-told old new parsed (Cascade feed) same answer
-      (leads-on old old new (IsCascadeAnswer feed o.moment o.keeper copy answer) (IsCommandAnswer (Cascade feed) o copy link answer) (λ kept stands. stands) (λ before after is. (stood, rests, is)) from)
+      (leads-on old old new (IsCascadeAnswer (cascade_run feed o.moment o.keeper copy) answer) (IsCommandAnswer (Cascade feed) o copy link answer) (λ kept stands. stands) (λ before after is. (stood, rests, is)) from)
 
   pub leads-followed : (old new : KeptState → Type 0) (parsed : Parsed) (task : Task) (feed : List ℕ) → parsed.command ≡ Follow task feed → HaveStood o.folder → (answer : Answer)
-      → LeadsFrom old new (IsFollowAnswer task feed o.moment o.keeper copy link answer) → (a : Answer) → IsPrinted answer a → LeadsFrom old new (IsAnswer (Ok parsed) o copy link a)
+      → LeadsFrom old new (IsFollowAnswer task (cascade_run feed o.moment o.keeper copy) link answer) → (a : Answer) → IsPrinted answer a → LeadsFrom old new (IsAnswer (Ok parsed) o copy link a)
   leads-followed old new parsed task feed same stood answer from =
       leads-told old new parsed (Follow task feed) same answer
-      (leads-on old old new (IsFollowAnswer task feed o.moment o.keeper copy link answer) (IsCommandAnswer (Follow task feed) o copy link answer) (λ kept stands. stands) (λ before after is. (stood, is)) from)
+      (leads-on old old new (IsFollowAnswer task (cascade_run feed o.moment o.keeper copy) link answer) (IsCommandAnswer (Follow task feed) o copy link answer) (λ kept stands. stands) (λ before after is. (stood, is)) from)
 
   pub leads-entered : (stands : KeptState → Type 0) (parsed : Parsed) (task : EnterTask) → parsed.command ≡ Enter task → HaveStood o.keeper → link.same → (answer : Answer) → IsEnterAnswer task o copy answer → (a : Answer) → IsPrinted answer a
       → LeadsFrom stands stands (IsAnswer (Ok parsed) o copy link a)

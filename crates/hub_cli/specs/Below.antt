@@ -2,10 +2,10 @@
 pub use Rattle.script_runs.specs.Below.Answers
 pub use Rattle.script_runs.specs.Below.Catching
 pub use Rattle.script_runs.specs.Below.Missed
-pub use Rattle.script_runs.specs.Below.Cascades
+pub use Rattle.script_runs.specs.Below.CascadeAnswers
 pub use Rattle.script_runs.specs.Below.ConsumerAnswers
 pub use Rattle.script_runs.specs.Below.ExportAnswers
-pub use Rattle.script_runs.specs.Below.Follows
+pub use Rattle.script_runs.specs.Below.FollowAnswers
 pub use Rattle.script_runs.specs.Below.Lines
 pub use Rattle.script_runs.specs.Below.OutboxAnswers
 pub use Rattle.script_runs.specs.Below.Outside

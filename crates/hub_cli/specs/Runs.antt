@@ -1,11 +1,11 @@
 -- What a run of the program answers, and why.
 use Rattle.std.specs.Prelude.{◌≡◌, ◌⊎◌, ℕ, [], Result, Ok, Err}
-use Rattle.script_runs.specs.Below.Consumers.{CopyRun, LinkRun}
+use Rattle.exchange_link.specs.Between.{CopyRun, LinkRun}
 use Rattle.script_runs.specs.Below.AskAnswers.{IsAskAnswer}
-use Rattle.script_runs.specs.Below.Cascades.{IsCascadeAnswer}
+use Rattle.script_runs.specs.Below.CascadeAnswers.{IsCascadeAnswer, cascade_run}
 use Rattle.script_runs.specs.Below.ConsumerAnswers.{IsDeltaAnswer, IsListAnswer, IsSyncAnswer}
 use Rattle.script_runs.specs.Below.ExportAnswers.{IsExportAnswer, IsManifestAnswer, IsSinceAnswer}
-use Rattle.script_runs.specs.Below.Follows.{IsFollowAnswer}
+use Rattle.script_runs.specs.Below.FollowAnswers.{IsFollowAnswer}
 use Rattle.script_runs.specs.Below.GrantAnswers.{IsGrantAnswer}
 use Rattle.script_runs.specs.Below.OutboxAnswers.{IsEnterAnswer, IsOutboxAnswer, IsSendAnswer}
 use Rattle.script_runs.specs.Below.Outside.{HaveStood, NothingFailed, Outside}
@@ -34,8 +34,8 @@ IsCommandAnswer (Grant file) outside copy link answer before after = ConsumerRes
 IsCommandAnswer (Ask file) outside copy link answer before after = ConsumerRests copy link × IsAskAnswer outside file answer.done answer.end before after
 IsCommandAnswer (Sync task) outside copy link answer before after = (after ≡ before) × NothingFailed outside × IsSyncAnswer task copy link answer
 IsCommandAnswer (SyncDelta task) outside copy link answer before after = (after ≡ before) × NothingFailed outside × IsDeltaAnswer task copy link answer
-IsCommandAnswer (Cascade feed) outside copy link answer before after = HaveStood outside.folder × link.same × IsCascadeAnswer feed outside.moment outside.keeper copy answer before after
-IsCommandAnswer (Follow task feed) outside copy link answer before after = HaveStood outside.folder × IsFollowAnswer task feed outside.moment outside.keeper copy link answer before after
+IsCommandAnswer (Cascade feed) outside copy link answer before after = HaveStood outside.folder × link.same × IsCascadeAnswer (cascade_run feed outside.moment outside.keeper copy) answer before after
+IsCommandAnswer (Follow task feed) outside copy link answer before after = HaveStood outside.folder × IsFollowAnswer task (cascade_run feed outside.moment outside.keeper copy) link answer before after
 IsCommandAnswer (Enter task) outside copy link answer before after = (after ≡ before) × HaveStood outside.keeper × link.same × IsEnterAnswer task outside copy answer
 IsCommandAnswer (Send task) outside copy link answer before after = (after ≡ before) × NothingFailed outside × IsSendAnswer task copy link answer
 IsCommandAnswer Outbox outside copy link answer before after = (after ≡ before) × NothingFailed outside × link.same × IsOutboxAnswer copy answer

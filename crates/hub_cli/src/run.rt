@@ -2,9 +2,10 @@
 
 ghost use Rattle.std.specs.Prelude.{◌≡◌, ◌≢◌, ◌++◌, ℕ, IsErr, List, Ok, Some, length, map, string_bytes};
 ghost use Rattle.std.specs.Io.KnownBytes.{Appends};
-ghost use Rattle.script_runs.specs.Below.Consumers.{copy_between, link_between};
+ghost use Rattle.exchange_link.specs.Between.{copy_between, link_between};
 ghost use Rattle.script_runs.specs.Below.SyncLines.{sync_status, sync_text};
 ghost use Rattle.script_runs.specs.Below.Syncs.{IsSyncOf};
+ghost use Rattle.hub_words.specs.Statuses.{bad_words_status, copy_failed_status, done_status, folder_failed_status, hub_failed_status, no_memory_status, output_failed_status};
 ghost use Rattle.hub_words.specs.Tasks.{Task};
 ghost use Rattle.exchange_link.specs.declared.answer.SyncAnswer.{SyncAnswer as SyncAnswerValue};
 ghost use Rattle.exchange_link.specs.declared.answer.SyncAnswer.TheVariants.{Complete};
@@ -190,40 +191,40 @@ pub fn run_hub<F: Folder, H: HubKeeper, C: CopyKeeper, L: Link, K: Clock, O: Sin
 ) -> u8
     // What is written is the text of an answer to the words, and nothing else. The answer leads from a state of the hub
     // to another; where the keeper tells, from one for which it stood to the one for which it stands.
-    ensures done { result ≢ 1 → (a : AnswerValue) × LeadsBetween H.stands_for keeper.old keeper.new (IsAnswer (split (map string_bytes words.now))
+    ensures done { result ≢ output_failed_status → (a : AnswerValue) × LeadsBetween H.stands_for keeper.old keeper.new (IsAnswer (split (map string_bytes words.now))
         (outside_between F.files F.faults folder.old folder.new (K.moment clock.now) (faults_between H.fault_count keeper.old keeper.new))
         (copy_between C.stands_for C.fault_count copy.old copy.new)
         (link_between L.tells L.asked L.missed L.kept L.fault_count link.old link.new)
         a) × (result ≡ status_of a.end) × Appends (O.written out.old) (O.written out.new) (text_of a) }
     // Where the sink failed, a front of such a text is written.
-    ensures part { result ≡ 1 → (a : AnswerValue) × LeadsBetween H.stands_for keeper.old keeper.new (IsAnswer (split (map string_bytes words.now))
+    ensures part { result ≡ output_failed_status → (a : AnswerValue) × LeadsBetween H.stands_for keeper.old keeper.new (IsAnswer (split (map string_bytes words.now))
         (outside_between F.files F.faults folder.old folder.new (K.moment clock.now) (faults_between H.fault_count keeper.old keeper.new))
         (copy_between C.stands_for C.fault_count copy.old copy.new)
         (link_between L.tells L.asked L.missed L.kept L.fault_count link.old link.new)
         a) × AppendsPart (O.written out.old) (O.written out.new) (text_of a) }
     // Where the words spell `sync`, and neither the sink failed nor memory ran out, line and status are those of a
     // synchronisation, of which all holds that is promised of one.
-    ensures synchronised { (task : Task) → command_in (split (map string_bytes words.now)) ≡ Some (Sync task) → result ≢ 1 → result ≢ 17 → (a : SyncAnswerValue) × IsSyncOf task a
+    ensures synchronised { (task : Task) → command_in (split (map string_bytes words.now)) ≡ Some (Sync task) → result ≢ output_failed_status → result ≢ no_memory_status → (a : SyncAnswerValue) × IsSyncOf task a
         (copy_between C.stands_for C.fault_count copy.old copy.new)
         (link_between L.tells L.asked L.missed L.kept L.fault_count link.old link.new)
         × (result ≡ sync_status a) × Appends (O.written out.old) (O.written out.new) (sync_text a) }
     // Where the words spell `rehearse` and the status is 0, the file is a script, and what is written is what a run of
     // a world over all its lines prints, which begins with an empty hub and an empty copy.
-    ensures rehearsed { (file : List ℕ) → command_in (split (map string_bytes words.now)) ≡ Some (Rehearse file) → result ≡ 0
+    ensures rehearsed { (file : List ℕ) → command_in (split (map string_bytes words.now)) ≡ Some (Rehearse file) → result ≡ done_status
         → (lines : List Line) × IsScriptOf (F.files folder.old) file lines × (run : RunsFirst (F.files folder.old) lines (length lines))
         × Appends (O.written out.old) (O.written out.new) (printed run.stages) }
     // Where they spell `make` and the status is 0, what is written sums up a district that was made, published, granted
     // and copied whole.
-    ensures made { (count : ℕ) → command_in (split (map string_bytes words.now)) ≡ Some (Make count) → result ≡ 0
+    ensures made { (count : ℕ) → command_in (split (map string_bytes words.now)) ≡ Some (Make count) → result ≡ done_status
         → (version : ℕ) × (done : List ℕ) × MakesDistrict count (Complete version) done
         × Appends (O.written out.old) (O.written out.new) (done ++ sync_text (Complete version)) }
-    ensures words_are_bad { result ≡ 2 → IsErr (split (map string_bytes words.now)) }
-    ensures bad_words { IsErr (split (map string_bytes words.now)) → result ≢ 1 → result ≢ 17 → result ≡ 2 }
-    ensures folder_failed { result ≡ 3 → Rose (F.faults folder.old) (F.faults folder.new) }
-    ensures keeper_failed { result ≡ 5 → Rose (H.fault_count keeper.old) (H.fault_count keeper.new) }
-    ensures copy_failed { result ≡ 6 → Rose (C.fault_count copy.old) (C.fault_count copy.new) }
-    ensures sink_failed { result ≡ 1 → Rose (O.faults out.old) (O.faults out.new) }
-    ensures sink_stood { result ≢ 1 → O.faults out.new ≡ O.faults out.old }
+    ensures words_are_bad { result ≡ bad_words_status → IsErr (split (map string_bytes words.now)) }
+    ensures bad_words { IsErr (split (map string_bytes words.now)) → result ≢ output_failed_status → result ≢ no_memory_status → result ≡ bad_words_status }
+    ensures folder_failed { result ≡ folder_failed_status → Rose (F.faults folder.old) (F.faults folder.new) }
+    ensures keeper_failed { result ≡ hub_failed_status → Rose (H.fault_count keeper.old) (H.fault_count keeper.new) }
+    ensures copy_failed { result ≡ copy_failed_status → Rose (C.fault_count copy.old) (C.fault_count copy.new) }
+    ensures sink_failed { result ≡ output_failed_status → Rose (O.faults out.old) (O.faults out.new) }
+    ensures sink_stood { result ≢ output_failed_status → O.faults out.new ≡ O.faults out.old }
 {
     // What is said here follows from the one clause of `run_words`.
     run_words(alloc, words, folder, keeper, copy, link, clock, out)

@@ -5,6 +5,7 @@ ghost use Rattle.hub_server.specs.Serving.{AllMean, AllServed, ComesBy, SomeRefu
 ghost use Rattle.keeper_memory.specs.Kept.{IsKept, KeptState};
 ghost use Rattle.roster_base.specs.Faults.{Rose};
 ghost use Rattle.hub_cli.specs.Serves as serves;
+ghost use Rattle.hub_words.specs.Statuses.{acceptor_failed_status, bad_words_status, done_status, folder_failed_status, hub_failed_status, no_memory_status, output_failed_status, refused_status};
 ghost use Rattle.hub_words.specs.Words.{split_serve};
 ghost use Rattle.hub_words.specs.declared.words.ServeWords.{ServeWords as ServeWordsValue};
 
@@ -31,7 +32,7 @@ pub struct ServeEnd<H, A: Drop, F: Drop> {
 // The status that an ending brings.
 fn status_of(ending: Ending) -> u8
     ensures value { result ≡ serves.status_of ending }
-    ensures other { result ≢ 1 }
+    ensures other { result ≢ output_failed_status }
 {
     match ending {
         Ending::Done => statuses::DONE,
@@ -85,17 +86,17 @@ where
     A::Output: Send,
     // There are as many acceptors and folders as the words name.
     requires { (w : ServeWordsValue) → split_serve (map string_bytes words.now) ≡ Ok w → (length doors.acceptors.items ≡ length w.task.addresses) × (length doors.folders.items ≡ length w.task.feeds) }
-    ensures words_are_bad { result.status ≡ 2 → IsErr (split_serve (map string_bytes words.now)) }
-    ensures bad_words { IsErr (split_serve (map string_bytes words.now)) → result.status ≢ 17 → result.status ≡ 2 }
-    ensures done { result.status ≡ 0 → (w : ServeWordsValue) × (split_serve (map string_bytes words.now) ≡ Ok w)
+    ensures words_are_bad { result.status ≡ bad_words_status → IsErr (split_serve (map string_bytes words.now)) }
+    ensures bad_words { IsErr (split_serve (map string_bytes words.now)) → result.status ≢ no_memory_status → result.status ≡ bad_words_status }
+    ensures done { result.status ≡ done_status → (w : ServeWordsValue) × (split_serve (map string_bytes words.now) ≡ Ok w)
         × AllServed A.given_count w.task.connections doors.acceptors.items result.doors.acceptors.items × AllMean F.files w.task.feeds doors.folders.items }
-    ensures folder_failed { result.status ≡ 3 → SomeRose F.faults doors.folders.items result.doors.folders.items }
-    ensures refused { result.status ≡ 4 → (w : ServeWordsValue) × (split_serve (map string_bytes words.now) ≡ Ok w)
+    ensures folder_failed { result.status ≡ folder_failed_status → SomeRose F.faults doors.folders.items result.doors.folders.items }
+    ensures refused { result.status ≡ refused_status → (w : ServeWordsValue) × (split_serve (map string_bytes words.now) ≡ Ok w)
         × (opening : KeptState) × IsKept opening × SomeRefused F.files opening w.task.feeds doors.folders.items }
-    ensures keeper_failed { result.status ≡ 5 → Rose (H.fault_count hub) (H.fault_count result.hub) }
-    ensures acceptor_failed { result.status ≡ 18 → SomeRose A.fault_count doors.acceptors.items result.doors.acceptors.items }
+    ensures keeper_failed { result.status ≡ hub_failed_status → Rose (H.fault_count hub) (H.fault_count result.hub) }
+    ensures acceptor_failed { result.status ≡ acceptor_failed_status → SomeRose A.fault_count doors.acceptors.items result.doors.acceptors.items }
     // 1 is the status of an output that couldn't be written, and there is none.
-    ensures other { result.status ≢ 1 }
+    ensures other { result.status ≢ output_failed_status }
     // Whatever the status is, the keeper stands for a state at entry with a history applied.
     ensures kept { (now : KeptState) → H.stands_for result.hub now → (stood : KeptState) × H.stands_for hub stood × ComesBy stood now }
 {

@@ -1,6 +1,6 @@
 -- What a copy holds, cascaded into a hub.
 use Rattle.std.proofs.Common.{◌≡◌, ◌≢◌, ◌⊎◌, ℕ, ℤ, List, [], Option, Result, Ok, Err, false, refl, sym, subst, inl, inr}
-use Rattle.consumer_commands.specs.Consumers.{CopyRun}
+use Rattle.exchange_link.specs.Between.{CopyRun}
 use Rattle.hub_cascade.specs.Answers.{CountsCopy, CountsHub, MakesCascade, TellsHeld}
 use Rattle.hub_cascade.specs.Held.{CascadesHeld}
 use Rattle.hub_cascade.specs.declared.error.CascadeError.{CascadeError}
@@ -18,7 +18,7 @@ use Rattle.version_changes.specs.declared.sets.publish_fault.PublishFault.{Publi
 use Rattle.hub_commands.proofs.Leading.{leads-nowhere, leads-on, leads-standing}
 use Rattle.hub_commands.proofs.Publishing.{rose}
 use Rattle.hub_commands.specs.Answers.{status_of}
-use Rattle.hub_commands.specs.Cascades.{CascadesCopy, IsCascadeAnswer, TellsCascade, end_of_cascade, or_ended}
+use Rattle.hub_commands.specs.CascadeAnswers.{CascadesCopy, IsCascadeAnswer, TellsCascade, cascade_run, end_of_cascade, or_ended}
 use Rattle.hub_commands.specs.ConsumerAnswers.{CopyStays}
 use Rattle.hub_commands.specs.declared.answer.Answer.{Answer}
 use Rattle.hub_commands.specs.declared.answer.End.{End}
@@ -28,7 +28,7 @@ use Rattle.hub_commands.specs.declared.answer.End.TheVariants.{GrantsRefused, Hu
 use Rattle.hub_commands.specs.declared.answer.End.TheVariants.{NotEntered, NothingHeld, NotPublished, Refused}
 use Rattle.hub_commands.specs.declared.answer.End.TheVariants.{RequestRefused, ScriptRefused, Sent, Synced}
 use Rattle.hub_commands.specs.Outside.{Faults, HaveRisen, faults_of}
-use Rattle.hub_commands.specs.Publishes.{IsTold}
+use Rattle.hub_commands.specs.PublishAnswers.{IsTold}
 use Rattle.hub_commands.specs.Runs.{LeadsFrom}
 use Rattle.hub_commands.specs.Steps.{end_of_error}
 
@@ -41,7 +41,7 @@ pub record CascadeSays (faults : Faults) (copies : CopyRun) (end : End) : Type 0
 
 module _ (feed : List ℕ) (moment : Option ℤ) (faults : Faults) (copies : CopyRun) where
   abbrev pub Tells : List ℕ → End → KeptState → KeptState → Type 0
-  Tells = TellsCascade feed moment faults copies
+  Tells = TellsCascade (cascade_run feed moment faults copies)
 
   -- ---- what the hub makes of it
 
@@ -78,21 +78,21 @@ module _ (feed : List ℕ) (moment : Option ℤ) (faults : Faults) (copies : Cop
     pub cascaded : CopyStays copies → (old new : KeptState → Type 0) (first hub : HeldHub) (made : Result Published CascadeError) (answer : Answer) → IsKept first.kept → first.commit_open ≡ false → KeeperFits new hub
         → ((after : KeptState) → IsStanding hub after → (before : KeptState) × IsStanding first before × (new after → old before) × Makes made before after)
         → TellsHeld copies.stands made → CountsHub faults.before faults.now made → CountsCopy copies.faults_before copies.faults_now made → IsTold feed (or_ended made) answer
-        → LeadsFrom old new (IsCascadeAnswer feed moment faults copies answer)
+        → LeadsFrom old new (IsCascadeAnswer (cascade_run feed moment faults copies) answer)
     cascaded stays old new first hub made answer is shut fits led held hub_counts copy_counts told =
-        leads-standing old new first hub (IsCascadeAnswer feed moment faults copies answer) is shut fits (λ after standing.
+        leads-standing old new first hub (IsCascadeAnswer (cascade_run feed moment faults copies) answer) is shut fits (λ after standing.
         let l = led after standing in
         (l.0, l.1, l.2, (stays, tells_made made answer l.0 after told l.3 held hub_counts (rises made copy_counts))))
 
   -- ---- want of memory for the line of an end
 
-  made_or_not : (before after : KeptState) → (after ≡ before) ⊎ CascadesCopy feed moment copies (Err error.HubKeeper) before after
-      → (after ≡ before) ⊎ ((answer : Published) × CascadesCopy feed moment copies (Ok answer) before after)
+  made_or_not : (before after : KeptState) → (after ≡ before) ⊎ CascadesCopy (cascade_run feed moment faults copies) (Err error.HubKeeper) before after
+      → (after ≡ before) ⊎ ((answer : Published) × CascadesCopy (cascade_run feed moment faults copies) (Ok answer) before after)
   made_or_not before after (inl same) = inl same
   made_or_not before after (inr (at, m, inl same)) = inl same
   made_or_not before after (inr (at, m, inr (next, adds))) = inr (New next.number, (at, m, (next, adds, refl)))
 
-  refused-stays : (fault : PublishFault) (before after : KeptState) → CascadesCopy feed moment copies (Err (error.Refused fault)) before after → after ≡ before
+  refused-stays : (fault : PublishFault) (before after : KeptState) → CascadesCopy (cascade_run feed moment faults copies) (Err (error.Refused fault)) before after → after ≡ before
   refused-stays fault before after (at, m, (asked, same)) = same
 
   pub tells-wants : (done : List ℕ) (end : End) (before after : KeptState) → Tells done end before after → end ≢ Done → Tells done NoMemory before after
@@ -119,8 +119,8 @@ module _ (feed : List ℕ) (moment : Option ℤ) (faults : Faults) (copies : Cop
   tells-wants done (ExportTooLarge k n) before after is other = absurd is.1
 
   -- memory may run out for the line of an end
-  pub cascade-wants : (answer : Answer) (before after : KeptState) → IsCascadeAnswer feed moment faults copies answer before after → answer.end ≢ Done
-      → IsCascadeAnswer feed moment faults copies (record answer { end = NoMemory }) before after
+  pub cascade-wants : (answer : Answer) (before after : KeptState) → IsCascadeAnswer (cascade_run feed moment faults copies) answer before after → answer.end ≢ Done
+      → IsCascadeAnswer (cascade_run feed moment faults copies) (record answer { end = NoMemory }) before after
   cascade-wants answer before after (stays, told) other = (stays, tells-wants answer.done answer.end before after told other)
 
   -- ---- what a status says
@@ -149,7 +149,7 @@ module _ (feed : List ℕ) (moment : Option ℤ) (faults : Faults) (copies : Cop
   tells-says done (ExportTooLarge k n) before after is = absurd is.1
 
   -- what the status of an end says
-  pub cascade-says : (answer : Answer) (before after : KeptState) → IsCascadeAnswer feed moment faults copies answer before after → CascadeSays faults copies answer.end
+  pub cascade-says : (answer : Answer) (before after : KeptState) → IsCascadeAnswer (cascade_run feed moment faults copies) answer before after → CascadeSays faults copies answer.end
   cascade-says answer before after (stays, told) = tells-says answer.done answer.end before after told
 
 -- ---- the whole command
@@ -157,17 +157,17 @@ module _ (feed : List ℕ) (moment : Option ℤ) (faults : Faults) (copies : Cop
 module _ (feed : List ℕ) (moment : Option ℤ) (keeper keeper_now : ℕ) (copies : CopyRun) (old new : KeptState → Type 0) where
   -- a copy, cascaded into the hub that was opened
   pub cascade_opened : (keeper_open : ℕ) (stands : KeptState → Type 0) (answer : Answer) → ((kept : KeptState) → stands kept → old kept) → keeper_open ≡ keeper
-      → LeadsFrom stands new (IsCascadeAnswer feed moment (faults_of keeper_open keeper_now) copies answer) → LeadsFrom old new (IsCascadeAnswer feed moment (faults_of keeper keeper_now) copies answer)
+      → LeadsFrom stands new (IsCascadeAnswer (cascade_run feed moment (faults_of keeper_open keeper_now) copies) answer) → LeadsFrom old new (IsCascadeAnswer (cascade_run feed moment (faults_of keeper keeper_now) copies) answer)
   cascade_opened keeper_open stands answer told same =
-      leads-on old stands new _ _ told (λ before after is. subst (λ k. IsCascadeAnswer feed moment (faults_of k keeper_now) copies answer before after) same is)
+      leads-on old stands new _ _ told (λ before after is. subst (λ k. IsCascadeAnswer (cascade_run feed moment (faults_of k keeper_now) copies) answer before after) same is)
 
   -- a hub that couldn't be opened
   pub cascade_not_opened : (T : Type 0) (e : HubError) → CopyStays copies → RefusesNothing {T = T} (Err e) → CountsFault {T = T} keeper keeper_now (Err e) → ((kept : KeptState) → new kept → old kept)
-      → LeadsFrom old new (IsCascadeAnswer feed moment (faults_of keeper keeper_now) copies (record { done = []; end = end_of_error e }))
+      → LeadsFrom old new (IsCascadeAnswer (cascade_run feed moment (faults_of keeper keeper_now) copies) (record { done = []; end = end_of_error e }))
   cascade_not_opened T e stays quiet counts told =
-      leads-on old new new _ _ told (λ before after is. is) (leads-nowhere new (IsCascadeAnswer feed moment (faults_of keeper keeper_now) copies (record { done = []; end = end_of_error e })) (λ kept. (stays, failed e quiet counts kept)))
+      leads-on old new new _ _ told (λ before after is. is) (leads-nowhere new (IsCascadeAnswer (cascade_run feed moment (faults_of keeper keeper_now) copies) (record { done = []; end = end_of_error e })) (λ kept. (stays, failed e quiet counts kept)))
     where
-      failed : (e : HubError) → RefusesNothing {T = T} (Err e) → CountsFault {T = T} keeper keeper_now (Err e) → (kept : KeptState) → TellsCascade feed moment (faults_of keeper keeper_now) copies [] (end_of_error e) kept kept
+      failed : (e : HubError) → RefusesNothing {T = T} (Err e) → CountsFault {T = T} keeper keeper_now (Err e) → (kept : KeptState) → TellsCascade (cascade_run feed moment (faults_of keeper keeper_now) copies) [] (end_of_error e) kept kept
       failed hub_error.Keeper quiet counts kept = (refl, (rose keeper keeper_now counts, inl refl))
       failed hub_error.NoMemory quiet counts kept = (refl, inl refl)
       failed (hub_error.Refused f) quiet counts kept = absurd quiet

@@ -3,7 +3,7 @@ use Rattle.std.proofs.Common.{◌≡◌, ℕ, List, Ok, Err, refl, inl, inr}
 use Rattle.bulk_export.specs.Exports.{CauseOf}
 use Rattle.bulk_export.specs.declared.error.ExportError.{ExportError}
 use Rattle.bulk_export.specs.declared.error.ExportError.TheVariants as error
-use Rattle.consumer_commands.specs.Consumers.{CopyRun}
+use Rattle.exchange_link.specs.Between.{CopyRun}
 use Rattle.keeper_memory.specs.copy.Copies.{Copy}
 use Rattle.roster_base.specs.Faults.{Rose}
 use Rattle.roster_values.specs.declared.kind.Kind.{Kind}

@@ -2,7 +2,7 @@
 use Rattle.std.proofs.Common.{◌≡◌, ◌≢◌, ◌⊎◌, ◌+◌, ◌≤◌, ℕ, ℤ, List, [], Option, Result, Ok, Err, false, true, refl, sym}
 use Rattle.std.proofs.Common.{ap, subst, ◌∙◌, inl, inr, arith}
 use Rattle.std.specs.Prelude.{min, ◌-◌, ◌^◌, ⊤}
-use Rattle.consumer_commands.specs.Consumers.{CopyRun, LinkRun, copy_between, link_between}
+use Rattle.exchange_link.specs.Between.{CopyRun, LinkRun, copy_between, link_between}
 use Rattle.consumer_commands.proofs.Below.DeltaDoneLemmas.{cause_fails}
 use Rattle.consumer_commands.proofs.Below.DeltaStopLemmas.{halts_end}
 use Rattle.consumer_commands.specs.Below.DeltaCauses.{DeltaCause}
@@ -41,14 +41,14 @@ use Rattle.hub_commands.proofs.Cascading.{CascadeSays, tells-says, tells-wants, 
 use Rattle.hub_commands.proofs.Leading.{leads-nowhere, leads-on, leads-standing}
 use Rattle.hub_commands.proofs.Publishing.{rose}
 use Rattle.hub_commands.specs.Answers.{status_of}
-use Rattle.hub_commands.specs.Cascades.{TellsCascade, end_of_cascade, or_ended}
-use Rattle.hub_commands.specs.Follows.{IsCaughtUp, IsFollowAnswer, IsUnbased, MissCause, MissTold, TellsEnd}
-use Rattle.hub_commands.specs.Follows.{TellsFollow, TellsVersion}
+use Rattle.hub_commands.specs.CascadeAnswers.{TellsCascade, cascade_run, end_of_cascade, or_ended}
+use Rattle.hub_commands.specs.FollowAnswers.{IsCaughtUp, IsFollowAnswer, IsUnbased, MissCause, MissTold, TellsEnd}
+use Rattle.hub_commands.specs.FollowAnswers.{TellsFollow, TellsVersion}
 use Rattle.hub_commands.specs.declared.answer.Answer.{Answer}
 use Rattle.hub_commands.specs.declared.answer.End.{End}
 use Rattle.hub_commands.specs.declared.answer.End.TheVariants.{DeltaSynced, Done, HubFailed, NoMemory, Synced}
 use Rattle.hub_commands.specs.Outside.{Faults, HaveRisen, HaveStood, faults_of}
-use Rattle.hub_commands.specs.Publishes.{IsTold, told_text}
+use Rattle.hub_commands.specs.PublishAnswers.{IsTold, told_text}
 use Rattle.hub_commands.specs.Runs.{LeadsFrom}
 use Rattle.hub_commands.specs.Steps.{end_of_error}
 
@@ -95,7 +95,17 @@ miss_cause copies links task old new before after (Err (missed.Sync a)) (between
     later = behind.later;
     link_later = behind.link_later;
   },
-  by,
+  record {
+    run = by.run;
+    count = by.count;
+    asked = by.asked;
+    counts = by.counts;
+    runs = by.runs;
+    only = by.only;
+    exact = by.exact;
+    last = by.last;
+    on = by.on;
+  },
 )
 
 -- what a link that tells adds
@@ -138,11 +148,11 @@ module _ (task : Task) (feed : List ℕ) (moment : Option ℤ) (faults : Faults)
     Makes = MakesCascade (CascadesHeld copies.stands feed at)
 
     tells_version : (version : ℕ) (made : Result Published CascadeError) (answer : Answer) (before after : KeptState) → TellsVersion feed version made answer → Makes made before after
-        → TellsHeld copies.stands made → CountsHub faults.before faults.now made → CountsFrom made → TellsFollow feed moment faults copies (Ok version) answer before after
+        → TellsHeld copies.stands made → CountsHub faults.before faults.now made → CountsFrom made → TellsFollow (cascade_run feed moment faults copies) (Ok version) answer before after
     tells_version version made answer before after (inl (cascaded, told, is)) makes held hub_counts counts = inl (
       cascaded.done,
       ap (λ (a : Answer). a.done) is,
-      subst (λ (e : End). TellsCascade feed moment faults copies cascaded.done e before after) (sym (ap (λ (a : Answer). a.end) is))
+      subst (λ (e : End). TellsCascade (cascade_run feed moment faults copies) cascaded.done e before after) (sym (ap (λ (a : Answer). a.end) is))
           (tells_made feed moment faults copies at m made cascaded before after told makes held hub_counts (rises made counts)),
     )
     tells_version version made answer before after (inr none) makes held hub_counts counts =
@@ -151,7 +161,7 @@ module _ (task : Task) (feed : List ℕ) (moment : Option ℤ) (faults : Faults)
 
     tells_follow : (r : FollowAnswer) (answer : Answer) (before after : KeptState) → TellsEnd feed r answer → IfCascaded r (λ made. Makes made before after) (after ≡ before)
         → IfCascaded r (TellsHeld copies.stands) ⊤ → IfCascaded r (CountsHub faults.before faults.now) ⊤ → IfCascaded r CountsFrom ⊤ → IfCascaded r (λ made. ⊤) (HaveStood faults)
-        → TellsFollow feed moment faults copies (synced r) answer before after
+        → TellsFollow (cascade_run feed moment faults copies) (synced r) answer before after
     tells_follow (follow.Done version published) answer before after told makes held hub_counts counts stood = tells_version version (Ok published) answer before after told makes held hub_counts counts
     tells_follow (follow.Sync a) answer before after told same held hub_counts counts stood = (stood, same, ap (λ (x : Answer). x.done) told, inl (ap (λ (x : Answer). x.end) told))
     tells_follow (follow.Delta a) answer before after told same held hub_counts counts stood = (stood, same, ap (λ (x : Answer). x.done) told, inl (ap (λ (x : Answer). x.end) told))
@@ -161,24 +171,24 @@ module _ (task : Task) (feed : List ℕ) (moment : Option ℤ) (faults : Faults)
     pub followed : (old new : KeptState → Type 0) (first hub : HeldHub) (r : FollowAnswer) (answer : Answer) → IsKept first.kept → first.commit_open ≡ false → KeeperFits new hub
         → ((after : KeptState) → IsStanding hub after → (before : KeptState) × IsStanding first before × (new after → old before) × IfCascaded r (λ made. Makes made before after) (after ≡ before))
         → IfCascaded r (TellsHeld copies.stands) ⊤ → IfCascaded r (CountsHub faults.before faults.now) ⊤ → IfCascaded r CountsFrom ⊤ → IfCascaded r (λ made. ⊤) (HaveStood faults)
-        → IsCaughtUp task (synced r) copies link → TellsEnd feed r answer → LeadsFrom old new (IsFollowAnswer task feed moment faults copies link answer)
+        → IsCaughtUp task (synced r) copies link → TellsEnd feed r answer → LeadsFrom old new (IsFollowAnswer task (cascade_run feed moment faults copies) link answer)
     followed old new first hub r answer is shut fits led held hub_counts counts stood caught told =
-        leads-standing old new first hub (IsFollowAnswer task feed moment faults copies link answer) is shut fits (λ after standing.
+        leads-standing old new first hub (IsFollowAnswer task (cascade_run feed moment faults copies) link answer) is shut fits (λ after standing.
         let l = led after standing in
         (l.0, l.1, l.2, inl (synced r, caught, tells_follow r answer l.0 after told l.3 held hub_counts counts stood)))
 
   -- ---- want of memory for the line of an end
 
-  follows-want : (s : Result ℕ Missed) (answer : Answer) (before after : KeptState) → TellsFollow feed moment faults copies s answer before after → answer.end ≢ Done
-      → TellsFollow feed moment faults copies s (record answer { end = NoMemory }) before after
+  follows-want : (s : Result ℕ Missed) (answer : Answer) (before after : KeptState) → TellsFollow (cascade_run feed moment faults copies) s answer before after → answer.end ≢ Done
+      → TellsFollow (cascade_run feed moment faults copies) s (record answer { end = NoMemory }) before after
   follows-want (Ok version) answer before after (inl (more, line, told)) other = inl (more, line, tells-wants feed moment faults copies more answer.end before after told other)
   follows-want (Ok version) answer before after (inr (none, wants, more, end, told)) other = inr (none, refl, more, end, told)
   follows-want (Err (missed.Sync a)) answer before after (stood, same, none, end) other = (stood, same, none, inr refl)
   follows-want (Err (missed.Delta a)) answer before after (stood, same, none, end) other = (stood, same, none, inr refl)
 
   -- memory may run out for the line of an end
-  pub follow-wants : (answer : Answer) (before after : KeptState) → IsFollowAnswer task feed moment faults copies link answer before after → answer.end ≢ Done
-      → IsFollowAnswer task feed moment faults copies link (record answer { end = NoMemory }) before after
+  pub follow-wants : (answer : Answer) (before after : KeptState) → IsFollowAnswer task (cascade_run feed moment faults copies) link answer before after → answer.end ≢ Done
+      → IsFollowAnswer task (cascade_run feed moment faults copies) link (record answer { end = NoMemory }) before after
   follow-wants answer before after (inl (s, caught, told)) other = inl (s, caught, follows-want s answer before after told other)
   follow-wants answer before after (inr shut) other = inr (record { done = shut.done; end = inr refl; same = shut.same })
 
@@ -220,7 +230,7 @@ module _ (task : Task) (feed : List ℕ) (moment : Option ℤ) (faults : Faults)
   delta_broke : (a : DeltaAnswer) → MissCause task copies link (Err (missed.Delta a)) → a ≡ delta.Ended sync.KeeperFault → Rose copies.faults_before copies.faults_now
   delta_broke a cause e = cause_fails _ _ _ _ _ _ cause.place a cause.only e
 
-  follows-say : (s : Result ℕ Missed) (answer : Answer) (before after : KeptState) → MissCause task copies link s → TellsFollow feed moment faults copies s answer before after → CascadeSays faults copies answer.end
+  follows-say : (s : Result ℕ Missed) (answer : Answer) (before after : KeptState) → MissCause task copies link s → TellsFollow (cascade_run feed moment faults copies) s answer before after → CascadeSays faults copies answer.end
   follows-say (Ok version) answer before after cause (inl (more, line, told)) = tells-says feed moment faults copies more answer.end before after told
   follows-say (Ok version) answer before after cause (inr (none, wants, more, end, told)) = says_memory answer.end wants
   follows-say (Err (missed.Sync a)) answer before after cause (stood, same, none, inl is) = subst (CascadeSays faults copies) (sym is) (sync-says a (sync_broke a cause))
@@ -233,7 +243,7 @@ module _ (task : Task) (feed : List ℕ) (moment : Option ℤ) (faults : Faults)
   shut-says answer (inr wants) = says_memory answer.end wants
 
   -- what the status of an end says
-  pub follow-says : (answer : Answer) (before after : KeptState) → IsFollowAnswer task feed moment faults copies link answer before after → CascadeSays faults copies answer.end
+  pub follow-says : (answer : Answer) (before after : KeptState) → IsFollowAnswer task (cascade_run feed moment faults copies) link answer before after → CascadeSays faults copies answer.end
   follow-says answer before after (inl (s, caught, told)) = follows-say s answer before after caught.cause told
   follow-says answer before after (inr shut) = shut-says answer shut.end
 
@@ -243,20 +253,20 @@ module _ (task : Task) (feed : List ℕ) (moment : Option ℤ) (keeper keeper_no
   -- another hub followed into one that was opened, as it was asked for
   pub follow_opened : (token : List ℕ) (limit tries : ℕ) → token ≡ task.token → limit ≡ task.limit → tries ≡ task.tries
       → (keeper_open : ℕ) (stands : KeptState → Type 0) (answer : Answer) → ((kept : KeptState) → stands kept → old kept) → keeper_open ≡ keeper
-      → LeadsFrom stands new (IsFollowAnswer (record { token = token; limit = limit; tries = tries }) feed moment (faults_of keeper_open keeper_now) copies link answer)
-      → LeadsFrom old new (IsFollowAnswer task feed moment (faults_of keeper keeper_now) copies link answer)
+      → LeadsFrom stands new (IsFollowAnswer (record { token = token; limit = limit; tries = tries }) (cascade_run feed moment (faults_of keeper_open keeper_now) copies) link answer)
+      → LeadsFrom old new (IsFollowAnswer task (cascade_run feed moment (faults_of keeper keeper_now) copies) link answer)
   follow_opened token limit tries a b c keeper_open stands answer told same =
-      leads-on old stands new _ _ told (λ before after is. subst (λ k. IsFollowAnswer task feed moment (faults_of k keeper_now) copies link answer before after) same
-      (subst (λ (t : Task). IsFollowAnswer t feed moment (faults_of keeper_open keeper_now) copies link answer before after) same_task is))
+      leads-on old stands new _ _ told (λ before after is. subst (λ k. IsFollowAnswer task (cascade_run feed moment (faults_of k keeper_now) copies) link answer before after) same
+      (subst (λ (t : Task). IsFollowAnswer t (cascade_run feed moment (faults_of keeper_open keeper_now) copies) link answer before after) same_task is))
     where
       same_task : record { token = token; limit = limit; tries = tries } ≡ task
       same_task = rw (a, b, c) refl
 
   -- a hub that couldn't be opened
   pub follow_not_opened : (T : Type 0) (e : HubError) → copies.same → link.same → RefusesNothing {T = T} (Err e) → CountsFault {T = T} keeper keeper_now (Err e) → ((kept : KeptState) → new kept → old kept)
-      → LeadsFrom old new (IsFollowAnswer task feed moment (faults_of keeper keeper_now) copies link (record { done = []; end = end_of_error e }))
+      → LeadsFrom old new (IsFollowAnswer task (cascade_run feed moment (faults_of keeper keeper_now) copies) link (record { done = []; end = end_of_error e }))
   follow_not_opened T e copy_same link_same quiet counts told =
-      leads-on old new new _ _ told (λ before after is. is) (leads-nowhere new (IsFollowAnswer task feed moment (faults_of keeper keeper_now) copies link (record { done = []; end = end_of_error e }))
+      leads-on old new new _ _ told (λ before after is. is) (leads-nowhere new (IsFollowAnswer task (cascade_run feed moment (faults_of keeper keeper_now) copies) link (record { done = []; end = end_of_error e }))
       (λ kept. inr (record { done = refl; end = failed e quiet counts; same = (copy_same, link_same, refl) })))
     where
       failed : (e : HubError) → RefusesNothing {T = T} (Err e) → CountsFault {T = T} keeper keeper_now (Err e) → ((end_of_error e ≡ HubFailed) × HaveRisen (faults_of keeper keeper_now)) ⊎ (end_of_error e ≡ NoMemory)

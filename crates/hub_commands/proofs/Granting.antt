@@ -31,7 +31,7 @@ use Rattle.hub_commands.specs.declared.answer.End.TheVariants.{RequestRefused, S
 use Rattle.hub_commands.specs.GrantAnswers.{GivesGrants, GrantsFile, IsGrantAnswer, IsGrantsOf, ReadsGrants, SetsGrants}
 use Rattle.hub_commands.specs.GrantAnswers.{StopsGrant, grants_in, or_refused}
 use Rattle.hub_commands.specs.Outside.{Faults, HaveStood, Outside, faults_of, outside_of}
-use Rattle.hub_commands.specs.Publishes.{IsTold}
+use Rattle.hub_commands.specs.PublishAnswers.{IsTold}
 use Rattle.hub_commands.specs.Runs.{LeadsFrom}
 use Rattle.hub_commands.specs.Steps.{end_of_error}
 

@@ -21,7 +21,7 @@ use Rattle.version_changes.specs.sets.Applying.{Applies}
 use Rattle.rest_provider.specs.Moments.{IsMomentOf}
 use Rattle.hub_commands.specs.Answers.{status_of}
 use Rattle.hub_commands.specs.Outside.{Faults, HaveRisen, HaveStood, NothingFailed, Outside, faults_of, outside_of}
-use Rattle.hub_commands.specs.Publishes.{IsRunOf, IsSetOf, PublishesSet, StopsAt, told_text}
+use Rattle.hub_commands.specs.PublishAnswers.{IsRunOf, IsSetOf, PublishesSet, StopsAt, told_text}
 use Rattle.hub_commands.specs.Runs.{IsPublishAnswer, LeadsFrom}
 use Rattle.hub_commands.specs.Steps.{PublishesFeed, ReadsSet, end_of, end_of_error}
 use Rattle.hub_commands.specs.declared.answer.Answer.{Answer}

@@ -16,7 +16,7 @@ use Rattle.hub_commands.specs.declared.answer.Answer.{Answer}
 use Rattle.hub_commands.specs.declared.answer.End.TheVariants.{Refused}
 use Rattle.hub_commands.specs.Outside.{Faults, outside_of}
 use Rattle.hub_commands.specs.Reads.{IsAnswerTo}
-use Rattle.hub_commands.specs.Shows.{IsShown, answer_of_file}
+use Rattle.hub_commands.specs.ShowAnswers.{IsShown, answer_of_file}
 
 -- there are bytes of any length
 longer : (n : ℕ) → (bytes : List ℕ) × (n < length bytes)

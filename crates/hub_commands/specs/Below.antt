@@ -1,7 +1,6 @@
 -- What crates above cite of the crates below this one, which they then needn't list.
 pub use Rattle.hub_follow.specs.Catching
 pub use Rattle.hub_follow.specs.declared.answer.Missed
-pub use Rattle.consumer_commands.specs.Consumers
 pub use Rattle.consumer_commands.specs.Held
 pub use Rattle.consumer_commands.specs.SendLines
 pub use Rattle.consumer_commands.specs.Sends

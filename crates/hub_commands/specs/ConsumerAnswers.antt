@@ -1,6 +1,6 @@
 -- What `sync`, `delta` and `list` answer.
 use Rattle.std.specs.Prelude.{◌≡◌, ◌⊎◌, ℕ, List, []}
-pub use Rattle.consumer_commands.specs.Consumers.{CopyRun, LinkRun, copy_between, copy_run, link_between, link_run}
+pub use Rattle.exchange_link.specs.Between.{CopyRun, LinkRun, copy_between, copy_run, link_between}
 use Rattle.consumer_commands.specs.Held.{IsHeldText}
 pub use Rattle.consumer_commands.specs.Deltas.{IsDeltaOf}
 pub use Rattle.consumer_commands.specs.Syncs.{IsSyncOf}

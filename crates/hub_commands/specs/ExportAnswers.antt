@@ -4,7 +4,7 @@ pub use Rattle.bulk_export.specs.Changes.{HasTooMany, IsChangesExport, rows_in}
 pub use Rattle.bulk_export.specs.Exports.{IsExport, manifest_text}
 use Rattle.bulk_export.specs.declared.error.ExportError.{ExportError}
 use Rattle.bulk_export.specs.declared.error.ExportError.TheVariants as error
-use Rattle.consumer_commands.specs.Consumers.{CopyRun}
+use Rattle.exchange_link.specs.Between.{CopyRun}
 use Rattle.csv_sets.specs.Files.{largest}
 use Rattle.csv_sets.specs.Written.{written_text}
 use Rattle.keeper_memory.specs.copy.Copies.{Copy, held_list}

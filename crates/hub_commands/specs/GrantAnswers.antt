@@ -19,7 +19,7 @@ use Rattle.hub_commands.specs.declared.answer.End.{End}
 use Rattle.hub_commands.specs.declared.answer.End.TheVariants.{Done, FileTooLarge, FolderFailed, GrantsRefused}
 use Rattle.hub_commands.specs.declared.answer.End.TheVariants.{HubFailed, MissingFile, NoMemory, NotPublished}
 use Rattle.hub_commands.specs.Outside.{Faults, HaveRisen, HaveStood, NothingFailed, Outside}
-use Rattle.hub_commands.specs.Publishes.{told_text}
+use Rattle.hub_commands.specs.PublishAnswers.{told_text}
 
 abbrev pub or_refused : Result (List GrantEntry) GrantFault → Result (List GrantEntry) End
 or_refused (Ok entries) = Ok entries

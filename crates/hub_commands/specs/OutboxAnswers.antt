@@ -1,7 +1,7 @@
 -- What `enter`, `send` and `outbox` answer.
 use Rattle.std.specs.Prelude.{◌≡◌, ◌⊎◌, ℕ, ℤ, true, false, List, [], Option, Result, Ok, Err, if◌then◌else◌, ⊤}
 use Rattle.std.specs.Str.{is_utf8}
-use Rattle.consumer_commands.specs.Consumers.{CopyRun, LinkRun}
+use Rattle.exchange_link.specs.Between.{CopyRun, LinkRun}
 use Rattle.consumer_commands.specs.Outbox.{IsOutboxText}
 use Rattle.consumer_commands.specs.SendLines.{entered_text}
 pub use Rattle.consumer_commands.specs.Sends.{IsEnterOf, IsSendOf}

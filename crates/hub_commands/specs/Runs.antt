@@ -9,8 +9,9 @@ use Rattle.hub_commands.specs.Answers.{status_of, text_of}
 use Rattle.hub_commands.specs.declared.answer.Answer.{Answer}
 use Rattle.hub_commands.specs.declared.answer.End.TheVariants.{FolderFailed, HubFailed, NoMemory}
 use Rattle.hub_commands.specs.Outside.{HaveRisen, HaveStood, Outside}
-use Rattle.hub_commands.specs.Publishes.{IsRunOf}
-use Rattle.hub_commands.specs.Shows.{IsShown}
+use Rattle.hub_commands.specs.PublishAnswers.{IsRunOf}
+use Rattle.hub_commands.specs.ShowAnswers.{IsShown}
+use Rattle.hub_words.specs.Statuses.{output_failed_status}
 use Rattle.hub_words.specs.declared.task.Feed.{Feed}
 
 -- memory ran out before anything was done
@@ -52,8 +53,8 @@ LeadsBetween stands_for old new leads = LeadsFrom (stands_for old) (stands_for n
 abbrev pub Writes : ℕ → Option (List ℕ) → Option (List ℕ) → ℕ → ℕ → (Answer → Type 0) → Type 0
 Writes status old new before now is =
     (answer : Answer) × is answer
-    × (((status ≢ 1) × (status ≡ status_of answer.end) × Appends old new (text_of answer) × (now ≡ before))
-    ⊎ ((status ≡ 1) × Rose before now × AppendsPart old new (text_of answer)))
+    × (((status ≢ output_failed_status) × (status ≡ status_of answer.end) × Appends old new (text_of answer) × (now ≡ before))
+    ⊎ ((status ≡ output_failed_status) × Rose before now × AppendsPart old new (text_of answer)))
 
 -- between two states of a sink
 abbrev pub WritesBetween : {O : Type 0} → (O → Option (List ℕ)) → (O → ℕ) → O → O → ℕ → (Answer → Type 0) → Type 0

@@ -9,7 +9,7 @@ use Rattle.keeper_memory.specs.Kept.{KeptState}
 use Rattle.outside_ports.specs.Files.{Stored}
 use Rattle.roster_types.specs.Sets.{SetRecord}
 use Rattle.hub_commands.specs.Outside.{Faults, HaveRisen, HaveStood, NothingFailed, Outside}
-use Rattle.hub_commands.specs.Publishes.{IsSetOf, PublishesSet, StopsAt}
+use Rattle.hub_commands.specs.PublishAnswers.{IsSetOf, PublishesSet, StopsAt}
 use Rattle.hub_commands.specs.declared.answer.End.{End}
 use Rattle.hub_commands.specs.declared.answer.End.TheVariants.{FolderFailed, HubFailed, NoMemory, NotPublished, Refused}
 use Rattle.hub_words.specs.declared.task.Feed.{Feed}

@@ -3,6 +3,7 @@
 ghost use Rattle.std.specs.Prelude.{◌≡◌, ◌≢◌, [], IfOk, IsOk, string_bytes};
 ghost use Rattle.hub_commands.specs.Answers as answers;
 ghost use Rattle.hub_commands.specs.declared.answer.End.TheVariants as ends;
+ghost use Rattle.hub_words.specs.Statuses.{output_failed_status};
 
 use crate::lines::{
     FOLDER_FAILED, HUB_FAILED, NO_MEMORY, NOTHING_HELD, bad_word_line, fault_line,
@@ -104,7 +105,7 @@ impl End {
     /// server.
     pub fn status(&self) -> u8
         ensures value { result ≡ answers.status_of self.now }
-        ensures other { result ≢ 1 }
+        ensures other { result ≢ output_failed_status }
     {
         match self {
             End::Done => statuses::DONE,

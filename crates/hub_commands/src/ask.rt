@@ -8,6 +8,7 @@ ghost use Rattle.hub_commands.specs.Answers.{IsPrinted};
 ghost use Rattle.hub_commands.specs.Outside.{faults_between, outside_between};
 ghost use Rattle.hub_commands.specs.Runs.{LeadsBetween, WritesBetween};
 ghost use Rattle.hub_commands.specs.declared.answer.End.{End as EndValue};
+ghost use Rattle.hub_words.specs.Statuses.{output_failed_status};
 
 use crate::answer::{Answer, End};
 use crate::printing::tell;
@@ -80,7 +81,7 @@ fn closed_end(requests: u64, is_whole: bool) -> End
 /// Writes the end of a stream, where the sink didn't fail.
 pub fn print_end<O: Sink>(alloc: Global, end: Option<End>, out: &mut O) -> u8
     ensures done { (ended : EndValue) → end ≡ Some ended → WritesBetween O.written O.faults out.old out.new result (IsPrinted (record { done = []; end = ended })) }
-    ensures none { end ≡ None → (result ≡ 1) × (out.new ≡ out.old) }
+    ensures none { end ≡ None → (result ≡ output_failed_status) × (out.new ≡ out.old) }
 {
     match end {
         Some(end) => tell(alloc, Answer::nothing_done(alloc, end), out),

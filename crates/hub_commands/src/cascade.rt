@@ -1,8 +1,8 @@
 //! The command `cascade`.
 
 ghost use Rattle.std.specs.Prelude.{◌≡◌, false};
-ghost use Rattle.consumer_commands.specs.Consumers.{copy_between};
-ghost use Rattle.hub_commands.specs.Cascades.{IsCascadeAnswer, end_of_cascade, or_ended};
+ghost use Rattle.exchange_link.specs.Between.{copy_between};
+ghost use Rattle.hub_commands.specs.CascadeAnswers.{IsCascadeAnswer, cascade_run, end_of_cascade, or_ended};
 ghost use Rattle.hub_commands.specs.Outside.{faults_between};
 ghost use Rattle.hub_commands.specs.Runs.{LeadsBetween};
 ghost use Rattle.hub_core.specs.Standing.{KeeperFits};
@@ -53,8 +53,8 @@ fn cascade_into<H: HubKeeper, C: CopyKeeper, K: Clock>(
     requires fits { KeeperFits (H.stands_for keeper.old) hub }
     requires settled { hub.commit_open ≡ false }
     requires kept { IsKept hub.kept }
-    ensures { LeadsBetween H.stands_for keeper.old keeper.new (IsCascadeAnswer feed.now (K.moment clock.now)
-        (faults_between H.fault_count keeper.old keeper.new) (copy_between C.stands_for C.fault_count copy.old copy.new) result) }
+    ensures { LeadsBetween H.stands_for keeper.old keeper.new (IsCascadeAnswer (cascade_run feed.now (K.moment clock.now)
+        (faults_between H.fault_count keeper.old keeper.new) (copy_between C.stands_for C.fault_count copy.old copy.new)) result) }
 {
     let made = cascade_copy(alloc, &mut hub, keeper, copy, feed, moment_of(clock));
     drop(hub);
@@ -69,8 +69,8 @@ pub fn cascade<H: HubKeeper, C: CopyKeeper, K: Clock>(
     copy: &mut C,
     clock: &K,
 ) -> Answer
-    ensures { LeadsBetween H.stands_for keeper.old keeper.new (IsCascadeAnswer feed.now (K.moment clock.now)
-        (faults_between H.fault_count keeper.old keeper.new) (copy_between C.stands_for C.fault_count copy.old copy.new) result) }
+    ensures { LeadsBetween H.stands_for keeper.old keeper.new (IsCascadeAnswer (cascade_run feed.now (K.moment clock.now)
+        (faults_between H.fault_count keeper.old keeper.new) (copy_between C.stands_for C.fault_count copy.old copy.new)) result) }
 {
     match Hub::open(alloc, keeper) {
         Ok(hub) => cascade_into(alloc, hub, feed, keeper, copy, clock),

@@ -1,6 +1,6 @@
 //! The command `delta`.
 
-ghost use Rattle.consumer_commands.specs.Consumers.{copy_between, link_between};
+ghost use Rattle.exchange_link.specs.Between.{copy_between, link_between};
 ghost use Rattle.hub_commands.specs.ConsumerAnswers.{IsDeltaAnswer};
 
 use crate::answer::{Answer, End};

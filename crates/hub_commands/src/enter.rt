@@ -1,7 +1,7 @@
 //! The command `enter`.
 
 ghost use Rattle.std.specs.Prelude.{◌≡◌, ◌≤◌, IfOk, length};
-ghost use Rattle.consumer_commands.specs.Consumers.{copy_between};
+ghost use Rattle.exchange_link.specs.Between.{copy_between};
 ghost use Rattle.keeper_memory.specs.copy.Copies.{IsOutWrite, max_body};
 ghost use Rattle.outside_ports.specs.Files.{IsWithin};
 ghost use Rattle.row_json.specs.Puts.{put_of};

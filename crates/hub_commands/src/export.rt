@@ -1,7 +1,7 @@
 //! The command `export`.
 
 ghost use Rattle.std.specs.Prelude.{◌≡◌, IfOk};
-ghost use Rattle.consumer_commands.specs.Consumers.{copy_between};
+ghost use Rattle.exchange_link.specs.Between.{copy_between};
 ghost use Rattle.hub_commands.specs.ExportAnswers.{ExportEnds, HasTooMany, IsChangesExport, IsExportAnswer};
 ghost use Rattle.hub_commands.specs.ExportAnswers.{IsManifestAnswer, IsSinceAnswer, earlier_feed, end_of_export};
 ghost use Rattle.hub_commands.specs.ExportAnswers.{file_answer, rows_in};

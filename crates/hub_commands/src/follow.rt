@@ -1,8 +1,9 @@
 //! The command `follow`.
 
 ghost use Rattle.std.specs.Prelude.{◌≡◌, ◌++◌, IfOk};
-ghost use Rattle.consumer_commands.specs.Consumers.{copy_between, link_between};
-ghost use Rattle.hub_commands.specs.Follows.{IsFollowAnswer, TellsEnd, TellsVersion, completed};
+ghost use Rattle.exchange_link.specs.Between.{copy_between, link_between};
+ghost use Rattle.hub_commands.specs.CascadeAnswers.{cascade_run};
+ghost use Rattle.hub_commands.specs.FollowAnswers.{IsFollowAnswer, TellsEnd, TellsVersion, completed};
 ghost use Rattle.hub_commands.specs.Outside.{faults_between};
 ghost use Rattle.hub_commands.specs.Runs.{LeadsBetween};
 
@@ -81,8 +82,10 @@ pub fn follow<H: HubKeeper, C: CopyKeeper, L: Link, K: Clock>(
     link: &mut L,
     clock: &K,
 ) -> Answer
-    ensures { LeadsBetween H.stands_for keeper.old keeper.new (IsFollowAnswer words.now.sync.now words.now.feed.now (K.moment clock.now) (faults_between H.fault_count keeper.old keeper.new)
-        (copy_between C.stands_for C.fault_count copy.old copy.new) (link_between L.tells L.asked L.missed L.kept L.fault_count link.old link.new) result) }
+    ensures { LeadsBetween H.stands_for keeper.old keeper.new (IsFollowAnswer words.now.sync.now
+        (cascade_run words.now.feed.now (K.moment clock.now)
+        (faults_between H.fault_count keeper.old keeper.new) (copy_between C.stands_for C.fault_count copy.old copy.new))
+        (link_between L.tells L.asked L.missed L.kept L.fault_count link.old link.new) result) }
 {
     match Hub::open(alloc, keeper) {
         Ok(mut hub) => {

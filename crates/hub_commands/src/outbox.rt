@@ -1,6 +1,6 @@
 //! The command `outbox`.
 
-ghost use Rattle.consumer_commands.specs.Consumers.{copy_between};
+ghost use Rattle.exchange_link.specs.Between.{copy_between};
 ghost use Rattle.hub_commands.specs.OutboxAnswers.{IsOutboxAnswer};
 
 use crate::answer::{Answer, End};

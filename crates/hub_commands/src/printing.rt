@@ -7,6 +7,7 @@ ghost use Rattle.roster_base.specs.Faults.{Rose};
 ghost use Rattle.hub_commands.specs.Answers.{IsPrinted};
 ghost use Rattle.hub_commands.specs.ExportAnswers.{file_answer};
 ghost use Rattle.hub_commands.specs.Runs.{WritesBetween};
+ghost use Rattle.hub_words.specs.Statuses.{output_failed_status};
 
 use crate::answer::{Answer, End};
 use crate::lines::NO_MEMORY;
@@ -17,9 +18,9 @@ use std::alloc::Global;
 
 /// Writes bytes, and gives their status, or 1 where the sink failed and a prefix of the bytes was written.
 pub fn print_bytes<O: Sink>(out: &mut O, status: u8, bytes: &[u8]) -> u8
-    requires { status ≢ 1 }
-    ensures done { result ≢ 1 → (result ≡ status) × Appends (O.written out.old) (O.written out.new) bytes.now × (O.faults out.new ≡ O.faults out.old) }
-    ensures fault { result ≡ 1 → Rose (O.faults out.old) (O.faults out.new) × AppendsPart (O.written out.old) (O.written out.new) bytes.now }
+    requires { status ≢ output_failed_status }
+    ensures done { result ≢ output_failed_status → (result ≡ status) × Appends (O.written out.old) (O.written out.new) bytes.now × (O.faults out.new ≡ O.faults out.old) }
+    ensures fault { result ≡ output_failed_status → Rose (O.faults out.old) (O.faults out.new) × AppendsPart (O.written out.old) (O.written out.new) bytes.now }
 {
     match out.write_all(bytes) {
         Ok(()) => status,
@@ -29,18 +30,18 @@ pub fn print_bytes<O: Sink>(out: &mut O, status: u8, bytes: &[u8]) -> u8
 
 /// Writes a text as `print_bytes` writes bytes.
 pub fn print<O: Sink>(out: &mut O, status: u8, text: &str) -> u8
-    requires { status ≢ 1 }
-    ensures done { result ≢ 1 → (result ≡ status) × Appends (O.written out.old) (O.written out.new) text.now × (O.faults out.new ≡ O.faults out.old) }
-    ensures fault { result ≡ 1 → Rose (O.faults out.old) (O.faults out.new) × AppendsPart (O.written out.old) (O.written out.new) text.now }
+    requires { status ≢ output_failed_status }
+    ensures done { result ≢ output_failed_status → (result ≡ status) × Appends (O.written out.old) (O.written out.new) text.now × (O.faults out.new ≡ O.faults out.old) }
+    ensures fault { result ≡ output_failed_status → Rose (O.faults out.old) (O.faults out.new) × AppendsPart (O.written out.old) (O.written out.new) text.now }
 {
     print_bytes(out, status, text.as_bytes())
 }
 
 // Writes two texts, one behind the other, and gives the status likewise.
 fn print_both<O: Sink>(out: &mut O, status: u8, first: &str, second: &str) -> u8
-    requires { status ≢ 1 }
-    ensures done { result ≢ 1 → (result ≡ status) × Appends (O.written out.old) (O.written out.new) (first.now ++ second.now) × (O.faults out.new ≡ O.faults out.old) }
-    ensures fault { result ≡ 1 → Rose (O.faults out.old) (O.faults out.new) × AppendsPart (O.written out.old) (O.written out.new) (first.now ++ second.now) }
+    requires { status ≢ output_failed_status }
+    ensures done { result ≢ output_failed_status → (result ≡ status) × Appends (O.written out.old) (O.written out.new) (first.now ++ second.now) × (O.faults out.new ≡ O.faults out.old) }
+    ensures fault { result ≡ output_failed_status → Rose (O.faults out.old) (O.faults out.new) × AppendsPart (O.written out.old) (O.written out.new) (first.now ++ second.now) }
 {
     if first.is_empty() {
         return print(out, status, second);

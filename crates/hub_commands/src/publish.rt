@@ -4,7 +4,7 @@ ghost use Rattle.std.specs.Prelude.{◌≡◌, ◌++◌, ℕ, List, IfOk, Ok, On
 ghost use Rattle.hub_core.specs.Standing.{IsStanding, KeeperFits};
 ghost use Rattle.keeper_memory.specs.Kept.{IsKept, KeptState};
 ghost use Rattle.hub_commands.specs.Outside.{faults_between, outside_between};
-ghost use Rattle.hub_commands.specs.Publishes.{IsRunOf, IsTold, told_text};
+ghost use Rattle.hub_commands.specs.PublishAnswers.{IsRunOf, IsTold, told_text};
 ghost use Rattle.hub_commands.specs.Runs.{IsPublishAnswer, LeadsBetween};
 ghost use Rattle.hub_commands.specs.Steps.{PublishesFeed, ReadsSet, end_of, end_of_error};
 

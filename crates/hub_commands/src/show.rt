@@ -5,7 +5,7 @@ ghost use Rattle.csv_sets.specs.Files as files;
 ghost use Rattle.hub_commands.specs.Outside.{Faults, outside_between};
 ghost use Rattle.hub_commands.specs.Reads.{IsAnswerTo};
 ghost use Rattle.hub_commands.specs.Runs.{IsShowAnswer};
-ghost use Rattle.hub_commands.specs.Shows.{answer_of_rows, dated_row, shown_text};
+ghost use Rattle.hub_commands.specs.ShowAnswers.{answer_of_rows, dated_row, shown_text};
 ghost use Rattle.hub_commands.specs.declared.answer.End.TheVariants.{Done, Refused};
 
 use crate::answer::{Answer, End};
@@ -40,7 +40,7 @@ fn dated_rows(alloc: Global, at: Moment, rows: Vec<SetRow>) -> Result<Vec<Row>, 
 }
 
 // The output over the rows of a file.
-#[tactic(auto, unfolding(crate::specs::Shows::shown_text))]
+#[tactic(auto, unfolding(crate::specs::ShowAnswers::shown_text))]
 fn output(alloc: Global, kind: Kind, at: Moment, rows: Vec<SetRow>) -> Result<String, NoMemory>
     ensures { IfOk result (λ t. string_bytes t ≡ shown_text kind at rows.items) }
 {

@@ -54,7 +54,13 @@ with_mark-found mark marks free =
 pub made : (kept : KeptState) (commit : HubCommit) → CanCommit kept commit → has_commit (with_commit kept commit) commit ≡ true
 made kept commit can = shows commit.change commit.mark can.some can.mark
   where
-    shows : (change : Option Change) (mark : Option MarkRow) → IsSome change ⊎ IsSome mark → ForSome mark (CanMark (newest_kept (versions_after kept.keep kept.versions change)).number kept.marks) → has_change_or (record { keep = kept.keep; versions = versions_after kept.keep kept.versions change; marks = marks_after kept.marks mark }) change mark ≡ true
+    shows : (change : Option Change) (mark : Option MarkRow) → IsSome change ⊎ IsSome mark
+        → ForSome mark (CanMark (newest_kept (versions_after kept.keep kept.versions change)).number kept.marks)
+        → has_change_or (record {
+          keep = kept.keep;
+          versions = versions_after kept.keep kept.versions change;
+          marks = marks_after kept.marks mark;
+        }) change mark ≡ true
     shows (Some change) mark some can =
         let newest = ap (λ (v : BaseVersion). v.number) (newest_after kept.keep kept.versions (after (newest_kept kept.versions) change)) in
         le-leb change.version (newest_kept (versions_after kept.keep kept.versions (Some change))).number (omega arith)

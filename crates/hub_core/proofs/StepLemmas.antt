@@ -81,7 +81,11 @@ set_answers version set at (Err (refusal.Fault fault)) answers = answers
 set_answers version set at (Err refusal.NoMemory) answers = answers
 
 -- what a set makes may follow, with the grants as they were
-pub set_can : (kept : KeptState) → IsKept kept → (set : SetRecord) (at : ℤ) (due : Result (Option Change) (Refusal PublishFault)) → Answers (newest_kept kept.versions) set at due → IfOk due (λ change. ForSome change (LeadsOn (newest_kept kept.versions))) → IfOk due (λ change. ForSome change (CanLead kept.versions))
+pub set_can : (kept : KeptState) → IsKept kept
+    → (set : SetRecord) (at : ℤ) (due : Result (Option Change) (Refusal PublishFault))
+    → Answers (newest_kept kept.versions) set at due
+    → IfOk due (λ change. ForSome change (LeadsOn (newest_kept kept.versions)))
+    → IfOk due (λ change. ForSome change (CanLead kept.versions))
 set_can kept is set at due answers next =
     let newest = newest_kept kept.versions in
     can (Applies newest set at) kept.versions goes_on kept.keep is.versions due (set_answers newest set at due answers) next
@@ -94,7 +98,11 @@ set_can kept is set at due answers next =
     }
 
 -- what a list of grants makes may follow
-pub grants_can : (kept : KeptState) → IsKept kept → (list : List GrantEntry) (at : ℤ) (due : Result (Option Change) (Refusal PublishFault)) → AnswersBy (GrantsMake (newest_kept kept.versions) list at) (newest_kept kept.versions) due → IfOk due (λ change. ForSome change (LeadsOn (newest_kept kept.versions))) → IfOk due (λ change. ForSome change (CanLead kept.versions))
+pub grants_can : (kept : KeptState) → IsKept kept
+    → (list : List GrantEntry) (at : ℤ) (due : Result (Option Change) (Refusal PublishFault))
+    → AnswersBy (GrantsMake (newest_kept kept.versions) list at) (newest_kept kept.versions) due
+    → IfOk due (λ change. ForSome change (LeadsOn (newest_kept kept.versions)))
+    → IfOk due (λ change. ForSome change (CanLead kept.versions))
 grants_can kept is list at due answers next =
     can (GrantsMake (newest_kept kept.versions) list at) kept.versions (λ change on makes. grants_go_on (newest_kept kept.versions) (newest_is kept.keep kept.versions is.versions) list at (after (newest_kept kept.versions) change) on.version makes) kept.keep is.versions due answers next
 
@@ -112,7 +120,9 @@ module _ (asks : BaseVersion → Outcome → Type 0) (before after : KeptState) 
   publishes (Ok (Some change)) (Err (error.Refused fault)) answers adopts = absurd adopts
 
 -- what is adopted of a sound change is sound
-pub sound_after : (due : Result (Option Change) (Refusal PublishFault)) (result : Result Published HubError) (before after : KeptState) → IfOk due (λ change. IsSound (led_to (newest_kept before.versions) change)) → Adopts due result before after → is_ok result ≡ true → IsSound (newest_kept after.versions)
+pub sound_after : (due : Result (Option Change) (Refusal PublishFault)) (result : Result Published HubError)
+    (before after : KeptState) → IfOk due (λ change. IsSound (led_to (newest_kept before.versions) change))
+    → Adopts due result before after → is_ok result ≡ true → IsSound (newest_kept after.versions)
 sound_after (Err (refusal.Fault fault)) result before after sound adopts ok = cc (adopts.1, ok)
 sound_after (Err refusal.NoMemory) result before after sound adopts ok = cc (adopts.1, ok)
 sound_after (Ok None) result before after sound adopts ok = subst (λ (k : KeptState). IsSound (newest_kept k.versions)) (sym adopts.0) sound

@@ -1,10 +1,11 @@
 -- What the calls of a hub answer, and where they lead.
-use Rattle.std.specs.Prelude.{◌≡◌, ◌⊎◌, ⊤, ℕ, ◌+◌, ◌-◌, ◌^◌, min, Bool, false, true, Result, Ok, Err}
+use Rattle.std.specs.Prelude.{◌≡◌, ◌⊎◌, ⊤, ℕ, Bool, false, true, Result, Ok, Err}
 use Rattle.keeper_memory.specs.Commits.{followed_by, with_commit}
 use Rattle.keeper_memory.specs.Kept.{KeptState, newest_kept}
 use Rattle.keeper_memory.specs.declared.hub_commit.HubCommit.{HubCommit}
 use Rattle.version_changes.specs.sets.Applying.{Leads, Outcome, Refuses, Unchanged}
 use Rattle.version_core.specs.declared.change.BaseVersion.{BaseVersion}
+use Rattle.roster_base.specs.Faults.{one_more}
 use Rattle.hub_core.specs.declared.hub_error.HubError.{HubError}
 use Rattle.hub_core.specs.declared.hub_error.HubError.TheVariants as error
 use Rattle.hub_core.specs.declared.published.Published.{Published}
@@ -13,7 +14,7 @@ use Rattle.hub_core.specs.declared.published.Published.TheVariants as published
 -- a keeper's failure is counted once, and nothing else is
 abbrev pub CountsFault : {T : Type 0} → ℕ → ℕ → Result T HubError → Type 0
 CountsFault before now (Ok x) = now ≡ before
-CountsFault before now (Err error.Keeper) = now ≡ min (before + 1) (2 ^ 64 - 1)
+CountsFault before now (Err error.Keeper) = now ≡ one_more before
 CountsFault before now (Err error.NoMemory) = now ≡ before
 CountsFault before now (Err (error.Refused fault)) = now ≡ before
 

@@ -1,9 +1,10 @@
 -- What a call makes of a hub.
-use Rattle.std.specs.Prelude.{◌≡◌, ◌⊎◌, ◌+◌, ◌-◌, ◌^◌, ℕ, min, Bool, IsTrue, false, true, Option, None, Some, Result}
+use Rattle.std.specs.Prelude.{◌≡◌, ◌⊎◌, ℕ, Bool, IsTrue, false, true, Option, None, Some, Result}
 use Rattle.std.specs.Prelude.{Ok, Err}
 use Rattle.keeper_memory.specs.Commits.{CanCommit, with_commit}
 use Rattle.keeper_memory.specs.Kept.{KeptState}
 use Rattle.keeper_memory.specs.declared.hub_commit.HubCommit.{HubCommit}
+use Rattle.roster_base.specs.Faults.{one_more}
 use Rattle.hub_core.specs.Standing.{HeldHub, IsStanding}
 use Rattle.hub_core.specs.Steps.{CountsFault}
 use Rattle.hub_core.specs.declared.hub_error.HubError.{HubError}
@@ -70,7 +71,7 @@ pub record IsDone {A : Type 0} (asks : A → KeptState → KeptState → Type 0)
 
 pub record IsFailed {A : Type 0} (failed : A) (answer : A) (before after : HeldHub) (count count' : ℕ) : Type 0 where
   pub left : IsLeftOpen before after
-  pub rose : count' ≡ min (count + 1) (2 ^ 64 - 1)
+  pub rose : count' ≡ one_more count
   pub told : answer ≡ failed
 
 abbrev pub Did : {A : Type 0} → (A → KeptState → KeptState → Type 0) → A → A → HeldHub → HeldHub → ℕ → ℕ → Type 0

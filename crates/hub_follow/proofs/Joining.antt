@@ -10,6 +10,7 @@ use Rattle.consumer_deltas.specs.declared.answer.DeltaAnswer.{DeltaAnswer}
 use Rattle.consumer_deltas.specs.declared.answer.DeltaAnswer.TheVariants as delta
 use Rattle.exchange_link.proofs.StageLemmas.{on_token}
 use Rattle.exchange_link.specs.Asked.{AreNumbered}
+use Rattle.exchange_link.specs.Between.{Call, CopyRun, LinkRun}
 use Rattle.exchange_link.specs.Exchanges.{LinkState}
 use Rattle.exchange_link.specs.Synchronised.{CompleteAt, HeldLaw, HeldTold, IsPinOf, Leaves, StageLaw, StageOn}
 use Rattle.exchange_link.specs.Synchronised.{Synchronised, own_stage}
@@ -141,33 +142,33 @@ module _ (P : Request → Type 0) where
   first_behind (q ∷ []) (e ∷ es) some x = x
   first_behind (q ∷ r ∷ more) earlier some x = first_behind (r ∷ more) earlier some x
 
-module _ (token : List ℕ) (limit tries : ℕ) (befores copies : Copy → Type 0) (asked asked_now : ℕ) (d : DeltaAnswer) (before after : List Request) (c : Copy) (stands : copies c)
-    (x : AsksDeltas token limit tries befores copies asked asked_now d before after) where
+module _ (call : Call) (copies : CopyRun) (link : LinkRun) (d : DeltaAnswer) (before after : List Request) (c : Copy) (stands : copies.stands c)
+    (x : AsksDeltas call copies link d before after) where
   long : 1 ≤ length x.each.more → 1 ≤ x.count
   long some = ⊎_elim (λ (all : 0 + length x.each.more ≡ x.count). omega (arith, all, some)) (λ most. let all = most.1 in omega (arith, all)) x.each.all
 
-  first_held : FirstIs (AsksFromHeld token limit befores) x.each.more
-  first_held = first_all (AsksFromHeld token limit befores) (IsDeltaUnder token limit x.base) x.run 0 x.each.more (λ some n q is. (x.base, x.held (long some) c stands, (n, is))) x.each.each
+  first_held : FirstIs (AsksFromHeld call.token call.limit copies.stood) x.each.more
+  first_held = first_all (AsksFromHeld call.token call.limit copies.stood) (IsDeltaUnder call.token call.limit x.base) x.run 0 x.each.more (λ some n q is. (x.base, x.held (long some) c stands, (n, is))) x.each.each
 
-  pub first_delta : BeginsFromHeld token limit befores before after
+  pub first_delta : BeginsFromHeld call.token call.limit copies.stood before after
   first_delta = record { more = x.each.more; sent = x.each.sent; first = first_held }
 
 gone_wants : {held oldest : ℕ} {K : Type 0} → delta.BaseGone held oldest ≡ delta.Ended answer.NoMemory → K
 gone_wants e = cc
 
-module _ (token : List ℕ) (limit tries : ℕ) (befores copies : Copy → Type 0) (asked asked_now : ℕ) where
+module _ (call : Call) (copies : CopyRun) (link : LinkRun) where
   -- behind a base that is gone something was sent
-  some_sent : (d : DeltaAnswer) (before mid : List Request) → lacks_base d ≡ true → (d ≡ delta.NoBase → ⊥) → (x : AsksDeltas token limit tries befores copies asked asked_now d before mid) → 1 ≤ length x.each.more
+  some_sent : (d : DeltaAnswer) (before mid : List Request) → lacks_base d ≡ true → (d ≡ delta.NoBase → ⊥) → (x : AsksDeltas call copies link d before mid) → 1 ≤ length x.each.more
   some_sent (delta.Ended a) before mid e based x = false_true e
   some_sent delta.NoBase before mid e based x = absurd (based refl)
   some_sent (delta.BaseGone held oldest) before mid e based x =
       let some : 1 ≤ x.count = x.some in
       ⊎_elim (λ (all : 0 + length x.each.more ≡ x.count). omega (arith, all, some)) (λ most. gone_wants most.0) x.each.all
 
-  pub first_both : (d : DeltaAnswer) (before mid after : List Request) (c : Copy) → copies c → lacks_base d ≡ true → (d ≡ delta.NoBase → ⊥) → AsksDeltas token limit tries befores copies asked asked_now d before mid
-      → (more : List Request) → after ≡ more ++ mid → BeginsFromHeld token limit befores before after
+  pub first_both : (d : DeltaAnswer) (before mid after : List Request) (c : Copy) → copies.stands c → lacks_base d ≡ true → (d ≡ delta.NoBase → ⊥) → AsksDeltas call copies link d before mid
+      → (more : List Request) → after ≡ more ++ mid → BeginsFromHeld call.token call.limit copies.stood before after
   first_both d before mid after c stands e based x more sent = record {
     more = more ++ x.each.more;
     sent = sent ∙ ap (λ l. more ++ l) x.each.sent ∙ sym (append_assoc more x.each.more before);
-    first = first_behind (AsksFromHeld token limit befores) more x.each.more (some_sent d before mid e based x) (first_held token limit tries befores copies asked asked_now d before mid c stands x);
+    first = first_behind (AsksFromHeld call.token call.limit copies.stood) more x.each.more (some_sent d before mid e based x) (first_held call copies link d before mid c stands x);
   }

@@ -6,16 +6,16 @@ use Rattle.consumer_deltas.specs.DeltaRequests.{IsDeltaUnder}
 use Rattle.exchange_link.specs.Agreement.{StageAgrees}
 use Rattle.exchange_link.specs.Completeness.{StandsAt, first_pin}
 use Rattle.exchange_link.specs.Exchanges.{LinkState}
-use Rattle.exchange_link.specs.Sayings.{list_of}
 use Rattle.exchange_link.specs.Synchronised.{HeldLaw, HeldTold, own_state}
 use Rattle.exchange_link.specs.declared.answer.SyncAnswer.{SyncAnswer}
 use Rattle.keeper_memory.specs.copy.Copies.{Copy}
 use Rattle.keeper_memory.specs.copy.States.{stage_of}
 use Rattle.roster_types.specs.Records.{Record}
-use Rattle.roster_values.specs.Kinds.{all_kinds, place_of_kind}
+use Rattle.roster_values.specs.Kinds.{all_kinds}
 use Rattle.status_info.specs.declared.request.Echo.{Echo}
 use Rattle.status_info.specs.declared.request.Request.{Request}
 use Rattle.version_core.specs.declared.change.BaseVersion.{BaseVersion}
+use Rattle.hub_spec.specs.views.Cuts.{list_in}
 
 -- ---- over any link
 
@@ -36,7 +36,7 @@ pub record CatchesUpTold (token : List ℕ) (a : SyncAnswer) (before : Copy) (to
 
 -- the rows of all kinds that the token sees of a version, in the order of kinds and ids
 abbrev pub rows_seen : BaseVersion → List ℕ → List Record
-rows_seen version token = flat_map (λ kind. list_of version token (place_of_kind kind)) all_kinds
+rows_seen version token = flat_map (λ kind. list_in version token kind) all_kinds
 
 -- the first of these requests, the newest of which stands first; if there is any
 abbrev pub FirstIs : (Request → Type 0) → List Request → Type 0

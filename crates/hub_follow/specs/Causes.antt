@@ -3,14 +3,14 @@ use Rattle.std.specs.Prelude.{◌≡◌, ◌≤◌, ℕ, List, Result, Ok, Err, 
 use Rattle.consumer_deltas.specs.DeltaAnswers.{BaseLaw, DeltaTold}
 use Rattle.consumer_deltas.specs.DeltaCauses.{DeltaCaused}
 use Rattle.consumer_deltas.specs.declared.answer.DeltaAnswer.{DeltaAnswer}
-use Rattle.exchange_link.specs.Causes.{Caused, RoseBy, ToldCause}
+use Rattle.exchange_link.specs.Between.{call_with, copy_between, link_between}
+use Rattle.exchange_link.specs.Causes.{Caused, ToldCause}
 use Rattle.exchange_link.specs.Exchanges.{LinkState}
 use Rattle.exchange_link.specs.declared.answer.SyncAnswer.{SyncAnswer}
 use Rattle.hub_follow.specs.Ends.{lacks_base}
 use Rattle.hub_follow.specs.declared.answer.Missed.{Missed}
 use Rattle.hub_follow.specs.declared.answer.Missed.TheVariants as missed
 use Rattle.keeper_memory.specs.copy.Copies.{Copy}
-use Rattle.roster_base.specs.Faults.{Rose}
 
 -- ---- what is seen of a keeper of copies, and of a link
 
@@ -40,19 +40,17 @@ link_view tells asked missed kept faults leads = record { tells = tells; asked =
 -- ---- the causes
 
 module _ {K N : Type 0} (copies : KeeperView K) (links : LinkView N) (token : List ℕ) (limit tries : ℕ) where
-  -- each try was missed
-  abbrev pub IsTried : N → N → ℕ → Type 0
-  IsTried old new n = (tries ≤ links.missed new) × (tries ≤ n) × RoseBy tries (links.faults old) (links.faults new)
-
   -- an incremental synchronisation answered so
   abbrev pub DeltaAnswers : K → K → N → N → DeltaAnswer → Type 0
   DeltaAnswers old new before after a =
-      DeltaCaused token limit (copies.stands old) (copies.stands new) (links.asked before) (links.asked after) (links.kept after) (IsTried before after) (Rose (copies.faults old) (copies.faults new)) a
+      DeltaCaused (call_with token limit tries) (copy_between copies.stands copies.faults old new)
+      (link_between links.tells links.asked links.missed links.kept links.faults before after) a
 
   -- a whole one answered so
   abbrev pub SyncAnswers : K → K → N → N → SyncAnswer → Type 0
   SyncAnswers old new before after a =
-      Caused token limit (copies.stands new) (links.tells after) (links.asked before) (links.asked after) (links.kept after) (IsTried before after) (Rose (copies.faults old) (copies.faults new)) a
+      Caused (call_with token limit tries) (copy_between copies.stands copies.faults old new)
+      (link_between links.tells links.asked links.missed links.kept links.faults before after) a
 
   -- an incremental one came first, which had no base, or whose base the hub said to be gone
   pub record IsBehind (old between : K) (before mid : N) (a : DeltaAnswer) : Type 0 where

@@ -6,6 +6,7 @@ ghost use Rattle.exchange_link.specs.Agreement.{StagesAgree};
 ghost use Rattle.exchange_link.specs.Completeness.{IsDone};
 ghost use Rattle.exchange_link.specs.Exchanges.{LinkState};
 ghost use Rattle.exchange_link.specs.Marks.{MarksTold};
+ghost use Rattle.exchange_link.specs.Pairs.{AtEach, AtSome, CopyFrom};
 ghost use Rattle.hub_follow.specs.Catching.{BeginsFromHeld, CatchesUp, CatchesUpTold, MayCatchUp};
 ghost use Rattle.hub_follow.specs.Causes.{MissedBy, MissedTold, keeper_view, link_view};
 ghost use Rattle.hub_follow.specs.Ends.{IsMiss, sync_of};
@@ -35,31 +36,32 @@ pub fn catch_up<C: CopyKeeper, L: Link>(
     requires tries { (0 < tries) × (tries ≤ largest_tries) }
     // Over any link.
     ensures shape { IfErr result IsMiss }
-    ensures copy { (after : Copy) → C.stands_for copy.new after → (before : Copy) × C.stands_for copy.old before × CatchesUp (sync_of result) before after }
+    ensures copy { CopyFrom (C.stands_for copy.old) (C.stands_for copy.new) (CatchesUp (sync_of result)) }
     ensures cause { MissedBy (keeper_view C.stands_for C.fault_count C.leads) (link_view L.tells L.asked L.missed L.kept L.fault_count L.leads) token.now limit tries copy.old copy.new link.old link.new result }
     ensures later { C.fault_count copy.old ≤ C.fault_count copy.new }
     ensures copy_leads { C.leads copy.old copy.new }
     ensures link_leads { L.leads link.old link.new }
     // Over one that tells. Where something is held under the token, the first request asks for what differs from it.
     ensures first { ((c : Copy) → C.stands_for copy.old c → LacksBase token.now c → ⊥)
-        → (after : Copy) (tells : LinkState) → C.stands_for copy.new after → L.tells link.new tells
-        → (told : LinkState) × L.tells link.old told × BeginsFromHeld token.now limit (C.stands_for copy.old) told.sent tells.sent }
+        → AtEach (C.stands_for copy.new) (L.tells link.new) (λ after tells.
+        (told : LinkState) × L.tells link.old told × BeginsFromHeld token.now limit (C.stands_for copy.old) told.sent tells.sent) }
     // Over one that tells, where copy and link agree.
     ensures told { StagesAgree (C.stands_for copy.old) (L.tells link.old)
-        → (after : Copy) (tells : LinkState) → C.stands_for copy.new after → L.tells link.new tells
-        → (before : Copy) × (told : LinkState) × C.stands_for copy.old before × L.tells link.old told × CatchesUpTold token.now (sync_of result) before told after tells }
+        → AtEach (C.stands_for copy.new) (L.tells link.new) (λ after tells.
+        AtSome (C.stands_for copy.old) (L.tells link.old) (λ before told.
+        CatchesUpTold token.now (sync_of result) before told after tells)) }
     ensures cause_told { StagesAgree (C.stands_for copy.old) (L.tells link.old)
-        → (after : Copy) (tells : LinkState) → C.stands_for copy.new after → L.tells link.new tells
-        → MissedTold (link_view L.tells L.asked L.missed L.kept L.fault_count L.leads) token.now link.old tells result }
+        → AtEach (C.stands_for copy.new) (L.tells link.new) (λ after tells.
+        MissedTold (link_view L.tells L.asked L.missed L.kept L.fault_count L.leads) token.now link.old tells result) }
     // And where no call of the link and of the copy's keeper failed.
     ensures complete { StagesAgree (C.stands_for copy.old) (L.tells link.old)
         → ¬ Rose (L.fault_count link.old) (L.fault_count link.new) → ¬ Rose (C.fault_count copy.old) (C.fault_count copy.new)
-        → (after : Copy) (tells : LinkState) → C.stands_for copy.new after → L.tells link.new tells
-        → (before : Copy) × (told : LinkState) × C.stands_for copy.old before × L.tells link.old told
-        × (before.run + 1 < LAST → ¬ Rose told.hub_faults tells.hub_faults → MayCatchUp token.now (C.stands_for copy.old) before told tells → IsDone (sync_of result)) }
+        → AtEach (C.stands_for copy.new) (L.tells link.new) (λ after tells.
+        AtSome (C.stands_for copy.old) (L.tells link.old) (λ before told.
+        before.run + 1 < LAST → ¬ Rose told.hub_faults tells.hub_faults → MayCatchUp token.now (C.stands_for copy.old) before told tells → IsDone (sync_of result))) }
     // Where they agreed on marks before, they still do.
-    ensures marks { ((c : Copy) (t : LinkState) → C.stands_for copy.old c → L.tells link.old t → MarksTold c t)
-        → (after : Copy) (tells : LinkState) → C.stands_for copy.new after → L.tells link.new tells → MarksTold after tells }
+    ensures marks { AtEach (C.stands_for copy.old) (L.tells link.old) MarksTold
+        → AtEach (C.stands_for copy.new) (L.tells link.new) MarksTold }
 {
     let answer = delta_sync(alloc, copy, link, token, limit, tries);
     if lacks_base(answer) {

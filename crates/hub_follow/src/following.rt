@@ -6,6 +6,7 @@ ghost use Rattle.exchange_link.specs.Agreement.{StagesAgree};
 ghost use Rattle.exchange_link.specs.Completeness.{IsDone};
 ghost use Rattle.exchange_link.specs.Exchanges.{LinkState};
 ghost use Rattle.exchange_link.specs.Marks.{MarksTold};
+ghost use Rattle.exchange_link.specs.Pairs.{AtEach, AtSome, CopyFrom};
 ghost use Rattle.hub_cascade.specs.Answers.{CountsCopy, CountsHub, LeavesOpen, MakesCascade, TellsHeld};
 ghost use Rattle.hub_cascade.specs.Cascading.{active_rows, current_rows};
 ghost use Rattle.hub_cascade.specs.Held.{CascadesHeld, held_rows};
@@ -54,7 +55,7 @@ pub fn follow<H: HubKeeper, C: CopyKeeper, L: Link>(
     ensures hub_leads { H.leads keeper.old keeper.new }
     // The copy, over any link.
     ensures shape { IfErr (synced result) IsMiss }
-    ensures copy { (after : Copy) → C.stands_for copy.new after → (before : Copy) × C.stands_for copy.old before × CatchesUp (sync_of (synced result)) before after }
+    ensures copy { CopyFrom (C.stands_for copy.old) (C.stands_for copy.new) (CatchesUp (sync_of (synced result))) }
     ensures cause { MissedBy (keeper_view C.stands_for C.fault_count C.leads) (link_view L.tells L.asked L.missed L.kept L.fault_count L.leads) task.entry.token.now task.entry.limit task.entry.tries copy.old copy.new link.old link.new (synced result) }
     ensures copy_cause { IfCascaded result (λ made. (held : C) × C.leads copy.old held × C.leads held copy.new × (C.fault_count copy.old ≤ C.fault_count held) × CountsCopy (C.fault_count held) (C.fault_count copy.new) made) ⊤ }
     ensures later { C.fault_count copy.old ≤ C.fault_count copy.new }
@@ -62,38 +63,39 @@ pub fn follow<H: HubKeeper, C: CopyKeeper, L: Link>(
     ensures link_leads { L.leads link.old link.new }
     // Over one that tells. Where something is held under the token, the first request asks for what differs from it.
     ensures first { ((c : Copy) → C.stands_for copy.old c → LacksBase task.entry.token.now c → ⊥)
-        → (after : Copy) (tells : LinkState) → C.stands_for copy.new after → L.tells link.new tells
-        → (told : LinkState) × L.tells link.old told × BeginsFromHeld task.entry.token.now task.entry.limit (C.stands_for copy.old) told.sent tells.sent }
+        → AtEach (C.stands_for copy.new) (L.tells link.new) (λ after tells.
+        (told : LinkState) × L.tells link.old told × BeginsFromHeld task.entry.token.now task.entry.limit (C.stands_for copy.old) told.sent tells.sent) }
     // Over one that tells, where copy and link agree.
     ensures synchronised { StagesAgree (C.stands_for copy.old) (L.tells link.old)
-        → (after : Copy) (tells : LinkState) → C.stands_for copy.new after → L.tells link.new tells
-        → (before : Copy) × (told : LinkState) × C.stands_for copy.old before × L.tells link.old told × CatchesUpTold task.entry.token.now (sync_of (synced result)) before told after tells }
+        → AtEach (C.stands_for copy.new) (L.tells link.new) (λ after tells.
+        AtSome (C.stands_for copy.old) (L.tells link.old) (λ before told.
+        CatchesUpTold task.entry.token.now (sync_of (synced result)) before told after tells)) }
     ensures cause_told { StagesAgree (C.stands_for copy.old) (L.tells link.old)
-        → (after : Copy) (tells : LinkState) → C.stands_for copy.new after → L.tells link.new tells
-        → MissedTold (link_view L.tells L.asked L.missed L.kept L.fault_count L.leads) task.entry.token.now link.old tells (synced result) }
+        → AtEach (C.stands_for copy.new) (L.tells link.new) (λ after tells.
+        MissedTold (link_view L.tells L.asked L.missed L.kept L.fault_count L.leads) task.entry.token.now link.old tells (synced result)) }
     // And where no call of the link and of the copy's keeper failed.
     ensures caught { StagesAgree (C.stands_for copy.old) (L.tells link.old)
         → ¬ Rose (L.fault_count link.old) (L.fault_count link.new) → ¬ Rose (C.fault_count copy.old) (C.fault_count copy.new)
-        → (after : Copy) (tells : LinkState) → C.stands_for copy.new after → L.tells link.new tells
-        → (before : Copy) × (told : LinkState) × C.stands_for copy.old before × L.tells link.old told
-        × (before.run + 1 < LAST → ¬ Rose told.hub_faults tells.hub_faults → MayCatchUp task.entry.token.now (C.stands_for copy.old) before told tells → IsDone (sync_of (synced result))) }
+        → AtEach (C.stands_for copy.new) (L.tells link.new) (λ after tells.
+        AtSome (C.stands_for copy.old) (L.tells link.old) (λ before told.
+        before.run + 1 < LAST → ¬ Rose told.hub_faults tells.hub_faults → MayCatchUp task.entry.token.now (C.stands_for copy.old) before told tells → IsDone (sync_of (synced result)))) }
     // And where no call of the hub's keeper failed, and the cascade refuses nothing.
     ensures complete { StagesAgree (C.stands_for copy.old) (L.tells link.old)
         → ¬ Rose (L.fault_count link.old) (L.fault_count link.new) → ¬ Rose (C.fault_count copy.old) (C.fault_count copy.new)
         → ¬ Rose (H.fault_count keeper.old) (H.fault_count keeper.new)
-        → (after : Copy) (tells : LinkState) → C.stands_for copy.new after → L.tells link.new tells
-        → (before : Copy) × (told : LinkState) × C.stands_for copy.old before × L.tells link.old told
-        × (before.run + 1 < LAST → ¬ Rose told.hub_faults tells.hub_faults → MayCatchUp task.entry.token.now (C.stands_for copy.old) before told tells
-        → ((standing : KeptState) (fault : PublishFault) → IsStanding hub.old standing → CascadesHeld (C.stands_for copy.new) task.entry.feed.now task.entry.at (newest_kept standing.versions) (Refuses fault) → ⊥) → IsFollowed result) }
+        → AtEach (C.stands_for copy.new) (L.tells link.new) (λ after tells.
+        AtSome (C.stands_for copy.old) (L.tells link.old) (λ before told.
+        before.run + 1 < LAST → ¬ Rose told.hub_faults tells.hub_faults → MayCatchUp task.entry.token.now (C.stands_for copy.old) before told tells
+        → ((standing : KeptState) (fault : PublishFault) → IsStanding hub.old standing → CascadesHeld (C.stands_for copy.new) task.entry.feed.now task.entry.at (newest_kept standing.versions) (Refuses fault) → ⊥) → IsFollowed result)) }
     // Where they agreed on marks before, they still do.
-    ensures marks { ((c : Copy) (t : LinkState) → C.stands_for copy.old c → L.tells link.old t → MarksTold c t)
-        → (after : Copy) (tells : LinkState) → C.stands_for copy.new after → L.tells link.new tells → MarksTold after tells }
+    ensures marks { AtEach (C.stands_for copy.old) (L.tells link.old) MarksTold
+        → AtEach (C.stands_for copy.new) (L.tells link.new) MarksTold }
     // The active rows of the feed are exactly those that the copy holds, and so those that the token sees of the
     // version of the other hub.
     ensures served { IfDone result (λ version. (c : Copy) → C.stands_for copy.new c → current_rows task.entry.feed.now (newest_kept hub.new.kept.versions).rows ≡ active_rows (held_rows c)) }
     ensures done_shows { StagesAgree (C.stands_for copy.old) (L.tells link.old)
-        → (after : Copy) (tells : LinkState) → C.stands_for copy.new after → L.tells link.new tells
-        → IfDone result (λ version. current_rows task.entry.feed.now (newest_kept hub.new.kept.versions).rows ≡ active_rows (rows_seen (version_at tells.hub version) task.entry.token.now)) }
+        → AtEach (C.stands_for copy.new) (L.tells link.new) (λ after tells.
+        IfDone result (λ version. current_rows task.entry.feed.now (newest_kept hub.new.kept.versions).rows ≡ active_rows (rows_seen (version_at tells.hub version) task.entry.token.now))) }
 {
     match catch_up(alloc, copy, link, task.token, task.limit, task.tries) {
         Ok(version) => {

@@ -3,6 +3,9 @@
 ghost use Rattle.std.specs.Prelude.{◌≡◌};
 ghost use Rattle.hub_format.specs.Areas.{area_number};
 
+/// Ends a range of labels that takes a whole area: no label of a row or a mark begins with this byte.
+pub const END_BYTE: u8 = 255;
+
 /// What stands in an area of a hub's store.
 #[derive(Clone, Copy)]
 pub enum HubArea {

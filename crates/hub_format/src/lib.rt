@@ -15,7 +15,7 @@ mod read_state;
 mod reading;
 mod writing;
 
-pub use area::HubArea;
+pub use area::{END_BYTE, HubArea};
 pub use edits::{
     WRITTEN_FORMAT, clear_version, number_bytes, push_mark, put_format, put_some_grants, put_state,
 };

@@ -19,7 +19,7 @@ use std::sync::Wait;
 use version_core::table::Table;
 
 // The most entries of a history.
-const MOST: u64 = 1 << 60;
+const MOST_ENTRIES: u64 = 1 << 60;
 
 /// The writer, and the entry that waits to be published. Contracts see the published entries and the one that waits.
 pub struct Publisher<N: Naming>
@@ -68,7 +68,7 @@ fn note<N: Naming>(head: &Head<N>, front: &mut Front<N>, noted: bool, entry: &En
     if noted {
         return true;
     }
-    if front.len() >= MOST {
+    if front.len() >= MOST_ENTRIES {
         return false;
     }
     let mut longer = front.again();

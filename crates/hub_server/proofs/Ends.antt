@@ -1,8 +1,8 @@
 -- What the first ending that isn't Done says of all jobs.
-use Rattle.std.proofs.Common.{◌≡◌, ◌⊎◌, ◌<◌, suc, ℕ, List, [], ◌∷◌, Option, Result, Ok, Err, IfOk, length}
+use Rattle.std.proofs.Common.{◌≡◌, ◌⊎◌, ◌<◌, suc, ℕ, List, [], ◌∷◌, Result, Ok, Err, IfOk, length}
 use Rattle.std.proofs.Common.{slice_index_or, inl, inr, arith}
 use Rattle.std.specs.List.{AllZip}
-use Rattle.hub_server.specs.Jobs.{Does}
+use Rattle.hub_server.specs.Jobs.{Does, Service}
 use Rattle.hub_server.specs.Serving.{AllMean, AllServed, Ended, SomeRefused, SomeRose, acceptors_in, acceptors_of}
 use Rattle.hub_server.specs.Serving.{ending_of_all, feeds_in, folders_in, folders_of}
 use Rattle.hub_server.specs.declared.ending.Ending.{Ending}
@@ -13,8 +13,6 @@ use Rattle.hub_server.specs.declared.jobs.JobEnd.{JobEnd}
 use Rattle.hub_server.specs.declared.jobs.JobEnd.TheVariants as job_end
 use Rattle.hub_server.specs.declared.server.Results.{Results}
 use Rattle.hub_words.specs.declared.task.Feed.{Feed}
-use Rattle.keeper_memory.specs.Kept.{KeptState}
-use Rattle.outside_ports.specs.Files.{Stored}
 
 -- what holds at each place of two lists of one length holds of them place by place
 pub all_zip : {X Y : Type 0} (R : X → Y → Type 0) (xs : List X) (ys : List Y) → length ys ≡ length xs
@@ -24,12 +22,12 @@ all_zip R [] (y ∷ ys) long each = absurd (omega (arith, long))
 all_zip R (x ∷ xs) [] long each = absurd (omega (arith, long))
 all_zip R (x ∷ xs) (y ∷ ys) long each = (each 0 x y (omega arith), all_zip R xs ys (omega (arith, long)) (λ i d e less. each (suc i) d e (omega (arith, less))))
 
-module _ {A F : Type 0} (given : A → ℕ) (acceptor_faults : A → ℕ) (files : F → Option (List Stored)) (folder_faults : F → ℕ) (opening : KeptState) (connections : ℕ) where
+module _ {A F : Type 0} (s : Service A F) where
   abbrev Did : List (Job A F) → List (JobEnd A F) → Type 0
-  Did jobs ends = AllZip (Does given acceptor_faults files folder_faults opening connections) jobs ends
+  Did jobs ends = AllZip (Does s) jobs ends
 
   all_done : (jobs : List (Job A F)) (ends : List (JobEnd A F)) → Did jobs ends → ending_of_all ends ≡ ending.Done
-      → AllServed given connections (acceptors_in jobs) (acceptors_of ends) × AllMean files (feeds_in jobs) (folders_in jobs)
+      → AllServed s.given s.connections (acceptors_in jobs) (acceptors_of ends) × AllMean s.files (feeds_in jobs) (folders_in jobs)
   all_done [] [] did is = (tt, tt)
   all_done (job.Feed j ∷ jobs) (job_end.Feed f ending.Done ∷ ends) did is = let rest = all_done jobs ends did.1 is in (rest.0, (did.0, rest.1))
   all_done (job.Feed j ∷ jobs) (job_end.Feed f ending.FolderFailed ∷ ends) did is = cc
@@ -48,7 +46,7 @@ module _ {A F : Type 0} (given : A → ℕ) (acceptor_faults : A → ℕ) (files
   all_done [] (end ∷ ends) did is = absurd did
   all_done (j ∷ jobs) [] did is = absurd did
 
-  folder_failed : (jobs : List (Job A F)) (ends : List (JobEnd A F)) → Did jobs ends → ending_of_all ends ≡ ending.FolderFailed → SomeRose folder_faults (folders_in jobs) (folders_of ends)
+  folder_failed : (jobs : List (Job A F)) (ends : List (JobEnd A F)) → Did jobs ends → ending_of_all ends ≡ ending.FolderFailed → SomeRose s.folder_faults (folders_in jobs) (folders_of ends)
   folder_failed [] [] did is = cc
   folder_failed (job.Feed j ∷ jobs) (job_end.Feed f ending.Done ∷ ends) did is = inr (folder_failed jobs ends did.1 is)
   folder_failed (job.Feed j ∷ jobs) (job_end.Feed f ending.FolderFailed ∷ ends) did is = inl did.0
@@ -67,7 +65,7 @@ module _ {A F : Type 0} (given : A → ℕ) (acceptor_faults : A → ℕ) (files
   folder_failed [] (end ∷ ends) did is = absurd did
   folder_failed (j ∷ jobs) [] did is = absurd did
 
-  acceptor_failed : (jobs : List (Job A F)) (ends : List (JobEnd A F)) → Did jobs ends → ending_of_all ends ≡ ending.AcceptorFailed → SomeRose acceptor_faults (acceptors_in jobs) (acceptors_of ends)
+  acceptor_failed : (jobs : List (Job A F)) (ends : List (JobEnd A F)) → Did jobs ends → ending_of_all ends ≡ ending.AcceptorFailed → SomeRose s.acceptor_faults (acceptors_in jobs) (acceptors_of ends)
   acceptor_failed [] [] did is = cc
   acceptor_failed (job.Feed j ∷ jobs) (job_end.Feed f ending.Done ∷ ends) did is = acceptor_failed jobs ends did.1 is
   acceptor_failed (job.Feed j ∷ jobs) (job_end.Feed f ending.FolderFailed ∷ ends) did is = cc
@@ -86,7 +84,7 @@ module _ {A F : Type 0} (given : A → ℕ) (acceptor_faults : A → ℕ) (files
   acceptor_failed [] (end ∷ ends) did is = absurd did
   acceptor_failed (j ∷ jobs) [] did is = absurd did
 
-  refused : (jobs : List (Job A F)) (ends : List (JobEnd A F)) → Did jobs ends → ending_of_all ends ≡ ending.Refused → SomeRefused files opening (feeds_in jobs) (folders_in jobs)
+  refused : (jobs : List (Job A F)) (ends : List (JobEnd A F)) → Did jobs ends → ending_of_all ends ≡ ending.Refused → SomeRefused s.files s.opening (feeds_in jobs) (folders_in jobs)
   refused [] [] did is = cc
   refused (job.Feed j ∷ jobs) (job_end.Feed f ending.Done ∷ ends) did is = inr (refused jobs ends did.1 is)
   refused (job.Feed j ∷ jobs) (job_end.Feed f ending.FolderFailed ∷ ends) did is = cc
@@ -107,7 +105,7 @@ module _ {A F : Type 0} (given : A → ℕ) (acceptor_faults : A → ℕ) (files
 
   -- jobs that did what they were given end so
   pub ended : (jobs : List (Job A F)) (ends : List (JobEnd A F)) → Did jobs ends
-      → Ended given acceptor_faults files folder_faults opening connections (feeds_in jobs) (folders_in jobs) (folders_of ends) (acceptors_in jobs) (acceptors_of ends) (ending_of_all ends)
+      → Ended s (feeds_in jobs) (folders_in jobs) (folders_of ends) (acceptors_in jobs) (acceptors_of ends) (ending_of_all ends)
   ended jobs ends did = record {
     done = all_done jobs ends did;
     folder_failed = folder_failed jobs ends did;
@@ -117,14 +115,14 @@ module _ {A F : Type 0} (given : A → ℕ) (acceptor_faults : A → ℕ) (files
 
   -- and what was gathered of them
   pub ended_all : (jobs : List (Job A F)) (ends : List (JobEnd A F)) → length ends ≡ length jobs
-      → ((i : ℕ) (d : Job A F) (e : JobEnd A F) → i < length jobs → Does given acceptor_faults files folder_faults opening connections (slice_index_or jobs i d) (slice_index_or ends i e))
+      → ((i : ℕ) (d : Job A F) (e : JobEnd A F) → i < length jobs → Does s (slice_index_or jobs i d) (slice_index_or ends i e))
       → {E : Type 0} (result : Result (Results A F) E) → IfOk result (λ r. r.ending ≡ ending_of_all ends) → IfOk result (λ r. r.doors.acceptors.items ≡ acceptors_of ends) → IfOk result (λ r. r.doors.folders.items ≡ folders_of ends)
-      → IfOk result (λ r. Ended given acceptor_faults files folder_faults opening connections (feeds_in jobs) (folders_in jobs) r.doors.folders.items (acceptors_in jobs) r.doors.acceptors.items r.ending)
-  ended_all jobs ends long each (Ok r) e a f = rw (e, a, f) (ended jobs ends (all_zip (Does given acceptor_faults files folder_faults opening connections) jobs ends long each))
+      → IfOk result (λ r. Ended s (feeds_in jobs) (folders_in jobs) r.doors.folders.items (acceptors_in jobs) r.doors.acceptors.items r.ending)
+  ended_all jobs ends long each (Ok r) e a f = rw (e, a, f) (ended jobs ends (all_zip (Does s) jobs ends long each))
   ended_all jobs ends long each (Err w) e a f = tt
 
   -- what ends before a job was done says nothing of any
   pub nothing_ended : (feeds : List Feed) (folders : List F) (acceptors : List A) (e : Ending) → (e ≡ ending.KeeperFailed) ⊎ (e ≡ ending.NoMemory)
-      → Ended given acceptor_faults files folder_faults opening connections feeds folders folders acceptors acceptors e
+      → Ended s feeds folders folders acceptors acceptors e
   nothing_ended feeds folders acceptors e (inl is) = rw is record { done = λ no. cc; folder_failed = λ no. cc; acceptor_failed = λ no. cc; refused = λ no. cc }
   nothing_ended feeds folders acceptors e (inr is) = rw is record { done = λ no. cc; folder_failed = λ no. cc; acceptor_failed = λ no. cc; refused = λ no. cc }

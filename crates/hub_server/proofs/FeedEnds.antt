@@ -1,6 +1,6 @@
 -- What the end of a feed says of its set.
 use Rattle.std.proofs.Common.{◌≡◌, ◌≢◌, ℕ, ℤ, List, Option, Err, inl, inr, refl}
-use Rattle.csv_sets.specs.Folders.{FaultOf}
+use Rattle.csv_sets.specs.Folders.{FaultOf, folder_read}
 use Rattle.csv_sets.specs.Sets.{set_of}
 use Rattle.csv_sets.specs.declared.fault.SetFault.{SetFault}
 use Rattle.csv_sets.specs.declared.fault.SetFault.TheVariants as fault
@@ -40,7 +40,9 @@ module _ (opening : KeptState) (files : Option (List Stored)) (before now : ℕ)
   turned_down set moment fault receipt (at, is, inr (inr (log, own, ends, due, asks)), faulty) = (log, receipt, at, fault, asks)
 
   -- a feed that ended so did what its ending says
-  pub feeds_end : (moment : Option ℤ) (end : FeedEnd) (receipt : Option (List Entry)) → feeding.Feeds opening files before now feed.dir feed.name moment end receipt → Feeds opening files before now feed (ending_of end)
+  pub feeds_end : (moment : Option ℤ) (end : FeedEnd) (receipt : Option (List Entry))
+      → feeding.Feeds opening (feeding.feed_read (folder_read files before now) feed.dir feed.name) moment end receipt
+      → Feeds opening files before now feed (ending_of end)
   feeds_end moment (feed_end.Published published) receipt (set, r, reads, given, fed) = (set, reads.1)
   feeds_end moment (feed_end.Set (refusal.Fault f)) receipt (reads, none) = faulty f reads
   feeds_end moment (feed_end.Set refusal.NoMemory) receipt is = tt

@@ -65,20 +65,55 @@ Feeds opening files faults faults' feed ending.KeeperFailed = ⊤
 Feeds opening files faults faults' feed ending.AcceptorFailed = ⊥
 Feeds opening files faults faults' feed ending.NoMemory = ⊤
 
--- what an acceptor's job comes to, between two counts of its connections and of its faults
-abbrev pub ServesAll : ℕ → ℕ → ℕ → ℕ → ℕ → Ending → Type 0
-ServesAll connections given given' faults faults' ending.Done = given' ≡ given + connections
-ServesAll connections given given' faults faults' ending.AcceptorFailed = Rose faults faults'
-ServesAll connections given given' faults faults' ending.NoMemory = ⊤
-ServesAll connections given given' faults faults' _ = ⊥
+-- what an acceptor has counted: the connections that it gave, and its faults
+pub record Counts : Type 0 where
+  pub given : ℕ
+  pub faults : ℕ
+
+-- the same from its parts
+abbrev pub counts : ℕ → ℕ → Counts
+counts given faults = record { given = given; faults = faults }
+
+-- what an acceptor's job comes to
+abbrev pub ServesAll : ℕ → Counts → Counts → Ending → Type 0
+ServesAll connections before now ending.Done = now.given ≡ before.given + connections
+ServesAll connections before now ending.AcceptorFailed = Rose before.faults now.faults
+ServesAll connections before now ending.NoMemory = ⊤
+ServesAll connections before now _ = ⊥
+
+-- what jobs are done for: what tells of their acceptors and of their folders, the state that the hub was opened at, and
+-- how many connections each acceptor serves
+pub record Service (A F : Type 0) : Type 0 where
+  pub given : A → ℕ
+  pub acceptor_faults : A → ℕ
+  pub files : F → Option (List Stored)
+  pub folder_faults : F → ℕ
+  pub opening : KeptState
+  pub connections : ℕ
+
+-- the same from its parts
+abbrev pub service : {A F : Type 0} → (A → ℕ) → (A → ℕ) → (F → Option (List Stored)) → (F → ℕ) → KeptState → ℕ
+    → Service A F
+service given acceptor_faults files folder_faults opening connections = record {
+  given = given;
+  acceptor_faults = acceptor_faults;
+  files = files;
+  folder_faults = folder_faults;
+  opening = opening;
+  connections = connections;
+}
+
+-- what an acceptor has counted, as it tells
+abbrev pub counted : {A F : Type 0} → Service A F → A → Counts
+counted s acceptor = counts (s.given acceptor) (s.acceptor_faults acceptor)
 
 -- what a job does
-abbrev pub Does : {A F : Type 0} → (A → ℕ) → (A → ℕ) → (F → Option (List Stored)) → (F → ℕ) → KeptState → ℕ → Job A F → JobEnd A F → Type 0
-Does given acceptor_faults files folder_faults opening connections (job.Feed j) (job_end.Feed folder e) =
-    Feeds opening (files j.folder) (folder_faults j.folder) (folder_faults folder) j.feed e
-Does given acceptor_faults files folder_faults opening connections (job.Acceptor j) (job_end.Acceptor acceptor e) =
-    ServesAll connections (given j.acceptor) (given acceptor) (acceptor_faults j.acceptor) (acceptor_faults acceptor) e
-Does given acceptor_faults files folder_faults opening connections _ _ = ⊥
+abbrev pub Does : {A F : Type 0} → Service A F → Job A F → JobEnd A F → Type 0
+Does s (job.Feed j) (job_end.Feed folder e) =
+    Feeds s.opening (s.files j.folder) (s.folder_faults j.folder) (s.folder_faults folder) j.feed e
+Does s (job.Acceptor j) (job_end.Acceptor acceptor e) =
+    ServesAll s.connections (counted s j.acceptor) (counted s acceptor) e
+Does s _ _ = ⊥
 
 -- a job was given back as it was, since memory ran out
 abbrev pub IsUndone : {A F : Type 0} → Job A F → JobEnd A F → Type 0

@@ -4,7 +4,7 @@ use Rattle.std.specs.List.{AllZip}
 use Rattle.hub_history.specs.Histories.{IsLegal, state_after}
 use Rattle.hub_history.specs.declared.entry.Entry.{Entry}
 use Rattle.hub_server.specs.Endings.{first_of}
-use Rattle.hub_server.specs.Jobs.{IsRefused, MeansSet}
+use Rattle.hub_server.specs.Jobs.{IsRefused, MeansSet, Service}
 use Rattle.hub_server.specs.declared.ending.Ending.{Ending}
 use Rattle.hub_server.specs.declared.ending.Ending.TheVariants as ending
 use Rattle.hub_server.specs.declared.jobs.Job.{Job}
@@ -46,12 +46,12 @@ ComesBy opening now = (log : List Entry) × IsLegal opening log
     × ((now ≡ state_after opening log) ⊎ ((commit : HubCommit) × (now ≡ with_commit (state_after opening log) commit)))
 
 -- what the ending says of what was handed in
-pub record Ended {A F : Type 0} (given : A → ℕ) (acceptor_faults : A → ℕ) (files : F → Option (List Stored)) (folder_faults : F → ℕ) (opening : KeptState) (connections : ℕ)
-    (feeds : List Feed) (folders folders' : List F) (acceptors acceptors' : List A) (e : Ending) : Type 0 where
-  pub done : e ≡ ending.Done → AllServed given connections acceptors acceptors' × AllMean files feeds folders
-  pub folder_failed : e ≡ ending.FolderFailed → SomeRose folder_faults folders folders'
-  pub acceptor_failed : e ≡ ending.AcceptorFailed → SomeRose acceptor_faults acceptors acceptors'
-  pub refused : e ≡ ending.Refused → SomeRefused files opening feeds folders
+pub record Ended {A F : Type 0} (s : Service A F) (feeds : List Feed) (folders folders' : List F)
+    (acceptors acceptors' : List A) (e : Ending) : Type 0 where
+  pub done : e ≡ ending.Done → AllServed s.given s.connections acceptors acceptors' × AllMean s.files feeds folders
+  pub folder_failed : e ≡ ending.FolderFailed → SomeRose s.folder_faults folders folders'
+  pub acceptor_failed : e ≡ ending.AcceptorFailed → SomeRose s.acceptor_faults acceptors acceptors'
+  pub refused : e ≡ ending.Refused → SomeRefused s.files s.opening feeds folders
 
 -- ---- what the jobs gave back
 

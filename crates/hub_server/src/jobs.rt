@@ -1,7 +1,7 @@
 //! The jobs of a server: each feeds a set, or serves the connections of an acceptor.
 
 ghost use Rattle.std.specs.Prelude.{◌≡◌};
-ghost use Rattle.hub_server.specs.Jobs.{Does, Feeds, IsUndone, ServesAll};
+ghost use Rattle.hub_server.specs.Jobs.{Does, Feeds, IsUndone, ServesAll, counts, service};
 ghost use Rattle.hub_server.specs.Jobs as jobs;
 
 use crate::ending::Ending;
@@ -106,7 +106,8 @@ fn serve_connections<H: HubKeeper, N: Naming, R: Wait, K: Clock, G: Gate, A: Acc
     acceptor: &mut A,
     connections: u32,
 ) -> Ending
-    ensures { ServesAll connections (A.given_count acceptor.old) (A.given_count acceptor.new) (A.fault_count acceptor.old) (A.fault_count acceptor.new) result }
+    ensures { ServesAll connections (counts (A.given_count acceptor.old) (A.fault_count acceptor.old))
+        (counts (A.given_count acceptor.new) (A.fault_count acceptor.new)) result }
 {
     let mut turn: u64 = 0;
     for _ in 0..connections {
@@ -129,7 +130,8 @@ fn serve<H: HubKeeper, N: Naming, R: Wait, K: Clock, G: Gate, A: Acceptor + Drop
     acceptor: A,
     connections: u32,
 ) -> (A, Ending)
-    ensures { ServesAll connections (A.given_count acceptor) (A.given_count result.0) (A.fault_count acceptor) (A.fault_count result.0) result.1 }
+    ensures { ServesAll connections (counts (A.given_count acceptor) (A.fault_count acceptor))
+        (counts (A.given_count result.0) (A.fault_count result.0)) result.1 }
 {
     let mut acceptor = acceptor;
     let mut seat = seats.lock(desk.rt).pop();
@@ -165,9 +167,10 @@ impl<
     G: Gate,
     T: Notices,
 > Worker<SharedHub<H, N>, Seats<N>, Outside<'a, R, K, G, T>, A, F> for Clerk {
-    ghost use Rattle.hub_server.specs.Jobs.{Does};
+    ghost use Rattle.hub_server.specs.Jobs.{Does, service};
 
-    ghost does = { λ outside. Does A.given_count A.fault_count F.files F.faults N.opening outside.connections };
+    ghost does = { λ outside. Does
+        (service A.given_count A.fault_count F.files F.faults N.opening outside.connections) };
 
     fn run(
         &self,
@@ -176,7 +179,8 @@ impl<
         outside: &Outside<'a, R, K, G, T>,
         job: Job<A, F>,
     ) -> JobEnd<A, F>
-        ensures { Does A.given_count A.fault_count F.files F.faults N.opening outside.now.connections job result }
+        ensures { Does (service A.given_count A.fault_count F.files F.faults N.opening outside.now.connections)
+            job result }
     {
         let Ok(router) = PathRouter::new(outside.ports.alloc) else {
             return undone(job);
@@ -229,7 +233,8 @@ fn do_job<
     router: &'x PathRouter,
     job: Job<A, F>,
 ) -> JobEnd<A, F>
-    ensures { Does A.given_count A.fault_count F.files F.faults N.opening outside.now.connections job result }
+    ensures { Does (service A.given_count A.fault_count F.files F.faults N.opening outside.now.connections)
+        job result }
 {
     let ports = outside.ports;
     let desk = Desk {

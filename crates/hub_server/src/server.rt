@@ -3,6 +3,7 @@
 ghost use Rattle.std.specs.Prelude.{◌≡◌, ◌⊎◌, ◌<◌, ◌++◌, ◌∷◌, ℕ, IfOk, OnOk, [], false, length, slice_index_or};
 ghost use Rattle.hub_core.specs.Standing.{KeeperFits};
 ghost use Rattle.hub_server.specs.Endings.{or_else};
+ghost use Rattle.hub_server.specs.Jobs.{service};
 ghost use Rattle.hub_server.specs.Serving.{ComesBy, Ended, acceptors_in, acceptors_of, ending_in, ending_of_all};
 ghost use Rattle.hub_server.specs.Serving.{feeds_in, folders_in, folders_of};
 ghost use Rattle.hub_server.specs.declared.jobs.Job.{Job};
@@ -205,7 +206,9 @@ fn do_all<
 where
     A::Input: Send,
     A::Output: Send,
-    ensures { IfOk result (λ r. Ended A.given_count A.fault_count F.files F.faults N.opening outside.now.connections (feeds_in jobs.items) (folders_in jobs.items) r.doors.folders.items (acceptors_in jobs.items) r.doors.acceptors.items r.ending) }
+    ensures { IfOk result (λ r. Ended
+        (service A.given_count A.fault_count F.files F.faults N.opening outside.now.connections) (feeds_in jobs.items)
+        (folders_in jobs.items) r.doors.folders.items (acceptors_in jobs.items) r.doors.acceptors.items r.ending) }
 {
     let ends = run_all(outside.ports.rt, &Clerk, shared, seats, outside, jobs)?;
     results_of(outside.ports.alloc, ends)
@@ -232,7 +235,9 @@ where
     A::Input: Send,
     A::Output: Send,
     requires { length task.feeds ≡ length doors.folders.items }
-    ensures { IfOk result (λ r. Ended A.given_count A.fault_count F.files F.faults N.opening task.connections task.feeds doors.folders.items r.doors.folders.items doors.acceptors.items r.doors.acceptors.items r.ending) }
+    ensures { IfOk result (λ r. Ended
+        (service A.given_count A.fault_count F.files F.faults N.opening task.connections) task.feeds doors.folders.items
+        r.doors.folders.items doors.acceptors.items r.doors.acceptors.items r.ending) }
 {
     let ServeTask {
         connections,
@@ -284,7 +289,9 @@ where
     requires named { (opened.seen.book ≡ N.book) × (hub.kept ≡ N.opening) × (H.fault_count keeper ≡ N.count) }
     requires stood { (kept : KeptState) → H.stands_for keeper kept → N.stood kept }
     requires feeds { length task.feeds ≡ length doors.folders.items }
-    ensures ended { Ended A.given_count A.fault_count F.files F.faults N.opening task.connections task.feeds doors.folders.items result.doors.folders.items doors.acceptors.items result.doors.acceptors.items result.ending }
+    ensures ended { Ended (service A.given_count A.fault_count F.files F.faults N.opening task.connections)
+        task.feeds doors.folders.items result.doors.folders.items doors.acceptors.items result.doors.acceptors.items
+        result.ending }
     ensures keeper_failed { result.ending ≡ endings.KeeperFailed → Rose N.count (H.fault_count result.keeper) }
     ensures kept { (now : KeptState) → H.stands_for result.keeper now → N.stood N.opening × ComesBy N.opening now }
 {
@@ -347,7 +354,9 @@ where
     A::Output: Send,
     requires { length task.feeds ≡ length doors.folders.items }
     // What the ending says, of a hub that was opened at some state.
-    ensures ended { (opening : KeptState) × IsKept opening × Ended A.given_count A.fault_count F.files F.faults opening task.connections task.feeds doors.folders.items result.doors.folders.items doors.acceptors.items result.doors.acceptors.items result.ending }
+    ensures ended { (opening : KeptState) × IsKept opening × Ended
+        (service A.given_count A.fault_count F.files F.faults opening task.connections) task.feeds doors.folders.items
+        result.doors.folders.items doors.acceptors.items result.doors.acceptors.items result.ending }
     ensures keeper_failed { result.ending ≡ endings.KeeperFailed → Rose (H.fault_count keeper) (H.fault_count result.keeper) }
     // Whatever the ending is, the keeper stands for a state at entry with a history applied.
     ensures kept { (now : KeptState) → H.stands_for result.keeper now → (stood : KeptState) × H.stands_for keeper stood × ComesBy stood now }

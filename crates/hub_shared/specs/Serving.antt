@@ -85,18 +85,32 @@ pub record Serves {V : Type 0} (takes : Request → Reply → V → V → Type 0
   pub answered : All takes exchanges value value'
   pub ends : EndsBy before now (requests_of exchanges) (replies_text exchanges) result
 
+-- a connection at one time: its ends, the bytes that were read ahead, and the value
+pub record Connection (V : Type 0) : Type 0 where
+  pub ends : Ends
+  pub kept : List ℕ
+  pub value : V
+
+-- the same from its parts
+abbrev pub connection : {V : Type 0} → Ends → List ℕ → V → Connection V
+connection ends kept value = record { ends = ends; kept = kept; value = value }
+
 -- a request was read and answered
-pub record IsTaken {V : Type 0} (takes : Request → Reply → V → V → Type 0) (before now : Ends) (kept kept' : List ℕ) (value value' : V) (e : Exchange) : Type 0 where
-  pub read : IsRead before now kept kept' e.request
-  pub taken : takes e.request e.reply value value'
+pub record IsTaken {V : Type 0} (takes : Request → Reply → V → V → Type 0) (before now : Connection V) (e : Exchange)
+    : Type 0 where
+  pub read : IsRead before.ends now.ends before.kept now.kept e.request
+  pub taken : takes e.request e.reply before.value now.value
 
 -- what a turn comes to
-abbrev pub Turns : {V : Type 0} → (Request → Reply → V → V → Type 0) → Ends → Ends → List ℕ → List ℕ → V → V → Turn → Type 0
-Turns takes before now kept kept' value value' (turn.Answered close) =
-    (e : Exchange) × IsTaken takes before now kept kept' value value' e × (e.request.close ≡ close) × Appends before.written now.written (reply_text e.reply) × (now.sink_faults ≡ before.sink_faults)
-Turns takes before now kept kept' value value' turn.SinkFailed =
-    (e : Exchange) × IsTaken takes before now kept kept' value value' e × AppendsPart before.written now.written (reply_text e.reply) × Rose before.sink_faults now.sink_faults
-Turns takes before now kept kept' value value' (turn.Stopped e) = IsStopped before now kept kept' e × (value' ≡ value)
+abbrev pub Turns : {V : Type 0} → (Request → Reply → V → V → Type 0) → Connection V → Connection V → Turn → Type 0
+Turns takes before now (turn.Answered close) =
+    (e : Exchange) × IsTaken takes before now e × (e.request.close ≡ close)
+    × Appends before.ends.written now.ends.written (reply_text e.reply) × (now.ends.sink_faults ≡ before.ends.sink_faults)
+Turns takes before now turn.SinkFailed =
+    (e : Exchange) × IsTaken takes before now e × AppendsPart before.ends.written now.ends.written (reply_text e.reply)
+    × Rose before.ends.sink_faults now.ends.sink_faults
+Turns takes before now (turn.Stopped e) =
+    IsStopped before.ends now.ends before.kept now.kept e × (now.value ≡ before.value)
 
 -- ---- the order of a seat's reads
 

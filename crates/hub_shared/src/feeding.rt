@@ -1,7 +1,8 @@
 //! Feeds of a hub that threads share.
 
 ghost use Rattle.std.specs.Prelude.{◌≡◌};
-ghost use Rattle.hub_shared.specs.Feeding.{Feeds};
+ghost use Rattle.csv_sets.specs.Folders.{folder_read};
+ghost use Rattle.hub_shared.specs.Feeding.{Feeds, feed_read};
 
 use crate::desk::Desk;
 use crate::seat::Receipt;
@@ -31,7 +32,9 @@ pub fn feed_shared<H: HubKeeper, N: Naming, R: Wait, K: Clock, G: Gate, F: Folde
     feed: &Name,
 ) -> (FeedEnd, Option<Receipt<N>>)
     // What the folder's files spell is published once; or its first fault is told, and nothing is done.
-    ensures fed { Feeds N.opening (F.files folder.old) (F.faults folder.old) (F.faults folder.new) dir.now feed.now (K.moment desk.now.clock.now) result.0 result.1 }
+    ensures fed { Feeds N.opening
+        (feed_read (folder_read (F.files folder.old) (F.faults folder.old) (F.faults folder.new)) dir.now feed.now)
+        (K.moment desk.now.clock.now) result.0 result.1 }
     ensures files { F.files folder.new ≡ F.files folder.old }
 {
     let set = match read_set(desk.alloc, folder, dir, feed) {

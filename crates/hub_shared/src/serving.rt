@@ -2,7 +2,7 @@
 
 ghost use Rattle.std.specs.Prelude.{◌≡◌, ◌<◌, Bool, None, [], length};
 ghost use Rattle.http_wire.specs.Reading.{bytes_due};
-ghost use Rattle.hub_shared.specs.Serving.{Serves, TakesShared, Turns};
+ghost use Rattle.hub_shared.specs.Serving.{Serves, TakesShared, Turns, connection};
 ghost use Rattle.rest_provider.specs.Ends.{ends_of};
 ghost use Rattle.rest_provider.specs.declared.turn.Turn.TheVariants as spec_turn;
 
@@ -74,8 +74,9 @@ fn take_turn<H: HubKeeper, N: Naming, R: Wait, K: Clock, G: Gate, S: Source, W: 
     sink: &mut W,
 ) -> Turn
     requires fresh { reader.old.fault ≡ None }
-    ensures turns { Turns (TakesShared N.opening (K.moment desk.now.clock.now)) (ends_of (S.left source.old) (S.faults source.old) (W.written sink.old) (W.faults sink.old))
-        (ends_of (S.left source.new) (S.faults source.new) (W.written sink.new) (W.faults sink.new)) reader.old.kept reader.new.kept seat.old seat.new result }
+    ensures turns { Turns (TakesShared N.opening (K.moment desk.now.clock.now))
+        (connection (ends_of (S.left source.old) (S.faults source.old) (W.written sink.old) (W.faults sink.old)) reader.old.kept seat.old)
+        (connection (ends_of (S.left source.new) (S.faults source.new) (W.written sink.new) (W.faults sink.new)) reader.new.kept seat.new) result }
     ensures fresh { (close : Bool) → result ≡ spec_turn.Answered close → reader.new.fault ≡ None }
     ensures due { (close : Bool) → result ≡ spec_turn.Answered close → bytes_due (S.budget source.new) (length reader.new.kept) < bytes_due (S.budget source.old) (length reader.old.kept) }
 {

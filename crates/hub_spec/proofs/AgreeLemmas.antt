@@ -19,7 +19,7 @@ use Rattle.version_core.specs.HubStates.{HubState}
 use Rattle.version_core.specs.declared.change.BaseVersion.{BaseVersion}
 use Rattle.version_core.specs.declared.mark.Write.{Write}
 use Rattle.hub_spec.specs.marks.Agreement.{AllCarried, AllShown, GivesOnly, IsCaller, IsCarried, IsOfEntry, IsShown}
-use Rattle.hub_spec.specs.marks.Agreement.{MarksAgree}
+use Rattle.hub_spec.specs.marks.Agreement.{CarriesMark, GivesIfMarked, MarksAgree}
 use Rattle.hub_spec.specs.marks.Marked.{Marked, mark_of, marked_at, marked_by, marked_in}
 
 pub if_some : {X : Type 0} (P Q : X → Type 0) (o : Option X) → ((x : X) → P x → Q x) → IfSome o P → IfSome o Q
@@ -49,7 +49,7 @@ module _ (caller : List ℕ) (a b : HubState) (grew : Grew a b) where
 
   -- more versions and more requests leave fewer callers
   pub caller_back : (more sent : List Request) → IsCaller caller b (more ++ sent) → IsCaller caller a sent
-  caller_back [] sent h = all_each (λ q. IfSome (marked_by q) (λ _. GivesOnly b q.token caller)) (λ q. IfSome (marked_by q) (λ _. GivesOnly a q.token caller)) sent
+  caller_back [] sent h = all_each (GivesIfMarked b caller) (GivesIfMarked a caller) sent
       (λ q. if_some (λ _. GivesOnly b q.token caller) (λ _. GivesOnly a q.token caller) (marked_by q) (λ m. gives_back q.token)) h
   caller_back (q ∷ more) sent h = caller_back more sent h.1
 
@@ -66,7 +66,7 @@ module _ (caller : List ℕ) (a b : HubState) (grew : Grew a b) where
     May m = IsOfEntry m entries × (m.number ≤ last)
 
     carried_on : (sent : List Request) → IsCaller caller b sent → AllCarried a caller entries last sent → AllCarried b caller entries last sent
-    carried_on sent given h = all_two (λ q. IfSome (marked_by q) (λ _. GivesOnly b q.token caller)) (λ q. IfSome (marked_by q) (IsCarried a caller entries last q.token)) (λ q. IfSome (marked_by q) (IsCarried b caller entries last q.token)) sent
+    carried_on sent given h = all_two (GivesIfMarked b caller) (CarriesMark a caller entries last) (CarriesMark b caller entries last) sent
         (λ q. if_two (λ _. GivesOnly b q.token caller) (IsCarried a caller entries last q.token) (IsCarried b caller entries last q.token) (marked_by q)
         (λ m gives k. record { entry = k.entry; number = k.number; token = gives })) given h
 
@@ -106,7 +106,7 @@ entering_keeps entries last number write state sent next h caller given =
     let new : OutEntry = record { number = number; write = write; settled = None } in
     record {
       shown = all_append (λ (e : OutEntry). IfSome e.settled (IsShown state caller e)) entries (new ∷ []) k.shown (tt, tt);
-      carried = all_each (λ q. IfSome (marked_by q) (IsCarried state caller entries last q.token)) (λ q. IfSome (marked_by q) (IsCarried state caller (entries ++ new ∷ []) number q.token)) sent
+      carried = all_each (CarriesMark state caller entries last) (CarriesMark state caller (entries ++ new ∷ []) number) sent
           (λ q. if_some (IsCarried state caller entries last q.token) (IsCarried state caller (entries ++ new ∷ []) number q.token) (marked_by q)
           (λ m c. record { entry = of_entry_more m entries (new ∷ []) c.entry; number = omega (arith, c.number, next); token = c.token })) k.carried;
     }
@@ -116,31 +116,31 @@ entering_keeps entries last number write state sent next h caller given =
 -- the first entry that isn't settled may be sent
 pub first_of_entry : (entries : List OutEntry) (entry : OutEntry) → first_unsettled entries ≡ Some entry → IsOfEntry (mark_of entry) entries
 first_of_entry [] entry e = cc
-first_of_entry (x ∷ xs) entry e = by x.settled refl e (first_of_entry xs entry)
+first_of_entry (x ∷ xs) entry e = cases x.settled refl e (first_of_entry xs entry)
   where
-    by : (o : Option Settled) → x.settled ≡ o → cond (is_none o) (Some x) (first_unsettled xs) ≡ Some entry → (first_unsettled xs ≡ Some entry → IsOfEntry (mark_of entry) xs) → IsOfEntry (mark_of entry) (x ∷ xs)
-    by None is e rest = let same : x ≡ entry = cc in inl (ap mark_of same)
-    by (Some s) is e rest = inr (ap is_some is, rest e)
+    cases : (o : Option Settled) → x.settled ≡ o → cond (is_none o) (Some x) (first_unsettled xs) ≡ Some entry → (first_unsettled xs ≡ Some entry → IsOfEntry (mark_of entry) xs) → IsOfEntry (mark_of entry) (x ∷ xs)
+    cases None is e rest = let same : x ≡ entry = cc in inl (ap mark_of same)
+    cases (Some s) is e rest = inr (ap is_some is, rest e)
 
 of_entry_settled : (m : Marked) (s : Settled) (entries : List OutEntry) → IsOfEntry m entries → IsOfEntry m (settled_first s entries)
 of_entry_settled m s [] h = absurd h
-of_entry_settled m s (x ∷ xs) h = by (is_none x.settled) (of_entry_settled m s xs)
+of_entry_settled m s (x ∷ xs) h = cases (is_none x.settled) (of_entry_settled m s xs)
   where
-    by : (b : Bool) → (IsOfEntry m xs → IsOfEntry m (settled_first s xs)) → IsOfEntry m (cond b (record x { settled = Some s } ∷ xs) (x ∷ settled_first s xs))
-    by true more = ⊎_elim (λ (same : mark_of x ≡ m). inl same) (λ rest. inr (refl, rest.1)) h
-    by false more = ⊎_elim (λ (same : mark_of x ≡ m). inl same) (λ rest. inr (rest.0, more rest.1)) h
+    cases : (b : Bool) → (IsOfEntry m xs → IsOfEntry m (settled_first s xs)) → IsOfEntry m (cond b (record x { settled = Some s } ∷ xs) (x ∷ settled_first s xs))
+    cases true more = ⊎_elim (λ (same : mark_of x ≡ m). inl same) (λ rest. inr (refl, rest.1)) h
+    cases false more = ⊎_elim (λ (same : mark_of x ≡ m). inl same) (λ rest. inr (rest.0, more rest.1)) h
 
 shown_settled : (state : HubState) (caller : List ℕ) (s : Settled) (entries : List OutEntry) (entry : OutEntry) → first_unsettled entries ≡ Some entry → IsShown state caller entry s
     → AllShown state caller entries → AllShown state caller (settled_first s entries)
 shown_settled state caller s [] entry e shown h = tt
-shown_settled state caller s (x ∷ xs) entry e shown h = by (is_none x.settled) e (λ e. shown_settled state caller s xs entry e shown h.1)
+shown_settled state caller s (x ∷ xs) entry e shown h = cases (is_none x.settled) e (λ e. shown_settled state caller s xs entry e shown h.1)
   where
-    by : (b : Bool) → cond b (Some x) (first_unsettled xs) ≡ Some entry → (first_unsettled xs ≡ Some entry → AllShown state caller (settled_first s xs)) → AllShown state caller (cond b (record x { settled = Some s } ∷ xs) (x ∷ settled_first s xs))
-    by true e more =
+    cases : (b : Bool) → cond b (Some x) (first_unsettled xs) ≡ Some entry → (first_unsettled xs ≡ Some entry → AllShown state caller (settled_first s xs)) → AllShown state caller (cond b (record x { settled = Some s } ∷ xs) (x ∷ settled_first s xs))
+    cases true e more =
         let same : entry ≡ x = cc in
         let k = subst (λ (y : OutEntry). IsShown state caller y s) same shown in
         (record { mark = k.mark; held = k.held; write = k.write; status = k.status; version = k.version }, h.1)
-    by false e more = (h.0, more e)
+    cases false e more = (h.0, more e)
 
 -- settling the first that isn't settled, as its mark is shown, keeps the agreement
 pub settling_keeps : (s : Settled) (entries : List OutEntry) (entry : OutEntry) (last : ℕ) (state : HubState) (sent : List Request) → first_unsettled entries ≡ Some entry
@@ -149,7 +149,7 @@ settling_keeps s entries entry last state sent first shows h caller given =
     let k = h caller given in
     record {
       shown = shown_settled state caller s entries entry first (shows caller given) k.shown;
-      carried = all_each (λ q. IfSome (marked_by q) (IsCarried state caller entries last q.token)) (λ q. IfSome (marked_by q) (IsCarried state caller (settled_first s entries) last q.token)) sent
+      carried = all_each (CarriesMark state caller entries last) (CarriesMark state caller (settled_first s entries) last) sent
           (λ q. if_some (IsCarried state caller entries last q.token) (IsCarried state caller (settled_first s entries) last q.token) (marked_by q)
           (λ m c. record { entry = of_entry_settled m s entries c.entry; number = c.number; token = c.token })) k.carried;
     }

@@ -25,6 +25,7 @@ use Rattle.status_info.specs.declared.request.Verb.{Verb}
 use Rattle.status_info.specs.declared.request.Verb.TheVariants.{Delete, Get, Head, Other, Put}
 use Rattle.version_core.specs.HubStates.{HubState, newest_number}
 use Rattle.version_core.specs.Marks.{mark_at}
+use Rattle.version_core.specs.Outcomes.{mark_taken_outcome}
 use Rattle.version_core.specs.declared.grant_row.GrantRow.{GrantRow}
 use Rattle.version_core.specs.declared.mark.MarkRow.{MarkRow}
 use Rattle.version_core.specs.declared.mark.Write.{Write}
@@ -97,7 +98,7 @@ module _ (state : HubState) (wanted : Wanted) (marked : Marked) (is : IsMarked w
 
     -- the mark is held
     repeats : (held : MarkRow) (b : Bool) → mark_at (by.caller, marked.number) state.marks ≡ Some held → same_write held.write marked.write ≡ b
-        → reply ≡ sent wanted (reply_to_write state wanted marked.write (cond b (Repeat held.kept) (Refused 1))) → next ≡ after (cond b (Repeat held.kept) (Refused 1)) → IsPageReply
+        → reply ≡ sent wanted (reply_to_write state wanted marked.write (cond b (Repeat held.kept) (Refused mark_taken_outcome))) → next ≡ after (cond b (Repeat held.kept) (Refused mark_taken_outcome)) → IsPageReply
     unfolding state_after kept_status
     repeats held true holds same e left = Shown by held known (ap (λ (s : HubState). mark_at (by.caller, marked.number) s.marks) left ∙ holds) (record {
       write = write_is held.write marked.write same;

@@ -12,7 +12,7 @@ use Rattle.hub_spec.specs.rules.Checks.{Entry, base_refused, check, first_open, 
 use Rattle.hub_spec.specs.rules.Checks.{refused_at, version_at, version_read}
 use Rattle.hub_spec.specs.rules.DeltaAsking.{IsDeltaReply, NotKnown, PinGone, NotOpened, BaseGone, Differs, asking_from}
 use Rattle.hub_spec.specs.rules.DeltaAsking.{query_from}
-use Rattle.hub_spec.specs.rules.Reads.{Contents, delta_shown, read_at, shown}
+use Rattle.hub_spec.specs.rules.Reads.{Contents, delta_shown, read_at, rows_seen_by, shown}
 use Rattle.hub_spec.specs.rules.States.{IsHub}
 use Rattle.hub_spec.specs.rules.Verdicts.{newest_in}
 use Rattle.hub_spec.specs.rules.Wanted.{Wanted}
@@ -20,7 +20,6 @@ use Rattle.hub_spec.specs.views.Cuts.{kind_cut, list_in}
 use Rattle.hub_spec.specs.views.Deltas.{delta, kind_delta, page_of_delta}
 use Rattle.hub_spec.specs.views.Pages.{slice, whole}
 use Rattle.hub_spec.specs.views.Rules.{rule_of}
-use Rattle.hub_spec.specs.views.Seen.{seen}
 use Rattle.roster_base.specs.Reading.{◌>>=◌}
 use Rattle.roster_texts.specs.Results.{found_or}
 use Rattle.roster_types.specs.Keys.{is_of_kind}
@@ -30,7 +29,6 @@ use Rattle.row_deltas.specs.declared.entry.DeltaEntry.{DeltaEntry}
 use Rattle.status_info.specs.declared.cause.Cause.TheVariants as cause
 use Rattle.status_info.specs.declared.reply.Reply.{Reply}
 use Rattle.status_info.specs.declared.request.Echo.{Echo}
-use Rattle.version_core.specs.Changes.{rows_of}
 use Rattle.version_core.specs.Grants.{grant_of}
 use Rattle.version_core.specs.HubStates.{HubState, newest_number}
 use Rattle.version_core.specs.declared.grant_row.GrantRow.{GrantRow}
@@ -43,7 +41,7 @@ module _ (state : HubState) (hub : IsHub state) (token : List ℕ) (ask : Asking
   entry by = record { path = whole ask.kind; by = by }
 
   rows_at : GrantRow → ℕ → List Record
-  rows_at by version = seen by.grant.schools (rows_of (version_at state version).rows)
+  rows_at by version = rows_seen_by state by version
 
   -- what a 200 has
   page_at : GrantRow → ℕ → Contents

@@ -23,6 +23,7 @@ use Rattle.version_changes.specs.sets.Applying as applying
 use Rattle.status_info.specs.declared.cause.Cause.TheVariants as cause
 use Rattle.status_info.specs.declared.reply.Reply.{Reply}
 use Rattle.version_core.specs.HubStates.{HubState}
+use Rattle.version_core.specs.Outcomes.{mark_taken_outcome}
 use Rattle.version_core.specs.Version.{empty_version}
 use Rattle.version_core.specs.declared.change.BaseVersion.{BaseVersion}
 use Rattle.version_core.specs.declared.grant_row.GrantRow.{GrantRow}
@@ -115,7 +116,7 @@ module _ (state : HubState) (by : GrantRow) (number : Option ℕ) (write : Write
   -- a verdict on a write whose mark is held keeps nothing
   held_keeps_nothing : (held : MarkRow) (outcome : ℕ) → outcome_of write (repeated held write) ≡ Some outcome → ⊥
   held_keeps_nothing held outcome e =
-      elim (same_write held.write write) as (λ b. outcome_of write (cond b (Repeat held.kept) (Refused 1)) ≡ Some outcome → ⊥) [ true ↦ λ e. cc | false ↦ λ e. cc ] e
+      elim (same_write held.write write) as (λ b. outcome_of write (cond b (Repeat held.kept) (Refused mark_taken_outcome)) ≡ Some outcome → ⊥) [ true ↦ λ e. cc | false ↦ λ e. cc ] e
 
   pub free_of_judged : (at : ℤ) (verdict : Verdict) → Judges state by number write at verdict → (n outcome : ℕ) → number ≡ Some n → outcome_of write verdict ≡ Some outcome → mark_at (by.caller, n) state.marks ≡ None
   unfolding Judges

@@ -37,6 +37,7 @@ use Rattle.version_changes.specs.sets.Applying.{rows_in, set_key, unlisted}
 use Rattle.version_core.proofs.Places.{look_up-at}
 use Rattle.version_core.specs.Changes.{change_key}
 use Rattle.version_core.specs.Order.{by_order, put}
+use Rattle.version_core.specs.Outcomes.{last_version_outcome, mark_taken_outcome}
 use Rattle.version_core.specs.Version.{empty_version, last_or, last_version}
 use Rattle.version_core.specs.declared.change.BaseVersion.{BaseVersion}
 use Rattle.version_core.specs.declared.grant_row.GrantRow.{GrantRow}
@@ -121,7 +122,7 @@ module _ (newest : BaseVersion) (old : HoldsRows newest) (by : GrantRow) (write 
   leads_holds : (change : RowChange) → IsRow change.row → leads_with newest at change ≡ Leads next → HoldsRows next
   leads_holds change held e =
       let made : BaseVersion = record newest { number = newest.number + 1; moment = at; rows = put change_key change newest.rows } in
-      elim (newest.number == last_version) as (λ b. cond b (Refused 8) (Leads made) ≡ Leads next → HoldsRows next) [
+      elim (newest.number == last_version) as (λ b. cond b (Refused last_version_outcome) (Leads made) ≡ Leads next → HoldsRows next) [
         | true ↦ λ e. cc
         | false ↦ λ e. let same : made ≡ next = cc in subst HoldsRows same (all_put (λ (c : RowChange). IsRow c.row) change_key change newest.rows old held)
       ] e
@@ -160,7 +161,7 @@ module _ (newest : BaseVersion) (old : HoldsRows newest) (by : GrantRow) (write 
     new_holds false is judged = body_holds (put_of write.kind write.id at write.body) is refl judged
 
     pub judged_holds : (o : Option MarkRow) → Judged o newest by write at (Leads next) → HoldsRows next
-    judged_holds (Some held) judged = elim (same_write held.write write) as (λ b. Leads next ≡ cond b (Repeat held.kept) (Refused 1) → HoldsRows next) [ true ↦ λ e. cc | false ↦ λ e. cc ] judged
+    judged_holds (Some held) judged = elim (same_write held.write write) as (λ b. Leads next ≡ cond b (Repeat held.kept) (Refused mark_taken_outcome) → HoldsRows next) [ true ↦ λ e. cc | false ↦ λ e. cc ] judged
     judged_holds None judged = new_holds write.delete refl judged
 
 -- ---- the newest of some versions

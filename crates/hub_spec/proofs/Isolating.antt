@@ -11,19 +11,18 @@ use Rattle.hub_spec.specs.views.Deltas.{kind_delta, page_of_delta}
 use Rattle.hub_spec.specs.views.Links.{base_for}
 use Rattle.status_info.specs.declared.cause.Cause.{Cause}
 use Rattle.hub_spec.specs.rules.Checks.{Entry, base_checked, check, entry_of, grant_in, method_refused, query_or}
-use Rattle.hub_spec.specs.rules.Checks.{refused, refused_at, version_at, version_read}
+use Rattle.hub_spec.specs.rules.Checks.{refused, refused_at, version_read}
 use Rattle.hub_spec.specs.rules.Reads.{Contents, contents_at, contents_of, delta_shown, read_at, read_result, shown}
+use Rattle.hub_spec.specs.rules.Reads.{rows_seen_by}
 use Rattle.hub_spec.specs.rules.Views.{SameToReader}
 use Rattle.hub_spec.specs.rules.Wanted.{Wanted, access_of, allows, is_good_mark, is_write}
 use Rattle.hub_spec.specs.views.Lists.{kind_of_path}
 use Rattle.grant_scopes.specs.Opens.{opens}
-use Rattle.hub_spec.specs.views.Seen.{seen}
 use Rattle.roster_base.specs.Reading.{◌>>=◌}
 use Rattle.roster_texts.specs.Results.{found_or}
 use Rattle.roster_types.specs.Records.{Record}
 use Rattle.status_info.specs.declared.cause.Cause.TheVariants as cause
 use Rattle.status_info.specs.declared.reply.Reply.{Reply}
-use Rattle.version_core.specs.Changes.{rows_of}
 use Rattle.version_core.specs.HubStates.{HubState, newest_number, oldest_number}
 use Rattle.version_core.specs.declared.grant_row.GrantRow.{GrantRow}
 
@@ -65,7 +64,7 @@ module _ (wanted : Wanted) where
       from_query oldest befores rows entry version query (base_for entry.path.route query.since)
 
   seen_at : HubState → Entry → ℕ → List Record
-  seen_at state entry version = seen entry.by.grant.schools (rows_of (version_at state version).rows)
+  seen_at state entry version = rows_seen_by state entry.by version
 
   same_check : (state : HubState) (entry : Entry) (version : ℕ) (base : Option ℕ) → base_checked state entry.by wanted version base ≡ base_by (oldest_number state) entry version base
   unfolding base_by

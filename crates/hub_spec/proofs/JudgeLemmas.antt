@@ -24,6 +24,7 @@ use Rattle.row_json.specs.declared.fault.JsonFault.{JsonFault}
 use Rattle.version_core.specs.Changes.{change_key, rows_of}
 use Rattle.version_core.specs.Marks.{is_below, mark_at, mark_key, same_mark, with_mark}
 use Rattle.version_core.specs.Order.{put}
+use Rattle.version_core.specs.Outcomes.{last_version_outcome}
 use Rattle.version_core.specs.Version.{last_version}
 use Rattle.version_core.specs.declared.change.BaseVersion.{BaseVersion}
 use Rattle.version_core.specs.declared.grant_row.GrantRow.{GrantRow}
@@ -95,7 +96,7 @@ check_above false number checks le all = all
 
 module _ (newest : BaseVersion) (by : GrantRow) (write : Write) (at : ℤ) where
   new_leads : (change : RowChange) → IsNew (leads_with newest at change)
-  new_leads change = elim (newest.number == last_version) as (λ b. IsNew (cond b (Refused 8) (Leads (record newest { number = newest.number + 1; moment = at; rows = put change_key change newest.rows })))) [ true ↦ omega arith | false ↦ tt ]
+  new_leads change = elim (newest.number == last_version) as (λ b. IsNew (cond b (Refused last_version_outcome) (Leads (record newest { number = newest.number + 1; moment = at; rows = put change_key change newest.rows })))) [ true ↦ omega arith | false ↦ tt ]
 
   new_deleted : (stored : Option RowChange) → IsNew (delete_makes newest at stored)
   new_deleted None = omega arith

@@ -41,6 +41,7 @@ use Rattle.version_core.proofs.GrantLemmas.{AreGrants-later}
 use Rattle.version_core.proofs.OrderLemmas.{Ascends-put}
 use Rattle.version_core.specs.Changes.{change_key, rows_of}
 use Rattle.version_core.specs.Order.{put}
+use Rattle.version_core.specs.Outcomes.{last_version_outcome, mark_taken_outcome}
 use Rattle.version_core.specs.Version.{IsVersion, last_version, row_limit}
 use Rattle.version_core.specs.declared.change.BaseVersion.{BaseVersion}
 use Rattle.version_core.specs.declared.grant_row.GrantRow.{GrantRow}
@@ -82,7 +83,7 @@ module _ (newest : BaseVersion) (is : IsVersion newest) (at : ℤ) where
   -- a change that is due leads to a version that may stand
   led : (change : RowChange) (next : BaseVersion) → HasRoom newest change → leads_with newest at change ≡ Leads next → IsNext newest next
   led change next room e =
-      elim (newest.number == last_version) as (λ b. (newest.number == last_version) ≡ b → cond b (Refused 8) (Leads (record newest { number = newest.number + 1; moment = at; rows = put change_key change newest.rows })) ≡ Leads next → IsNext newest next) [
+      elim (newest.number == last_version) as (λ b. (newest.number == last_version) ≡ b → cond b (Refused last_version_outcome) (Leads (record newest { number = newest.number + 1; moment = at; rows = put change_key change newest.rows })) ≡ Leads next → IsNext newest next) [
         | true ↦ λ _ e. cc
         | false ↦ λ below e.
             let small = is.number in
@@ -223,5 +224,5 @@ module _ (newest : BaseVersion) (is : IsVersion newest) (at : ℤ) (by : GrantRo
   new_led false judged = body_led (put_of write.kind write.id at write.body) refl judged
 
   pub judged_led : (o : Option MarkRow) → Judged o newest by write at (Leads next) → IsNext newest next
-  judged_led (Some held) judged = elim (same_write held.write write) as (λ b. Leads next ≡ cond b (Repeat held.kept) (Refused 1) → IsNext newest next) [ true ↦ λ e. cc | false ↦ λ e. cc ] judged
+  judged_led (Some held) judged = elim (same_write held.write write) as (λ b. Leads next ≡ cond b (Repeat held.kept) (Refused mark_taken_outcome) → IsNext newest next) [ true ↦ λ e. cc | false ↦ λ e. cc ] judged
   judged_led None judged = new_led write.delete judged

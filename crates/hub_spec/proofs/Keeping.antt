@@ -52,6 +52,7 @@ use Rattle.version_core.specs.Changes.{change_key, rows_of}
 use Rattle.version_core.specs.HubStates.{HubState, newest_number}
 use Rattle.version_core.specs.Marks.{AreMarks, CanMark, is_outcome}
 use Rattle.version_core.specs.Order.{put}
+use Rattle.version_core.specs.Outcomes.{last_version_outcome, mark_taken_outcome}
 use Rattle.version_core.specs.Version.{last_version}
 use Rattle.version_core.specs.declared.change.BaseVersion.{BaseVersion}
 use Rattle.version_core.specs.declared.grant_row.GrantRow.{GrantRow}
@@ -83,7 +84,7 @@ fair_check false n in_range m e = cc
 
 module _ (newest : BaseVersion) (by : GrantRow) (write : Write) (at : ℤ) where
   fair_leads : (change : RowChange) → IsFair (leads_with newest at change)
-  fair_leads change = elim (newest.number == last_version) as (λ b. IsFair (cond b (Refused 8) (Leads (record newest { number = newest.number + 1; moment = at; rows = put change_key change newest.rows })))) [ true ↦ (omega arith, omega arith) | false ↦ tt ]
+  fair_leads change = elim (newest.number == last_version) as (λ b. IsFair (cond b (Refused last_version_outcome) (Leads (record newest { number = newest.number + 1; moment = at; rows = put change_key change newest.rows })))) [ true ↦ (omega arith, omega arith) | false ↦ tt ]
 
   fair_delete_makes : (stored : Option RowChange) → IsFair (delete_makes newest at stored)
   fair_delete_makes None = (omega arith, omega arith)
@@ -143,7 +144,7 @@ fair_kept write (Refused n) outcome fair e =
 -- what is kept where the mark is held: nothing
 nothing_of : (write : Write) (held : MarkRow) (outcome : ℕ) → outcome_of write (repeated held write) ≡ Some outcome → ⊥
 nothing_of write held outcome e =
-    elim (same_write held.write write) as (λ b. outcome_of write (cond b (Repeat held.kept) (Refused 1)) ≡ Some outcome → ⊥) [ true ↦ λ e. cc | false ↦ λ e. cc ] e
+    elim (same_write held.write write) as (λ b. outcome_of write (cond b (Repeat held.kept) (Refused mark_taken_outcome)) ≡ Some outcome → ⊥) [ true ↦ λ e. cc | false ↦ λ e. cc ] e
 
 module _ (state : HubState) (by : GrantRow) (number : Option ℕ) (write : Write) (at : ℤ) (verdict : Verdict) (judged : Judges state by number write at verdict) where
   fair : (held : Option MarkRow) → Judged held (newest_in state) by write at verdict → (outcome : ℕ) → outcome_of write verdict ≡ Some outcome → is_outcome write.delete outcome ≡ true

@@ -5,7 +5,7 @@ pub mod ListLemmas
 pub mod PageLemmas
 pub mod Sorting
 pub mod OnceLemmas
-pub mod Being
+pub mod HasAnswers
 pub mod CutDeltas
 pub mod Cutting
 pub mod DeltaRequestLemmas

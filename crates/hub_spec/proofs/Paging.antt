@@ -4,7 +4,7 @@ use Rattle.std.specs.Fmt.{digits}
 use Rattle.form_urlencoded.specs.Form.{byte_serialize}
 use Rattle.percent_encoding.specs.Percent.{percent_encode_byte}
 use Rattle.hub_spec.specs.examples.Lake.{lake}
-use Rattle.filter_grammar.specs.rows.Filters.{comparison_passes, stands_in}
+use Rattle.filter_grammar.specs.rows.Filters.{comparison_passes, occurs_in}
 use Rattle.hub_spec.specs.views.Links.{links_of, path_text, target}
 use Rattle.rest_paths.specs.Paths.{PathParts as Path}
 use Rattle.hub_spec.specs.views.Lists.{belongs, list_of, object_of}
@@ -100,7 +100,7 @@ page_ids page = option_map (λ (p : Page). map (λ (row : Record). row.id) p.row
 
 oaks_sorted : page_ids (page_of lake 2 (path (route.All (Of Users)) []) (oaks 0)) ∷ page_ids (page_of lake 2 (path (route.All (Of Users)) []) (oaks 2)) ∷ []
     ≡ Some (codes "u1" ∷ codes "u2" ∷ []) ∷ Some (codes "u4" ∷ codes "u3" ∷ []) ∷ []
-unfolding list_of belongs rule_of arranged comparison_passes stands_in subject_of cell_text key_cmp
+unfolding list_of belongs rule_of arranged comparison_passes occurs_in subject_of cell_text key_cmp
 oaks_sorted = refl
 
 abbrev targets : List LinkItem → List (List ℕ)

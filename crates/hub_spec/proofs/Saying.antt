@@ -7,7 +7,7 @@ use Rattle.hub_spec.specs.rules.Answers.{Answered, Answers, either, sent}
 use Rattle.hub_spec.specs.rules.Checks.{Entry, check, first_open, may_read, pin_refused, refused, refused_at}
 use Rattle.hub_spec.specs.rules.Checks.{version_at}
 use Rattle.hub_spec.specs.rules.Checks.{version_read}
-use Rattle.hub_spec.specs.rules.Reads.{contents_of, page_shown, read_at, shown}
+use Rattle.hub_spec.specs.rules.Reads.{contents_of, page_shown, read_at, rows_seen_by, shown}
 use Rattle.hub_spec.specs.rules.Asking.{Asking, IsRead, IsPageReply, Unknown, Gone, Shut, Listed, asking, query_for}
 use Rattle.hub_spec.specs.rules.States.{IsHub}
 use Rattle.hub_spec.proofs.Cutting.{known_at, rows_are_cut, since_newest}
@@ -21,7 +21,7 @@ use Rattle.hub_spec.specs.views.Lists.{list_of}
 use Rattle.hub_spec.specs.views.Pages.{page_of_list, slice, whole}
 use Rattle.hub_spec.specs.views.Rules.{rule_of}
 use Rattle.grant_scopes.specs.Opens.{opens}
-use Rattle.hub_spec.specs.views.Seen.{seen, sees_row}
+use Rattle.hub_spec.specs.views.Seen.{sees_row}
 use Rattle.grant_scopes.specs.declared.access.Access.TheVariants.{Read}
 use Rattle.reference_rules.proofs.KeyOrder.{and_first, and_second}
 use Rattle.roster_base.specs.Reading.{◌>>=◌}
@@ -77,7 +77,7 @@ module _ (state : HubState) (hub : IsHub state) (token : List ℕ) (ask : Asking
   entry by = record { path = whole ask.kind; by = by }
 
   rows_at : GrantRow → ℕ → List Record
-  rows_at by version = seen by.grant.schools (rows_of (version_at state version).rows)
+  rows_at by version = rows_seen_by state by version
 
   ascends_at : (by : GrantRow) (version : ℕ) → Ascends row_key (rows_at by version)
   unfolding rows_at

@@ -47,6 +47,7 @@ use Rattle.version_core.proofs.RowsOf.{is_sorted-rows_of}
 use Rattle.version_core.specs.Changes.{AreChanges, change_key, rows_of}
 use Rattle.version_core.specs.HubStates.{HubState, IsHubState, newest_number}
 use Rattle.version_core.specs.Order.{put}
+use Rattle.version_core.specs.Outcomes.{last_version_outcome}
 use Rattle.version_core.specs.References.{named_in, refs_in}
 use Rattle.version_core.specs.Version.{empty_version, last_version}
 use Rattle.version_core.specs.declared.change.BaseVersion.{BaseVersion}
@@ -94,11 +95,11 @@ bare (Repeat kept) = Repeat kept
 bare (Refused number) = Refused number
 
 abbrev made_after : ℕ → Verdict
-made_after number = cond (number == last_version) (Refused 8) (Leads empty_version)
+made_after number = cond (number == last_version) (Refused last_version_outcome) (Leads empty_version)
 
 bare_leads : (newest : BaseVersion) (at : ℤ) (change : RowChange) → bare (leads_with newest at change) ≡ made_after newest.number
 bare_leads newest at change =
-    elim (newest.number == last_version) as (λ b. bare (cond b (Refused 8) (Leads (record newest { number = newest.number + 1; moment = at; rows = put change_key change newest.rows }))) ≡ cond b (Refused 8) (Leads empty_version)) [ true ↦ refl | false ↦ refl ]
+    elim (newest.number == last_version) as (λ b. bare (cond b (Refused last_version_outcome) (Leads (record newest { number = newest.number + 1; moment = at; rows = put change_key change newest.rows }))) ≡ cond b (Refused last_version_outcome) (Leads empty_version)) [ true ↦ refl | false ↦ refl ]
 
 first_passes : (b : Bool) (checks : List (Option ℕ)) → first_of (refused_if b 4 ∷ checks) ≡ None → b ≡ false
 first_passes true checks e = cc

@@ -19,6 +19,7 @@ use Rattle.roster_values.specs.declared.kind.Kind.TheVariants.{Categories, LineI
 use Rattle.roster_values.specs.declared.value.Value.{Value}
 use Rattle.roster_values.specs.declared.value.Value.TheVariants.{Text, Day, Word, Ref}
 use Rattle.status_info.specs.declared.cause.Cause.TheVariants as cause
+use Rattle.version_core.specs.Outcomes.{mark_taken_outcome, stored_outcome}
 use Rattle.version_core.specs.declared.grant_row.GrantRow.{GrantRow}
 use Rattle.version_core.specs.declared.mark.MarkRow.{MarkRow}
 use Rattle.version_core.specs.declared.mark.Write.{Write}
@@ -67,9 +68,9 @@ puts = refl
 
 -- the same write repeats what was kept, another is refused
 abbrev held : MarkRow
-held = record { caller = codes "east"; number = 7; write = put LineItems (codes "li2") (codes "Set 2"); kept = record { outcome = 0; version = 3 } }
+held = record { caller = codes "east"; number = 7; write = put LineItems (codes "li2") (codes "Set 2"); kept = record { outcome = stored_outcome; version = 3 } }
 
-again : repeated held (put LineItems (codes "li2") (codes "Set 2")) ∷ repeated held (put LineItems (codes "li2") (codes "Set 3")) ∷ [] ≡ Repeat (record { outcome = 0; version = 3 }) ∷ Refused 1 ∷ []
+again : repeated held (put LineItems (codes "li2") (codes "Set 2")) ∷ repeated held (put LineItems (codes "li2") (codes "Set 3")) ∷ [] ≡ Repeat (record { outcome = stored_outcome; version = 3 }) ∷ Refused mark_taken_outcome ∷ []
 again = refl
 
 causes : map cause_of (0 ∷ 1 ∷ 2 ∷ 3 ∷ 4 ∷ 5 ∷ 6 ∷ 7 ∷ 8 ∷ 9 ∷ [])

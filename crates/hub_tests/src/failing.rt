@@ -6,6 +6,7 @@ use crate::runs::{
     Given, KEPT, Keepers, Ports, Turn, assert_turns, files_of, new_keepers, run_line,
 };
 use exchange_link::PeerLink;
+use hub_words::statuses::{COPY_FAILED, DONE, FOLDER_FAILED, HUB_FAILED, OUTPUT_FAILED};
 use keeper_memory::{CopyKeeper, HubKeeper, MemCopy, MemHub};
 use outside_ports::{Folder, MemFolder, MemSink, Sink};
 use std::alloc::Global;
@@ -31,32 +32,32 @@ struct PortEnd {
 static PORTS: [PortEnd; 6] = [
     PortEnd {
         port: Port::Folder,
-        status: 3,
+        status: FOLDER_FAILED,
         line: "folder failed\n",
     },
     PortEnd {
         port: Port::Sink,
-        status: 1,
+        status: OUTPUT_FAILED,
         line: "",
     },
     PortEnd {
         port: Port::Hub { acted: false },
-        status: 5,
+        status: HUB_FAILED,
         line: "hub store failed\n",
     },
     PortEnd {
         port: Port::Hub { acted: true },
-        status: 5,
+        status: HUB_FAILED,
         line: "hub store failed\n",
     },
     PortEnd {
         port: Port::Copy { acted: false },
-        status: 6,
+        status: COPY_FAILED,
         line: "copy store failed\n",
     },
     PortEnd {
         port: Port::Copy { acted: true },
-        status: 6,
+        status: COPY_FAILED,
         line: "copy store failed\n",
     },
 ];
@@ -155,7 +156,7 @@ fn assert_line(
     let before = faults(ports, keepers);
     let told = run_line(alloc, line, ports, keepers)?;
     if faults(ports, keepers) == before {
-        assert_eq!(rt; told, 0, "{line}");
+        assert_eq!(rt; told, DONE, "{line}");
         return Ok(());
     }
     let ends = told == end.status && ports.sink.written().ends_with(end.line.as_bytes());

@@ -1,10 +1,13 @@
--- The statuses that the program ends with, but for 1, which says that the output couldn't be written. The peer is the
--- hub that a consumer copies.
+-- The statuses that the program ends with. The peer is the hub that a consumer copies.
 use Rattle.std.specs.Prelude.{ℕ}
 
 -- what was asked for is done
 abbrev pub done_status : ℕ
 done_status = 0
+
+-- the output couldn't be written
+abbrev pub output_failed_status : ℕ
+output_failed_status = 1
 
 -- the words are no command
 abbrev pub bad_words_status : ℕ

@@ -9,9 +9,14 @@ use Rattle.sqlite.specs.State.{State, Survives, Executes, IsUnchanged, Shown}
 use Rattle.sqlite.specs.Tree.{Trees}
 use Rattle.sqlite.proofs.Callers.{runs_as}
 use Rattle.item_store.specs.Left.{Lasts}
+use Rattle.item_store.specs.Stands.{Earlier}
 use Rattle.item_store.specs.Table.{commit_text, no_text}
 use Rattle.item_store.proofs.States.{shown_open}
 use Rattle.item_store.proofs.Texts.{commit_any, commit_any_plain, nothing_any, nothing_any_plain}
+
+-- a disk that is clean behind a statement was so before
+pub clean_before : {old new : State} {Commits : Trees → Type 0} → Survives old new Commits → Earlier old new
+clean_before it clean = omega (arith, it.clean)
 
 pub lasts_by : (old new : State) (Commits : Trees → Type 0) → Survives old new Commits → Lasts old new
 lasts_by old new Commits it times h = record {

@@ -33,6 +33,18 @@ StandsFor s m = WhileClean s (IsSettled s IsTold m)
 abbrev pub IsReady : State → Items → Type 0
 IsReady s m = WhileClean s (IsSettled s IsTabled m)
 
+-- of whatever items the connection stands for, this holds
+abbrev pub IfStands : State → (Items → Type 0) → Type 0
+IfStands s P = (m : Items) → StandsFor s m → P m
+
+-- the same behind a call that leaves the disk clean, where the connection was open before it
+abbrev pub IfOpen : State → State → (Items → Type 0) → Type 0
+IfOpen old new P = (m : Items) → StandsFor old m → HasCleanDisk new → IsTrue old.is_open → P m
+
+-- the same where the table stands
+abbrev pub IfReady : State → (Items → Type 0) → Type 0
+IfReady s P = (m : Items) → IsReady s m → P m
+
 -- inside a transaction that has come from the items `base` to these
 pub record IsInside (s : State) (base m : Items) : Type 0 where
   pub inside : s.in_transaction ≡ true
@@ -42,6 +54,10 @@ pub record IsInside (s : State) (base m : Items) : Type 0 where
 -- the connection is inside a transaction that has come from the items `base` to these
 abbrev pub IsWithin : State → Items → Items → Type 0
 IsWithin s base m = WhileClean s (IsInside s base m)
+
+-- of whatever items such a transaction has come from and to, this holds
+abbrev pub IfWithin : State → (Items → Items → Type 0) → Type 0
+IfWithin s P = (base m : Items) → IsWithin s base m → P base m
 
 -- a rollback leads back to the items `base`
 pub record MayGoBack (s : State) (base : Items) : Type 0 where

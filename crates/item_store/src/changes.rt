@@ -4,10 +4,10 @@ ghost use Rattle.std.specs.Prelude.{[], OnOk, OnErr};
 ghost use Rattle.sqlite.specs.Held.{state};
 ghost use Rattle.sqlite.specs.State.{HasCleanDisk, Executes, CommitsBy, Survives};
 ghost use Rattle.item_store.specs.Asked.{Asks};
-ghost use Rattle.item_maps.specs.Items.{Items, cleared, put as put_in};
+ghost use Rattle.item_maps.specs.Items.{cleared, put as put_in};
 ghost use Rattle.item_store.specs.Items.{params_of, put_params};
 ghost use Rattle.item_store.specs.Left.{Lasts, Leaves, WasOpen};
-ghost use Rattle.item_store.specs.Stands.{IsWithin, GoesBackTo, Earlier};
+ghost use Rattle.item_store.specs.Stands.{IsWithin, GoesBackTo, Earlier, IfWithin};
 ghost use Rattle.item_store.specs.Table.{delete_text, upsert_text};
 
 use sqlite::{Alter, Connection, Error, params};
@@ -61,14 +61,14 @@ pub fn clear<S: Alter>(
     from: &[u8],
     to: &[u8],
 ) -> Result<(), Error>
-    ensures ok { (base m : Items) → IsWithin (state S.Store conn.old) base m
-        → OnOk result (IsWithin (state S.Store conn.new) base (cleared area from.now to.now m)) }
-    ensures err { (base m : Items) → IsWithin (state S.Store conn.old) base m
-        → OnErr result (GoesBackTo (state S.Store conn.new) base) }
+    ensures ok { IfWithin (state S.Store conn.old) (λ base m.
+        OnOk result (IsWithin (state S.Store conn.new) base (cleared area from.now to.now m))) }
+    ensures err { IfWithin (state S.Store conn.old) (λ base _.
+        OnErr result (GoesBackTo (state S.Store conn.new) base)) }
     ensures asks { HasCleanDisk (state S.Store conn.new)
         → Asks (state S.Store conn.old) (state S.Store conn.new) result }
-    ensures left { (base m : Items) → IsWithin (state S.Store conn.old) base m
-        → Leaves (state S.Store conn.old) (state S.Store conn.new) result (λ _. ⊥) }
+    ensures left { IfWithin (state S.Store conn.old) (λ _ _.
+        Leaves (state S.Store conn.old) (state S.Store conn.new) result (λ _. ⊥)) }
     ensures was_open { WasOpen (state S.Store conn.old) (state S.Store conn.new) }
     ensures honest { Earlier (state S.Store conn.old) (state S.Store conn.new) }
     ensures lasts { Lasts (state S.Store conn.old) (state S.Store conn.new) }
@@ -84,14 +84,14 @@ pub fn put<S: Alter>(
     label: &[u8],
     body: &[u8],
 ) -> Result<(), Error>
-    ensures ok { (base m : Items) → IsWithin (state S.Store conn.old) base m
-        → OnOk result (IsWithin (state S.Store conn.new) base (put_in area label.now body.now m)) }
-    ensures err { (base m : Items) → IsWithin (state S.Store conn.old) base m
-        → OnErr result (GoesBackTo (state S.Store conn.new) base) }
+    ensures ok { IfWithin (state S.Store conn.old) (λ base m.
+        OnOk result (IsWithin (state S.Store conn.new) base (put_in area label.now body.now m))) }
+    ensures err { IfWithin (state S.Store conn.old) (λ base _.
+        OnErr result (GoesBackTo (state S.Store conn.new) base)) }
     ensures asks { HasCleanDisk (state S.Store conn.new)
         → Asks (state S.Store conn.old) (state S.Store conn.new) result }
-    ensures left { (base m : Items) → IsWithin (state S.Store conn.old) base m
-        → Leaves (state S.Store conn.old) (state S.Store conn.new) result (λ _. ⊥) }
+    ensures left { IfWithin (state S.Store conn.old) (λ _ _.
+        Leaves (state S.Store conn.old) (state S.Store conn.new) result (λ _. ⊥)) }
     ensures was_open { WasOpen (state S.Store conn.old) (state S.Store conn.new) }
     ensures honest { Earlier (state S.Store conn.old) (state S.Store conn.new) }
     ensures lasts { Lasts (state S.Store conn.old) (state S.Store conn.new) }

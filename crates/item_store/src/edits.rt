@@ -5,9 +5,8 @@ ghost use Rattle.sqlite.specs.Held.{state};
 ghost use Rattle.sqlite.specs.State.{HasCleanDisk};
 ghost use Rattle.sqlite.specs.Tree.{Trees};
 ghost use Rattle.item_store.specs.Asked.{AsksInTurn, IsRefused};
-ghost use Rattle.item_maps.specs.Items.{Items};
 ghost use Rattle.item_store.specs.Left.{IsLeft, Lasts, Leaves, WasOpen};
-ghost use Rattle.item_store.specs.Stands.{StandsFor, IsWithin, GoesBackTo, Earlier};
+ghost use Rattle.item_store.specs.Stands.{StandsFor, IsWithin, GoesBackTo, Earlier, IfOpen, IfStands, IfWithin};
 ghost use Rattle.item_maps.specs.Edits.{after, after_edit};
 ghost use Rattle.item_store.specs.Causes.{no_memory};
 
@@ -17,13 +16,13 @@ use sqlite::{Alter, Connection, Error, ErrorCode};
 
 // Makes an edit inside a transaction.
 fn make_edit<S: Alter>(conn: &mut Connection<S>, edit: &Edit) -> Result<(), Error>
-    ensures ok { (base m : Items) → IsWithin (state S.Store conn.old) base m
-        → OnOk result (IsWithin (state S.Store conn.new) base (after_edit edit.now m)) }
-    ensures err { (base m : Items) → IsWithin (state S.Store conn.old) base m
-        → OnErr result (GoesBackTo (state S.Store conn.new) base) }
+    ensures ok { IfWithin (state S.Store conn.old) (λ base m.
+        OnOk result (IsWithin (state S.Store conn.new) base (after_edit edit.now m))) }
+    ensures err { IfWithin (state S.Store conn.old) (λ base _.
+        OnErr result (GoesBackTo (state S.Store conn.new) base)) }
     ensures asks { HasCleanDisk (state S.Store conn.new) → AsksInTurn (state S.Store) conn.old conn.new result }
-    ensures left { (base m : Items) → IsWithin (state S.Store conn.old) base m
-        → Leaves (state S.Store conn.old) (state S.Store conn.new) result (λ _. ⊥) }
+    ensures left { IfWithin (state S.Store conn.old) (λ _ _.
+        Leaves (state S.Store conn.old) (state S.Store conn.new) result (λ _. ⊥)) }
     ensures was_open { WasOpen (state S.Store conn.old) (state S.Store conn.new) }
     ensures honest { Earlier (state S.Store conn.old) (state S.Store conn.new) }
     ensures lasts { Lasts (state S.Store conn.old) (state S.Store conn.new) }
@@ -40,13 +39,13 @@ fn make_edit<S: Alter>(conn: &mut Connection<S>, edit: &Edit) -> Result<(), Erro
 
 // Makes the edits in order inside a transaction.
 fn make_edits<S: Alter>(conn: &mut Connection<S>, edits: &[Edit]) -> Result<(), Error>
-    ensures ok { (base m : Items) → IsWithin (state S.Store conn.old) base m
-        → OnOk result (IsWithin (state S.Store conn.new) base (after edits.now m)) }
-    ensures err { (base m : Items) → IsWithin (state S.Store conn.old) base m
-        → OnErr result (GoesBackTo (state S.Store conn.new) base) }
+    ensures ok { IfWithin (state S.Store conn.old) (λ base m.
+        OnOk result (IsWithin (state S.Store conn.new) base (after edits.now m))) }
+    ensures err { IfWithin (state S.Store conn.old) (λ base _.
+        OnErr result (GoesBackTo (state S.Store conn.new) base)) }
     ensures asks { HasCleanDisk (state S.Store conn.new) → AsksInTurn (state S.Store) conn.old conn.new result }
-    ensures left { (base m : Items) → IsWithin (state S.Store conn.old) base m
-        → Leaves (state S.Store conn.old) (state S.Store conn.new) result (λ _. ⊥) }
+    ensures left { IfWithin (state S.Store conn.old) (λ _ _.
+        Leaves (state S.Store conn.old) (state S.Store conn.new) result (λ _. ⊥)) }
     ensures was_open { WasOpen (state S.Store conn.old) (state S.Store conn.new) }
     ensures honest { Earlier (state S.Store conn.old) (state S.Store conn.new) }
     ensures lasts { Lasts (state S.Store conn.old) (state S.Store conn.new) }
@@ -59,13 +58,13 @@ fn make_edits<S: Alter>(conn: &mut Connection<S>, edits: &[Edit]) -> Result<(), 
 
 // Makes the edits inside a transaction and commits it.
 fn finish<S: Alter>(conn: &mut Connection<S>, edits: &[Edit]) -> Result<(), Error>
-    ensures ok { (base m : Items) → IsWithin (state S.Store conn.old) base m
-        → OnOk result (StandsFor (state S.Store conn.new) (after edits.now m)) }
-    ensures err { (base m : Items) → IsWithin (state S.Store conn.old) base m
-        → OnErr result (GoesBackTo (state S.Store conn.new) base) }
+    ensures ok { IfWithin (state S.Store conn.old) (λ _ m.
+        OnOk result (StandsFor (state S.Store conn.new) (after edits.now m))) }
+    ensures err { IfWithin (state S.Store conn.old) (λ base _.
+        OnErr result (GoesBackTo (state S.Store conn.new) base)) }
     ensures asks { HasCleanDisk (state S.Store conn.new) → AsksInTurn (state S.Store) conn.old conn.new result }
-    ensures left { (base m : Items) → IsWithin (state S.Store conn.old) base m
-        → Leaves (state S.Store conn.old) (state S.Store conn.new) result (λ db. IsLeft db (after edits.now m)) }
+    ensures left { IfWithin (state S.Store conn.old) (λ _ m.
+        Leaves (state S.Store conn.old) (state S.Store conn.new) result (λ db. IsLeft db (after edits.now m))) }
     ensures was_open { WasOpen (state S.Store conn.old) (state S.Store conn.new) }
     ensures honest { Earlier (state S.Store conn.old) (state S.Store conn.new) }
     ensures lasts { Lasts (state S.Store conn.old) (state S.Store conn.new) }
@@ -78,16 +77,14 @@ fn finish<S: Alter>(conn: &mut Connection<S>, edits: &[Edit]) -> Result<(), Erro
 
 // Makes the edits in order, all of them or none, over a connection that answers.
 fn commit_answering<S: Alter>(conn: &mut Connection<S>, edits: &[Edit]) -> Result<(), Error>
-    ensures ok { (m : Items) → StandsFor (state S.Store conn.old) m
-        → OnOk result (StandsFor (state S.Store conn.new) (after edits.now m)) }
-    ensures err { (m : Items) → StandsFor (state S.Store conn.old) m
-        → OnErr result (StandsFor (state S.Store conn.new) m) }
+    ensures ok { IfStands (state S.Store conn.old) (λ m.
+        OnOk result (StandsFor (state S.Store conn.new) (after edits.now m))) }
+    ensures err { IfStands (state S.Store conn.old) (λ m. OnErr result (StandsFor (state S.Store conn.new) m)) }
     ensures asks { HasCleanDisk (state S.Store conn.new)
         → IfErr result (λ e. e ≢ no_memory → IsRefused (state S.Store) conn.old conn.new e) }
-    ensures left { (m : Items) → StandsFor (state S.Store conn.old) m → HasCleanDisk (state S.Store conn.new)
-        → IsTrue (state S.Store conn.old).is_open
-        → (db : Trees) → (state S.Store conn.new).may_leave db
-        → (state S.Store conn.old).may_leave db ⊎ (IsLeft db m ⊎ IsLeft db (after edits.now m)) }
+    ensures left { IfOpen (state S.Store conn.old) (state S.Store conn.new) (λ m.
+        (db : Trees) → (state S.Store conn.new).may_leave db
+        → (state S.Store conn.old).may_leave db ⊎ (IsLeft db m ⊎ IsLeft db (after edits.now m))) }
     ensures was_open { WasOpen (state S.Store conn.old) (state S.Store conn.new) }
     ensures honest { Earlier (state S.Store conn.old) (state S.Store conn.new) }
     ensures lasts { Lasts (state S.Store conn.old) (state S.Store conn.new) }
@@ -102,16 +99,14 @@ fn commit_answering<S: Alter>(conn: &mut Connection<S>, edits: &[Edit]) -> Resul
 
 /// Makes the edits in order, all of them or none. Inside a transaction of the caller it is refused.
 pub fn commit_edits<S: Alter>(conn: &mut Connection<S>, edits: &[Edit]) -> Result<(), Error>
-    ensures ok { (m : Items) → StandsFor (state S.Store conn.old) m
-        → OnOk result (StandsFor (state S.Store conn.new) (after edits.now m)) }
-    ensures err { (m : Items) → StandsFor (state S.Store conn.old) m
-        → OnErr result (StandsFor (state S.Store conn.new) m) }
+    ensures ok { IfStands (state S.Store conn.old) (λ m.
+        OnOk result (StandsFor (state S.Store conn.new) (after edits.now m))) }
+    ensures err { IfStands (state S.Store conn.old) (λ m. OnErr result (StandsFor (state S.Store conn.new) m)) }
     ensures asks { HasCleanDisk (state S.Store conn.new) → (state S.Store conn.old).in_transaction ≡ false
         → IfErr result (λ e. e ≢ no_memory → IsRefused (state S.Store) conn.old conn.new e) }
-    ensures left { (m : Items) → StandsFor (state S.Store conn.old) m → HasCleanDisk (state S.Store conn.new)
-        → IsTrue (state S.Store conn.old).is_open
-        → (db : Trees) → (state S.Store conn.new).may_leave db
-        → (state S.Store conn.old).may_leave db ⊎ (IsLeft db m ⊎ IsLeft db (after edits.now m)) }
+    ensures left { IfOpen (state S.Store conn.old) (state S.Store conn.new) (λ m.
+        (db : Trees) → (state S.Store conn.new).may_leave db
+        → (state S.Store conn.old).may_leave db ⊎ (IsLeft db m ⊎ IsLeft db (after edits.now m))) }
     ensures was_open { WasOpen (state S.Store conn.old) (state S.Store conn.new) }
     ensures honest { Earlier (state S.Store conn.old) (state S.Store conn.new) }
     ensures lasts { Lasts (state S.Store conn.old) (state S.Store conn.new) }

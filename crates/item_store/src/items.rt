@@ -5,10 +5,10 @@ ghost use Rattle.sqlite.specs.Held.{state};
 ghost use Rattle.sqlite.specs.State.{HasCleanDisk};
 ghost use Rattle.sqlite.specs.Tree.{Trees};
 ghost use Rattle.item_store.specs.Asked.{IsRefused};
-ghost use Rattle.item_maps.specs.Items.{Items, listed};
+ghost use Rattle.item_maps.specs.Items.{listed};
 ghost use Rattle.item_store.specs.Items.{shown};
 ghost use Rattle.item_store.specs.Left.{IsLeft, Lasts, WasOpen};
-ghost use Rattle.item_store.specs.Stands.{StandsFor, Earlier};
+ghost use Rattle.item_store.specs.Stands.{StandsFor, Earlier, IfOpen, IfStands};
 ghost use Rattle.item_maps.specs.Edits.{entry_of};
 ghost use Rattle.item_store.specs.Causes.{no_memory};
 
@@ -55,15 +55,14 @@ fn read_answering<S: Alter>(
     limit: u64,
 ) -> Result<Vec<Item>, Error>
     requires { limit ≤ MOST_ITEMS }
-    ensures items { (m : Items) → StandsFor (state S.Store conn.old) m → HasCleanDisk (state S.Store conn.new)
-        → IfOk result (λ items. map entry_of items.items ≡ take limit (listed area from.now to.now m)) }
-    ensures same { (m : Items) → StandsFor (state S.Store conn.old) m → StandsFor (state S.Store conn.new) m }
-    ensures asks { (m : Items) → StandsFor (state S.Store conn.old) m → HasCleanDisk (state S.Store conn.new)
-        → IsTrue (state S.Store conn.old).is_open
-        → IfErr result (λ e. e ≢ no_memory → IsRefused (state S.Store) conn.old conn.new e) }
-    ensures left { (m : Items) → StandsFor (state S.Store conn.old) m → HasCleanDisk (state S.Store conn.new)
-        → IsTrue (state S.Store conn.old).is_open
-        → (db : Trees) → (state S.Store conn.new).may_leave db → (state S.Store conn.old).may_leave db ⊎ IsLeft db m }
+    ensures items { IfStands (state S.Store conn.old) (λ m.
+        HasCleanDisk (state S.Store conn.new)
+        → IfOk result (λ items. map entry_of items.items ≡ take limit (listed area from.now to.now m))) }
+    ensures same { IfStands (state S.Store conn.old) (StandsFor (state S.Store conn.new)) }
+    ensures asks { IfOpen (state S.Store conn.old) (state S.Store conn.new) (λ _.
+        IfErr result (λ e. e ≢ no_memory → IsRefused (state S.Store) conn.old conn.new e)) }
+    ensures left { IfOpen (state S.Store conn.old) (state S.Store conn.new) (λ m.
+        (db : Trees) → (state S.Store conn.new).may_leave db → (state S.Store conn.old).may_leave db ⊎ IsLeft db m) }
     ensures was_open { WasOpen (state S.Store conn.old) (state S.Store conn.new) }
     ensures honest { Earlier (state S.Store conn.old) (state S.Store conn.new) }
     ensures lasts { Lasts (state S.Store conn.old) (state S.Store conn.new) }
@@ -85,15 +84,14 @@ pub fn read_items<S: Alter>(
     limit: u64,
 ) -> Result<Vec<Item>, Error>
     requires { limit ≤ MOST_ITEMS }
-    ensures items { (m : Items) → StandsFor (state S.Store conn.old) m → HasCleanDisk (state S.Store conn.new)
-        → IfOk result (λ items. map entry_of items.items ≡ take limit (listed area from.now to.now m)) }
-    ensures same { (m : Items) → StandsFor (state S.Store conn.old) m → StandsFor (state S.Store conn.new) m }
-    ensures asks { (m : Items) → StandsFor (state S.Store conn.old) m → HasCleanDisk (state S.Store conn.new)
-        → IsTrue (state S.Store conn.old).is_open
-        → IfErr result (λ e. e ≢ no_memory → IsRefused (state S.Store) conn.old conn.new e) }
-    ensures left { (m : Items) → StandsFor (state S.Store conn.old) m → HasCleanDisk (state S.Store conn.new)
-        → IsTrue (state S.Store conn.old).is_open
-        → (db : Trees) → (state S.Store conn.new).may_leave db → (state S.Store conn.old).may_leave db ⊎ IsLeft db m }
+    ensures items { IfStands (state S.Store conn.old) (λ m.
+        HasCleanDisk (state S.Store conn.new)
+        → IfOk result (λ items. map entry_of items.items ≡ take limit (listed area from.now to.now m))) }
+    ensures same { IfStands (state S.Store conn.old) (StandsFor (state S.Store conn.new)) }
+    ensures asks { IfOpen (state S.Store conn.old) (state S.Store conn.new) (λ _.
+        IfErr result (λ e. e ≢ no_memory → IsRefused (state S.Store) conn.old conn.new e)) }
+    ensures left { IfOpen (state S.Store conn.old) (state S.Store conn.new) (λ m.
+        (db : Trees) → (state S.Store conn.new).may_leave db → (state S.Store conn.old).may_leave db ⊎ IsLeft db m) }
     ensures was_open { WasOpen (state S.Store conn.old) (state S.Store conn.new) }
     ensures honest { Earlier (state S.Store conn.old) (state S.Store conn.new) }
     ensures lasts { Lasts (state S.Store conn.old) (state S.Store conn.new) }

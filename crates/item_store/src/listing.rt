@@ -5,10 +5,10 @@ ghost use Rattle.sqlite.specs.declared.types.Value.TheVariants.{Int};
 ghost use Rattle.sqlite.specs.Held.{state};
 ghost use Rattle.sqlite.specs.State.{HasCleanDisk, Shown, FailsToQuery, CommitsShowing, Survives};
 ghost use Rattle.item_store.specs.Asked.{Asks};
-ghost use Rattle.item_maps.specs.Items.{Items, listed};
+ghost use Rattle.item_maps.specs.Items.{listed};
 ghost use Rattle.item_store.specs.Items.{shown, params_of};
 ghost use Rattle.item_store.specs.Left.{Lasts, Leaves, WasOpen};
-ghost use Rattle.item_store.specs.Stands.{StandsFor, IsReady, Earlier};
+ghost use Rattle.item_store.specs.Stands.{StandsFor, Earlier, IfReady};
 ghost use Rattle.item_store.specs.Table.{select_text};
 
 use sqlite::{Alter, Connection, Error, Row, params};
@@ -52,13 +52,14 @@ pub fn select<S: Alter>(
     limit: u64,
 ) -> Result<Vec<Row>, Error>
     requires { limit ≤ MOST_ITEMS }
-    ensures rows { (m : Items) → IsReady (state S.Store conn.old) m → HasCleanDisk (state S.Store conn.new)
-        → IfOk result (λ rows. rows.items ≡ map shown (take limit (listed area from.now to.now m))) }
-    ensures same { (m : Items) → IsReady (state S.Store conn.old) m → StandsFor (state S.Store conn.new) m }
+    ensures rows { IfReady (state S.Store conn.old) (λ m.
+        HasCleanDisk (state S.Store conn.new)
+        → IfOk result (λ rows. rows.items ≡ map shown (take limit (listed area from.now to.now m)))) }
+    ensures same { IfReady (state S.Store conn.old) (StandsFor (state S.Store conn.new)) }
     ensures asks { HasCleanDisk (state S.Store conn.new)
         → Asks (state S.Store conn.old) (state S.Store conn.new) result }
-    ensures left { (m : Items) → IsReady (state S.Store conn.old) m
-        → Leaves (state S.Store conn.old) (state S.Store conn.new) result (λ _. ⊥) }
+    ensures left { IfReady (state S.Store conn.old) (λ _.
+        Leaves (state S.Store conn.old) (state S.Store conn.new) result (λ _. ⊥)) }
     ensures was_open { WasOpen (state S.Store conn.old) (state S.Store conn.new) }
     ensures honest { Earlier (state S.Store conn.old) (state S.Store conn.new) }
     ensures lasts { Lasts (state S.Store conn.old) (state S.Store conn.new) }

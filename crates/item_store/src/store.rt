@@ -7,7 +7,7 @@ ghost use Rattle.roster_base.specs.Faults.{CountsError, CountsFailure};
 ghost use Rattle.roster_base.specs.declared.keeper.KeeperError.TheVariants as keeper;
 ghost use Rattle.item_maps.specs.Items.{Items, listed};
 ghost use Rattle.item_store.specs.Left.{Lasts, MayFind, MayHold, WasOpen};
-ghost use Rattle.item_store.specs.Stands.{StandsFor, Earlier};
+ghost use Rattle.item_store.specs.Stands.{StandsFor, Earlier, IfOpen, IfStands};
 ghost use Rattle.item_maps.specs.Edits.{after, entry_of};
 ghost use Rattle.item_store.specs.Causes.{IsFailed, IsCaused};
 
@@ -94,21 +94,16 @@ impl<S: Alter> ItemStore<S> {
         limit: u64,
     ) -> Result<Vec<Item>, KeeperError>
         requires { limit ≤ MOST_ITEMS }
-        ensures items { (m : Items) → StandsFor (state S.Store self.old.connection) m
-            → HasCleanDisk (state S.Store self.new.connection)
-            → IfOk result (λ items. map entry_of items.items ≡ take limit (listed area from.now to.now m)) }
-        ensures same { (m : Items) → StandsFor (state S.Store self.old.connection) m
-            → StandsFor (state S.Store self.new.connection) m }
+        ensures items { IfStands (state S.Store self.old.connection) (λ m.
+            HasCleanDisk (state S.Store self.new.connection)
+            → IfOk result (λ items. map entry_of items.items ≡ take limit (listed area from.now to.now m))) }
+        ensures same { IfStands (state S.Store self.old.connection) (StandsFor (state S.Store self.new.connection)) }
         ensures cause { CountsFailure self.old.faults self.new.faults result }
-        ensures refused { (m : Items) → StandsFor (state S.Store self.old.connection) m
-            → HasCleanDisk (state S.Store self.new.connection)
-            → IsTrue (state S.Store self.old.connection).is_open
-            → IfErr result (IsCaused (state S.Store) self.old.connection self.new.connection) }
+        ensures refused { IfOpen (state S.Store self.old.connection) (state S.Store self.new.connection) (λ _.
+            IfErr result (IsCaused (state S.Store) self.old.connection self.new.connection)) }
         // Also where a fault has shut the connection.
-        ensures left { (m : Items) → StandsFor (state S.Store self.old.connection) m
-            → HasCleanDisk (state S.Store self.new.connection)
-            → IsTrue (state S.Store self.old.connection).is_open
-            → MayHold (state S.Store self.new.connection) (m ∷ []) }
+        ensures left { IfOpen (state S.Store self.old.connection) (state S.Store self.new.connection) (λ m.
+            MayHold (state S.Store self.new.connection) (m ∷ [])) }
         ensures honest { Earlier (state S.Store self.old.connection) (state S.Store self.new.connection) }
         ensures lasts { Lasts (state S.Store self.old.connection) (state S.Store self.new.connection) }
         // Where the call shuts the connection, an open finds these items.
@@ -134,20 +129,16 @@ impl<S: Alter> ItemStore<S> {
 
     /// Makes the edits in order, all of them or none. After an error the items are as they were.
     pub fn commit(&mut self, edits: &[Edit]) -> Result<(), KeeperError>
-        ensures ok { (m : Items) → StandsFor (state S.Store self.old.connection) m
-            → OnOk result (StandsFor (state S.Store self.new.connection) (after edits.now m)) }
-        ensures err { (m : Items) → StandsFor (state S.Store self.old.connection) m
-            → OnErr result (StandsFor (state S.Store self.new.connection) m) }
+        ensures ok { IfStands (state S.Store self.old.connection) (λ m.
+            OnOk result (StandsFor (state S.Store self.new.connection) (after edits.now m))) }
+        ensures err { IfStands (state S.Store self.old.connection) (λ m.
+            OnErr result (StandsFor (state S.Store self.new.connection) m)) }
         ensures cause { CountsFailure self.old.faults self.new.faults result }
-        ensures refused { (m : Items) → StandsFor (state S.Store self.old.connection) m
-            → HasCleanDisk (state S.Store self.new.connection)
-            → IsTrue (state S.Store self.old.connection).is_open
-            → IfErr result (IsCaused (state S.Store) self.old.connection self.new.connection) }
+        ensures refused { IfOpen (state S.Store self.old.connection) (state S.Store self.new.connection) (λ _.
+            IfErr result (IsCaused (state S.Store) self.old.connection self.new.connection)) }
         // Also where a fault has shut the connection: a stop leaves the items before the call, or those after it.
-        ensures left { (m : Items) → StandsFor (state S.Store self.old.connection) m
-            → HasCleanDisk (state S.Store self.new.connection)
-            → IsTrue (state S.Store self.old.connection).is_open
-            → MayHold (state S.Store self.new.connection) (m ∷ after edits.now m ∷ []) }
+        ensures left { IfOpen (state S.Store self.old.connection) (state S.Store self.new.connection) (λ m.
+            MayHold (state S.Store self.new.connection) (m ∷ after edits.now m ∷ [])) }
         ensures honest { Earlier (state S.Store self.old.connection) (state S.Store self.new.connection) }
         ensures lasts { Lasts (state S.Store self.old.connection) (state S.Store self.new.connection) }
         // Where the call shuts the connection, an open finds the items before the call, or those after it.

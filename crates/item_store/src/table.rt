@@ -6,7 +6,7 @@ ghost use Rattle.sqlite.specs.State.{HasCleanDisk};
 ghost use Rattle.item_store.specs.Asked.{Asks, AsksInTurn};
 ghost use Rattle.item_maps.specs.Items.{Items};
 ghost use Rattle.item_store.specs.Left.{IsLeft, Lasts, Leaves, WasOpen};
-ghost use Rattle.item_store.specs.Stands.{StandsFor, IsReady, Earlier};
+ghost use Rattle.item_store.specs.Stands.{StandsFor, IsReady, Earlier, IfStands};
 
 use sqlite::{Alter, Connection, Error};
 
@@ -19,13 +19,12 @@ fn has_table<S: Alter>(conn: &Connection<S>) -> bool
 
 // Makes the table where it doesn't stand, by a statement.
 fn create<S: Alter>(conn: &mut Connection<S>) -> Result<(), Error>
-    ensures ok { (m : Items) → StandsFor (state S.Store conn.old) m → OnOk result (IsReady (state S.Store conn.new) m) }
-    ensures err { (m : Items) → StandsFor (state S.Store conn.old) m
-        → OnErr result (StandsFor (state S.Store conn.new) m) }
+    ensures ok { IfStands (state S.Store conn.old) (λ m. OnOk result (IsReady (state S.Store conn.new) m)) }
+    ensures err { IfStands (state S.Store conn.old) (λ m. OnErr result (StandsFor (state S.Store conn.new) m)) }
     ensures asks { HasCleanDisk (state S.Store conn.new)
         → Asks (state S.Store conn.old) (state S.Store conn.new) result }
-    ensures left { (m : Items) → StandsFor (state S.Store conn.old) m
-        → Leaves (state S.Store conn.old) (state S.Store conn.new) result (λ db. IsLeft db m) }
+    ensures left { IfStands (state S.Store conn.old) (λ m.
+        Leaves (state S.Store conn.old) (state S.Store conn.new) result (λ db. IsLeft db m)) }
     ensures was_open { WasOpen (state S.Store conn.old) (state S.Store conn.new) }
     ensures honest { Earlier (state S.Store conn.old) (state S.Store conn.new) }
     ensures lasts { Lasts (state S.Store conn.old) (state S.Store conn.new) }
@@ -39,12 +38,11 @@ fn create<S: Alter>(conn: &mut Connection<S>) -> Result<(), Error>
 
 /// Makes the table where it doesn't stand. A database that has it is asked nothing.
 pub fn make<S: Alter>(conn: &mut Connection<S>) -> Result<(), Error>
-    ensures ok { (m : Items) → StandsFor (state S.Store conn.old) m → OnOk result (IsReady (state S.Store conn.new) m) }
-    ensures err { (m : Items) → StandsFor (state S.Store conn.old) m
-        → OnErr result (StandsFor (state S.Store conn.new) m) }
+    ensures ok { IfStands (state S.Store conn.old) (λ m. OnOk result (IsReady (state S.Store conn.new) m)) }
+    ensures err { IfStands (state S.Store conn.old) (λ m. OnErr result (StandsFor (state S.Store conn.new) m)) }
     ensures asks { HasCleanDisk (state S.Store conn.new) → AsksInTurn (state S.Store) conn.old conn.new result }
-    ensures left { (m : Items) → StandsFor (state S.Store conn.old) m
-        → Leaves (state S.Store conn.old) (state S.Store conn.new) result (λ db. IsLeft db m) }
+    ensures left { IfStands (state S.Store conn.old) (λ m.
+        Leaves (state S.Store conn.old) (state S.Store conn.new) result (λ db. IsLeft db m)) }
     ensures was_open { WasOpen (state S.Store conn.old) (state S.Store conn.new) }
     ensures honest { Earlier (state S.Store conn.old) (state S.Store conn.new) }
     ensures lasts { Lasts (state S.Store conn.old) (state S.Store conn.new) }

@@ -7,20 +7,18 @@ ghost use Rattle.sqlite.specs.Tree.{Trees};
 ghost use Rattle.item_store.specs.Asked.{Asks};
 ghost use Rattle.item_maps.specs.Items.{Items};
 ghost use Rattle.item_store.specs.Left.{IsLeft, Lasts, Leaves, WasOpen};
-ghost use Rattle.item_store.specs.Stands.{StandsFor, IsReady, IsWithin, GoesBackTo, Earlier};
+ghost use Rattle.item_store.specs.Stands.{StandsFor, IsWithin, GoesBackTo, Earlier, IfReady, IfWithin};
 
 use sqlite::{Alter, Connection, Error};
 
 /// Begins a transaction.
 pub fn begin<S: Alter>(conn: &mut Connection<S>) -> Result<(), Error>
-    ensures ok { (m : Items) → IsReady (state S.Store conn.old) m
-        → OnOk result (IsWithin (state S.Store conn.new) m m) }
-    ensures err { (m : Items) → IsReady (state S.Store conn.old) m
-        → OnErr result (StandsFor (state S.Store conn.new) m) }
+    ensures ok { IfReady (state S.Store conn.old) (λ m. OnOk result (IsWithin (state S.Store conn.new) m m)) }
+    ensures err { IfReady (state S.Store conn.old) (λ m. OnErr result (StandsFor (state S.Store conn.new) m)) }
     ensures asks { HasCleanDisk (state S.Store conn.new)
         → Asks (state S.Store conn.old) (state S.Store conn.new) result }
-    ensures left { (m : Items) → IsReady (state S.Store conn.old) m
-        → Leaves (state S.Store conn.old) (state S.Store conn.new) result (λ _. ⊥) }
+    ensures left { IfReady (state S.Store conn.old) (λ _.
+        Leaves (state S.Store conn.old) (state S.Store conn.new) result (λ _. ⊥)) }
     ensures was_open { WasOpen (state S.Store conn.old) (state S.Store conn.new) }
     ensures honest { Earlier (state S.Store conn.old) (state S.Store conn.new) }
     ensures lasts { Lasts (state S.Store conn.old) (state S.Store conn.new) }
@@ -31,14 +29,13 @@ pub fn begin<S: Alter>(conn: &mut Connection<S>) -> Result<(), Error>
 
 /// Commits the transaction.
 pub fn commit<S: Alter>(conn: &mut Connection<S>) -> Result<(), Error>
-    ensures ok { (base m : Items) → IsWithin (state S.Store conn.old) base m
-        → OnOk result (StandsFor (state S.Store conn.new) m) }
-    ensures err { (base m : Items) → IsWithin (state S.Store conn.old) base m
-        → OnErr result (GoesBackTo (state S.Store conn.new) base) }
+    ensures ok { IfWithin (state S.Store conn.old) (λ _ m. OnOk result (StandsFor (state S.Store conn.new) m)) }
+    ensures err { IfWithin (state S.Store conn.old) (λ base _.
+        OnErr result (GoesBackTo (state S.Store conn.new) base)) }
     ensures asks { HasCleanDisk (state S.Store conn.new)
         → Asks (state S.Store conn.old) (state S.Store conn.new) result }
-    ensures left { (base m : Items) → IsWithin (state S.Store conn.old) base m
-        → Leaves (state S.Store conn.old) (state S.Store conn.new) result (λ db. IsLeft db m) }
+    ensures left { IfWithin (state S.Store conn.old) (λ _ m.
+        Leaves (state S.Store conn.old) (state S.Store conn.new) result (λ db. IsLeft db m)) }
     ensures was_open { WasOpen (state S.Store conn.old) (state S.Store conn.new) }
     ensures honest { Earlier (state S.Store conn.old) (state S.Store conn.new) }
     ensures lasts { Lasts (state S.Store conn.old) (state S.Store conn.new) }

@@ -1,7 +1,8 @@
 -- The calls that a keeper in memory has met, and those that are to fail.
-use Rattle.std.specs.Prelude.{◌≡◌, ℕ, Bool, true, false, List, [], ◌∷◌, ◌++◌, Result, Err, Ok, ◌+◌, ◌-◌, ◌^◌, ◌==◌, min}
+use Rattle.std.specs.Prelude.{◌≡◌, ℕ, Bool, true, false, List, [], ◌∷◌, ◌++◌, Result, Err, Ok, ◌==◌}
 use Rattle.std.specs.Prelude.{if◌then◌else◌}
 use Rattle.std.specs.List.{list_any}
+use Rattle.roster_base.specs.Faults.{one_more}
 use Rattle.roster_base.specs.declared.keeper.KeeperError.{KeeperError}
 use Rattle.roster_base.specs.declared.keeper.KeeperError.TheVariants.{Failed}
 
@@ -14,10 +15,6 @@ pub record FailurePlan : Type 0 where
   pub commits_made : ℕ
   pub reads_made : ℕ
   pub faults : ℕ
-
--- one more, up to the end of u64
-abbrev pub one_more : ℕ → ℕ
-one_more n = min (n + 1) (2 ^ 64 - 1)
 
 -- these calls are to fail, and none came yet
 abbrev pub planned : List ℕ → List ℕ → List ℕ → FailurePlan

@@ -10,6 +10,7 @@ ghost use Rattle.keeper_sqlite.specs.declared.rest.TheConstants.{PIECE};
 ghost use Rattle.keeper_sqlite.specs.hub.Keeping.{Stay};
 
 use crate::stored_items::StoredItems;
+use hub_format::END_BYTE;
 use item_maps::Item;
 use roster_base::{Bytes, KeeperError, NoMemory};
 use std::alloc::Global;
@@ -89,7 +90,7 @@ impl Rest {
         ensures held { Stay (S.may_hold store.new) (S.may_hold store.old) }
         ensures signs { Stay (S.shows store.new) (S.shows store.old) }
     {
-        let items = store.part_of(alloc, self.area, self.from.as_slice(), &[255], PIECE)?;
+        let items = store.part_of(alloc, self.area, self.from.as_slice(), &[END_BYTE], PIECE)?;
         self.go_behind(alloc, items.as_slice())?;
         Ok(items)
     }

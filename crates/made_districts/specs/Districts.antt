@@ -40,9 +40,16 @@ class_line id number =
     joined (id ∷ codes "-k" ∷ number ∷ codes ",,,Class " ∷ number ∷ codes ","
     ∷ id ∷ codes "-c,scheduled," ∷ id ∷ codes ",t\n" ∷ [])
 
--- the lines of its two classes
+-- the numbers of its two classes
+abbrev pub first_class : List ℕ
+first_class = codes "1"
+
+abbrev pub second_class : List ℕ
+second_class = codes "2"
+
+-- the lines of those classes
 abbrev pub class_lines : List ℕ → List ℕ
-class_lines id = class_line id (codes "1") ++ class_line id (codes "2")
+class_lines id = class_line id first_class ++ class_line id second_class
 
 -- the line of a user
 abbrev pub user_line : List ℕ → List ℕ → List ℕ → List ℕ
@@ -59,7 +66,7 @@ student_line school number = user_line school (joined (school ∷ codes "-u" ∷
 
 -- odd students are in the first class, and even ones in the second
 abbrev pub class_of : ℕ → List ℕ
-class_of student = if student % 2 == 1 then codes "1" else codes "2"
+class_of student = if student % 2 == 1 then first_class else second_class
 
 -- the line of a student's enrollment in a class
 abbrev pub enrolled_line : List ℕ → List ℕ → List ℕ → List ℕ
@@ -75,7 +82,7 @@ teaching_line school class =
 
 -- the teacher is in both classes
 abbrev pub teaching_lines : List ℕ → List ℕ
-teaching_lines school = teaching_line school (codes "1") ++ teaching_line school (codes "2")
+teaching_lines school = teaching_line school first_class ++ teaching_line school second_class
 
 -- the line of a student among the users, or else among the enrollments
 abbrev pub of_student : Bool → List ℕ → ℕ → List ℕ
@@ -87,9 +94,13 @@ abbrev pub numbers_to : ℕ → List ℕ
 numbers_to zero = []
 numbers_to (suc n) = numbers_to n ++ suc n ∷ []
 
--- those lines of the hundred students of a school
+-- how many students a school has
+abbrev pub students : ℕ
+students = 100
+
+-- those lines of the students of a school
 unfoldable pub student_lines : Bool → List ℕ → List ℕ
-student_lines is_user school = flat_map (of_student is_user school) (numbers_to 100)
+student_lines is_user school = flat_map (of_student is_user school) (numbers_to students)
 
 -- the lines of a school's users
 abbrev pub user_lines : List ℕ → List ℕ
@@ -117,15 +128,19 @@ school_lines part number = part_lines part (school_id number) number
 abbrev pub by_school : Part → List ℕ → ℕ → List ℕ
 by_school part head count = head ++ flat_map (school_lines part) (numbers_to count)
 
+-- the columns with which the header of each file begins
+abbrev pub first_columns : List ℕ
+first_columns = codes "sourcedId,status,dateLastModified,"
+
 -- the bytes of a kind's file
 unfoldable pub file_bytes : Kind → ℕ → List ℕ
-file_bytes Orgs count = by_school part.Org (codes "sourcedId,status,dateLastModified,name,type,parentSourcedId\nd,,,District,district,\n") count
-file_bytes AcademicSessions count = codes "sourcedId,status,dateLastModified,title,type,startDate,endDate,parentSourcedId,schoolYear\ny,,,Year,schoolYear,2024-08-01,2025-06-30,,2025\nt,,,Fall,term,2024-08-01,2024-12-20,y,2025\n"
-file_bytes Courses count = by_school part.Course (codes "sourcedId,status,dateLastModified,title,orgSourcedId\n") count
-file_bytes Classes count = by_school part.Classes (codes "sourcedId,status,dateLastModified,title,courseSourcedId,classType,schoolSourcedId,termSourcedIds\n") count
-file_bytes Users count = by_school part.Users (codes "sourcedId,status,dateLastModified,enabledUser,orgSourcedIds,role,username,givenName,familyName\n") count
-file_bytes Enrollments count = by_school part.Enrollments (codes "sourcedId,status,dateLastModified,classSourcedId,schoolSourcedId,userSourcedId,role\n") count
-file_bytes Categories count = codes "sourcedId,status,dateLastModified,title\nhw,,,Homework\n"
+file_bytes Orgs count = by_school part.Org (first_columns ++ codes "name,type,parentSourcedId\nd,,,District,district,\n") count
+file_bytes AcademicSessions count = first_columns ++ codes "title,type,startDate,endDate,parentSourcedId,schoolYear\ny,,,Year,schoolYear,2024-08-01,2025-06-30,,2025\nt,,,Fall,term,2024-08-01,2024-12-20,y,2025\n"
+file_bytes Courses count = by_school part.Course (first_columns ++ codes "title,orgSourcedId\n") count
+file_bytes Classes count = by_school part.Classes (first_columns ++ codes "title,courseSourcedId,classType,schoolSourcedId,termSourcedIds\n") count
+file_bytes Users count = by_school part.Users (first_columns ++ codes "enabledUser,orgSourcedIds,role,username,givenName,familyName\n") count
+file_bytes Enrollments count = by_school part.Enrollments (first_columns ++ codes "classSourcedId,schoolSourcedId,userSourcedId,role\n") count
+file_bytes Categories count = first_columns ++ codes "title\nhw,,,Homework\n"
 file_bytes kind count = written_text kind []
 
 -- the folder of the set

@@ -27,14 +27,15 @@ use Rattle.hub_core.specs.declared.hub_error.HubError.{HubError}
 use Rattle.hub_core.specs.declared.hub_error.HubError.TheVariants as hub_error
 use Rattle.hub_core.specs.declared.published.Published.{Published}
 use Rattle.hub_core.specs.declared.published.Published.TheVariants as published
-use Rattle.hub_cli.specs.Below.Cascades.{CascadesCopy, IsCascadeAnswer, TellsCascade}
+use Rattle.hub_cli.specs.Below.CascadeAnswers.{CascadesCopy, IsCascadeAnswer, TellsCascade, cascade_run}
 use Rattle.version_changes.specs.sets.Applying.{Outcome}
 use Rattle.version_core.specs.declared.change.BaseVersion.{BaseVersion}
-use Rattle.hub_cli.specs.Below.ConsumerAnswers.{CopyRun, IsDeltaOf, IsSyncOf, LinkRun, Task, copy_run, link_run}
+use Rattle.hub_cli.specs.Below.ConsumerAnswers.{CopyRun, IsDeltaOf, IsSyncOf, LinkRun, Task, copy_run}
 use Rattle.hub_cli.specs.Below.OutboxAnswers.{IsEnterOf, IsSendOf, Sending}
 use Rattle.keeper_memory.specs.copy.Copies.{Copy, IsCopy}
 use Rattle.keeper_memory.specs.copy.HeldCopy.{HeldCopy, empty_copy}
-use Rattle.exchange_link.specs.Asked.{AsksPages}
+use Rattle.exchange_link.specs.Asked.{AsksPages, AsksWrites}
+use Rattle.exchange_link.specs.Between.{Call, CopyAndLink, copy_since, copy_with, link_since}
 use Rattle.exchange_link.specs.Causes.{Caused}
 use Rattle.exchange_link.specs.Exchanges.{LinkState}
 use Rattle.exchange_link.specs.SendCauses.{SendCaused}
@@ -55,7 +56,7 @@ use Rattle.hub_cli.specs.Below.Answers.{status_of, text_of}
 use Rattle.hub_cli.specs.Below.ConsumerAnswers.{CopyStays, IsListAnswer}
 use Rattle.hub_cli.specs.Below.ExportAnswers.{ExportEnds, HasTooMany, IsChangesExport, IsExport, IsSinceAnswer}
 use Rattle.hub_cli.specs.Below.ExportAnswers.{RefusesExport, rows_in}
-use Rattle.hub_cli.specs.Below.Follows.{IsCaughtUp, IsFollowAnswer, MissCause, MissTold, TellsFollow}
+use Rattle.hub_cli.specs.Below.FollowAnswers.{IsCaughtUp, IsFollowAnswer, MissCause, MissTold, TellsFollow}
 use Rattle.hub_cli.specs.Below.OutboxAnswers.{IsOutboxAnswer}
 use Rattle.hub_cli.specs.Below.Outside.{Faults, Outside, faults_of, outside_of}
 use Rattle.hub_cli.specs.Below.Runs.{LeadsFrom, Writes}
@@ -103,10 +104,30 @@ module _ (stood stands stood_more stands_more : Copy → Type 0) (before now : �
   copy_new = copy_run stood_more stands_more before now copy_more
 
   abbrev link_old : LinkRun
-  link_old = link_run told tells asked asked_now missed kept failed failed_now link_same
+  link_old = record {
+    told = told;
+    tells = tells;
+    asked_before = asked;
+    asked_now = asked_now;
+    missed = missed;
+    kept = kept;
+    faults_before = failed;
+    faults_now = failed_now;
+    same = link_same;
+  }
 
   abbrev link_new : LinkRun
-  link_new = link_run told tells asked asked_now missed kept failed failed_now link_more
+  link_new = record {
+    told = told;
+    tells = tells;
+    asked_before = asked;
+    asked_now = asked_now;
+    missed = missed;
+    kept = kept;
+    faults_before = failed;
+    faults_now = failed_now;
+    same = link_more;
+  }
 
   rests-more : ConsumerRests copy_old link_old → ConsumerRests copy_new link_new
   rests-more is = (c is.0, l is.1)
@@ -119,8 +140,8 @@ module _ (stood stands stood_more stands_more : Copy → Type 0) (before now : �
   stood-before : (leaves : Copy → Type 0) (a : Copy) → stands_more a → ((b : Copy) × stood b × leaves b) → (b : Copy) × stood_more b × leaves b
   stood-before leaves a s (b, is, left) = (b, down a s b is, left)
 
-  caused-more : (token : List ℕ) (limit from : ℕ) (how : ℕ → Type 0) (broke : Type 0) (a : SyncAnswer) → Caused token limit stands tells from asked_now kept how broke a → Caused token limit stands_more tells from asked_now kept how broke a
-  caused-more token limit from how broke a is = record {
+  caused-more : (call : Call) (a : SyncAnswer) → Caused call copy_old link_old a → Caused call copy_new link_new a
+  caused-more call a is = record {
     run = is.run;
     count = is.count;
     asked = is.asked;
@@ -132,9 +153,24 @@ module _ (stood stands stood_more stands_more : Copy → Type 0) (before now : �
     on = λ asks. let o = is.on asks in (o.0, λ b s. o.1 b (on b s));
   }
 
-  asks_pages-more : (token : List ℕ) (limit tries : ℕ) (a : SyncAnswer) (before after : List Request)
-      → AsksPages token limit tries stands asked asked_now a before after → AsksPages token limit tries stands_more asked asked_now a before after
-  asks_pages-more token limit tries a before after is = record {
+  caused_since-more : (call : Call) (broken count lost : ℕ) (a : SyncAnswer)
+      → Caused call (copy_since copy_old broken) (link_since link_old count lost) a
+      → Caused call (copy_since copy_new broken) (link_since link_new count lost) a
+  caused_since-more call broken count lost a is = record {
+    run = is.run;
+    count = is.count;
+    asked = is.asked;
+    counts = is.counts;
+    runs = λ some b s. is.runs some b (on b s);
+    only = is.only;
+    exact = is.exact;
+    last = is.last;
+    on = λ asks. let o = is.on asks in (o.0, λ b s. o.1 b (on b s));
+  }
+
+  asks_pages-more : (call : Call) (a : SyncAnswer) (before after : List Request)
+      → AsksPages call copy_old link_old a before after → AsksPages call copy_new link_new a before after
+  asks_pages-more call a before after is = record {
     run = is.run;
     count = is.count;
     runs = λ some b s. is.runs some b (on b s);
@@ -149,8 +185,8 @@ module _ (stood stands stood_more stands_more : Copy → Type 0) (before now : �
     faulted = λ failing b s. stood-before _ b s (is.faulted failing b (on b s));
     last_run = λ b s. stood-before _ b s (is.last_run b (on b s));
     later = is.later;
-    cause = caused-more task.token task.limit asked _ _ a is.cause;
-    asks = λ t tell. let (x, told, asks) = is.asks t tell in (x, told, asks_pages-more task.token task.limit task.tries a x.sent t.sent asks);
+    cause = caused-more _ a is.cause;
+    asks = λ t tell. let (x, told, asks) = is.asks t tell in (x, told, asks_pages-more _ a x.sent t.sent asks);
     told = λ agreed b t s tell. let (x, y, z, w, v) = is.told (met _ b s agreed) b t (on b s) tell in (x, y, down b s x z, w, v);
     bound = λ agreed b t s tell. let (x, z, n, few, bound) = is.bound (met _ b s agreed) b t (on b s) tell in (x, down b s x z, n, few, bound);
     cause_told = λ agreed b t s tell. is.cause_told (met _ b s agreed) b t (on b s) tell;
@@ -158,13 +194,13 @@ module _ (stood stands stood_more stands_more : Copy → Type 0) (before now : �
     marks = λ agreed b t s tell. is.marks (met _ b s agreed) b t (on b s) tell;
   }
 
-  asks_deltas-more : (token : List ℕ) (limit tries count now : ℕ) (a : DeltaAnswer) (before after : List Request)
-      → AsksDeltas token limit tries stood stands count now a before after → AsksDeltas token limit tries stood_more stands_more count now a before after
-  asks_deltas-more token limit tries count now a before after is = record {
+  asks_deltas-more : (call : Call) (a : DeltaAnswer) (before after : List Request)
+      → AsksDeltas call copy_old link_old a before after → AsksDeltas call copy_new link_new a before after
+  asks_deltas-more call a before after is = record {
     run = is.run;
     count = is.count;
     base = is.base;
-    held = λ some b s. stood-before (HasBase is.base token) b s (is.held some b (on b s));
+    held = λ some b s. stood-before (HasBase is.base call.token) b s (is.held some b (on b s));
     runs = λ some b s. is.runs some b (on b s);
     counts = is.counts;
     some = is.some;
@@ -190,17 +226,16 @@ module _ (stood stands stood_more stands_more : Copy → Type 0) (before now : �
   delta_cause-more run count how broke place a (WantsAlone is) = WantsAlone is
   delta_cause-more run count how broke place a (Halted halts) = Halted (halts-more run count how broke place a halts)
 
-  delta_caused-more : (token : List ℕ) (limit : ℕ) (how : ℕ → Type 0) (broke : Type 0) (a : DeltaAnswer)
-      → DeltaCaused token limit stood stands asked asked_now kept how broke a → DeltaCaused token limit stood_more stands_more asked asked_now kept how broke a
-  delta_caused-more token limit how broke a is = record {
+  delta_caused-more : (call : Call) (a : DeltaAnswer) → DeltaCaused call copy_old link_old a → DeltaCaused call copy_new link_new a
+  delta_caused-more call a is = record {
     run = is.run;
     count = is.count;
     place = is.place;
-    held = λ some b s. stood-before (HasBase is.place.base token) b s (is.held some b (on b s));
+    held = λ some b s. stood-before (HasBase is.place.base call.token) b s (is.held some b (on b s));
     few = is.few;
     counts = is.counts;
     runs = λ some b s. is.runs some b (on b s);
-    only = delta_cause-more is.run is.count (how is.count) broke is.place a is.only;
+    only = delta_cause-more is.run is.count _ _ is.place a is.only;
     exact = is.exact;
   }
 
@@ -210,10 +245,10 @@ module _ (stood stands stood_more stands_more : Copy → Type 0) (before now : �
     base = λ b s. stood-before _ b s (is.base b (on b s));
     faulted = λ b s. stood-before _ b s (is.faulted b (on b s));
     last_run = λ b s. stood-before _ b s (is.last_run b (on b s));
-    cause = delta_caused-more task.token task.limit _ _ a is.cause;
+    cause = delta_caused-more _ a is.cause;
     later = is.later;
     link_later = is.link_later;
-    asks = λ t tell. let (x, told, asks) = is.asks t tell in (x, told, asks_deltas-more task.token task.limit task.tries _ _ a x.sent t.sent asks);
+    asks = λ t tell. let (x, told, asks) = is.asks t tell in (x, told, asks_deltas-more _ a x.sent t.sent asks);
     told = λ agreed b t s tell. let (x, y, z, w, v) = is.told (met _ b s agreed) b t (on b s) tell in (x, y, down b s x z, w, v);
     bound = λ agreed b t s tell. let (x, y, z, w, n, few, bound) = is.bound (met _ b s agreed) b t (on b s) tell in (x, y, down b s x z, w, n, few, bound);
     cause_told = λ agreed b t s tell. is.cause_told (met _ b s agreed) b t (on b s) tell;
@@ -228,8 +263,8 @@ module _ (stood stands stood_more stands_more : Copy → Type 0) (before now : �
     cause = is.cause;
   }
 
-  sent-more : (token : List ℕ) (how : ℕ → Type 0) (broke : Type 0) (a : SendAnswer) → SendCaused token stands tells asked asked_now kept how broke a → SendCaused token stands_more tells asked asked_now kept how broke a
-  sent-more token how broke a is = record {
+  sent-more : (token : List ℕ) (tries : ℕ) (a : SendAnswer) → SendCaused token tries copy_old link_old a → SendCaused token tries copy_new link_new a
+  sent-more token tries a is = record {
     run = is.run;
     count = is.count;
     counts = is.counts;
@@ -240,12 +275,25 @@ module _ (stood stands stood_more stands_more : Copy → Type 0) (before now : �
     last = λ ends. let e = is.last ends in (e.0, λ b t s tell. e.1 b t (on b s) tell);
   }
 
+  asks_writes-more : (token : List ℕ) (tries : ℕ) (a : SendAnswer) (before after : CopyAndLink)
+      → AsksWrites token tries link_old a before after → AsksWrites token tries link_new a before after
+  asks_writes-more token tries a before after is = record {
+    run = is.run;
+    count = is.count;
+    runs = is.runs;
+    counts = is.counts;
+    writes = is.writes;
+    tried = is.tried;
+  }
+
   send-more : (task : Sending) (a : SendAnswer) → IsSendOf task a copy_old link_old → IsSendOf task a copy_new link_new
   send-more task a is = record {
     copy = λ b s. let (x, z, left, few) = is.copy b (on b s) in (x, down b s x z, left, few);
     last_run = λ b s. stood-before _ b s (is.last_run b (on b s));
-    cause = sent-more task.token _ _ a is.cause;
-    asks = λ b t s tell. let (x, y, z, w, v) = is.asks b t (on b s) tell in (x, y, down b s x z, w, v);
+    cause = sent-more task.token task.tries a is.cause;
+    asks = λ b t s tell.
+        let (x, y, z, w, v) = is.asks b t (on b s) tell in
+        (x, y, down b s x z, w, asks_writes-more task.token task.tries a (copy_with x y) (copy_with b t) v);
     told = λ agreed b t s tell. let (x, y, z, w, v) = is.told (met _ b s agreed) b t (on b s) tell in (x, y, down b s x z, w, v);
     complete = λ agreed link copy b t s tell. let (x, y, z, w, v) = is.complete (met _ b s agreed) link copy b t (on b s) tell in (x, y, down b s x z, w, v);
   }
@@ -286,8 +334,9 @@ module _ (stood stands stood_more stands_more : Copy → Type 0) (before now : �
   something-more : HoldSomething stands → HoldSomething stands_more
   something-more is b s none = is b (on b s) none
 
-  cascades-more : (feed : List ℕ) (moment : Option ℤ) (r : Result Published CascadeError) (from to : KeptState) → CascadesCopy feed moment copy_old r from to → CascadesCopy feed moment copy_new r from to
-  cascades-more feed moment r from to (at, is, makes) = (
+  cascades-more : (feed : List ℕ) (moment : Option ℤ) (keeper : Faults) (r : Result Published CascadeError) (from to : KeptState)
+      → CascadesCopy (cascade_run feed moment keeper copy_old) r from to → CascadesCopy (cascade_run feed moment keeper copy_new) r from to
+  cascades-more feed moment keeper r from to (at, is, makes) = (
     at,
     is,
     makes_cascade-more (CascadesHeld stands feed at) (CascadesHeld stands_more feed at)
@@ -295,27 +344,27 @@ module _ (stood stands stood_more stands_more : Copy → Type 0) (before now : �
   )
 
   tells_cascade-more : (feed : List ℕ) (moment : Option ℤ) (keeper : Faults) (done : List ℕ) (end : End) (from to : KeptState)
-      → TellsCascade feed moment keeper copy_old done end from to → TellsCascade feed moment keeper copy_new done end from to
-  tells_cascade-more feed moment keeper done ends.Done from to (some, quiet, answer, is, line) = (something-more some, quiet, answer, cascades-more feed moment (Ok answer) from to is, line)
+      → TellsCascade (cascade_run feed moment keeper copy_old) done end from to → TellsCascade (cascade_run feed moment keeper copy_new) done end from to
+  tells_cascade-more feed moment keeper done ends.Done from to (some, quiet, answer, is, line) = (something-more some, quiet, answer, cascades-more feed moment keeper (Ok answer) from to is, line)
   tells_cascade-more feed moment keeper done ends.HubFailed from to (none, (risen, inl same)) = (none, (risen, inl same))
-  tells_cascade-more feed moment keeper done ends.HubFailed from to (none, (risen, inr is)) = (none, (risen, inr (cascades-more feed moment (Err cascade_error.HubKeeper) from to is)))
+  tells_cascade-more feed moment keeper done ends.HubFailed from to (none, (risen, inr is)) = (none, (risen, inr (cascades-more feed moment keeper (Err cascade_error.HubKeeper) from to is)))
   tells_cascade-more feed moment keeper done ends.CopyFailed from to is = is
   tells_cascade-more feed moment keeper done (ends.NotPublished fault) from to (none, (some, quiet, is)) =
-      (none, (something-more some, quiet, cascades-more feed moment (Err (cascade_error.Refused fault)) from to is))
+      (none, (something-more some, quiet, cascades-more feed moment keeper (Err (cascade_error.Refused fault)) from to is))
   tells_cascade-more feed moment keeper done ends.NothingHeld from to (none, (nothing, quiet, same)) = (none, ((λ b s. nothing b (on b s)), quiet, same))
   tells_cascade-more feed moment keeper done ends.NoMemory from to (none, inl same) = (none, inl same)
-  tells_cascade-more feed moment keeper done ends.NoMemory from to (none, inr (answer, is)) = (none, inr (answer, cascades-more feed moment (Ok answer) from to is))
+  tells_cascade-more feed moment keeper done ends.NoMemory from to (none, inr (answer, is)) = (none, inr (answer, cascades-more feed moment keeper (Ok answer) from to is))
   tells_cascade-more feed moment keeper done end from to is = absurd is.1
 
   cascade-more : (feed : List ℕ) (moment : Option ℤ) (keeper : Faults) (a : Answer) (from to : KeptState)
-      → IsCascadeAnswer feed moment keeper copy_old a from to → IsCascadeAnswer feed moment keeper copy_new a from to
+      → IsCascadeAnswer (cascade_run feed moment keeper copy_old) a from to → IsCascadeAnswer (cascade_run feed moment keeper copy_new) a from to
   cascade-more feed moment keeper a from to (stays, is) = (stays-more stays, tells_cascade-more feed moment keeper a.done a.end from to is)
 
   -- ---- what is told of a copy that was brought up to date, and cascaded
 
   miss_cause-more : (task : Task) (s : Result ℕ Missed) → MissCause task copy_old link_old s → MissCause task copy_new link_new s
   miss_cause-more task (Ok version) is = tt
-  miss_cause-more task (Err (miss.Delta a)) is = delta_caused-more task.token task.limit _ _ a is
+  miss_cause-more task (Err (miss.Delta a)) is = delta_caused-more _ a is
   miss_cause-more task (Err (miss.Sync a)) (mid, is) = (
     record {
       run = mid.run;
@@ -330,7 +379,7 @@ module _ (stood stands stood_more stands_more : Copy → Type 0) (before now : �
       later = mid.later;
       link_later = mid.link_later;
     },
-    caused-more task.token task.limit mid.asked _ _ a is,
+    caused_since-more _ mid.faults mid.asked mid.link_faults a is,
   )
 
   miss_told-more : (task : Task) (s : Result ℕ Missed) (t : LinkState) → MissTold task link_old t s → MissTold task link_new t s
@@ -363,14 +412,14 @@ module _ (stood stands stood_more stands_more : Copy → Type 0) (before now : �
   }
 
   tells_follow-more : (feed : List ℕ) (moment : Option ℤ) (keeper : Faults) (r : Result ℕ Missed) (a : Answer) (from to : KeptState)
-      → TellsFollow feed moment keeper copy_old r a from to → TellsFollow feed moment keeper copy_new r a from to
+      → TellsFollow (cascade_run feed moment keeper copy_old) r a from to → TellsFollow (cascade_run feed moment keeper copy_new) r a from to
   tells_follow-more feed moment keeper (Ok version) a from to (inl (more, line, told)) = inl (more, line, tells_cascade-more feed moment keeper more a.end from to told)
   tells_follow-more feed moment keeper (Ok version) a from to (inr (none, wants, more, end, told)) = inr (none, wants, more, end, tells_cascade-more feed moment keeper more end from to told)
   tells_follow-more feed moment keeper (Err (miss.Sync x)) a from to is = is
   tells_follow-more feed moment keeper (Err (miss.Delta x)) a from to is = is
 
   follow-more : (task : Task) (feed : List ℕ) (moment : Option ℤ) (keeper : Faults) (a : Answer) (from to : KeptState)
-      → IsFollowAnswer task feed moment keeper copy_old link_old a from to → IsFollowAnswer task feed moment keeper copy_new link_new a from to
+      → IsFollowAnswer task (cascade_run feed moment keeper copy_old) link_old a from to → IsFollowAnswer task (cascade_run feed moment keeper copy_new) link_new a from to
   follow-more task feed moment keeper a from to (inl (r, caught, told)) = inl (r, caught-more task r caught, tells_follow-more feed moment keeper r a from to told)
   follow-more task feed moment keeper a from to (inr shut) = inr (record { done = shut.done; end = shut.end; same = (c shut.same.0, l shut.same.1, shut.same.2) })
 
@@ -414,7 +463,7 @@ leads-on old new leads more f from = record {
 -- ---- a link that tells nothing
 
 pub real-silent : (stood stands : Copy → Type 0) (before now : ℕ) (rests : Type 0) (asked asked_now missed : ℕ) (kept : List ℕ) (failed failed_now : ℕ) (same : Type 0) (old new : KeptState → Type 0) (parsed : Result Parsed ℕ) (answer : Answer)
-    → AnswersOver old new (copy_run stood stands before now rests) (link_run (λ told. ⊥) (λ told. ⊥) asked asked_now missed kept failed failed_now same) parsed answer
+    → AnswersOver old new (copy_run stood stands before now rests) (record { told = λ told. ⊥; tells = λ told. ⊥; asked_before = asked; asked_now = asked_now; missed = missed; kept = kept; faults_before = failed; faults_now = failed_now; same = same }) parsed answer
     → AnswersFrom old new (copy_run stood stands before now rests) parsed answer
 real-silent stood stands before now rests asked asked_now missed kept failed failed_now same old new parsed answer from = record {
   link = record { asked_before = asked; asked_now = asked_now; missed = missed; kept = kept; faults_before = failed; faults_now = failed_now };

@@ -1,7 +1,7 @@
 -- What a run over the real folder, clock and stores answers, which tell nothing of files, moments and copies.
 use Rattle.std.specs.Prelude.{◌≡◌, ◌≢◌, ⊤, ℕ, List, [], ◌∷◌, Option, None, Some, Result, IsErr, IfNone}
 use Rattle.std.specs.Io.KnownBytes.{Appends}
-use Rattle.hub_cli.specs.Below.ConsumerAnswers.{CopyRun, LinkRun, copy_run, link_run}
+use Rattle.hub_cli.specs.Below.ConsumerAnswers.{CopyRun, LinkRun, copy_run}
 use Rattle.keeper_memory.specs.copy.Copies.{Copy, IsCopy}
 use Rattle.keeper_memory.specs.copy.HeldCopy.{empty_copy}
 use Rattle.outside_ports.specs.Written.{AppendsPart}
@@ -12,6 +12,7 @@ use Rattle.hub_cli.specs.Below.Answers.{status_of, text_of}
 use Rattle.hub_cli.specs.Below.Outside.{Faults, outside_of}
 use Rattle.hub_cli.specs.Below.Runs.{LeadsFrom}
 use Rattle.hub_cli.specs.Runs.{IsAnswer}
+use Rattle.hub_words.specs.Statuses.{bad_words_status, no_memory_status, output_failed_status}
 use Rattle.hub_words.specs.Words.{keep_in, store_in}
 use Rattle.hub_cli.specs.Below.Answer.{Answer}
 use Rattle.hub_words.specs.declared.words.Parsed.{Parsed}
@@ -52,7 +53,17 @@ pub record RealLink : Type 0 where
 
 -- the link tells nothing of a hub
 abbrev pub silent_link_run : RealLink → LinkRun
-silent_link_run l = link_run (λ told. ⊥) (λ told. ⊥) l.asked_before l.asked_now l.missed l.kept l.faults_before l.faults_now ⊤
+silent_link_run l = record {
+  told = λ told. ⊥;
+  tells = λ told. ⊥;
+  asked_before = l.asked_before;
+  asked_now = l.asked_now;
+  missed = l.missed;
+  kept = l.kept;
+  faults_before = l.faults_before;
+  faults_now = l.faults_now;
+  same = ⊤;
+}
 
 -- ---- answers
 
@@ -91,12 +102,12 @@ TellsPart is old new = (a : Answer) × is a × AppendsPart old new (text_of a)
 -- what a run writes, with its status: the text of an answer of which this is so, or where the sink failed a front of
 -- such a text
 pub record Runs (is : Answer → Type 0) (parsed : Result Parsed ℕ) (status : ℕ) (old new : Option (List ℕ)) (faults_before faults_now : ℕ) : Type 0 where
-  pub done : status ≢ 1 → Tells is status old new
-  pub part : status ≡ 1 → TellsPart is old new
-  pub words_are_bad : status ≡ 2 → IsErr parsed
-  pub bad_words : IsErr parsed → status ≢ 1 → status ≢ 17 → status ≡ 2
-  pub sink_failed : status ≡ 1 → Rose faults_before faults_now
-  pub sink_stood : status ≢ 1 → faults_now ≡ faults_before
+  pub done : status ≢ output_failed_status → Tells is status old new
+  pub part : status ≡ output_failed_status → TellsPart is old new
+  pub words_are_bad : status ≡ bad_words_status → IsErr parsed
+  pub bad_words : IsErr parsed → status ≢ output_failed_status → status ≢ no_memory_status → status ≡ bad_words_status
+  pub sink_failed : status ≡ output_failed_status → Rose faults_before faults_now
+  pub sink_stood : status ≢ output_failed_status → faults_now ≡ faults_before
 
 -- between two states of a sink
 abbrev pub RunsBetween : {O : Type 0} → (O → Option (List ℕ)) → (O → ℕ) → O → O → ℕ → Result Parsed ℕ → (Answer → Type 0) → Type 0

@@ -2,6 +2,7 @@
 use Rattle.std.specs.Prelude.{◌≡◌, ◌≢◌, ◌==◌, ℕ, List, [], Option, Result, Ok, Err, IsErr, if◌then◌else◌, length}
 use Rattle.std.specs.Io.KnownBytes.{Appends}
 use Rattle.hub_cli.specs.Below.Lines.{bad_word_text, no_memory}
+use Rattle.hub_words.specs.Statuses.{bad_words_status, no_memory_status, output_failed_status}
 use Rattle.hub_words.specs.Words.{split_serve}
 use Rattle.hub_words.specs.declared.words.ServeWords.{ServeWords}
 use Rattle.outside_ports.specs.Written.{AppendsPart}
@@ -18,12 +19,12 @@ serve_text (Err place) status = if status == 17 then no_memory else bad_word_tex
 
 -- what a server writes, with its status: the text of the status, or where the sink failed a front of such a text
 pub record Serves (parsed : Result ServeWords ℕ) (status : ℕ) (old new : Option (List ℕ)) (faults_before faults_now : ℕ) : Type 0 where
-  pub done : status ≢ 1 → Appends old new (serve_text parsed status)
-  pub part : status ≡ 1 → (s : ℕ) × AppendsPart old new (serve_text parsed s)
-  pub words_are_bad : status ≡ 2 → IsErr parsed
-  pub bad_words : IsErr parsed → status ≢ 1 → status ≢ 17 → status ≡ 2
-  pub sink_failed : status ≡ 1 → Rose faults_before faults_now
-  pub sink_stood : status ≢ 1 → faults_now ≡ faults_before
+  pub done : status ≢ output_failed_status → Appends old new (serve_text parsed status)
+  pub part : status ≡ output_failed_status → (s : ℕ) × AppendsPart old new (serve_text parsed s)
+  pub words_are_bad : status ≡ bad_words_status → IsErr parsed
+  pub bad_words : IsErr parsed → status ≢ output_failed_status → status ≢ no_memory_status → status ≡ bad_words_status
+  pub sink_failed : status ≡ output_failed_status → Rose faults_before faults_now
+  pub sink_stood : status ≢ output_failed_status → faults_now ≡ faults_before
 
 -- between two states of a sink
 abbrev pub ServesBetween : {O : Type 0} → (O → Option (List ℕ)) → (O → ℕ) → O → O → ℕ → Result ServeWords ℕ → Type 0

@@ -2,6 +2,7 @@
 
 ghost use Rattle.std.specs.Prelude.{◌≡◌, ◌≢◌, IsErr, IsSome, None, map, string_bytes};
 ghost use Rattle.hub_cli.specs.Below.ConsumerAnswers.{copy_between, link_between};
+ghost use Rattle.hub_words.specs.Statuses.{bad_words_status, no_memory_status, output_failed_status};
 ghost use Rattle.hub_words.specs.Words.{split, store_in};
 ghost use Rattle.real_run.specs.RealRuns.{AnswersFrom, AnswersOver, IsRealAnswer, RunsBetween, Tells, TellsPart};
 ghost use Rattle.roster_base.specs.Faults.{Rose};
@@ -348,13 +349,13 @@ fn run_words<O: Sink>(rt: HostRuntime, alloc: Global, words: &[String], out: &mu
 /// The consumer's hub is the one at the address that the words name; where they name none, each exchange fails.
 pub fn run_real<O: Sink>(rt: HostRuntime, alloc: Global, words: &[String], out: &mut O) -> u8
     // What is written is the text of an answer to the words, and nothing else, and the status is that of the answer.
-    ensures done { result ≢ 1 → Tells (IsRealAnswer (split (map string_bytes words.now))) result (O.written out.old) (O.written out.new) }
+    ensures done { result ≢ output_failed_status → Tells (IsRealAnswer (split (map string_bytes words.now))) result (O.written out.old) (O.written out.new) }
     // Where the sink failed, a front of such a text is written.
-    ensures part { result ≡ 1 → TellsPart (IsRealAnswer (split (map string_bytes words.now))) (O.written out.old) (O.written out.new) }
-    ensures words_are_bad { result ≡ 2 → IsErr (split (map string_bytes words.now)) }
-    ensures bad_words { IsErr (split (map string_bytes words.now)) → result ≢ 1 → result ≢ 17 → result ≡ 2 }
-    ensures sink_failed { result ≡ 1 → Rose (O.faults out.old) (O.faults out.new) }
-    ensures sink_stood { result ≢ 1 → O.faults out.new ≡ O.faults out.old }
+    ensures part { result ≡ output_failed_status → TellsPart (IsRealAnswer (split (map string_bytes words.now))) (O.written out.old) (O.written out.new) }
+    ensures words_are_bad { result ≡ bad_words_status → IsErr (split (map string_bytes words.now)) }
+    ensures bad_words { IsErr (split (map string_bytes words.now)) → result ≢ output_failed_status → result ≢ no_memory_status → result ≡ bad_words_status }
+    ensures sink_failed { result ≡ output_failed_status → Rose (O.faults out.old) (O.faults out.new) }
+    ensures sink_stood { result ≢ output_failed_status → O.faults out.new ≡ O.faults out.old }
 {
     // What is said here follows from the one clause of `run_words`.
     run_words(rt, alloc, words, out)

@@ -2,6 +2,7 @@
 
 ghost use Rattle.std.specs.Prelude.{◌≡◌, ◌≢◌, ℕ, Err, IfOk, IsErr, List, Ok, length, map, string_bytes};
 ghost use Rattle.std.specs.Io.KnownBytes.{Appends};
+ghost use Rattle.hub_words.specs.Statuses.{bad_words_status, no_memory_status, output_failed_status};
 ghost use Rattle.hub_words.specs.Words.{split_serve};
 ghost use Rattle.hub_words.specs.declared.words.ServeWords.{ServeWords as ServeWordsValue};
 ghost use Rattle.outside_ports.specs.Written.{AppendsPart};
@@ -135,8 +136,8 @@ fn serve_over<R: Threads + Wait + Sync, H: HubKeeper + Send>(
     keeper: H,
 ) -> (u8, H)
     requires { FitWords doors.acceptors.items doors.folders.items (map string_bytes words.now) }
-    ensures words_are_bad { result.0 ≡ 2 → IsErr (split_serve (map string_bytes words.now)) }
-    ensures other { result.0 ≢ 1 }
+    ensures words_are_bad { result.0 ≡ bad_words_status → IsErr (split_serve (map string_bytes words.now)) }
+    ensures other { result.0 ≢ output_failed_status }
 {
     let clock = SystemClock::new(rt);
     let notices = ErrorLines { rt, alloc };
@@ -162,8 +163,8 @@ fn serve_items<R: Threads + Wait + Sync, S: OpenStore + Send>(
     keeper: ItemHub<S>,
 ) -> u8
     requires { FitWords doors.acceptors.items doors.folders.items (map string_bytes words.now) }
-    ensures words_are_bad { result ≡ 2 → IsErr (split_serve (map string_bytes words.now)) }
-    ensures other { result ≢ 1 }
+    ensures words_are_bad { result ≡ bad_words_status → IsErr (split_serve (map string_bytes words.now)) }
+    ensures other { result ≢ output_failed_status }
 {
     let (status, keeper) = serve_over(threads, rt, alloc, words, doors, keeper);
     keeper.release().close();
@@ -180,8 +181,8 @@ fn serve_in_memory<R: Threads + Wait + Sync>(
     keep: u32,
 ) -> u8
     requires { FitWords doors.acceptors.items doors.folders.items (map string_bytes words.now) }
-    ensures words_are_bad { result ≡ 2 → IsErr (split_serve (map string_bytes words.now)) }
-    ensures other { result ≢ 1 }
+    ensures words_are_bad { result ≡ bad_words_status → IsErr (split_serve (map string_bytes words.now)) }
+    ensures other { result ≢ output_failed_status }
 {
     let (status, keeper) = serve_over(threads, rt, alloc, words, doors, MemHub::new(alloc, keep));
     drop(keeper);
@@ -197,8 +198,8 @@ fn serve_closed<R: Threads + Wait + Sync>(
     doors: RealDoors,
 ) -> u8
     requires { FitWords doors.acceptors.items doors.folders.items (map string_bytes words.now) }
-    ensures words_are_bad { result ≡ 2 → IsErr (split_serve (map string_bytes words.now)) }
-    ensures other { result ≢ 1 }
+    ensures words_are_bad { result ≡ bad_words_status → IsErr (split_serve (map string_bytes words.now)) }
+    ensures other { result ≢ output_failed_status }
 {
     let (status, keeper) = serve_over(threads, rt, alloc, words, doors, ClosedStore::new());
     drop(keeper);
@@ -215,8 +216,8 @@ fn serve_doors<R: Threads + Wait + Sync>(
     options: &Options,
 ) -> u8
     requires { FitWords doors.acceptors.items doors.folders.items (map string_bytes words.now) }
-    ensures words_are_bad { result ≡ 2 → IsErr (split_serve (map string_bytes words.now)) }
-    ensures other { result ≢ 1 }
+    ensures words_are_bad { result ≡ bad_words_status → IsErr (split_serve (map string_bytes words.now)) }
+    ensures other { result ≢ output_failed_status }
 {
     let keep = options.keep.unwrap_or(USUAL_KEEP);
     let Some(folder) = &options.store else {
@@ -244,8 +245,8 @@ fn serve_words<R: Threads + Wait + Sync>(
     serve: &ServeWords,
 ) -> u8
     requires { split_serve (map string_bytes words.now) ≡ Ok serve.now }
-    ensures good { result ≢ 2 }
-    ensures other { result ≢ 1 }
+    ensures good { result ≢ bad_words_status }
+    ensures other { result ≢ output_failed_status }
 {
     match doors_of(rt, alloc, serve) {
         Ok(doors) => serve_doors(threads, rt, alloc, words, doors, &serve.options),
@@ -265,8 +266,8 @@ fn print_bad_word<O: Sink>(alloc: Global, place: usize, out: &mut O) -> u8
 
 // Writes that memory ran out, where that is the status.
 fn print_status<O: Sink>(status: u8, out: &mut O) -> u8
-    requires good { status ≢ 2 }
-    requires other { status ≢ 1 }
+    requires good { status ≢ bad_words_status }
+    requires other { status ≢ output_failed_status }
     ensures { (w : ServeWordsValue) → ServesBetween O.written O.faults out.old out.new result (Ok w) }
 {
     if status == NO_MEMORY {
@@ -313,13 +314,13 @@ pub fn serve_real<R: Threads + Wait + Sync, O: Sink>(
     out: &mut O,
 ) -> u8
     // What is written is the place of bad words, or that memory ran out, and nothing else.
-    ensures done { result ≢ 1 → Appends (O.written out.old) (O.written out.new) (serve_text (split_serve (map string_bytes words.now)) result) }
+    ensures done { result ≢ output_failed_status → Appends (O.written out.old) (O.written out.new) (serve_text (split_serve (map string_bytes words.now)) result) }
     // Where the sink failed, a front of such a text is written.
-    ensures part { result ≡ 1 → (status : ℕ) × AppendsPart (O.written out.old) (O.written out.new) (serve_text (split_serve (map string_bytes words.now)) status) }
-    ensures words_are_bad { result ≡ 2 → IsErr (split_serve (map string_bytes words.now)) }
-    ensures bad_words { IsErr (split_serve (map string_bytes words.now)) → result ≢ 1 → result ≢ 17 → result ≡ 2 }
-    ensures sink_failed { result ≡ 1 → Rose (O.faults out.old) (O.faults out.new) }
-    ensures sink_stood { result ≢ 1 → O.faults out.new ≡ O.faults out.old }
+    ensures part { result ≡ output_failed_status → (status : ℕ) × AppendsPart (O.written out.old) (O.written out.new) (serve_text (split_serve (map string_bytes words.now)) status) }
+    ensures words_are_bad { result ≡ bad_words_status → IsErr (split_serve (map string_bytes words.now)) }
+    ensures bad_words { IsErr (split_serve (map string_bytes words.now)) → result ≢ output_failed_status → result ≢ no_memory_status → result ≡ bad_words_status }
+    ensures sink_failed { result ≡ output_failed_status → Rose (O.faults out.old) (O.faults out.new) }
+    ensures sink_stood { result ≢ output_failed_status → O.faults out.new ≡ O.faults out.old }
 {
     // What is said here follows from the one clause of `serve_any`.
     serve_any(threads, rt, alloc, words, out)

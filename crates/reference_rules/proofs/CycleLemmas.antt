@@ -146,9 +146,13 @@ module _ {S : Type 0} (rows : List Record) (kind : Kind) (notes notes' : HashMap
         ]
       ] refl (sym (put q) ∙ at)
 
+  -- what is noted is right
+  right : (q : List ℕ) (k : Bool) → note_of notes' q ≡ Some k → k ≡ is_in_cycle rows kind q
+  right = put_right rows kind notes notes' current true put is are.right
+
   pub put_next : (next : List ℕ) → parent_of rows kind current ≡ Some next → AreNotesTo rows kind notes' next
   put_next next goes = record {
-    right = put_right rows kind notes notes' current true put is are.right;
+    right = right;
     closed = λ q parent at leads. elim (parents q parent at leads) [
       | inl known ↦ inl known
       | inr here ↦ inr (let same : parent ≡ next = cc in same)
@@ -157,7 +161,7 @@ module _ {S : Type 0} (rows : List Record) (kind : Kind) (notes notes' : HashMap
 
   pub put_end : parent_of rows kind current ≡ None → AreNotes rows kind notes'
   put_end none = record {
-    right = put_right rows kind notes notes' current true put is are.right;
+    right = right;
     closed = λ q parent at leads. elim (parents q parent at leads) [
       | inl known ↦ known
       | inr here ↦ cc
@@ -166,7 +170,7 @@ module _ {S : Type 0} (rows : List Record) (kind : Kind) (notes notes' : HashMap
 
   pub put_back : (first : List ℕ) → parent_of rows kind current ≡ Some first → note_of notes' first ≡ Some true → AreNotes rows kind notes'
   put_back first goes noted = record {
-    right = put_right rows kind notes notes' current true put is are.right;
+    right = right;
     closed = λ q parent at leads. elim (parents q parent at leads) [
       | inl known ↦ known
       | inr here ↦ (let same : first ≡ parent = cc in subst (λ x. note_of notes' x ≡ Some true) same noted)

@@ -9,8 +9,9 @@ use Rattle.matchit.specs.Router.{RouteOf, nearest, route_from}
 use Rattle.matchit.specs.Rows.{RowsOf}
 use Rattle.matchit.specs.Seek.{first}
 use Rattle.matchit.specs.declared.error.InsertError.{InsertError}
+use Rattle.roster_values.specs.Kinds.{binding_root}
 
--- the names of the first parameter and of those behind it
+-- segments as a pattern writes them: the first object has this name, and each behind it `second`
 abbrev pub segments_pattern : List ℕ → List Segment → List ℕ
 segments_pattern name [] = []
 segments_pattern name (Word word ∷ segments) = codes "/" ++ word ++ segments_pattern name segments
@@ -18,7 +19,7 @@ segments_pattern name (Object collection ∷ segments) = codes "/{" ++ name ++ c
 
 -- how the paths of a route are written
 abbrev pub pattern_of : Route → List ℕ
-pattern_of route = codes "/ims/oneroster/v1p1" ++ segments_pattern (codes "first") (segments_of route)
+pattern_of route = binding_root ++ segments_pattern (codes "first") (segments_of route)
 
 -- what a router holds
 abbrev pub Routed : Type 0

@@ -12,7 +12,7 @@ use Rattle.http_wire.specs.declared.fault.WireFault.TheVariants as fault
 use Rattle.outside_ports.proofs.Appending.{appends_both, appends_none, part_behind}
 use Rattle.outside_ports.specs.Written.{AppendsPart}
 use Rattle.rest_provider.specs.Ends.{AreTaken, Ends, EndsBy, IsRead, IsStopped, SourceStop, StandFirst, StayOpen}
-use Rattle.rest_provider.specs.Ends.{TellsStop, counted, fault_text}
+use Rattle.rest_provider.specs.Ends.{TellsStop, counted, fault_text, sink_state}
 use Rattle.rest_provider.specs.declared.stream_end.StreamEnd.{StreamEnd}
 use Rattle.rest_provider.specs.declared.stream_end.StreamEnd.TheVariants as end
 use Rattle.roster_base.specs.Faults.{Rose}
@@ -159,7 +159,9 @@ module _ (before mid now : Ends) (kept kept' : List ℕ) (requests : List Reques
     abbrev pub last : Ends
     last = record now { written = written; sink_faults = sink_faults }
 
-    pub stops_at : (result : StreamEnd) → TellsStop now.written written now.sink_faults sink_faults e (length requests) (length kept') result → EndsBy before last requests text result
+    pub stops_at : (result : StreamEnd)
+        → TellsStop (sink_state now.written now.sink_faults) (sink_state written sink_faults) e (length requests) (length kept') result
+        → EndsBy before last requests text result
     stops_at result (inl (writes, sink, is)) = inl (
       Some e,
       kept',

@@ -13,7 +13,7 @@ use Rattle.outside_ports.specs.Written.{AppendsPart}
 use Rattle.rest_provider.proofs.EndsProgress.{Progress as IsSoFar, begins as wire_begins, breaks_off as wire_breaks}
 use Rattle.rest_provider.proofs.EndsProgress.{closes_at as wire_closes, goes_on as wire_goes, stops_at as wire_stops}
 use Rattle.rest_provider.proofs.EndsProgress.{wants_memory as wire_wants}
-use Rattle.rest_provider.specs.Ends.{EndsBy, IsStopped, TellsStop}
+use Rattle.rest_provider.specs.Ends.{EndsBy, IsStopped, TellsStop, sink_state}
 use Rattle.rest_provider.specs.Exchanges.{AreAt, AreStepsOf, CountsFailures, Exchange, IsStepOf, TakesAll, TakesInTurn}
 use Rattle.rest_provider.specs.Exchanges.{replies_text, requests_of}
 use Rattle.rest_provider.specs.Moments.{IsMomentOf}
@@ -175,7 +175,10 @@ module _ (before mid now : Stage) (kept kept' : List ℕ) (moment : Option ℤ) 
     abbrev pub last : Stage
     last = record now { ends = record now.ends { written = written; sink_faults = sink_faults } }
 
-    pub stops_at : (result : StreamEnd) → TellsStop now.ends.written written now.ends.sink_faults sink_faults e (length (requests_of xs)) (length kept') result → Serves before last moment result
+    pub stops_at : (result : StreamEnd)
+        → TellsStop (sink_state now.ends.written now.ends.sink_faults) (sink_state written sink_faults) e
+        (length (requests_of xs)) (length kept') result
+        → Serves before last moment result
     stops_at result tells = record {
       exchanges = xs;
       moments = so_far.moments;

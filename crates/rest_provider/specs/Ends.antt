@@ -144,8 +144,18 @@ pub record IsStopped (before now : Ends) (kept kept' : List ℕ) (e : WireFault)
   pub written : now.written ≡ before.written
   pub sink : now.sink_faults ≡ before.sink_faults
 
+-- a sink: the bytes that it was given, where they are told, and its faults
+pub record SinkState : Type 0 where
+  pub written : Option (List ℕ)
+  pub faults : ℕ
+
+-- the same from its parts
+abbrev pub sink_state : Option (List ℕ) → ℕ → SinkState
+sink_state written faults = record { written = written; faults = faults }
+
 -- a fault was told, and the stream ends by it, or the sink failed at that
-abbrev pub TellsStop : Option (List ℕ) → Option (List ℕ) → ℕ → ℕ → WireFault → ℕ → ℕ → StreamEnd → Type 0
-TellsStop written written' sink_faults sink_faults' e answered kept result =
-    (Appends written written' (fault_text e) × (sink_faults' ≡ sink_faults) × (result ≡ end_at (Some e) answered kept))
-    ⊎ (AppendsPart written written' (fault_text e) × Rose sink_faults sink_faults' × (result ≡ end.Sink))
+abbrev pub TellsStop : SinkState → SinkState → WireFault → ℕ → ℕ → StreamEnd → Type 0
+TellsStop before now e answered kept result =
+    (Appends before.written now.written (fault_text e) × (now.faults ≡ before.faults)
+    × (result ≡ end_at (Some e) answered kept))
+    ⊎ (AppendsPart before.written now.written (fault_text e) × Rose before.faults now.faults × (result ≡ end.Sink))

@@ -1,5 +1,5 @@
 -- A request as a step of a hub, told by what is kept of the hub's state.
-use Rattle.std.specs.Prelude.{◌≡◌, ◌⊎◌, ◌+◌, ◌-◌, ◌^◌, ℕ, ℤ, min}
+use Rattle.std.specs.Prelude.{◌≡◌, ◌⊎◌, ℕ, ℤ}
 use Rattle.hub_core.specs.Standing.{HeldHub}
 use Rattle.hub_core.specs.Works.{Did, DidReload}
 use Rattle.hub_core.specs.declared.hub_error.HubError.{HubError}
@@ -16,10 +16,11 @@ use Rattle.status_info.specs.declared.cause.Cause.TheVariants as cause
 use Rattle.status_info.specs.declared.reply.Reply.{Reply}
 use Rattle.status_info.specs.declared.request.Request.{Request}
 use Rattle.version_core.specs.HubStates.{HubState}
+use Rattle.roster_base.specs.Faults.{one_more}
 
 -- the count rises once where a step failed, and else stands
 abbrev pub CountsFailed : ℕ → ℕ → ℕ → Type 0
-CountsFailed before now failed = ((failed ≡ 0) × (now ≡ before)) ⊎ ((failed ≡ 1) × (now ≡ min (before + 1) (2 ^ 64 - 1)))
+CountsFailed before now failed = ((failed ≡ 0) × (now ≡ before)) ⊎ ((failed ≡ 1) × (now ≡ one_more before))
 
 -- at each state in which each caller keeps its grant and of which `before` is kept, the reply is that of a step which
 -- takes the request at this moment and leads to such a state of which `after` is kept, and to one whose versions hold

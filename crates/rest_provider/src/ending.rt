@@ -2,7 +2,7 @@
 
 ghost use Rattle.std.specs.Prelude.{◌≡◌, ℕ};
 ghost use Rattle.outside_ports.specs.Written.{Writes};
-ghost use Rattle.rest_provider.specs.Ends.{TellsStop, counted, fault_text, unreadable_text};
+ghost use Rattle.rest_provider.specs.Ends.{TellsStop, counted, fault_text, sink_state, unreadable_text};
 ghost use Rattle.roster_base.specs.Faults.{HasCause};
 
 use crate::stream_end::StreamEnd;
@@ -42,7 +42,9 @@ pub fn stop<W: Sink>(
     requests: u64,
     kept: u64,
 ) -> StreamEnd
-    ensures { (answered : ℕ) → requests ≡ counted answered → TellsStop (W.written sink.old) (W.written sink.new) (W.faults sink.old) (W.faults sink.new) fault answered kept result }
+    ensures { (answered : ℕ) → requests ≡ counted answered
+        → TellsStop (sink_state (W.written sink.old) (W.faults sink.old)) (sink_state (W.written sink.new) (W.faults sink.new))
+        fault answered kept result }
 {
     if write_fault(alloc, sink, fault).is_err() {
         return StreamEnd::Sink;

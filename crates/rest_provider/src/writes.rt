@@ -207,10 +207,10 @@ fn answer_asked<H: HubKeeper>(
 {
     // Read for what it keeps.
     let _ = at.milliseconds();
-    let Asked { by, write: asked } = asked;
+    let Asked { by, write: wanted } = asked;
     let mark = mark_number(request.mark);
     let asking = Asking { by: &by, mark, at };
-    let answer = write(alloc, hub, keeper, &asking, asked);
+    let answer = write(alloc, hub, keeper, &asking, wanted);
     drop(by);
     match answer {
         Ok(written) => sent(request, reply_of(alloc, request, written)),

@@ -11,7 +11,7 @@ use Rattle.roster_texts.specs.Days.{day_at, day_of, day_of_month, day_text, is_d
 use Rattle.roster_base.specs.Moments.{IsMoment}
 use Rattle.roster_texts.specs.Moments.{clock_text, clock_time, day_part, fraction_text, instant_of, is_moment}
 use Rattle.roster_texts.specs.Moments.{milliseconds_at, milliseconds_of, moment_at, moment_of, moment_text, offset_of}
-use Rattle.roster_texts.specs.Moments.{seconds_of, time_part, written_day_of}
+use Rattle.roster_texts.specs.Moments.{day_milliseconds, day_seconds, seconds_of, time_part, written_day_of}
 use Rattle.roster_texts.proofs.CalendarDays.{part_bounds, split}
 
 pub digits_two : (n : ℕ) → n < 100 → digits_value (two n) ≡ Some n
@@ -38,7 +38,7 @@ day_read y m d a b c = rw (digits_four y a, digits_two m b, digits_two d c) refl
 clock_in_bounds : (hour minute second : ℕ) → hour ≤ 23 → minute ≤ 59 → second ≤ 59 → (nat_le hour 23 && (nat_le minute 59 && nat_le second 59)) ≡ true
 clock_in_bounds hour minute second a b c = grind (arith, nat_tests)
 
-in_clock : (s : ℕ) → s < 86400 → clock_time (s / 3600) (s / 60 % 60) (s % 60) ≡ Some s
+in_clock : (s : ℕ) → s < day_seconds → clock_time (s / 3600) (s / 60 % 60) (s % 60) ≡ Some s
 unfolding clock_time
 in_clock s h =
     let hours : s / 3600 ≤ 23 = omega arith in
@@ -47,7 +47,7 @@ in_clock s h =
     let there : (nat_le (s / 3600) 23 && (nat_le (s / 60 % 60) 59 && nat_le (s % 60) 59)) ≡ true = clock_in_bounds _ _ _ hours minutes seconds in
     rw there (ap (λ n. Some n) (omega arith))
 
-pub clock_read : (s : ℕ) → s < 86400 → seconds_of (clock_text s) ≡ Some s
+pub clock_read : (s : ℕ) → s < day_seconds → seconds_of (clock_text s) ≡ Some s
 unfolding seconds_of clock_text
 clock_read s h =
     rw (digits_two (s / 3600) (omega arith), digits_two (s / 60 % 60) (omega arith), digits_two (s % 60) (omega arith)) (in_clock s h)
@@ -58,7 +58,7 @@ fraction_read ms h =
     let digits : list_all is_digit (three ms) ≡ true = grind (arith, nat_tests) in
     rw digits (ap (λ n. Some n) (omega arith))
 
-pub instant_written : (y m d s ms : ℕ) (day : ℤ) → y < 10000 → m < 100 → d < 100 → s < 86400 → ms < 1000 → day_at y m d ≡ Some day
+pub instant_written : (y m d s ms : ℕ) (day : ℤ) → y < 10000 → m < 100 → d < 100 → s < day_seconds → ms < 1000 → day_at y m d ≡ Some day
     → instant_of (written_day y m d ++ (clock_text s ++ fraction_text ms)) ≡ moment_at (milliseconds_at day s ms (pos 0))
 unfolding instant_of clock_text fraction_text offset_of
 instant_written y m d s ms day a b c e f at =
@@ -68,13 +68,13 @@ instant_written y m d s ms day a b c e f at =
 
 parts_make_moment : (z : ℤ) → milliseconds_at (day_part z) (time_part z / 1000) (time_part z % 1000) (pos 0) ≡ z
 parts_make_moment z =
-    omega (arith, signed_arith, int_div_euclid-parts z 86400000 (omega arith), int_rem_euclid-parts z 86400000 (omega arith), unsigned_abs-parts (int_rem_euclid z (pos 86400000)))
+    omega (arith, signed_arith, int_div_euclid-parts z day_milliseconds (omega arith), int_rem_euclid-parts z day_milliseconds (omega arith), unsigned_abs-parts (int_rem_euclid z (pos day_milliseconds)))
 
-pub time_small : (z : ℤ) → time_part z < 86400000
-time_small z = omega (arith, signed_arith, int_rem_euclid-parts z 86400000 (omega arith), unsigned_abs-parts (int_rem_euclid z (pos 86400000)))
+pub time_small : (z : ℤ) → time_part z < day_milliseconds
+time_small z = omega (arith, signed_arith, int_rem_euclid-parts z day_milliseconds (omega arith), unsigned_abs-parts (int_rem_euclid z (pos day_milliseconds)))
 
 pub day_in_range : (z : ℤ) → IsMoment z → IsDay (day_part z)
-day_in_range z h = omega (arith, signed_arith, int_div_euclid-parts z 86400000 (omega arith), h.0, h.1)
+day_in_range z h = omega (arith, signed_arith, int_div_euclid-parts z day_milliseconds (omega arith), h.0, h.1)
 
 in_moments : (z : ℤ) → IsMoment z → moment_at z ≡ Some z
 unfolding moment_at

@@ -16,6 +16,13 @@ is_moment ms = int_le (negsuc 62135596799999) ms && int_le ms (pos 2534023007999
 unfoldable pub moment_at : ℤ → Option ℤ
 moment_at ms = if is_moment ms then Some ms else None
 
+-- the length of a day, which has no leap second
+abbrev pub day_seconds : ℕ
+day_seconds = 86400
+
+abbrev pub day_milliseconds : ℕ
+day_milliseconds = 86400000
+
 -- the seconds from midnight to a time of day, which has no leap second
 unfoldable pub clock_time : ℕ → ℕ → ℕ → Option ℕ
 clock_time hour minute second =
@@ -77,7 +84,7 @@ offset_of t =
 -- the moment of a day, a time and its milliseconds, written where clocks are so many minutes ahead of UTC
 abbrev pub milliseconds_at : ℤ → ℕ → ℕ → ℤ → ℤ
 milliseconds_at day seconds ms offset =
-    ((day *ℤ pos 86400000) +ℤ pos (seconds * 1000 + ms)) -ℤ (offset *ℤ pos 60000)
+    ((day *ℤ pos day_milliseconds) +ℤ pos (seconds * 1000 + ms)) -ℤ (offset *ℤ pos 60000)
 
 -- how many bytes the zone at the end of a text takes: 'Z', or ±hh:mm
 abbrev pub zone_len : List ℕ → ℕ
@@ -94,7 +101,7 @@ instant_of t = if nat_lt (length t) (19 + zone_len t) then None else do
 
 -- the first moment of a day, in UTC
 abbrev pub midnight : ℤ → ℤ
-midnight day = day *ℤ pos 86400000
+midnight day = day *ℤ pos day_milliseconds
 
 -- the moment that a text writes: a day alone is its midnight UTC
 unfoldable pub moment_of : List ℕ → Option ℤ
@@ -108,11 +115,11 @@ written_day_of t = if length t == 10 then day_of t else do
 
 -- the day on which a moment lies, in UTC
 abbrev pub day_part : ℤ → ℤ
-day_part ms = int_div_euclid ms (pos 86400000)
+day_part ms = int_div_euclid ms (pos day_milliseconds)
 
 -- the milliseconds from that day's midnight to the moment
 abbrev pub time_part : ℤ → ℕ
-time_part ms = unsigned_abs (int_rem_euclid ms (pos 86400000))
+time_part ms = unsigned_abs (int_rem_euclid ms (pos day_milliseconds))
 
 -- the seconds of a day as Thh:mm:ss
 unfoldable pub clock_text : ℕ → List ℕ

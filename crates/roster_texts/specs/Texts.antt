@@ -22,9 +22,13 @@ is_id t = nat_lt 0 (length t) && (nat_le (length t) 255 && (list_all is_id_byte 
 abbrev pub is_name_byte : ℕ → Bool
 is_name_byte b = is_ascii_alphanumeric b || (b == dot) || (b == underscore) || (b == hyphen)
 
+-- the most bytes of a name
+abbrev pub longest_name : ℕ
+longest_name = 64
+
 -- 1 to 64 bytes that a name may have
 abbrev pub is_name : List ℕ → Bool
-is_name t = nat_lt 0 (length t) && (nat_le (length t) 64 && list_all is_name_byte t)
+is_name t = nat_lt 0 (length t) && (nat_le (length t) longest_name && list_all is_name_byte t)
 
 -- a letter or a digit of ASCII, or one of "-._~+/"
 abbrev pub is_token_byte : ℕ → Bool

@@ -2,7 +2,8 @@
 
 ghost use Rattle.std.specs.Prelude.{◌≡◌, ◌<◌, IfSome, OnOk, string_bytes, ◌++◌};
 ghost use Rattle.roster_texts.specs.Moments.{clock_text, clock_time, digit_at, fraction_text, has_fraction_form};
-ghost use Rattle.roster_texts.specs.Moments.{has_time_form, milliseconds_of, seconds_of, time_text};
+ghost use Rattle.roster_texts.specs.Moments.{day_seconds, has_time_form, milliseconds_of, seconds_of, time_text};
+ghost use Rattle.roster_texts.specs.Moments.{day_milliseconds};
 
 use crate::digits::{all_digits, push_three, push_two, two_digits};
 use roster_base::NoMemory;
@@ -11,7 +12,7 @@ use roster_base::NoMemory;
 #[tactic(auto, unfolding(crate::specs::Moments::seconds_of))]
 pub fn read_seconds(text: &[u8]) -> Option<u32>
     ensures value { result ≡ seconds_of text.now }
-    ensures bound { IfSome result (λ s. s < 86400) }
+    ensures bound { IfSome result (λ s. s < day_seconds) }
 {
     if !is_time(text) {
         return None;
@@ -32,7 +33,7 @@ fn is_time(text: &[u8]) -> bool
 #[tactic(auto, unfolding(crate::specs::Moments::clock_time))]
 fn time_at(hour: u8, minute: u8, second: u8) -> Option<u32>
     ensures value { result ≡ clock_time hour minute second }
-    ensures bound { IfSome result (λ s. s < 86400) }
+    ensures bound { IfSome result (λ s. s < day_seconds) }
 {
     if hour <= 23 && minute <= 59 && second <= 59 {
         Some((hour as u32 * 60 + minute as u32) * 60 + second as u32)
@@ -77,7 +78,7 @@ fn digit(text: &[u8], place: usize) -> u16
 
 /// Writes the milliseconds from midnight as Thh:mm:ss.mmmZ. Where memory runs out, a part of it may stand there.
 pub fn push_time(text: &mut String, milliseconds: u32) -> Result<(), NoMemory>
-    requires { milliseconds < 86400000 }
+    requires { milliseconds < day_milliseconds }
     ensures { OnOk result (string_bytes text.new ≡ string_bytes text.old ++ time_text milliseconds) }
 {
     push_clock(text, milliseconds / 1000)?;
@@ -87,7 +88,7 @@ pub fn push_time(text: &mut String, milliseconds: u32) -> Result<(), NoMemory>
 // Writes the seconds from midnight, as T09:30:00.
 #[tactic(auto, unfolding(crate::specs::Moments::clock_text))]
 fn push_clock(text: &mut String, seconds: u32) -> Result<(), NoMemory>
-    requires { seconds < 86400 }
+    requires { seconds < day_seconds }
     ensures { OnOk result (string_bytes text.new ≡ string_bytes text.old ++ clock_text seconds) }
 {
     text.push('T')?;

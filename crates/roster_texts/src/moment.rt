@@ -4,7 +4,7 @@ ghost use Rattle.std.specs.Prelude.{◌≡◌, ◌+◌, ◌*◌, ◌<◌, ◌≤
 ghost use Rattle.std.specs.Prelude.{string_bytes, ◌++◌};
 ghost use Rattle.roster_base.specs.Moments.{IsMoment};
 ghost use Rattle.roster_texts.specs.Moments.{day_part, instant_of, midnight, milliseconds_at, moment_at, moment_of};
-ghost use Rattle.roster_texts.specs.Moments.{moment_text, time_part, written_day_of};
+ghost use Rattle.roster_texts.specs.Moments.{day_milliseconds, day_seconds, moment_text, time_part, written_day_of};
 
 use crate::clock::{push_time, read_milliseconds, read_seconds};
 use crate::day::Day;
@@ -12,6 +12,9 @@ use crate::zone::{read_offset, zone_length};
 use roster_base::{NoMemory, Text};
 use std::alloc::Global;
 use std::marker::Model;
+
+/// The length of a day.
+const DAY_MILLISECONDS: i64 = 86_400_000;
 
 /// A moment from 0001-01-01T00:00:00.000Z to 9999-12-31T23:59:59.999Z. A clause sees the number of milliseconds since
 /// 1970-01-01T00:00:00.000Z, leap seconds not counted.
@@ -83,15 +86,15 @@ impl Moment {
     pub fn day(self) -> Day
         ensures { result ≡ day_part self }
     {
-        Day::from_number(self.milliseconds().div_euclid(86_400_000) as i32)
+        Day::from_number(self.milliseconds().div_euclid(DAY_MILLISECONDS) as i32)
     }
 
     // The milliseconds from the midnight of its day, in UTC.
     fn time(self) -> u32
         ensures value { result ≡ time_part self }
-        ensures bound { result < 86400000 }
+        ensures bound { result < day_milliseconds }
     {
-        self.milliseconds().rem_euclid(86_400_000) as u32
+        self.milliseconds().rem_euclid(DAY_MILLISECONDS) as u32
     }
 
     /// The moment in UTC as YYYY-MM-DDThh:mm:ss.mmmZ.
@@ -148,15 +151,15 @@ fn read_instant(text: &[u8]) -> Option<Moment>
 
 // The milliseconds from 1970-01-01 to a day's midnight.
 fn day_milliseconds(day: Day) -> i64
-    ensures value { result ≡ day *ℤ pos 86400000 }
+    ensures value { result ≡ day *ℤ pos day_milliseconds }
     ensures low { negsuc 62135596799999 ≤ℤ result }
     ensures high { result ≤ℤ pos 253402214400000 }
 {
-    day.number() as i64 * 86_400_000
+    day.number() as i64 * DAY_MILLISECONDS
 }
 
 fn time_milliseconds(seconds: u32, milliseconds: u16) -> i64
-    requires { seconds < 86400 }
+    requires { seconds < day_seconds }
     ensures value { result ≡ pos (seconds * 1000 + milliseconds) }
     ensures bound { result ≤ℤ pos 100000000 }
 {
@@ -174,7 +177,7 @@ fn offset_milliseconds(offset: i16) -> i64
 
 // The milliseconds from 1970-01-01T00:00:00.000Z to a written time whose zone is so many minutes ahead of UTC.
 fn instant(day: Day, seconds: u32, milliseconds: u16, offset: i16) -> i64
-    requires { seconds < 86400 }
+    requires { seconds < day_seconds }
     ensures value { result ≡ milliseconds_at day seconds milliseconds offset }
     ensures low { negsuc 70000000000000 ≤ℤ result }
     ensures high { result ≤ℤ pos 260000000000000 }

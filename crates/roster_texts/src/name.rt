@@ -10,6 +10,9 @@ use std::alloc::Global;
 use std::marker::Model;
 use std::sync::ArcStr;
 
+/// The most bytes of a name.
+const LONGEST: usize = 64;
+
 /// The name of a feed or a caller: 1 to 64 letters and digits of ASCII, dots, underscores and dashes.
 /// A clause sees its bytes. Copies share one text, since every stored row keeps its owner's name.
 #[derive(Drop)]
@@ -44,7 +47,7 @@ impl Name {
         ensures { result ≡ is_name text.now }
     {
         let bytes = text.as_bytes();
-        if bytes.is_empty() || bytes.len() > 64 {
+        if bytes.is_empty() || bytes.len() > LONGEST {
             return false;
         }
         Name::has_name_bytes(bytes)

@@ -10,6 +10,7 @@ use Rattle.roster_base.specs.Moments.{IsMoment}
 use Rattle.roster_texts.specs.Days.{day_of_month, day_text, month_of_day, year_of_day}
 use Rattle.roster_texts.specs.Digits.{four, three, two}
 use Rattle.roster_texts.specs.Moments.{clock_text, day_part, fraction_text, is_moment, moment_text, time_part}
+use Rattle.roster_texts.specs.Moments.{day_seconds}
 use Rattle.roster_texts.proofs.CalendarDays.{part_bounds}
 use Rattle.roster_texts.proofs.RoundTrip.{day_in_range, moment_from, time_small}
 use Rattle.roster_values.specs.CellText.{cell_text}
@@ -55,7 +56,7 @@ day_plain y m d a b c =
     (both_plain (four y ++ codes "-" ++ two m) (codes "-") (both_plain (four y ++ codes "-") (two m) (both_plain (four y) (codes "-") (four_plain y a) refl) (two_plain m b)) refl)
     (two_plain d c)
 
-clock_plain : (s : ℕ) → s < 86400 → list_all is_plain (clock_text s) ≡ true
+clock_plain : (s : ℕ) → s < day_seconds → list_all is_plain (clock_text s) ≡ true
 unfolding clock_text
 clock_plain s h =
     both_plain (codes "T" ++ two (s / 3600) ++ codes ":" ++ two (s / 60 % 60) ++ codes ":") (two (s % 60))

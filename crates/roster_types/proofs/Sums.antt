@@ -5,6 +5,7 @@ use Rattle.std.proofs.lemmas.List.{drop_all, get_or-map, length-map}
 use Rattle.std.proofs.lemmas.Option.{get_or_from_slice_get, slice_get-get_or, slice_get-map, slice_get_within}
 use Rattle.std.specs.List.{slice_get}
 use Rattle.roster_values.specs.declared.fields.FieldInfo.{FieldInfo}
+use Rattle.roster_values.specs.declared.kind.Kind.{Kind}
 use Rattle.roster_values.specs.declared.value.Value.{Value}
 use Rattle.roster_values.specs.Fit.{fits_form}
 use Rattle.roster_values.specs.Table.{Info, info_of, table}
@@ -57,6 +58,24 @@ infos-length infos is m = sym (length-map infos info_of) ∙ ap length m
 
 pub info_here : (infos : List FieldInfo) (is : List Info) (n : ℕ) (d : FieldInfo) → map info_of infos ≡ is → n < length infos → get_or is n (info_of d) ≡ info_of (get_or infos n d)
 info_here infos is n d m h = rw (← m) (get_or-map info_of infos n d (info_of d) h)
+
+-- the code's table is that of this kind
+pub record AreInfos (kind : Kind) (infos : List FieldInfo) : Type 0 where
+  pub as_many : length infos ≡ length (table kind)
+  pub line : (n : ℕ) (d : FieldInfo) → n < length infos → slice_get (table kind) n ≡ Some (info_of (get_or infos n d))
+  pub here : (n : ℕ) (d : FieldInfo) → n < length infos → get_or (table kind) n (info_of d) ≡ info_of (get_or infos n d)
+
+-- as the code's table of a kind is, which is this one
+pub are_infos : {infos : List FieldInfo} {kind made : Kind} → map info_of infos ≡ table made → made ≡ kind
+    → AreInfos kind infos
+are_infos {infos} {kind} {made} are same =
+    let m : map info_of infos ≡ table kind = are ∙ ap table same in
+    let many = infos-length infos (table kind) m in
+    record {
+      as_many = many;
+      line = λ n d h. info_at infos (table kind) n d m (omega (arith, many, h));
+      here = λ n d h. info_here infos (table kind) n d m h;
+    }
 
 -- the fields of a fitting row are as many as its values
 pub fields-values : (r : Record) → IsFitting r → length (table r.kind) ≡ length (all_values r)

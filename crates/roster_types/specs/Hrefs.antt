@@ -5,7 +5,7 @@ use Rattle.std.specs.List.{flat_map}
 use Rattle.percent_encoding.specs.Percent.{percent_encode_byte}
 use Rattle.roster_texts.specs.Signs.{dot, hyphen, tilde, underscore}
 use Rattle.roster_values.specs.declared.kind.Kind.{Kind}
-use Rattle.roster_values.specs.Kinds.{plural_of}
+use Rattle.roster_values.specs.Kinds.{collections_root, plural_of}
 
 -- letters, digits and `-._~`
 abbrev pub is_unreserved : ℕ → Bool
@@ -17,4 +17,4 @@ encoded_byte b = if is_unreserved b then b ∷ [] else percent_encode_byte b
 
 -- where a row of a kind is found
 unfoldable pub href : Kind → List ℕ → List ℕ
-href kind id = codes "/ims/oneroster/v1p1/" ++ plural_of kind ++ codes "/" ++ flat_map encoded_byte id
+href kind id = collections_root ++ plural_of kind ++ codes "/" ++ flat_map encoded_byte id

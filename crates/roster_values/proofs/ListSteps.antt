@@ -64,17 +64,26 @@ pub onto_start : {A : Type 0} (r : Result (List A) ValueFault) → onto [] r ≡
 onto_start (Ok xs) = refl
 onto_start (Err e) = refl
 
--- one more item was cut off, and what it gives was added
-pub item_cut : (whole front more : List (List ℕ)) (rest item later : List ℕ) → whole ≡ front ++ items_of rest → position_or_len is_comma rest < length rest
-    → item ≡ before_first is_comma rest → later ≡ after_first is_comma rest → more ≡ front ++ item_of item → whole ≡ more ++ items_of later
-item_cut whole front more rest item later e h ei el em =
-    e ∙ ap (λ xs. front ++ xs) (first_item rest h) ∙ sym (append_assoc front (item_of (before_first is_comma rest)) (items_of (after_first is_comma rest)))
-    ∙ ap (λ xs. (front ++ item_of xs) ++ items_of (after_first is_comma rest)) (sym ei) ∙ ap (λ xs. (front ++ item_of item) ++ items_of xs) (sym el)
-    ∙ ap (λ xs. xs ++ items_of later) (sym em)
+-- a text of parts between commas: one more part was cut off, and what it gives was added
+pub part_cut : (parts part : List ℕ → List (List ℕ))
+    → ((text : List ℕ) → position_or_len is_comma text < length text
+    → parts text ≡ part (before_first is_comma text) ++ parts (after_first is_comma text))
+    → (whole front more : List (List ℕ)) (rest one later : List ℕ)
+    → whole ≡ front ++ parts rest → position_or_len is_comma rest < length rest → one ≡ before_first is_comma rest
+    → later ≡ after_first is_comma rest → more ≡ front ++ part one → whole ≡ more ++ parts later
+part_cut parts part first whole front more rest one later is inside cut left added =
+    is ∙ ap (λ those. front ++ those) (first rest inside)
+    ∙ sym (append_assoc front (part (before_first is_comma rest)) (parts (after_first is_comma rest)))
+    ∙ ap (λ text. (front ++ part text) ++ parts (after_first is_comma rest)) (sym cut)
+    ∙ ap (λ text. (front ++ part one) ++ parts text) (sym left) ∙ ap (λ those. those ++ parts later) (sym added)
 
-pub item_last : (whole front more : List (List ℕ)) (rest : List ℕ) → whole ≡ front ++ items_of rest → position_or_len is_comma rest ≡ length rest
-    → more ≡ front ++ item_of rest → more ≡ whole
-item_last whole front more rest e h em = em ∙ ap (λ xs. front ++ xs) (sym (last_item rest h)) ∙ sym e
+-- its last part was added
+pub part_last : (parts part : List ℕ → List (List ℕ))
+    → ((text : List ℕ) → position_or_len is_comma text ≡ length text → parts text ≡ part text)
+    → (whole front more : List (List ℕ)) (rest : List ℕ)
+    → whole ≡ front ++ parts rest → position_or_len is_comma rest ≡ length rest → more ≡ front ++ part rest → more ≡ whole
+part_last parts part last whole front more rest is none added =
+    added ∙ ap (λ those. front ++ those) (sym (last rest none)) ∙ sym is
 
 -- the next item was read, or was refused
 pub item_read : {A : Type 0} (read : List ℕ → Result A ValueFault) (whole : Result (List A) ValueFault) (front more : List A) (ts : List (List ℕ)) (i : ℕ) (t text : List ℕ) (x : A)

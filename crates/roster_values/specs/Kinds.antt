@@ -28,6 +28,13 @@ place_of_kind Resources = 10
 place_of_kind ClassResources = 11
 place_of_kind CourseResources = 12
 
+-- where the paths of the standard's REST binding begin, without and with the slash in front of a collection's word
+abbrev pub binding_root : List ℕ
+binding_root = codes "/ims/oneroster/v1p1"
+
+abbrev pub collections_root : List ℕ
+collections_root = codes "/ims/oneroster/v1p1/"
+
 -- the word for many records of a kind
 abbrev pub plural_of : Kind → List ℕ
 plural_of Orgs = codes "orgs"

@@ -1,17 +1,16 @@
 -- What differs between two lists of the rows of a kind.
 use Rattle.std.specs.Prelude.{ℕ, Bool, false, not, List, [], ◌∷◌, ◌++◌, Option, Some, None, bytes_eq, filter}
-use Rattle.std.specs.Prelude.{drop, if◌then◌else◌, is_none, map}
+use Rattle.std.specs.Prelude.{◌≡◌, true, drop, if◌then◌else◌, is_none, map}
 use Rattle.std.specs.List.{AllByRecursion, list_any}
 use Rattle.std.specs.Option.{option_map_or, option_to_list}
 use Rattle.roster_types.specs.Keys.{Key, is_of_kind, look_up, row_key}
 use Rattle.roster_types.specs.Records.{Record}
-use Rattle.roster_values.specs.Kinds.{place_of_kind}
 use Rattle.roster_values.specs.declared.kind.Kind.{Kind}
 use Rattle.row_deltas.specs.Sameness.{same_row}
 use Rattle.row_deltas.specs.declared.entry.DeltaEntry.{DeltaEntry}
 use Rattle.row_deltas.specs.declared.entry.DeltaEntry.TheVariants.{Put, Gone}
 use Rattle.version_core.specs.Order.{overlaid, put}
-use Rattle.std.specs.Prelude.{◌≡◌, true}
+use Rattle.version_core.specs.Spans.{key_in}
 
 -- each row is of the kind
 abbrev pub AreOf : Kind → List Record → Type 0
@@ -20,7 +19,7 @@ AreOf kind rows = AllByRecursion (λ row. is_of_kind kind row ≡ true) rows
 -- the key of the row of which an entry of a kind speaks
 abbrev pub entry_key : Kind → DeltaEntry → Key
 entry_key kind (Put row) = row_key row
-entry_key kind (Gone id) = (place_of_kind kind, id)
+entry_key kind (Gone id) = key_in kind id
 
 -- the row stands among others just so
 abbrev pub stands_in : List Record → Record → Bool
@@ -47,19 +46,15 @@ difference None (Some new) = Some (Put new)
 difference (Some old) None = Some (Gone old.id)
 difference (Some old) (Some new) = if same_row new old then None else Some (Put new)
 
--- the key of the row of a kind that has the id
-abbrev pub id_key : Kind → List ℕ → Key
-id_key kind id = (place_of_kind kind, id)
-
 -- what differs of the rows that have these ids
 abbrev pub entries_at : Kind → List Record → List Record → List (List ℕ) → List DeltaEntry
 entries_at kind old new [] = []
 entries_at kind old new (id ∷ ids) =
-    option_to_list (difference (look_up row_key (id_key kind id) old) (look_up row_key (id_key kind id) new)) ++ entries_at kind old new ids
+    option_to_list (difference (look_up row_key (key_in kind id) old) (look_up row_key (key_in kind id) new)) ++ entries_at kind old new ids
 
 -- the ids have those of all rows that differ: under each other key both lists have the same
 abbrev pub Cover : Kind → List Record → List Record → List (List ℕ) → Type 0
-Cover kind old new ids = (k : Key) → look_up (id_key kind) k ids ≡ None → look_up row_key k old ≡ look_up row_key k new
+Cover kind old new ids = (k : Key) → look_up (key_in kind) k ids ≡ None → look_up row_key k old ≡ look_up row_key k new
 
 -- the rows that are left of a list, of which the first is passed or not
 abbrev pub passed : Bool → List Record → List Record
@@ -91,6 +86,6 @@ ids_gone [] = []
 ids_gone (Put row ∷ entries) = ids_gone entries
 ids_gone (Gone id ∷ entries) = id ∷ ids_gone entries
 
--- the rows of a list that isn't gone, with those that are put in their places
+-- the rows of a list that aren't gone, with those that are put in their places
 unfoldable pub merged : List Record → List Record → List (List ℕ) → List Record
 merged held puts gone = overlaid row_key (filter (λ row. not (list_any (bytes_eq row.id) gone)) held) puts

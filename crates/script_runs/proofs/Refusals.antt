@@ -23,27 +23,27 @@ use Rattle.version_core.specs.declared.mark.Write.{Write}
 use Rattle.world_scripts.specs.declared.script.HubLine.TheVariants as line
 
 module _ (files : Option (List Stored)) (faults : Faults) where
-  set-told : (feed : Feed) (end : End) → ReadsSet files faults feed (Err end) → end ≢ FolderFailed → end ≢ NoMemory → IsActOf files (line.Set feed) (Tell (end_text end)) × HaveStood faults
-  set-told feed FolderFailed reads folder memory = absurd (folder refl)
-  set-told feed (Refused f) reads folder memory = ((f, reads.0, refl), reads.1)
-  set-told feed NoMemory reads folder memory = absurd (memory refl)
-  set-told feed end reads folder memory = absurd reads
+  set_told : (feed : Feed) (end : End) → ReadsSet files faults feed (Err end) → end ≢ FolderFailed → end ≢ NoMemory → IsActOf files (line.Set feed) (Tell (end_text end)) × HaveStood faults
+  set_told feed FolderFailed reads folder memory = absurd (folder refl)
+  set_told feed (Refused f) reads folder memory = ((f, reads.0, refl), reads.1)
+  set_told feed NoMemory reads folder memory = absurd (memory refl)
+  set_told feed end reads folder memory = absurd reads
 
-  grants-told : (file : List ℕ) (end : End) → ReadsGrants files faults file (Err end) → end ≢ FolderFailed → end ≢ NoMemory → IsGrantsOf files file (Err end) × HaveStood faults
-  grants-told file FolderFailed reads folder memory = absurd (folder refl)
-  grants-told file NoMemory reads folder memory = absurd (memory refl)
-  grants-told file end reads folder memory = reads
+  grants_told : (file : List ℕ) (end : End) → ReadsGrants files faults file (Err end) → end ≢ FolderFailed → end ≢ NoMemory → IsGrantsOf files file (Err end) × HaveStood faults
+  grants_told file FolderFailed reads folder memory = absurd (folder refl)
+  grants_told file NoMemory reads folder memory = absurd (memory refl)
+  grants_told file end reads folder memory = reads
 
-  bytes-told : (file : List ℕ) (end : End) → ReadsBytes files faults file (Err end) → end ≢ FolderFailed → end ≢ NoMemory → IsBytesOf files file (Err end) × HaveStood faults
-  bytes-told file FolderFailed reads folder memory = absurd (folder refl)
-  bytes-told file NoMemory reads folder memory = absurd (memory refl)
-  bytes-told file end reads folder memory = reads
+  bytes_told : (file : List ℕ) (end : End) → ReadsBytes files faults file (Err end) → end ≢ FolderFailed → end ≢ NoMemory → IsBytesOf files file (Err end) × HaveStood faults
+  bytes_told file FolderFailed reads folder memory = absurd (folder refl)
+  bytes_told file NoMemory reads folder memory = absurd (memory refl)
+  bytes_told file end reads folder memory = reads
 
 -- a write's file
-write-told : (o : Outside) (task : EnterTask) (end : End) → ReadsWrite o task (Err end) → end ≢ FolderFailed → end ≢ NoMemory → IsWriteOf o.files o.moment task (Err end) × HaveStood o.folder
-write-told o task FolderFailed reads folder memory = absurd (folder refl)
-write-told o task NoMemory reads folder memory = absurd (memory refl)
-write-told o task end reads folder memory = reads
+write_told : (o : Outside) (task : EnterTask) (end : End) → ReadsWrite o task (Err end) → end ≢ FolderFailed → end ≢ NoMemory → IsWriteOf o.files o.moment task (Err end) × HaveStood o.folder
+write_told o task FolderFailed reads folder memory = absurd (folder refl)
+write_told o task NoMemory reads folder memory = absurd (memory refl)
+write_told o task end reads folder memory = reads
 
 -- what a line reads where its file is refused
 module _ (files : Option (List Stored)) (faults : Faults) (end : End) where
@@ -51,20 +51,20 @@ module _ (files : Option (List Stored)) (faults : Faults) (end : End) where
   Refuses r = Tells (λ text told. told ≡ Tell text) end r
 
   pub set_refused : (feed : Feed) → ReadsSet files faults feed (Err end) → (r : Result HubAct Stop) → Refuses r → ReadsAct files faults (line.Set feed) r
-  set_refused feed reads (Ok told) is = subst (λ (t : HubAct). IsActOf files (line.Set feed) t × HaveStood faults) (sym is.0) (set-told files faults feed end reads is.1 is.2)
+  set_refused feed reads (Ok told) is = subst (λ (t : HubAct). IsActOf files (line.Set feed) t × HaveStood faults) (sym is.0) (set_told files faults feed end reads is.1 is.2)
   set_refused feed reads (Err stop.Folder) is = subst (λ (e : End). ReadsSet files faults feed (Err e)) is reads
   set_refused feed reads (Err stop.NoMemory) is = tt
 
   pub grants_refused : (file : List ℕ) → ReadsGrants files faults file (Err end) → (r : Result HubAct Stop) → Refuses r → ReadsAct files faults (line.Grant file) r
   grants_refused file reads (Ok told) is =
-      let of_file = grants-told files faults file end reads is.1 is.2 in
+      let of_file = grants_told files faults file end reads is.1 is.2 in
       subst (λ (t : HubAct). IsActOf files (line.Grant file) t × HaveStood faults) (sym is.0) ((end, of_file.0, refl), of_file.1)
   grants_refused file reads (Err stop.Folder) is = subst (λ (e : End). ReadsGrants files faults file (Err e)) is reads
   grants_refused file reads (Err stop.NoMemory) is = tt
 
   pub bytes_refused : (file : List ℕ) → ReadsBytes files faults file (Err end) → (r : Result HubAct Stop) → Refuses r → ReadsAct files faults (line.Ask file) r
   bytes_refused file reads (Ok told) is =
-      let of_file = bytes-told files faults file end reads is.1 is.2 in
+      let of_file = bytes_told files faults file end reads is.1 is.2 in
       subst (λ (t : HubAct). IsActOf files (line.Ask file) t × HaveStood faults) (sym is.0) ((end, of_file.0, refl), of_file.1)
   bytes_refused file reads (Err stop.Folder) is = subst (λ (e : End). ReadsBytes files faults file (Err e)) is reads
   bytes_refused file reads (Err stop.NoMemory) is = tt
@@ -78,7 +78,7 @@ ok_any (Err e) p = tt
 -- where the file of a write is refused, and that is told
 module _ {T : Type 0} (o : Outside) (task : EnterTask) (end : End) (reads : ReadsWrite o task (Err end)) (is : List ℕ → T → Type 0) where
   pub refusal_stood : (r : Result T Stop) → Tells is end r → IfOk r (λ _. HaveStood o.folder)
-  refusal_stood (Ok told) tells = (write-told o task end reads tells.1 tells.2).1
+  refusal_stood (Ok told) tells = (write_told o task end reads tells.1 tells.2).1
   refusal_stood (Err e) tells = tt
 
   pub refusal_rose : (r : Result T Stop) → Tells is end r → r ≡ Err stop.Folder → HaveRisen o.folder
@@ -99,6 +99,6 @@ enters shown files moment task old new write printed (Err e) at is entered same 
 pub enters_none : {T : Type 0} (shown : T → List ℕ) (files : Option (List Stored)) (moment : ℤ) (folder keeper : Faults) (task : EnterTask) (old : Play) (end : End) (r : Result T Stop) → moment ≡ old.link.clock
     → ReadsWrite (outside_of files (Some moment) folder keeper) task (Err end) → Tells (λ text told. shown told ≡ text) end r → IfOk r (λ t. EnterStep files task old old (shown t))
 enters_none shown files moment folder keeper task old end (Ok t) at reads tells =
-    let (is, stood) = write-told (outside_of files (Some moment) folder keeper) task end reads tells.1 tells.2 in
+    let (is, stood) = write_told (outside_of files (Some moment) folder keeper) task end reads tells.1 tells.2 in
     inr (end, subst (λ (m : ℤ). IsWriteOf files (Some m) task (Err end)) at is, refl, tells.0)
 enters_none shown files moment folder keeper task old end (Err e) at reads tells = tt

@@ -5,7 +5,7 @@ use Rattle.hub_commands.specs.Answers.{end_text}
 use Rattle.hub_commands.specs.AskAnswers.{IsBytesOf}
 use Rattle.hub_commands.specs.GrantAnswers.{IsGrantsOf}
 use Rattle.hub_commands.specs.Outside.{Faults, HaveRisen, HaveStood}
-use Rattle.hub_commands.specs.Publishes.{IsSetOf}
+use Rattle.hub_commands.specs.PublishAnswers.{IsSetOf}
 use Rattle.hub_commands.specs.declared.answer.End.{End}
 use Rattle.hub_commands.specs.declared.answer.End.TheVariants.{FolderFailed, NoMemory, Refused}
 use Rattle.outside_ports.specs.Files.{Stored}

@@ -2,7 +2,6 @@
 pub use Rattle.hub_commands.specs.Answers
 pub use Rattle.hub_commands.specs.AskAnswers
 pub use Rattle.hub_commands.specs.Below.Catching
-pub use Rattle.hub_commands.specs.Below.Consumers
 pub use Rattle.hub_commands.specs.Below.DeltaAnswer
 pub use Rattle.hub_commands.specs.Below.Deltas
 pub use Rattle.hub_commands.specs.Below.Held
@@ -11,16 +10,16 @@ pub use Rattle.hub_commands.specs.Below.Outbox
 pub use Rattle.hub_commands.specs.Below.Sends
 pub use Rattle.hub_commands.specs.Below.SyncLines
 pub use Rattle.hub_commands.specs.Below.Syncs
-pub use Rattle.hub_commands.specs.Cascades
+pub use Rattle.hub_commands.specs.CascadeAnswers
 pub use Rattle.hub_commands.specs.ConsumerAnswers
 pub use Rattle.hub_commands.specs.ExportAnswers
-pub use Rattle.hub_commands.specs.Follows
+pub use Rattle.hub_commands.specs.FollowAnswers
 pub use Rattle.hub_commands.specs.GrantAnswers
 pub use Rattle.hub_commands.specs.Lines
 pub use Rattle.hub_commands.specs.OutboxAnswers
 pub use Rattle.hub_commands.specs.Outside
 pub use Rattle.hub_commands.specs.Runs
-pub use Rattle.hub_commands.specs.Shows
+pub use Rattle.hub_commands.specs.ShowAnswers
 pub use Rattle.hub_commands.specs.Steps
 pub use Rattle.hub_commands.specs.declared.answer.Answer
 pub use Rattle.hub_commands.specs.declared.answer.End

@@ -3,12 +3,13 @@ use Rattle.std.specs.Prelude.{◌≡◌, ◌≢◌, ◌⊎◌, ⊤, ℕ, List, [
 use Rattle.std.specs.Prelude.{decimal, string_bytes}
 use Rattle.std.specs.Global.{Global}
 use Rattle.std.specs.List.{flat_map}
-use Rattle.hub_commands.specs.Below.Consumers.{CopyRun, LinkRun, copy_run, link_run}
+use Rattle.exchange_link.specs.Between.{CopyRun, LinkRun, copy_run, link_between}
 use Rattle.hub_commands.specs.Below.Held.{listed_text}
 use Rattle.hub_commands.specs.Below.SendLines.{enter_text, entered_text, entry_text, send_text}
 use Rattle.hub_commands.specs.Below.Sends.{AgreedAll, IsEnterOf, IsSendOf}
 use Rattle.hub_commands.specs.Below.SyncLines.{sync_text}
 use Rattle.hub_commands.specs.Below.Syncs.{IsSyncOf}
+use Rattle.exchange_link.specs.Exchanges.{LinkState}
 use Rattle.exchange_link.specs.Marks.{Agree}
 use Rattle.exchange_link.specs.Synchronised.{held_at}
 use Rattle.exchange_link.specs.declared.answer.SyncAnswer.{SyncAnswer}
@@ -95,8 +96,9 @@ copies_between old new = copy_run (λ c. (c ≡ old.copy) × IsCopy c) (λ c. (c
 
 -- what was done to the link
 abbrev pub links_between : HeldLink → HeldLink → LinkRun
-links_between old new =
-    link_run (λ t. (t ≡ link_state old) × IsHub t.hub) (λ t. (t ≡ link_state new) × IsHub t.hub) old.asked new.asked new.missed new.kept old.faults new.faults (new ≡ old)
+links_between =
+    link_between (λ (link : HeldLink) (t : LinkState). (t ≡ link_state link) × IsHub t.hub) (λ (link : HeldLink). link.asked)
+    (λ (link : HeldLink). link.missed) (λ (link : HeldLink). link.kept) (λ (link : HeldLink). link.faults)
 
 -- what a synchronisation that is complete leaves: exactly that version of the hub, cut to what the token sees
 abbrev pub IsExact : List ℕ → SyncAnswer → Copy → HubState → Type 0

@@ -3,7 +3,7 @@ use Rattle.std.specs.Prelude.{ℕ, ◌++◌, List, Option, Some, None, Result, O
 use Rattle.std.specs.List.{flat_map}
 use Rattle.hub_commands.specs.Answers.{end_text}
 use Rattle.hub_commands.specs.Lines.{hub_failed, request_text}
-use Rattle.hub_commands.specs.Publishes.{told_text}
+use Rattle.hub_commands.specs.PublishAnswers.{told_text}
 use Rattle.hub_commands.specs.Steps.{end_of_error}
 use Rattle.hub_core.specs.declared.hub_error.HubError.{HubError}
 use Rattle.hub_core.specs.declared.published.Published.{Published}

@@ -274,10 +274,8 @@ impl Play {
         ensures failed { result ≡ Err stop.Folder → Rose (F.faults folder.old) (F.faults folder.new) }
         ensures files { F.files folder.new ≡ F.files folder.old }
     {
-        match act_of(alloc, line, folder) {
-            Ok(act) => or_stop(self.act(alloc, act)),
-            Err(stop) => Err(stop),
-        }
+        let act = act_of(alloc, line, folder)?;
+        or_stop(self.act(alloc, act))
     }
 
     // Has others do something to the hub now, and gives what is printed of it.
@@ -301,10 +299,8 @@ impl Play {
         ensures failed { result ≡ Err stop.Folder → Rose (F.faults folder.old) (F.faults folder.new) }
         ensures files { F.files folder.new ≡ F.files folder.old }
     {
-        match act_of(alloc, line, folder) {
-            Ok(act) => or_stop(self.plan(alloc, exchange, Happening::Act { act })),
-            Err(stop) => Err(stop),
-        }
+        let act = act_of(alloc, line, folder)?;
+        or_stop(self.plan(alloc, exchange, Happening::Act { act }))
     }
 
     // Sets the clock of the link.

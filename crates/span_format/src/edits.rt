@@ -11,7 +11,7 @@ ghost use Rattle.span_format.specs.Edits.{added, brought, turn_edits};
 ghost use Rattle.span_format.specs.Format.{FitSpans, HasPlainIds, own_names, own_spans};
 
 use crate::writing::{move_spans, put_names, put_spans};
-use hub_format::{HubArea, WRITTEN_FORMAT, put_format, put_some_grants, put_version};
+use hub_format::{END_BYTE, HubArea, WRITTEN_FORMAT, put_format, put_some_grants, put_version};
 use item_maps::Edit;
 use roster_base::{Bytes, Items, NoMemory};
 use std::alloc::Global;
@@ -66,7 +66,7 @@ fn clear_rows(alloc: Global, area: u32) -> Result<Edit, NoMemory>
     Ok(Edit::Clear {
         area,
         from: Bytes::from_vec(Vec::new(alloc)),
-        to: Bytes::from_vec(Vec::from_slice(alloc, &[255])?),
+        to: Bytes::from_vec(Vec::from_slice(alloc, &[END_BYTE])?),
     })
 }
 

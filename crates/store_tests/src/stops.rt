@@ -92,17 +92,19 @@ fn told_in(
     Ok(text)
 }
 
-// What the step tells over files that stop at that call of the log or of the database file, and what the files show
-// once they are back.
-fn cut_off(
-    alloc: Global,
-    case: &Case,
-    (log, db): (u64, u64),
-) -> Result<(String, String), NoMemory> {
+// The calls of the log and of the database file at which they stop.
+#[derive(Clone, Copy)]
+struct Stop {
+    log: u64,
+    db: u64,
+}
+
+// What the step tells over files that stop so, and what the files show once they are back.
+fn cut_off(alloc: Global, case: &Case, stop: Stop) -> Result<(String, String), NoMemory> {
     let files = files_after(alloc, 0, case.before);
     let fused = Files {
-        log: Fuse::new(files.log, log),
-        db: Fuse::new(files.db, db),
+        log: Fuse::new(files.log, stop.log),
+        db: Fuse::new(files.db, stop.db),
     };
     let (told, mut left) = step_in(alloc, fused, 0, &case.step);
     left.log.crash();
@@ -112,11 +114,17 @@ fn cut_off(
 }
 
 // The stop at a call of the log, or of the database file.
-fn place(at: u64, in_log: bool) -> (u64, u64) {
+fn stop_at(call: u64, in_log: bool) -> Stop {
     if in_log {
-        (at, u64::MAX)
+        Stop {
+            log: call,
+            db: u64::MAX,
+        }
     } else {
-        (u64::MAX, at)
+        Stop {
+            log: u64::MAX,
+            db: call,
+        }
     }
 }
 
@@ -127,7 +135,7 @@ const CALLS: u64 = 1_000;
 // showed before, or what they are to show then, and the latter where the answer was that it was done.
 fn calls_of(rt: &impl Abort, alloc: Global, case: &Case, in_log: bool) -> Result<u64, Fail> {
     for at in 0..CALLS {
-        let (told, held) = cut_off(alloc, case, place(at, in_log))?;
+        let (told, held) = cut_off(alloc, case, stop_at(at, in_log))?;
         let is_told = told.as_str() == case.told;
         assert!(rt;
             held.as_str() == case.then || (held.as_str() == case.was && !is_told),

@@ -14,7 +14,7 @@ use Rattle.hub_spec.specs.rules.States.{IsHub}
 use Rattle.outside_ports.specs.declared.failed.IoError.{IoError}
 use Rattle.outside_ports.specs.declared.failed.IoError.TheVariants as io_error
 use Rattle.rest_provider.specs.Steps.{CountsFailed}
-use Rattle.roster_base.specs.Faults.{Rose}
+use Rattle.roster_base.specs.Faults.{Rose, one_more}
 use Rattle.status_info.specs.declared.reply.Reply.{Reply}
 use Rattle.status_info.specs.declared.request.Request.{Request}
 use Rattle.sync_world.specs.Links.{HeldLink, world_state, world_of}
@@ -28,7 +28,6 @@ use Rattle.http_wire.specs.Sending.{CanSend, IsSentEcho}
 use Rattle.std.specs.List.{AllByRecursion}
 use Rattle.std.specs.Prelude.{IfSome, IsOkAnd, IsSomeAnd, Option, Some, None, map}
 use Rattle.status_info.specs.declared.request.Echo.{Echo}
-use Rattle.keeper_memory.specs.Failures.{one_more}
 use Rattle.version_core.proofs.VersionLemmas.{AllByRecursion-push}
 use Rattle.sync_world.specs.Given.{AreGiven, IsGiven, is_stale, requests_in}
 use Rattle.sync_world.specs.declared.past.Past.{Past}

@@ -44,6 +44,12 @@ pub record Makes (command : Command) (given : Result Published HubError) (before
   pub calls : CallsLead before.plan after.plan
   pub is : IsMade given answer after.state
 
+-- the hub took this request in one step, and gave that reply
+abbrev pub TakesOne : Request → ℤ → Reply → HeldWorld → HeldWorld → Type 0
+TakesOne request at reply before after =
+    (failed : ℕ) × CountsFailed before.faults after.faults failed
+    × Steps (Take (wanted_by request) at) before.state (Replied reply) after.state failed
+
 -- ---- an act
 
 -- so many steps, one behind another, and what is told of them

@@ -12,10 +12,30 @@ use Rattle.sync_world.specs.declared.asking.Turn.TheVariants as turn
 abbrev pub bytes_left : List ℕ → Ends
 bytes_left bytes = ends_of (Some bytes) 0 None 0
 
+-- the bytes of a stream at one time: those that are left, and those that were read ahead
+pub record Unread : Type 0 where
+  pub left : List ℕ
+  pub kept : List ℕ
+
+-- the same from its parts
+abbrev pub unread : List ℕ → List ℕ → Unread
+unread left kept = record { left = left; kept = kept }
+
+-- a world at one time, and what was told by then
+pub record WorldTold : Type 0 where
+  pub world : HeldWorld
+  pub said : List Saying
+
+-- the same from its parts
+abbrev pub world_told : HeldWorld → List Saying → WorldTold
+world_told world said = record { world = world; said = said }
+
 -- what a turn takes from the bytes, makes of a world and tells
-abbrev pub Turns : ℤ → List ℕ → List ℕ → List ℕ → List ℕ → Turn → HeldWorld → HeldWorld → List Saying → List Saying → Type 0
-Turns at left left' kept kept' (turn.Answered close) before after said said' =
-    (request : Request) × IsRead (bytes_left left) (bytes_left left') kept kept' request × (request.close ≡ close) × Acted (IsTaken request at) before after said said'
-Turns at left left' kept kept' (turn.Stopped fault) before after said said' =
-    IsStopped (bytes_left left) (bytes_left left') kept kept' fault × (after ≡ before) × (said' ≡ said)
-Turns at left left' kept kept' turn.NoMemory before after said said' = ⊤
+abbrev pub Turns : ℤ → Unread → Unread → Turn → WorldTold → WorldTold → Type 0
+Turns at bytes bytes' (turn.Answered close) before after =
+    (request : Request) × IsRead (bytes_left bytes.left) (bytes_left bytes'.left) bytes.kept bytes'.kept request
+    × (request.close ≡ close) × Acted (IsTaken request at) before.world after.world before.said after.said
+Turns at bytes bytes' (turn.Stopped fault) before after =
+    IsStopped (bytes_left bytes.left) (bytes_left bytes'.left) bytes.kept bytes'.kept fault
+    × (after.world ≡ before.world) × (after.said ≡ before.said)
+Turns at bytes bytes' turn.NoMemory before after = ⊤

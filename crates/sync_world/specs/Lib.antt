@@ -1,4 +1,5 @@
 pub mod Below
+pub mod Calls
 pub mod Acts
 pub mod Asking
 pub mod Deliveries

@@ -2,8 +2,7 @@
 use Rattle.std.specs.Prelude.{◌≡◌, ℕ, Bool, true, false, List, [], ◌∷◌, ◌++◌, Option, Some, None}
 use Rattle.std.proofs.Common.{refl, sym, ap, subst, ◌∙◌}
 use Rattle.std.proofs.lemmas.List.{append_assoc}
-use Rattle.keeper_memory.specs.Failures.{one_more}
-use Rattle.roster_base.specs.Faults.{Rose}
+use Rattle.roster_base.specs.Faults.{Rose, one_more}
 use Rattle.status_info.specs.declared.request.Request.{Request}
 use Rattle.sync_world.specs.Deliveries.{Carried, Scene}
 use Rattle.sync_world.specs.Given.{is_stale}

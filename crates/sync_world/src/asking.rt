@@ -6,7 +6,7 @@ ghost use Rattle.sync_world.specs.declared.asking.Turn.{Turn};
 ghost use Rattle.status_info.specs.Causes.{status_of};
 ghost use Rattle.status_info.specs.declared.cause.Cause.TheVariants.{Unreadable};
 ghost use Rattle.sync_world.specs.Acts.{Acted, Asks, IsTaken, replied, tells_fault, tells_left};
-ghost use Rattle.sync_world.specs.Asking.{Turns};
+ghost use Rattle.sync_world.specs.Asking.{Turns, unread, world_told};
 ghost use Rattle.sync_world.specs.Walks.{Walks};
 
 use crate::acts::Saying;
@@ -71,7 +71,8 @@ fn take_turn(
     ensures walks { Walks world.old world.new }
     ensures fresh { (close : Bool) → result ≡ Turn.Answered close → reader.new.fault ≡ None }
     ensures due { (close : Bool) → result ≡ Turn.Answered close → bytes_due (length source.new) (length reader.new.kept) < bytes_due (length source.old) (length reader.old.kept) }
-    ensures turns { Turns at source.old source.new reader.old.kept reader.new.kept result world.old world.new said.old.items said.new.items }
+    ensures turns { Turns at (unread source.old reader.old.kept) (unread source.new reader.new.kept) result
+        (world_told world.old said.old.items) (world_told world.new said.new.items) }
 {
     match reader.next(alloc, source) {
         Err(fault) => Turn::Stopped(fault),

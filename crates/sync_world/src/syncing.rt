@@ -8,12 +8,14 @@ ghost use Rattle.keeper_memory.specs.copy.States.{stage_of};
 ghost use Rattle.consumer_sync.specs.Faulted.{FaultLaw};
 ghost use Rattle.exchange_link.specs.Agreement.{StageAgrees};
 ghost use Rattle.exchange_link.specs.Asked.{AsksPages};
+ghost use Rattle.exchange_link.specs.Between.{call_with};
 ghost use Rattle.exchange_link.specs.Bounds.{Bounded, IsCallPin};
 ghost use Rattle.exchange_link.specs.Causes.{ToldCause};
 ghost use Rattle.exchange_link.specs.Completeness.{IsDone, StandsAt, first_pin};
 ghost use Rattle.exchange_link.specs.Marks.{Agree, MarksTold};
 ghost use Rattle.exchange_link.specs.Synchronised.{Synchronised, held_at, own_state};
 ghost use Rattle.roster_base.specs.Faults.{Rose};
+ghost use Rattle.sync_world.specs.Calls.{copy_over, link_over};
 ghost use Rattle.sync_world.specs.Links.{fresh_link, link_state};
 ghost use Rattle.version_core.specs.HubStates.{HubState};
 
@@ -48,7 +50,8 @@ pub fn sync_over(
     ensures bound { (n : ℕ) × (link.new.asked ≤ link.old.asked + n)
         × Bounded n tries limit token.now (own_state token.now (stage_of copy.old.copy)) (λ version. IsCallPin result copy.new.copy link.new.sent version) link.new.hub }
     // All requests are for pages of this token and limit, each under the next number of the run.
-    ensures asks { AsksPages token.now limit tries (λ c. c ≡ copy.new.copy) link.old.asked link.new.asked result link.old.sent link.new.sent }
+    ensures asks { AsksPages (call_with token.now limit tries) (copy_over copy.old copy.new) (link_over link.old link.new)
+        result link.old.sent link.new.sent }
     // Where the copy's keeper failed, a stage under this token ends at the swap alone, or where the hub says that its
     // pin isn't kept.
     ensures faulted { result ≡ SyncAnswer.KeeperFault → FaultLaw token.now link.new.kept copy.old.copy copy.new.copy }

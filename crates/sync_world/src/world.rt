@@ -1,18 +1,16 @@
 //! A hub over its keeper in memory.
 
-ghost use Rattle.std.specs.Prelude.{◌≡◌, ℕ, [], IfOk, OnErr, OnOk, false, true};
-ghost use Rattle.hub_spec.specs.requests.Requests.{wanted_by};
-ghost use Rattle.hub_spec.specs.rules.Runs.{Publish, Replied, SetGrants, Steps, Take};
+ghost use Rattle.std.specs.Prelude.{◌≡◌, [], IfOk, OnErr, OnOk, false, true};
+ghost use Rattle.hub_spec.specs.rules.Runs.{Publish, SetGrants};
 ghost use Rattle.hub_spec.specs.rules.States.{IsHub};
 ghost use Rattle.hub_spec.specs.rules.Wanted.{is_write};
 ghost use Rattle.keeper_memory.specs.Calls.{CallsLead};
 ghost use Rattle.keeper_memory.specs.Failures.{with_listed};
 ghost use Rattle.keeper_memory.specs.Kept.{oldest_kept};
 ghost use Rattle.keeper_memory.specs.Parts.{IsPartOf};
-ghost use Rattle.rest_provider.specs.Steps.{CountsFailed};
 ghost use Rattle.sync_world.specs.Worlds.{IsWhole, all_of};
 ghost use Rattle.hub_core.specs.Steps.{CountsFault, RefusesNothing};
-ghost use Rattle.sync_world.specs.Acts.{Makes};
+ghost use Rattle.sync_world.specs.Acts.{Makes, TakesOne};
 
 use crate::gone::hold_oldest;
 use crate::rows::{read_set, read_tables};
@@ -91,7 +89,7 @@ impl World {
     // The hub's reply to a read.
     fn take_read(&mut self, alloc: Global, request: &Request, at: Moment) -> Reply
         requires { is_write request.now.verb ≡ false }
-        ensures step { (failed : ℕ) × CountsFailed self.old.faults self.new.faults failed × Steps (Take (wanted_by request.now) at) self.old.state (Replied result) self.new.state failed }
+        ensures step { TakesOne request.now at result self.old self.new }
         ensures calls { CallsLead self.old.plan self.new.plan }
     {
         answer(
@@ -106,7 +104,7 @@ impl World {
 
     // The hub's reply to a write. The oldest version is held before, which the keeper may let go then.
     fn take_write(&mut self, alloc: Global, request: &Request, at: Moment) -> Reply
-        ensures step { (failed : ℕ) × CountsFailed self.old.faults self.new.faults failed × Steps (Take (wanted_by request.now) at) self.old.state (Replied result) self.new.state failed }
+        ensures step { TakesOne request.now at result self.old self.new }
         ensures calls { CallsLead self.old.plan self.new.plan }
     {
         match hold_oldest(alloc, &mut self.keeper, &mut self.gone) {
@@ -124,7 +122,7 @@ impl World {
 
     /// Has the hub take a request at a moment, and gives its reply.
     pub fn take(&mut self, alloc: Global, request: &Request, at: Moment) -> Reply
-        ensures step { (failed : ℕ) × CountsFailed self.old.faults self.new.faults failed × Steps (Take (wanted_by request.now) at) self.old.state (Replied result) self.new.state failed }
+        ensures step { TakesOne request.now at result self.old self.new }
         ensures calls { CallsLead self.old.plan self.new.plan }
     {
         if is_write(request.verb) {

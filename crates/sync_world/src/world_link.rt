@@ -1,16 +1,15 @@
 //! A link to a world.
 
-ghost use Rattle.std.specs.Prelude.{◌≡◌, ◌⊎◌, ◌≤◌, ◌∷◌, ◌+◌, ◌-◌, ◌^◌, [], List, min, IfOk, IsErr, OnErr, OnOk, Err};
+ghost use Rattle.std.specs.Prelude.{◌≡◌, ◌⊎◌, ◌≤◌, ◌∷◌, [], List, IfOk, IsErr, OnErr, OnOk, Err};
 ghost use Rattle.std.specs.Prelude.{false, true};
 ghost use Rattle.exchange_link.specs.Exchanges.{Carries, Exchanged, IsLate, IsOwn, IsSentText, IsTextOf, Misses};
 ghost use Rattle.exchange_link.specs.Exchanges.{LinkState};
 ghost use Rattle.hub_spec.specs.rules.States.{IsHub};
 ghost use Rattle.keeper_memory.specs.Calls.{CallsLead};
-ghost use Rattle.keeper_memory.specs.Failures.{one_more};
 ghost use Rattle.keeper_memory.specs.Kept.{oldest_kept};
 ghost use Rattle.keeper_memory.specs.Parts.{IsPartOf};
 ghost use Rattle.outside_ports.specs.declared.failed.IoError.TheVariants as io_error;
-ghost use Rattle.roster_base.specs.Faults.{Rose};
+ghost use Rattle.roster_base.specs.Faults.{Rose, one_more};
 ghost use Rattle.status_info.specs.declared.request.Request.{Request as Asked};
 ghost use Rattle.sync_world.specs.Acts.{Acted, IsAct};
 ghost use Rattle.sync_world.specs.Deliveries.{Carried, OnCome};
@@ -250,7 +249,7 @@ impl Link for WorldLink {
 
     fn exchange(&mut self, alloc: Global, request: &[u8]) -> Result<(), IoError>
         requires { IsSentText request.now }
-        ensures asked { self.new.asked ≡ min (self.old.asked + 1) (2 ^ 64 - 1) }
+        ensures asked { self.new.asked ≡ one_more self.old.asked }
         ensures missed { Misses (Rose self.old.faults self.new.faults) self.old.missed self.new.missed }
         ensures later { self.old.faults ≤ self.new.faults }
         ensures leads { LinkLeads self.old self.new }

@@ -66,18 +66,22 @@ tables_of tables state is keep stands rows =
     let base = tables.base in
     let changes = tables.changes in
     let oldest = oldest_number state in
-    let run : AreVersionsFrom base.number (versions_from base changes) = subst (λ n. AreVersionsFrom n (versions_from base changes)) (sym stands.oldest) (subst (AreVersionsFrom oldest) stands.kept (subst (λ n. AreVersionsFrom n (drop oldest state.published)) (zero-add oldest) (run_drop 0 oldest state.published is.run))) in
+    let versions = versions_from base changes in
+    let last_kept = last_or empty_version versions in
+    let dropped_run = subst (λ n. AreVersionsFrom n (drop oldest state.published)) (zero-add oldest) (run_drop 0 oldest state.published is.run) in
+    let run_at = subst (AreVersionsFrom oldest) stands.kept dropped_run in
+    let run : AreVersionsFrom base.number versions = subst (λ n. AreVersionsFrom n versions) (sym stands.oldest) run_at in
     let lead = lead_from base changes run in
     let count = ap length stands.kept in
     let dropped = length-drop oldest state.published in
     let long = length-versions_from base changes in
     let some : oldest < length state.published = omega (arith, count, dropped, long) in
-    let last : last_or empty_version (versions_from base changes) ≡ last_or empty_version state.published = ap (last_or empty_version) (sym stands.kept) ∙ last_drop empty_version oldest state.published some in
+    let last : last_kept ≡ last_or empty_version state.published = ap (last_or empty_version) (sym stands.kept) ∙ last_drop empty_version oldest state.published some in
     let newest = newest_number empty_version base changes lead in
-    let number : newest_of_state state ≡ (last_or empty_version (versions_from base changes)).number = omega (arith, newest, count, dropped, long, stands.oldest, some) in
-    let kept : AllByRecursion (HasFromSince state.published) (last_or empty_version (versions_from base changes)).grants = subst (λ (v : BaseVersion). AllByRecursion (HasFromSince state.published) v.grants) (sym last) keep in
+    let number : newest_of_state state ≡ last_kept.number = omega (arith, newest, count, dropped, long, stands.oldest, some) in
+    let kept : AllByRecursion (HasFromSince state.published) last_kept.grants = subst (λ (v : BaseVersion). AllByRecursion (HasFromSince state.published) v.grants) (sym last) keep in
     record {
-      versions = versions_are base.number (versions_from base changes) run;
+      versions = versions_are base.number versions run;
       changes = rows;
       lead = lead;
       oldest = omega (arith, newest, number, stands.oldest, stands.keep);
@@ -85,8 +89,8 @@ tables_of tables state is keep stands rows =
           let all : drop oldest state.published ≡ state.published = ap (λ n. drop n state.published) (sym stands.oldest ∙ none) in
           let first : Some base ≡ Some empty_version = sym (first_from base changes) ∙ ap (λ vs. slice_get vs 0) (sym stands.kept ∙ all) ∙ is.first in
           cc;
-      since = late state.published (last_or empty_version (versions_from base changes)).grants is.first kept;
-      grants = all_weaken (HasFromSince state.published) (HasFromSince (versions_from base changes)) (last_or empty_version (versions_from base changes)).grants
+      since = late state.published last_kept.grants is.first kept;
+      grants = all_weaken (HasFromSince state.published) (HasFromSince versions) last_kept.grants
           (λ row has. subst (λ vs. HasFromSince vs row) stands.kept (all_drop (λ (version : BaseVersion). row.grant.since ≤ version.number → HasGrant version.grants row) state.published oldest has)) kept;
-      marks = subst (λ ms. AreMarks (last_or empty_version (versions_from base changes)).number ms) (sym stands.marks) (subst (λ n. AreMarks n state.marks) number is.marks);
+      marks = subst (λ ms. AreMarks last_kept.number ms) (sym stands.marks) (subst (λ n. AreMarks n state.marks) number is.marks);
     }

@@ -29,9 +29,9 @@ abbrev pub folded : List ℕ → List ℕ
 folded text = str_to_ascii_lowercase text
 
 -- a text stands somewhere in another
-unfoldable pub stands_in : List ℕ → List ℕ → Bool
-stands_in part [] = starts_with nat_eq [] part
-stands_in part (b ∷ text) = starts_with nat_eq (b ∷ text) part || stands_in part text
+unfoldable pub occurs_in : List ℕ → List ℕ → Bool
+occurs_in part [] = starts_with nat_eq [] part
+occurs_in part (b ∷ text) = starts_with nat_eq (b ∷ text) part || occurs_in part text
 
 -- a predicate holds of two things that stand so to each other in order; `Contains` asks for no order, and never holds
 abbrev pub holds : Predicate → Ordering → Bool
@@ -44,7 +44,7 @@ holds LessEqual order = is_le order
 holds Contains order = false
 
 abbrev pub folded_passes : Predicate → List ℕ → List ℕ → Bool
-folded_passes Contains text value = stands_in value text
+folded_passes Contains text value = occurs_in value text
 folded_passes predicate text value = holds predicate (slice_cmp nat_cmp text value)
 
 abbrev pub text_passes : Predicate → List ℕ → List ℕ → Bool
@@ -56,7 +56,7 @@ numbers_pass predicate _ _ = false
 
 -- a day, a moment or a number; a part is looked for as it is given
 abbrev pub number_passes : Form → Predicate → Value → List ℕ → Bool
-number_passes form Contains v value = stands_in value (cell_text v)
+number_passes form Contains v value = occurs_in value (cell_text v)
 number_passes form predicate v value = numbers_pass predicate (number_in (Some v)) (number_of_text form value)
 
 -- the members of a list

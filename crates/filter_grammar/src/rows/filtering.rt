@@ -13,7 +13,7 @@ use crate::filter::{Comparison, Filter, Joint, Predicate};
 use crate::numbers::number_of_text;
 use crate::rows::sets::set_passes;
 use crate::rows::subject_value::subject_value;
-use crate::rows::texts::{holds, stands_in, text_passes};
+use crate::rows::texts::{holds, occurs_in, text_passes};
 use crate::subject::{Subject, subject_of};
 use roster_base::NoMemory;
 use roster_types::cell_text::cell_text;
@@ -140,7 +140,7 @@ fn number_passes(
     match predicate {
         Predicate::Contains => {
             let text = cell_text(alloc, value)?;
-            Ok(stands_in(given, text.as_str()))
+            Ok(occurs_in(given, text.as_str()))
         }
         _ => {
             let given = number_of_text(alloc, form, given)?;

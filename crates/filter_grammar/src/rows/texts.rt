@@ -51,8 +51,8 @@ pub(crate) fn holds(predicate: Predicate, order: Ordering) -> bool
 }
 
 /// Whether a text stands somewhere in another, letter by letter in the same case.
-pub(crate) fn stands_in(part: &str, text: &str) -> bool
-    ensures { result ≡ spec.stands_in part.now text.now }
+pub(crate) fn occurs_in(part: &str, text: &str) -> bool
+    ensures { result ≡ spec.occurs_in part.now text.now }
 {
     text.contains(part)
 }
@@ -93,9 +93,9 @@ fn begins(part: &[u8], text: &[u8]) -> bool
 
 // Whether a text stands somewhere in another, whatever the case of their letters. They are compared where they stand,
 // with no copies.
-#[tactic(auto, unfolding(crate::specs::rows::Filters::stands_in))]
-fn stands_folded_in(part: &[u8], text: &[u8]) -> bool
-    ensures { result ≡ spec.stands_in (spec.folded part.now) (spec.folded text.now) }
+#[tactic(auto, unfolding(crate::specs::rows::Filters::occurs_in))]
+fn occurs_folded_in(part: &[u8], text: &[u8]) -> bool
+    ensures { result ≡ spec.occurs_in (spec.folded part.now) (spec.folded text.now) }
 {
     let mut rest = text;
     while let Some((_, later)) = rest.split_first() {
@@ -112,7 +112,7 @@ pub(crate) fn text_passes(predicate: Predicate, text: &str, value: &str) -> bool
     ensures { result ≡ spec.text_passes predicate text.now value.now }
 {
     match predicate {
-        Predicate::Contains => stands_folded_in(value.as_bytes(), text.as_bytes()),
+        Predicate::Contains => occurs_folded_in(value.as_bytes(), text.as_bytes()),
         _ => holds(predicate, folded_cmp(text.as_bytes(), value.as_bytes())),
     }
 }

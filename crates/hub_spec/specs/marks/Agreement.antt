@@ -18,9 +18,13 @@ abbrev pub GivesOnly : HubState → Option (List ℕ) → List ℕ → Type 0
 GivesOnly state token caller = IfSome token (λ word. (number : ℕ) (by : GrantRow) → number < length state.published
     → grant_of word (version_at state number).grants ≡ Some by → by.caller ≡ caller)
 
+-- the token of a marked request is given to this caller alone
+abbrev pub GivesIfMarked : HubState → List ℕ → Request → Type 0
+GivesIfMarked state caller request = IfSome (marked_by request) (λ _. GivesOnly state request.token caller)
+
 -- a caller to whom the tokens of the marked requests are given, and to nobody else
 abbrev pub IsCaller : List ℕ → HubState → List Request → Type 0
-IsCaller caller state sent = AllByRecursion (λ request. IfSome (marked_by request) (λ _. GivesOnly state request.token caller)) sent
+IsCaller caller state sent = AllByRecursion (GivesIfMarked state caller) sent
 
 -- a settled entry has the status and the version that are kept under its mark, which holds its write
 pub record IsShown (state : HubState) (caller : List ℕ) (entry : OutEntry) (settled : Settled) : Type 0 where
@@ -45,10 +49,14 @@ pub record IsCarried (state : HubState) (caller : List ℕ) (entries : List OutE
   pub number : marked.number ≤ last
   pub token : GivesOnly state under caller
 
+-- a marked request carries the write of such an entry
+abbrev pub CarriesMark : HubState → List ℕ → List OutEntry → ℕ → Request → Type 0
+CarriesMark state caller entries last request =
+    IfSome (marked_by request) (IsCarried state caller entries last request.token)
+
 -- each marked request that was sent carries the write of such an entry
 abbrev pub AllCarried : HubState → List ℕ → List OutEntry → ℕ → List Request → Type 0
-AllCarried state caller entries last sent =
-    AllByRecursion (λ request. IfSome (marked_by request) (IsCarried state caller entries last request.token)) sent
+AllCarried state caller entries last sent = AllByRecursion (CarriesMark state caller entries last) sent
 
 -- the agreement for one caller: what settled entries show, and what marked requests carried
 pub record MarksAgreeFor (caller : List ℕ) (entries : List OutEntry) (last : ℕ) (state : HubState) (sent : List Request) : Type 0 where

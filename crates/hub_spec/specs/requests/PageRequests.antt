@@ -2,7 +2,7 @@
 use Rattle.std.specs.Prelude.{◌≤◌, ◌<◌, ◌^◌, ◌++◌, ℕ, false, List, [], Option, Some, None, IfSome, codes, decimal}
 use Rattle.filter_grammar.specs.Queries.{greatest_limit}
 use Rattle.hub_spec.specs.rules.Asking.{Asking}
-use Rattle.roster_values.specs.Kinds.{plural_of}
+use Rattle.roster_values.specs.Kinds.{collections_root, plural_of}
 use Rattle.roster_values.specs.declared.kind.Kind.{Kind}
 use Rattle.status_info.specs.declared.request.Echo.{Echo}
 use Rattle.status_info.specs.declared.request.MarkField.TheVariants.{Nothing}
@@ -11,7 +11,7 @@ use Rattle.status_info.specs.declared.request.Verb.TheVariants.{Get}
 
 -- the path of all rows of a kind
 unfoldable pub page_path : Kind → List ℕ
-page_path kind = codes "/ims/oneroster/v1p1/" ++ plural_of kind
+page_path kind = collections_root ++ plural_of kind
 
 -- the parameter for the pin, where there is one
 abbrev pub pin_text : Option ℕ → List ℕ

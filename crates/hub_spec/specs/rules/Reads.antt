@@ -22,6 +22,7 @@ use Rattle.status_info.specs.declared.reply.LinkItem.{LinkItem}
 use Rattle.status_info.specs.declared.reply.Reply.{Reply}
 use Rattle.version_core.specs.Changes.{rows_of}
 use Rattle.version_core.specs.HubStates.{HubState}
+use Rattle.version_core.specs.declared.grant_row.GrantRow.{GrantRow}
 use Rattle.hub_spec.specs.rules.Checks.{Entry, base_checked, check, query_or, refused_at, version_at, version_read}
 
 -- what the reply to a read that succeeds has, beside what every reply has
@@ -49,12 +50,16 @@ contents_of rows version path query =
     then option_map (object_shown (kind_of_path path) query) (object_of rows path)
     else option_map (page_shown (kind_of_path path) query) (page_of rows version path query)
 
+-- the rows of a version that a grant sees
+abbrev pub rows_seen_by : HubState → GrantRow → ℕ → List Record
+rows_seen_by state by version = seen by.grant.schools (rows_of (version_at state version).rows)
+
 -- what is shown of the rows that a grant sees of the versions: of one alone, or what differs from the base on
 abbrev pub contents_at : HubState → Entry → ℕ → Query → Option ℕ → Option Contents
-contents_at state entry version query None = contents_of (seen entry.by.grant.schools (rows_of (version_at state version).rows)) version entry.path query
+contents_at state entry version query None = contents_of (rows_seen_by state entry.by version) version entry.path query
 contents_at state entry version query (Some base) =
     Some (delta_shown (kind_of_path entry.path) (page_of_delta entry.path query version (kind_delta (kind_of_path entry.path)
-    (seen entry.by.grant.schools (rows_of (version_at state base).rows)) (seen entry.by.grant.schools (rows_of (version_at state version).rows)))))
+    (rows_seen_by state entry.by base) (rows_seen_by state entry.by version))))
 
 -- the reply with what a read shows
 abbrev pub shown : Wanted → ℕ → Query → Contents → Reply

@@ -16,6 +16,7 @@ use Rattle.roster_types.specs.Hrefs.{encoded_byte}
 use Rattle.status_info.specs.declared.reply.LinkItem.{LinkItem}
 use Rattle.status_info.specs.declared.reply.Rel.{Rel}
 use Rattle.status_info.specs.declared.reply.Rel.TheVariants.{Next, Prev, First, Last}
+use Rattle.roster_values.specs.Kinds.{binding_root}
 
 -- a path as it is asked for, with its ids encoded
 abbrev pub segments_text : List Segment → List (List ℕ) → List ℕ
@@ -26,7 +27,7 @@ segments_text (Object c ∷ segments) (id ∷ ids) = codes "/" ++ flat_map encod
 
 -- the path as a link writes it, from the root on
 unfoldable pub path_text : PathParts → List ℕ
-path_text path = codes "/ims/oneroster/v1p1" ++ segments_text (segments_of path.route) path.ids
+path_text path = binding_root ++ segments_text (segments_of path.route) path.ids
 
 -- the word for a direction
 abbrev pub order_word : Order → List ℕ

@@ -26,6 +26,10 @@ pub record Keeps {X : Type 0} (keep : Items → X → Type 0) (stand : Items →
   pub stands : stand items
   pub kept : keep items state
 
+-- of whatever a store keeps that is trusted behind a call, this holds
+abbrev pub IfKeeps : {X : Type 0} → (Items → X → Type 0) → (Items → Type 0) → Type 0 → (X → Type 0) → Type 0
+IfKeeps {X} keep stand trusted P = (state : X) → Keeps keep stand state → trusted → P state
+
 -- what the one has, the other has
 abbrev pub Stay : {T : Type 0} → (T → Type 0) → (T → Type 0) → Type 0
 Stay {T} old new = (x : T) → old x → new x

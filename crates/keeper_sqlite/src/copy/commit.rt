@@ -6,7 +6,7 @@ ghost use Rattle.item_maps.specs.Items.{Items};
 ghost use Rattle.keeper_memory.specs.copy.Changes.{CanChange, copy_after};
 ghost use Rattle.keeper_memory.specs.copy.Copies.{Copy};
 ghost use Rattle.copy_format.specs.Format.{Keep};
-ghost use Rattle.keeper_sqlite.specs.hub.Keeping.{Became, ComeOf, HasOtherFormat, Keeps, Stay};
+ghost use Rattle.keeper_sqlite.specs.hub.Keeping.{Became, ComeOf, HasOtherFormat, IfKeeps, Keeps, Stay};
 ghost use Rattle.keeper_sqlite.specs.copy.Keeping.{KeepEither, KeepOrNew};
 ghost use Rattle.keeper_sqlite.specs.Trust.{Clean};
 
@@ -47,10 +47,10 @@ pub(crate) fn commit_to<S: StoredItems>(
 ) -> Result<(), KeeperError>
     ensures ok { (c : Copy) → Keeps KeepOrNew (S.stands_for store.old) c → CanChange change c → S.is_trusted store.new
         → OnOk result (Keeps Keep (S.stands_for store.new) (copy_after change c)) }
-    ensures err { (c : Copy) → Keeps KeepOrNew (S.stands_for store.old) c → S.is_trusted store.new
-        → OnErr result (Keeps KeepOrNew (S.stands_for store.new) c) }
-    ensures whole { (c : Copy) → Keeps KeepEither (S.stands_for store.old) c → S.is_trusted store.new
-        → OnErr result (Keeps KeepEither (S.stands_for store.new) c) }
+    ensures err { IfKeeps KeepOrNew (S.stands_for store.old) (S.is_trusted store.new) (λ c.
+        OnErr result (Keeps KeepOrNew (S.stands_for store.new) c)) }
+    ensures whole { IfKeeps KeepEither (S.stands_for store.old) (S.is_trusted store.new) (λ c.
+        OnErr result (Keeps KeepEither (S.stands_for store.new) c)) }
     ensures other { (m : Items) → S.stands_for store.old m → HasOtherFormat m → S.is_trusted store.new
         → IsErr result × S.stands_for store.new m }
     ensures cause { CountsFailure (S.fault_count store.old) (S.fault_count store.new) result }

@@ -8,7 +8,7 @@ ghost use Rattle.keeper_memory.specs.copy.Changes.{CanChange, Commits, copy_afte
 ghost use Rattle.keeper_memory.specs.copy.Copies.{Copy, entry_after, held_list};
 ghost use Rattle.keeper_memory.specs.copy.States.{CanBe, CanBeEntry, CanBeList, Shows};
 ghost use Rattle.keeper_sqlite.specs.copy.Keeping.{CopyLeads, CopyTells, KeepEither, KeepOrNew};
-ghost use Rattle.keeper_sqlite.specs.hub.Keeping.{HasOtherFormat, Keeps};
+ghost use Rattle.keeper_sqlite.specs.hub.Keeping.{HasOtherFormat, IfKeeps, Keeps};
 ghost use Rattle.keeper_sqlite.specs.hub.Telling.{StillKeep, Tells};
 ghost use Rattle.keeper_sqlite.specs.Trust.{Clean};
 
@@ -115,11 +115,11 @@ impl<S: StoredItems> CopyKeeper for ItemCopy<S> {
         // Over a clean disk a call that succeeds leaves the store trusted, so that it tells what it keeps.
         ensures live { S.shows self.new.0 Clean → OnOk result (S.is_trusted self.new.0) }
         // A call that succeeds leaves items of format 2, whatever they were before it.
-        ensures turned { (c : Copy) → Keeps KeepOrNew (S.stands_for self.old.0) c → S.is_trusted self.new.0
-            → OnOk result (Keeps Keep (S.stands_for self.new.0) c) }
+        ensures turned { IfKeeps KeepOrNew (S.stands_for self.old.0) (S.is_trusted self.new.0) (λ c.
+            OnOk result (Keeps Keep (S.stands_for self.new.0) c)) }
         // And any call leaves the copy whole, in one of the two formats.
-        ensures whole { (c : Copy) → Keeps KeepEither (S.stands_for self.old.0) c → S.is_trusted self.new.0
-            → Keeps KeepEither (S.stands_for self.new.0) c }
+        ensures whole { IfKeeps KeepEither (S.stands_for self.old.0) (S.is_trusted self.new.0)
+            (Keeps KeepEither (S.stands_for self.new.0)) }
         // Items of another format are refused, and stay as they are.
         ensures other { (m : Kept) → S.stands_for self.old.0 m → HasOtherFormat m → S.is_trusted self.new.0
             → IsErr result × S.stands_for self.new.0 m }
@@ -140,11 +140,11 @@ impl<S: StoredItems> CopyKeeper for ItemCopy<S> {
         // Over a clean disk a call that succeeds leaves the store trusted, so that it tells what it keeps.
         ensures live { S.shows self.new.0 Clean → OnOk result (S.is_trusted self.new.0) }
         // A call that succeeds leaves items of format 2, whatever they were before it.
-        ensures turned { (c : Copy) → Keeps KeepOrNew (S.stands_for self.old.0) c → S.is_trusted self.new.0
-            → OnOk result (Keeps Keep (S.stands_for self.new.0) c) }
+        ensures turned { IfKeeps KeepOrNew (S.stands_for self.old.0) (S.is_trusted self.new.0) (λ c.
+            OnOk result (Keeps Keep (S.stands_for self.new.0) c)) }
         // And any call leaves the copy whole, in one of the two formats.
-        ensures whole { (c : Copy) → Keeps KeepEither (S.stands_for self.old.0) c → S.is_trusted self.new.0
-            → Keeps KeepEither (S.stands_for self.new.0) c }
+        ensures whole { IfKeeps KeepEither (S.stands_for self.old.0) (S.is_trusted self.new.0)
+            (Keeps KeepEither (S.stands_for self.new.0)) }
         // Items of another format are refused, and stay as they are.
         ensures other { (m : Kept) → S.stands_for self.old.0 m → HasOtherFormat m → S.is_trusted self.new.0
             → IsErr result × S.stands_for self.new.0 m }
@@ -165,11 +165,11 @@ impl<S: StoredItems> CopyKeeper for ItemCopy<S> {
         // Over a clean disk a call that succeeds leaves the store trusted, so that it tells what it keeps.
         ensures live { S.shows self.new.0 Clean → OnOk result (S.is_trusted self.new.0) }
         // A call that succeeds leaves items of format 2, whatever they were before it.
-        ensures turned { (c : Copy) → Keeps KeepOrNew (S.stands_for self.old.0) c → S.is_trusted self.new.0
-            → OnOk result (Keeps Keep (S.stands_for self.new.0) c) }
+        ensures turned { IfKeeps KeepOrNew (S.stands_for self.old.0) (S.is_trusted self.new.0) (λ c.
+            OnOk result (Keeps Keep (S.stands_for self.new.0) c)) }
         // And any call leaves the copy whole, in one of the two formats.
-        ensures whole { (c : Copy) → Keeps KeepEither (S.stands_for self.old.0) c → S.is_trusted self.new.0
-            → Keeps KeepEither (S.stands_for self.new.0) c }
+        ensures whole { IfKeeps KeepEither (S.stands_for self.old.0) (S.is_trusted self.new.0)
+            (Keeps KeepEither (S.stands_for self.new.0)) }
         // Items of another format are refused, and stay as they are.
         ensures other { (m : Kept) → S.stands_for self.old.0 m → HasOtherFormat m → S.is_trusted self.new.0
             → IsErr result × S.stands_for self.new.0 m }
@@ -192,8 +192,8 @@ impl<S: StoredItems> CopyKeeper for ItemCopy<S> {
             → S.is_trusted self.new.0
             → OnOk result (Keeps Keep (S.stands_for self.new.0) (copy_after change c)) }
         // And one that doesn't leaves the copy whole, in one of the two formats.
-        ensures whole { (c : Copy) → Keeps KeepEither (S.stands_for self.old.0) c → S.is_trusted self.new.0
-            → OnErr result (Keeps KeepEither (S.stands_for self.new.0) c) }
+        ensures whole { IfKeeps KeepEither (S.stands_for self.old.0) (S.is_trusted self.new.0) (λ c.
+            OnErr result (Keeps KeepEither (S.stands_for self.new.0) c)) }
         // Items of another format are refused, and stay as they are.
         ensures other { (m : Kept) → S.stands_for self.old.0 m → HasOtherFormat m → S.is_trusted self.new.0
             → IsErr result × S.stands_for self.new.0 m }

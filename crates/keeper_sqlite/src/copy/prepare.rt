@@ -5,7 +5,7 @@ ghost use Rattle.roster_base.specs.Faults.{CountsFailure};
 ghost use Rattle.item_maps.specs.Items.{Items};
 ghost use Rattle.keeper_memory.specs.copy.Copies.{Copy};
 ghost use Rattle.copy_format.specs.Format.{Keep, KeepOne};
-ghost use Rattle.keeper_sqlite.specs.hub.Keeping.{ComeOf, HasOtherFormat, Keeps, Stay};
+ghost use Rattle.keeper_sqlite.specs.hub.Keeping.{ComeOf, HasOtherFormat, IfKeeps, Keeps, Stay};
 ghost use Rattle.keeper_sqlite.specs.copy.Keeping.{KeepEither, KeepOrNew};
 ghost use Rattle.keeper_sqlite.specs.Trust.{Clean};
 
@@ -38,8 +38,8 @@ fn turn<S: StoredItems>(alloc: Global, store: &mut S) -> Result<(), KeeperError>
 /// A store that has no items gets those of the copy that holds nothing, and one of format 1 those of format 2. One of
 /// another format fails.
 pub(crate) fn prepare<S: StoredItems>(alloc: Global, store: &mut S) -> Result<(), KeeperError>
-    ensures ok { (c : Copy) → Keeps KeepOrNew (S.stands_for store.old) c → S.is_trusted store.new
-        → OnOk result (Keeps Keep (S.stands_for store.new) c) }
+    ensures ok { IfKeeps KeepOrNew (S.stands_for store.old) (S.is_trusted store.new) (λ c.
+        OnOk result (Keeps Keep (S.stands_for store.new) c)) }
     ensures err { (m : Items) → S.stands_for store.old m → OnErr result (S.stands_for store.new m) }
     ensures other { (m : Items) → S.stands_for store.old m → HasOtherFormat m → S.is_trusted store.new
         → IsErr result × S.stands_for store.new m }

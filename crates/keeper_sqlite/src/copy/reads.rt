@@ -3,11 +3,11 @@
 ghost use Rattle.std.specs.Prelude.{IfOk, IfSome, IsErr, None, OnOk, false, ◌≡◌, ◌≤◌};
 ghost use Rattle.roster_base.specs.Faults.{CountsFailure};
 ghost use Rattle.item_maps.specs.Items.{Items as Kept};
-ghost use Rattle.keeper_memory.specs.copy.Copies.{Copy, entry_after, held_list};
+ghost use Rattle.keeper_memory.specs.copy.Copies.{entry_after, held_list};
 ghost use Rattle.keeper_memory.specs.copy.Lists.{IsList};
 ghost use Rattle.keeper_memory.specs.copy.States.{CanBe, CanBeEntry, Shows};
 ghost use Rattle.copy_format.specs.Format.{Keep};
-ghost use Rattle.keeper_sqlite.specs.hub.Keeping.{ComeOf, HasOtherFormat, Keeps, Stay};
+ghost use Rattle.keeper_sqlite.specs.hub.Keeping.{ComeOf, HasOtherFormat, IfKeeps, Keeps, Stay};
 ghost use Rattle.keeper_sqlite.specs.copy.Keeping.{KeepEither, KeepOrNew};
 ghost use Rattle.keeper_sqlite.specs.Trust.{Clean};
 
@@ -30,8 +30,7 @@ fn is_stray(held: Option<u64>, token: &Option<Token>) -> bool
 
 // The small part of the copy that a store that is ready keeps. A token of no version is refused.
 fn ready_state<S: StoredItems>(alloc: Global, store: &mut S) -> Result<CopyState, KeeperError>
-    ensures shown { (c : Copy) → Keeps Keep (S.stands_for store.old) c → S.is_trusted store.new
-        → IfOk result (Shows c) }
+    ensures shown { IfKeeps Keep (S.stands_for store.old) (S.is_trusted store.new) (λ c. IfOk result (Shows c)) }
     ensures can { IfOk result CanBe }
     ensures same { Stay (S.stands_for store.old) (S.stands_for store.new) }
     ensures cause { CountsFailure (S.fault_count store.old) (S.fault_count store.new) result }
@@ -60,15 +59,14 @@ pub(crate) fn state_from<S: StoredItems>(
     alloc: Global,
     store: &mut S,
 ) -> Result<CopyState, KeeperError>
-    ensures shown { (c : Copy) → Keeps KeepOrNew (S.stands_for store.old) c → S.is_trusted store.new
-        → IfOk result (Shows c) }
+    ensures shown { IfKeeps KeepOrNew (S.stands_for store.old) (S.is_trusted store.new) (λ c. IfOk result (Shows c)) }
     ensures can { IfOk result CanBe }
-    ensures kept { (c : Copy) → Keeps KeepOrNew (S.stands_for store.old) c → S.is_trusted store.new
-        → Keeps KeepOrNew (S.stands_for store.new) c }
-    ensures turned { (c : Copy) → Keeps KeepOrNew (S.stands_for store.old) c → S.is_trusted store.new
-        → OnOk result (Keeps Keep (S.stands_for store.new) c) }
-    ensures whole { (c : Copy) → Keeps KeepEither (S.stands_for store.old) c → S.is_trusted store.new
-        → Keeps KeepEither (S.stands_for store.new) c }
+    ensures kept { IfKeeps KeepOrNew (S.stands_for store.old) (S.is_trusted store.new)
+        (Keeps KeepOrNew (S.stands_for store.new)) }
+    ensures turned { IfKeeps KeepOrNew (S.stands_for store.old) (S.is_trusted store.new) (λ c.
+        OnOk result (Keeps Keep (S.stands_for store.new) c)) }
+    ensures whole { IfKeeps KeepEither (S.stands_for store.old) (S.is_trusted store.new)
+        (Keeps KeepEither (S.stands_for store.new)) }
     ensures other { (m : Kept) → S.stands_for store.old m → HasOtherFormat m → S.is_trusted store.new
         → IsErr result × S.stands_for store.new m }
     ensures cause { CountsFailure (S.fault_count store.old) (S.fault_count store.new) result }
@@ -89,8 +87,8 @@ fn ready_rows<S: StoredItems>(
     store: &mut S,
     kind: Kind,
 ) -> Result<Items<Row>, KeeperError>
-    ensures shown { (c : Copy) → Keeps Keep (S.stands_for store.old) c → S.is_trusted store.new
-        → IfOk result (λ rows. rows ≡ held_list c kind) }
+    ensures shown { IfKeeps Keep (S.stands_for store.old) (S.is_trusted store.new) (λ c.
+        IfOk result (λ rows. rows ≡ held_list c kind)) }
     ensures can { IfOk result (IsList kind) }
     ensures same { Stay (S.stands_for store.old) (S.stands_for store.new) }
     ensures cause { CountsFailure (S.fault_count store.old) (S.fault_count store.new) result }
@@ -113,15 +111,15 @@ pub(crate) fn held_from<S: StoredItems>(
     store: &mut S,
     kind: Kind,
 ) -> Result<Items<Row>, KeeperError>
-    ensures shown { (c : Copy) → Keeps KeepOrNew (S.stands_for store.old) c → S.is_trusted store.new
-        → IfOk result (λ rows. rows ≡ held_list c kind) }
+    ensures shown { IfKeeps KeepOrNew (S.stands_for store.old) (S.is_trusted store.new) (λ c.
+        IfOk result (λ rows. rows ≡ held_list c kind)) }
     ensures can { IfOk result (IsList kind) }
-    ensures kept { (c : Copy) → Keeps KeepOrNew (S.stands_for store.old) c → S.is_trusted store.new
-        → Keeps KeepOrNew (S.stands_for store.new) c }
-    ensures turned { (c : Copy) → Keeps KeepOrNew (S.stands_for store.old) c → S.is_trusted store.new
-        → OnOk result (Keeps Keep (S.stands_for store.new) c) }
-    ensures whole { (c : Copy) → Keeps KeepEither (S.stands_for store.old) c → S.is_trusted store.new
-        → Keeps KeepEither (S.stands_for store.new) c }
+    ensures kept { IfKeeps KeepOrNew (S.stands_for store.old) (S.is_trusted store.new)
+        (Keeps KeepOrNew (S.stands_for store.new)) }
+    ensures turned { IfKeeps KeepOrNew (S.stands_for store.old) (S.is_trusted store.new) (λ c.
+        OnOk result (Keeps Keep (S.stands_for store.new) c)) }
+    ensures whole { IfKeeps KeepEither (S.stands_for store.old) (S.is_trusted store.new)
+        (Keeps KeepEither (S.stands_for store.new)) }
     ensures other { (m : Kept) → S.stands_for store.old m → HasOtherFormat m → S.is_trusted store.new
         → IsErr result × S.stands_for store.new m }
     ensures cause { CountsFailure (S.fault_count store.old) (S.fault_count store.new) result }
@@ -152,8 +150,8 @@ fn ready_entry<S: StoredItems>(
     store: &mut S,
     after: u64,
 ) -> Result<Option<OutEntry>, KeeperError>
-    ensures shown { (c : Copy) → Keeps Keep (S.stands_for store.old) c → S.is_trusted store.new
-        → IfOk result (λ entry. entry ≡ entry_after after c.entries) }
+    ensures shown { IfKeeps Keep (S.stands_for store.old) (S.is_trusted store.new) (λ c.
+        IfOk result (λ entry. entry ≡ entry_after after c.entries)) }
     ensures can { IfOk result (λ entry. IfSome entry (CanBeEntry after)) }
     ensures same { Stay (S.stands_for store.old) (S.stands_for store.new) }
     ensures cause { CountsFailure (S.fault_count store.old) (S.fault_count store.new) result }
@@ -176,15 +174,15 @@ pub(crate) fn entry_from<S: StoredItems>(
     store: &mut S,
     after: u64,
 ) -> Result<Option<OutEntry>, KeeperError>
-    ensures shown { (c : Copy) → Keeps KeepOrNew (S.stands_for store.old) c → S.is_trusted store.new
-        → IfOk result (λ entry. entry ≡ entry_after after c.entries) }
+    ensures shown { IfKeeps KeepOrNew (S.stands_for store.old) (S.is_trusted store.new) (λ c.
+        IfOk result (λ entry. entry ≡ entry_after after c.entries)) }
     ensures can { IfOk result (λ entry. IfSome entry (CanBeEntry after)) }
-    ensures kept { (c : Copy) → Keeps KeepOrNew (S.stands_for store.old) c → S.is_trusted store.new
-        → Keeps KeepOrNew (S.stands_for store.new) c }
-    ensures turned { (c : Copy) → Keeps KeepOrNew (S.stands_for store.old) c → S.is_trusted store.new
-        → OnOk result (Keeps Keep (S.stands_for store.new) c) }
-    ensures whole { (c : Copy) → Keeps KeepEither (S.stands_for store.old) c → S.is_trusted store.new
-        → Keeps KeepEither (S.stands_for store.new) c }
+    ensures kept { IfKeeps KeepOrNew (S.stands_for store.old) (S.is_trusted store.new)
+        (Keeps KeepOrNew (S.stands_for store.new)) }
+    ensures turned { IfKeeps KeepOrNew (S.stands_for store.old) (S.is_trusted store.new) (λ c.
+        OnOk result (Keeps Keep (S.stands_for store.new) c)) }
+    ensures whole { IfKeeps KeepEither (S.stands_for store.old) (S.is_trusted store.new)
+        (Keeps KeepEither (S.stands_for store.new)) }
     ensures other { (m : Kept) → S.stands_for store.old m → HasOtherFormat m → S.is_trusted store.new
         → IsErr result × S.stands_for store.new m }
     ensures cause { CountsFailure (S.fault_count store.old) (S.fault_count store.new) result }

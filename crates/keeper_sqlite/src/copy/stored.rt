@@ -19,6 +19,7 @@ ghost use Rattle.keeper_sqlite.specs.Trust.{Clean};
 
 use crate::stored_items::StoredItems;
 use copy_format::{CopyArea, CopyRoot, out_of, root_of, rows_of, stage_of, token_of};
+use hub_format::END_BYTE;
 use item_maps::Item;
 use keeper_memory::{LAST, OutEntry, StageState};
 use roster_base::{Items, KeeperError, NoMemory};
@@ -110,7 +111,7 @@ pub(crate) fn stored_rows<S: StoredItems>(
     ensures live { S.shows store.new Clean → OnOk result (S.is_trusted store.new) }
 {
     let area = CopyArea::Rows { side, kind };
-    let items = store.all_of(alloc, area.number(), &[], &[255])?;
+    let items = store.all_of(alloc, area.number(), &[], &[END_BYTE])?;
     match rows_of(alloc, kind, items.as_slice())? {
         Some(rows) => Ok(Items::from_vec(rows)),
         None => Err(store.refuse()),

@@ -8,7 +8,8 @@ ghost use Rattle.keeper_memory.specs.Kept.{KeptState, kept_by};
 ghost use Rattle.version_core.specs.declared.hub_tables.HubTables.{HubTables};
 ghost use Rattle.span_format.specs.Edits.{edits as edits_of};
 ghost use Rattle.span_format.specs.Format.{FitsSpanCommit, KeepSpans};
-ghost use Rattle.keeper_sqlite.specs.hub.Keeping.{Became, ComeOf, HasOtherFormat, KeepEither, KeepOrNew, Keeps, Stay};
+ghost use Rattle.keeper_sqlite.specs.hub.Keeping.{Became, ComeOf, HasOtherFormat, IfKeeps, Keeps, Stay};
+ghost use Rattle.keeper_sqlite.specs.hub.Keeping.{KeepEither, KeepOrNew};
 ghost use Rattle.keeper_sqlite.specs.hub.Rows.{HasSpans};
 ghost use Rattle.keeper_sqlite.specs.Trust.{Clean};
 
@@ -81,10 +82,10 @@ pub(crate) fn commit_to<S: StoredItems>(
     ensures ok { (state : KeptState) → Keeps (KeepOrNew keep) (S.stands_for store.old) state
         → CanCommit state commit.now → S.is_trusted store.new
         → OnOk result (Keeps KeepSpans (S.stands_for store.new) (with_commit state commit.now)) }
-    ensures err { (state : KeptState) → Keeps (KeepOrNew keep) (S.stands_for store.old) state → S.is_trusted store.new
-        → OnErr result (Keeps (KeepOrNew keep) (S.stands_for store.new) state) }
-    ensures whole { (state : KeptState) → Keeps KeepEither (S.stands_for store.old) state → S.is_trusted store.new
-        → OnErr result (Keeps KeepEither (S.stands_for store.new) state) }
+    ensures err { IfKeeps (KeepOrNew keep) (S.stands_for store.old) (S.is_trusted store.new) (λ state.
+        OnErr result (Keeps (KeepOrNew keep) (S.stands_for store.new) state)) }
+    ensures whole { IfKeeps KeepEither (S.stands_for store.old) (S.is_trusted store.new) (λ state.
+        OnErr result (Keeps KeepEither (S.stands_for store.new) state)) }
     ensures other { (m : Items) → S.stands_for store.old m → HasOtherFormat m → S.is_trusted store.new
         → IsErr result × S.stands_for store.new m }
     ensures cause { CountsFailure (S.fault_count store.old) (S.fault_count store.new) result }

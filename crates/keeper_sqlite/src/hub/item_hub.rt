@@ -7,7 +7,7 @@ ghost use Rattle.keeper_memory.specs.Commits.{CanCommit, Commits, with_commit};
 ghost use Rattle.keeper_memory.specs.Kept.{KeptState, kept_by};
 ghost use Rattle.version_core.specs.Tables.{AreTables};
 ghost use Rattle.span_format.specs.Format.{KeepSpans};
-ghost use Rattle.keeper_sqlite.specs.hub.Keeping.{HasOtherFormat, KeepEither, KeepOrNew, Keeps};
+ghost use Rattle.keeper_sqlite.specs.hub.Keeping.{HasOtherFormat, IfKeeps, KeepEither, KeepOrNew, Keeps};
 ghost use Rattle.keeper_sqlite.specs.hub.Telling.{HubLeads, HubTells, StillKeep, Tells};
 ghost use Rattle.keeper_sqlite.specs.Trust.{Clean};
 
@@ -107,12 +107,11 @@ impl<S: StoredItems> HubKeeper for ItemHub<S> {
         // Over a clean disk a call that succeeds leaves the store trusted, so that it tells what it keeps.
         ensures live { S.shows self.new.0 Clean → OnOk result (S.is_trusted self.new.0) }
         // A call that succeeds leaves items of format 2, whatever they were before it.
-        ensures turned { (state : KeptState) → Keeps (KeepOrNew self.old.2) (S.stands_for self.old.0) state
-            → S.is_trusted self.new.0
-            → OnOk result (Keeps KeepSpans (S.stands_for self.new.0) state) }
+        ensures turned { IfKeeps (KeepOrNew self.old.2) (S.stands_for self.old.0) (S.is_trusted self.new.0) (λ state.
+            OnOk result (Keeps KeepSpans (S.stands_for self.new.0) state)) }
         // And any call leaves the state whole, in one of the two formats.
-        ensures whole { (state : KeptState) → Keeps KeepEither (S.stands_for self.old.0) state → S.is_trusted self.new.0
-            → Keeps KeepEither (S.stands_for self.new.0) state }
+        ensures whole { IfKeeps KeepEither (S.stands_for self.old.0) (S.is_trusted self.new.0)
+            (Keeps KeepEither (S.stands_for self.new.0)) }
         // Items of another format are refused, and stay as they are.
         ensures other { (m : Items) → S.stands_for self.old.0 m → HasOtherFormat m → S.is_trusted self.new.0
             → IsErr result × S.stands_for self.new.0 m }
@@ -134,8 +133,8 @@ impl<S: StoredItems> HubKeeper for ItemHub<S> {
             → CanCommit state commit.now → S.is_trusted self.new.0
             → OnOk result (Keeps KeepSpans (S.stands_for self.new.0) (with_commit state commit.now)) }
         // And one that doesn't leaves the state whole, in one of the two formats.
-        ensures whole { (state : KeptState) → Keeps KeepEither (S.stands_for self.old.0) state → S.is_trusted self.new.0
-            → OnErr result (Keeps KeepEither (S.stands_for self.new.0) state) }
+        ensures whole { IfKeeps KeepEither (S.stands_for self.old.0) (S.is_trusted self.new.0) (λ state.
+            OnErr result (Keeps KeepEither (S.stands_for self.new.0) state)) }
         // Items of another format are refused, and stay as they are.
         ensures other { (m : Items) → S.stands_for self.old.0 m → HasOtherFormat m → S.is_trusted self.new.0
             → IsErr result × S.stands_for self.new.0 m }

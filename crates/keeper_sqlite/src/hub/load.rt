@@ -22,7 +22,7 @@ ghost use Rattle.keeper_sqlite.specs.Trust.{Clean};
 use crate::hub::rows::{ChangeRows, change_rows};
 use crate::hub::state::items_of_version;
 use crate::stored_items::StoredItems;
-use hub_format::{HubArea, grants_of, marks_of, version_of};
+use hub_format::{END_BYTE, HubArea, grants_of, marks_of, version_of};
 use item_maps::Item;
 use roster_base::{Items, KeeperError, NoMemory};
 use std::alloc::Global;
@@ -67,7 +67,7 @@ pub(crate) fn marks_in<S: StoredItems>(
     ensures signs { Stay (S.shows store.new) (S.shows store.old) }
     ensures live { S.shows store.new Clean → OnOk result (S.is_trusted store.new) }
 {
-    let items = store.all_of(alloc, HubArea::Marks.number(), &[], &[255])?;
+    let items = store.all_of(alloc, HubArea::Marks.number(), &[], &[END_BYTE])?;
     match marks_of(alloc, items.as_slice())? {
         Some(marks) => Ok(Items::from_vec(marks)),
         None => Err(store.refuse()),

@@ -3,10 +3,9 @@
 ghost use Rattle.std.specs.Prelude.{IsErr, OnErr, OnOk};
 ghost use Rattle.roster_base.specs.Faults.{CountsFailure};
 ghost use Rattle.item_maps.specs.Items.{Items};
-ghost use Rattle.keeper_memory.specs.Kept.{KeptState};
 ghost use Rattle.hub_format.specs.Format.{Keep};
 ghost use Rattle.span_format.specs.Format.{KeepSpans};
-ghost use Rattle.keeper_sqlite.specs.hub.Keeping.{ComeOf, HasOtherFormat, KeepEither, KeepOrNew, Keeps, Stay};
+ghost use Rattle.keeper_sqlite.specs.hub.Keeping.{ComeOf, HasOtherFormat, IfKeeps, KeepEither, KeepOrNew, Keeps, Stay};
 ghost use Rattle.keeper_sqlite.specs.Trust.{Clean};
 
 use crate::hub::reading::tables_from;
@@ -20,8 +19,8 @@ use std::alloc::Global;
 // A store of format 1 becomes one of format 2, by one commit. Its tables are read before: items that are none of a
 // state, as a copy's, are refused and stay as they are.
 fn turn<S: StoredItems>(alloc: Global, store: &mut S) -> Result<(), KeeperError>
-    ensures ok { (state : KeptState) → Keeps Keep (S.stands_for store.old) state → S.is_trusted store.new
-        → OnOk result (Keeps KeepSpans (S.stands_for store.new) state) }
+    ensures ok { IfKeeps Keep (S.stands_for store.old) (S.is_trusted store.new) (λ state.
+        OnOk result (Keeps KeepSpans (S.stands_for store.new) state)) }
     ensures err { (m : Items) → S.stands_for store.old m → OnErr result (S.stands_for store.new m) }
     ensures cause { CountsFailure (S.fault_count store.old) (S.fault_count store.new) result }
     ensures trust { S.is_trusted store.new → S.is_trusted store.old }
@@ -43,8 +42,8 @@ pub(crate) fn prepare<S: StoredItems>(
     store: &mut S,
     keep: u32,
 ) -> Result<(), KeeperError>
-    ensures ok { (state : KeptState) → Keeps (KeepOrNew keep) (S.stands_for store.old) state → S.is_trusted store.new
-        → OnOk result (Keeps KeepSpans (S.stands_for store.new) state) }
+    ensures ok { IfKeeps (KeepOrNew keep) (S.stands_for store.old) (S.is_trusted store.new) (λ state.
+        OnOk result (Keeps KeepSpans (S.stands_for store.new) state)) }
     ensures err { (m : Items) → S.stands_for store.old m → OnErr result (S.stands_for store.new m) }
     ensures other { (m : Items) → S.stands_for store.old m → HasOtherFormat m → S.is_trusted store.new
         → IsErr result × S.stands_for store.new m }

@@ -18,7 +18,7 @@ ghost use Rattle.keeper_sqlite.specs.hub.Rows.{TellBase, TellChange, TellLater, 
 use crate::hub::spans::{ByVersion, SpanRows, span_rows};
 use crate::hub::state::items_of_version;
 use crate::stored_items::StoredItems;
-use hub_format::{HubArea, rows_of};
+use hub_format::{END_BYTE, HubArea, rows_of};
 use item_maps::Item;
 use roster_base::{KeeperError, NoMemory};
 use span_format::rows_within;
@@ -116,7 +116,7 @@ pub(crate) fn base_rows<S: StoredItems>(
 {
     match stored {
         StoredRows::Areas => {
-            let items = store.all_of(alloc, HubArea::BaseRows.number(), &[], &[255])?;
+            let items = store.all_of(alloc, HubArea::BaseRows.number(), &[], &[END_BYTE])?;
             match rows_in(alloc, 0, items.as_slice())? {
                 Some(rows) => Ok((rows, ChangeRows::Area)),
                 None => Err(store.refuse()),

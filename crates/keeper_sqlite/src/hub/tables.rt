@@ -3,10 +3,10 @@
 ghost use Rattle.std.specs.Prelude.{IfOk, IsErr, OnOk, ◌≡◌};
 ghost use Rattle.roster_base.specs.Faults.{CountsFailure};
 ghost use Rattle.item_maps.specs.Items.{Items as Kept};
-ghost use Rattle.keeper_memory.specs.Kept.{KeptState, kept_by};
+ghost use Rattle.keeper_memory.specs.Kept.{kept_by};
 ghost use Rattle.version_core.specs.Tables.{AreTables};
 ghost use Rattle.span_format.specs.Format.{KeepSpans};
-ghost use Rattle.keeper_sqlite.specs.hub.Keeping.{ComeOf, HasOtherFormat, KeepEither, KeepOrNew, Keeps, Stay};
+ghost use Rattle.keeper_sqlite.specs.hub.Keeping.{ComeOf, HasOtherFormat, IfKeeps, KeepEither, KeepOrNew, Keeps, Stay};
 ghost use Rattle.keeper_sqlite.specs.Trust.{Clean};
 
 use crate::hub::prepare::prepare;
@@ -19,8 +19,8 @@ use version_core::hub_tables::HubTables;
 
 // What a store that is ready keeps.
 fn load_ready<S: StoredItems>(alloc: Global, store: &mut S) -> Result<HubTables, KeeperError>
-    ensures shown { (state : KeptState) → Keeps KeepSpans (S.stands_for store.old) state → S.is_trusted store.new
-        → IfOk result (λ tables. state ≡ kept_by tables) }
+    ensures shown { IfKeeps KeepSpans (S.stands_for store.old) (S.is_trusted store.new) (λ state.
+        IfOk result (λ tables. state ≡ kept_by tables)) }
     ensures tables { IfOk result AreTables }
     ensures same { Stay (S.stands_for store.old) (S.stands_for store.new) }
     ensures cause { CountsFailure (S.fault_count store.old) (S.fault_count store.new) result }
@@ -38,14 +38,14 @@ pub fn load_from<S: StoredItems>(
     store: &mut S,
     keep: u32,
 ) -> Result<HubTables, KeeperError>
-    ensures shown { (state : KeptState) → Keeps (KeepOrNew keep) (S.stands_for store.old) state → S.is_trusted store.new
-        → IfOk result (λ tables. state ≡ kept_by tables) }
-    ensures kept { (state : KeptState) → Keeps (KeepOrNew keep) (S.stands_for store.old) state → S.is_trusted store.new
-        → Keeps (KeepOrNew keep) (S.stands_for store.new) state }
-    ensures turned { (state : KeptState) → Keeps (KeepOrNew keep) (S.stands_for store.old) state
-        → S.is_trusted store.new → OnOk result (Keeps KeepSpans (S.stands_for store.new) state) }
-    ensures whole { (state : KeptState) → Keeps KeepEither (S.stands_for store.old) state → S.is_trusted store.new
-        → Keeps KeepEither (S.stands_for store.new) state }
+    ensures shown { IfKeeps (KeepOrNew keep) (S.stands_for store.old) (S.is_trusted store.new) (λ state.
+        IfOk result (λ tables. state ≡ kept_by tables)) }
+    ensures kept { IfKeeps (KeepOrNew keep) (S.stands_for store.old) (S.is_trusted store.new)
+        (Keeps (KeepOrNew keep) (S.stands_for store.new)) }
+    ensures turned { IfKeeps (KeepOrNew keep) (S.stands_for store.old) (S.is_trusted store.new) (λ state.
+        OnOk result (Keeps KeepSpans (S.stands_for store.new) state)) }
+    ensures whole { IfKeeps KeepEither (S.stands_for store.old) (S.is_trusted store.new)
+        (Keeps KeepEither (S.stands_for store.new)) }
     ensures tables { IfOk result AreTables }
     ensures other { (m : Kept) → S.stands_for store.old m → HasOtherFormat m → S.is_trusted store.new
         → IsErr result × S.stands_for store.new m }

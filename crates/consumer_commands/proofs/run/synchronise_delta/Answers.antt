@@ -1,4 +1,4 @@
-use Rattle.consumer_commands.specs.Consumers.{copy_between, link_between}
+use Rattle.exchange_link.specs.Between.{copy_between, link_between}
 use Rattle.consumer_commands.proofs.SameTasks.{delta_as}
 use Rattle.consumer_commands.proofs.run.synchronise_delta.Goals as goal
 

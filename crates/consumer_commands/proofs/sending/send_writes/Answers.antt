@@ -1,4 +1,4 @@
-use Rattle.consumer_commands.specs.Consumers.{copy_between, link_between}
+use Rattle.exchange_link.specs.Between.{copy_between, link_between}
 use Rattle.consumer_commands.proofs.SameTasks.{sent_as}
 use Rattle.consumer_commands.proofs.sending.send_writes.Goals as goal
 

@@ -15,7 +15,13 @@ use Rattle.consumer_deltas.proofs.DeltaStopLemmas.{halts_if, replies_on, some_if
 use Rattle.consumer_deltas.specs.DeltaFilling.{KindTold, first_place, no_page}
 use Rattle.consumer_deltas.specs.DeltaRequests.{IsDeltaUnder}
 use Rattle.consumer_deltas.specs.declared.answer.DeltaAnswer.{DeltaAnswer}
+use Rattle.consumer_deltas.proofs.filling.fill.Given.{Over}
+use Rattle.consumer_deltas.proofs.filling.fill.Goals.{After-fill_kind}
 use Rattle.consumer_deltas.proofs.filling.fill.Goals as goal
+
+-- a kind is still to be filled
+room : (g : Over) (c : After-fill_kind g) → kinds_of c.kinds.stage < kind_count
+room g c = omega (arith, c.kinds-test.true, c.kinds_done.ensures)
 
 pub kinds-init : goal.kinds-init
 kinds-init g c = record {
@@ -42,7 +48,7 @@ fill_kind-requires-clause-few g c = omega (arith, c.kinds.invariant.room)
 
 pub kinds-preserved : goal.kinds-preserved
 kinds-preserved g c =
-    let lt : kinds_of c.kinds.stage < kind_count = omega (arith, c.kinds-test.true, c.kinds_done.ensures) in
+    let lt = room g (goal.at.kinds-preserved g c).After-fill_kind in
     let token = c.args.by.token.now in
     let on = c.fill_kind.ensures.on c.in-None.is in
     let next : kinds_of c.fill_kind.new.stage ≡ kinds_of c.kinds.stage + 1 = ap (λ (s : Option StageState). kinds_of s) on.1 ∙ kinds_paged c.kinds.stage on.0 token in
@@ -90,7 +96,7 @@ kinds-preserved g c =
 
 pub kinds-smaller : goal.kinds-smaller
 kinds-smaller g c =
-    let lt : kinds_of c.kinds.stage < kind_count = omega (arith, c.kinds-test.true, c.kinds_done.ensures) in
+    let lt = room g (goal.at.kinds-smaller g c).After-fill_kind in
     let on = c.fill_kind.ensures.on c.in-None.is in
     let next : kinds_of c.fill_kind.new.stage ≡ kinds_of c.kinds.stage + 1 = ap (λ (s : Option StageState). kinds_of s) on.1 ∙ kinds_paged c.kinds.stage on.0 c.args.by.token.now in
     omega (arith, next, lt)
@@ -149,7 +155,7 @@ returns-in_default-clause-link_leads g c = g.met.L.Link.leads_on _ _ _ c.kinds.i
 
 pub returns-in_default-clause-told : goal.returns-in_default-clause-told
 returns-in_default-clause-told g c entry d t stands tells =
-    let lt : kinds_of c.kinds.stage < kind_count = omega (arith, c.kinds-test.true, c.kinds_done.ensures) in
+    let lt = room g (goal.at.returns-in_default-clause-told g c).After-fill_kind in
     let token = c.args.by.token.now in
     let y = c.fill_kind.ensures.told d t stands tells in
     let z = c.kinds.invariant.told entry y.0 y.1 y.2 y.3 in

@@ -4,6 +4,9 @@ use Rattle.std.specs.Prelude.{Result}
 use Rattle.exchange_link.proofs.AskLemmas.{asks_refl}
 use Rattle.exchange_link.proofs.AskedLemmas.{sends_refl, sends_weaker}
 use Rattle.exchange_link.proofs.FitLemmas.{copy_on}
+use Rattle.exchange_link.specs.Agreement.{CopyFits}
+use Rattle.exchange_link.specs.Asked.{SendsOn}
+use Rattle.exchange_link.specs.Exchanges.{LinkState}
 use Rattle.exchange_link.specs.Places.{kind_at, kinds_of}
 use Rattle.keeper_memory.specs.copy.Copies.{Copy, held_list}
 use Rattle.roster_base.specs.Faults.{Rose}
@@ -15,36 +18,104 @@ use Rattle.consumer_deltas.proofs.DeltaKindLemmas.{broken_told, goes_held, stage
 use Rattle.consumer_deltas.proofs.DeltaMergeLemmas.{same_list}
 use Rattle.consumer_deltas.proofs.DeltaStopLemmas.{halt_replies, halts_map, page_replies, sends_at, stops_at, stops_end}
 use Rattle.consumer_deltas.proofs.DeltaStopLemmas.{stops_gone, stops_halt}
+use Rattle.consumer_deltas.specs.DeltaAnswers.{HasBase}
 use Rattle.consumer_deltas.specs.DeltaFilling.{IsPinGone, StagesKind, StandsOn, first_place, pin_in}
 use Rattle.consumer_deltas.specs.DeltaGathering.{IsGathered}
+use Rattle.consumer_deltas.specs.DeltaRequests.{IsDeltaUnder}
 use Rattle.consumer_deltas.specs.DeltaTelling.{MayAsk, PagesTold}
 use Rattle.consumer_deltas.specs.declared.answer.DeltaAnswer.{DeltaAnswer}
 use Rattle.consumer_deltas.specs.declared.answer.DeltaAnswer.TheVariants.{Ended}
 use Rattle.consumer_deltas.specs.declared.gathering.Delta.{Delta}
 use Rattle.exchange_link.specs.declared.answer.SyncAnswer.TheVariants as answer
 use Rattle.consumer_deltas.specs.declared.judging.Place.{Place}
+use Rattle.consumer_deltas.proofs.filling.fill_kind.Given.{Over}
+use Rattle.consumer_deltas.proofs.filling.fill_kind.Goals.{After-gather, In-Ok-gather}
 use Rattle.consumer_deltas.proofs.filling.fill_kind.Goals as goal
 
-err_same : {a b : DeltaAnswer} → (let x : Result Delta DeltaAnswer = Err a in let y : Result Delta DeltaAnswer = Err b in x ≡ y) → a ≡ b
+err_same : {a b : DeltaAnswer} → (let x : Result Delta DeltaAnswer = Err a in let y : Result Delta DeltaAnswer = Err
+    b in x ≡ y) → a ≡ b
 err_same e = cc
 
-ok_err : {d : Delta} {a : DeltaAnswer} {K : Type 0} → (let x : Result Delta DeltaAnswer = Ok d in let y : Result Delta DeltaAnswer = Err a in x ≡ y) → K
+ok_err : {d : Delta} {a : DeltaAnswer} {K : Type 0} → (let x : Result Delta DeltaAnswer = Ok d in let y : Result Delta
+    DeltaAnswer = Err a in x ≡ y) → K
 ok_err e = cc
 
+-- ---- what the pages of the next kind told
+
+module _ (g : Over) (c : After-gather g) where
+  abbrev next_place : Place
+  next_place = first_place c.args.stage.now c.args.by.base c.args.by.limit
+
+  -- the entries were judged by what is held of the kind
+  shown : (copy : Copy) → g.C.CopyKeeper.stands_for c.held.new.self copy → c.in-Ok.held ≡ held_list copy next_place.kind
+  shown copy stands =
+      c.in-Ok.ensures.shown copy stands ∙ ap (λ (p : Place). held_list copy p.kind) c.first_page-place.ensures.place
+
+  -- where copy and link agreed before, the pages tell what is gathered
+  pages_told : (result : Result Delta DeltaAnswer) → c.gather.result ≡ result → (copy : Copy)
+      → g.C.CopyKeeper.stands_for c.held.new.self copy → (before after : LinkState)
+      → (MayAsk before.hub c.args.by.token.now c.first_page-place.result c.in-Ok.held
+      → PagesTold before after c.args.by.token.now c.first_page-place.result c.args.by.tries
+      (c.gather.new.count - c.args.count.now) c.gather.result)
+      → CopyFits copy before.hub → HasBase c.args.by.base c.args.by.token.now copy
+      → PagesTold before after c.args.by.token.now next_place c.args.by.tries (c.gather.new.count - c.args.count.now)
+      result
+  pages_told result is copy stands before after tells fits has =
+      let token = c.args.by.token.now in
+      let n = c.gather.new.count - c.args.count.now in
+      let place_is = c.first_page-place.ensures.place in
+      let holds = c.requires.holds copy (c.held.ensures.same copy stands) in
+      let may = may_ask copy c.args.stage.now before.hub token c.args.by.base c.args.by.limit c.in-Ok.held holds
+      c.requires.token
+      c.requires.room fits has (shown copy stands) in
+      subst (λ r. PagesTold before after token next_place c.args.by.tries n r) is
+      (subst (λ p. PagesTold before after token p c.args.by.tries n c.gather.result) place_is
+      (tells (subst (λ p. MayAsk before.hub token p c.in-Ok.held) (sym place_is) may)))
+
+  -- each request is for a page of what differs from the base on
+  sends : (wants : Type 0) → ((let out : Result Delta DeltaAnswer = Err (Ended answer.NoMemory) in c.gather.result ≡
+      out) → wants)
+      → (after : LinkState) → g.L.Link.tells c.gather.new.link after
+      → (before : LinkState) × g.L.Link.tells c.args.link.now before
+      × SendsOn (IsDeltaUnder c.args.by.token.now c.args.by.limit c.args.by.base) c.args.by.run c.args.count.now
+      c.gather.new.count wants before.sent after.sent
+  sends wants given after tells =
+      let asks = c.gather.ensures.asks after tells in (
+        asks.0,
+        asks.1,
+        sends_weaker _ _ _ _ _ _ _ _ _ (λ n q h. h) given
+            (sends_at c.args.by.token.now c.first_page-place.result next_place c.args.by.run c.args.count.now
+            c.gather.new.count
+            _ asks.0.sent after.sent c.first_page-place.ensures.place asks.2),
+      )
+
+-- what was gathered is a whole delta of the kind
+module _ (g : Over) (c : In-Ok-gather g) where
+  gathered : IsGathered (first_place c.args.stage.now c.args.by.base c.args.by.limit) c.in-Ok.held c.in-Ok-gather.delta
+  gathered =
+      subst (λ p. IsGathered p c.in-Ok.held c.in-Ok-gather.delta) c.first_page-place.ensures.place
+      c.in-Ok-gather.ensures.whole
+
 pub gather-requires-clause-limit : goal.gather-requires-clause-limit
-gather-requires-clause-limit g c = let e = ap (λ (p : Place). p.limit) c.first_page-place.ensures.place in (omega (arith, e, c.requires.limit.0), omega (arith, e, c.requires.limit.1))
+gather-requires-clause-limit g c =
+    let is = ap (λ (p : Place). p.limit) c.first_page-place.ensures.place in
+    (omega (arith, is, c.requires.limit.0), omega (arith, is, c.requires.limit.1))
 
 pub gather-requires-clause-base : goal.gather-requires-clause-base
-gather-requires-clause-base g c = let e = ap (λ (p : Place). p.base) c.first_page-place.ensures.place in omega (arith, e, c.requires.base)
+gather-requires-clause-base g c =
+    let is = ap (λ (p : Place). p.base) c.first_page-place.ensures.place in omega (arith, is, c.requires.base)
 
 pub stage_kind-requires-clause-gathered : goal.stage_kind-requires-clause-gathered
-stage_kind-requires-clause-gathered g c = can_stage (first_place c.args.stage.now c.args.by.base c.args.by.limit) c.in-Ok.held c.in-Ok-gather.delta (subst (λ p. IsGathered p c.in-Ok.held c.in-Ok-gather.delta) c.first_page-place.ensures.place c.in-Ok-gather.ensures.whole)
+stage_kind-requires-clause-gathered g c =
+    can_stage (first_place c.args.stage.now c.args.by.base c.args.by.limit) c.in-Ok.held c.in-Ok-gather.delta
+    (gathered g (goal.at.stage_kind-requires-clause-gathered g c).In-Ok-gather)
 
 pub stage_kind-requires-clause-held : goal.stage_kind-requires-clause-held
-stage_kind-requires-clause-held g c d stands =
+stage_kind-requires-clause-held g c copy stands =
+    let at = goal.at.stage_kind-requires-clause-held g c in
     let place = first_place c.args.stage.now c.args.by.base c.args.by.limit in
-    gathered_on place c.in-Ok.held (held_list d place.kind) c.in-Ok-gather.delta (subst (λ p. IsGathered p c.in-Ok.held c.in-Ok-gather.delta) c.first_page-place.ensures.place c.in-Ok-gather.ensures.whole)
-    (c.in-Ok.ensures.shown d stands ∙ ap (λ (p : Place). held_list d p.kind) c.first_page-place.ensures.place)
+    gathered_on place c.in-Ok.held (held_list copy place.kind) c.in-Ok-gather.delta (gathered g at.In-Ok-gather)
+    (shown g at.After-gather copy stands)
 
 -- ---- the keeper gave up
 
@@ -61,14 +132,22 @@ pub returns-in-Err-clause-copy : goal.returns-in-Err-clause-copy
 returns-in-Err-clause-copy g c after stands = (
   after,
   c.held.ensures.same after stands,
-  (broken_ends c.args.by.token.now c.args.by.base c.in-Err.error c.broken.result c.ended.result after c.broken.ensures c.ended.ensures, inl (fills_refl c.args.by.token.now after).stage),
+  (
+    broken_ends c.args.by.token.now c.args.by.base c.in-Err.error c.broken.result c.ended.result after c.broken.ensures
+        c.ended.ensures,
+    inl (fills_refl c.args.by.token.now after).stage,
+  ),
 )
 
 pub returns-in-Err-clause-cause : goal.returns-in-Err-clause-cause
-returns-in-Err-clause-cause g c = broken_halts _ _ _ _ _ _ _ _ c.in-Err.error c.broken.result c.ended.result c.in-Err.ensures.cause c.broken.ensures c.ended.ensures
+returns-in-Err-clause-cause g c =
+    broken_halts _ _ _ _ _ _ _ _ c.in-Err.error c.broken.result c.ended.result c.in-Err.ensures.cause c.broken.ensures
+    c.ended.ensures
 
 pub returns-in-Err-clause-exact : goal.returns-in-Err-clause-exact
-returns-in-Err-clause-exact g c w own = broken_replies (first_place c.args.stage.now c.args.by.base c.args.by.limit) w c.in-Err.error c.broken.result c.ended.result c.broken.ensures c.ended.ensures
+returns-in-Err-clause-exact g c w own =
+    broken_replies (first_place c.args.stage.now c.args.by.base c.args.by.limit) w c.in-Err.error c.broken.result
+    c.ended.result c.broken.ensures c.ended.ensures
 
 pub returns-in-Err-clause-asked : goal.returns-in-Err-clause-asked
 returns-in-Err-clause-asked g c = record { least = omega arith; most = omega arith }
@@ -90,8 +169,11 @@ returns-in-Err-clause-told g c after t stands tells = (
   tells,
   asks_refl _ _ _ _,
   λ ready fits has.
-      broken_told c.args.by.token.now c.args.by.limit c.args.by.tries c.args.by.base (c.args.count.now - c.args.count.now) c.args.stage.now c.args.stage.now t after
-      (c.requires.holds after (c.held.ensures.same after stands)) fits (omega arith) c.in-Err.error c.broken.result c.ended.result c.broken.ensures c.ended.ensures,
+      broken_told c.args.by.token.now c.args.by.limit c.args.by.tries c.args.by.base
+      (c.args.count.now - c.args.count.now)
+      c.args.stage.now c.args.stage.now t after (c.requires.holds after (c.held.ensures.same after stands)) fits
+      (omega arith)
+      c.in-Err.error c.broken.result c.ended.result c.broken.ensures c.ended.ensures,
 )
 
 -- ---- the pages stopped
@@ -107,68 +189,79 @@ returns-in-Err-gather-clause-page g c e = absurd (none-some _ (sym e))
 
 pub returns-in-Err-gather-clause-copy : goal.returns-in-Err-gather-clause-copy
 returns-in-Err-gather-clause-copy g c after stands =
-    let x = c.let_go.ensures.told after stands in
+    let from = c.let_go.ensures.told after stands in
     let place = first_place c.args.stage.now c.args.by.base c.args.by.limit in
-    let stops = stops_at _ _ _ _ _ place c.in-Ok.held c.in-Err-gather.answer c.first_page-place.ensures.place c.in-Err-gather.ensures.cause in (
-      x.0,
-      c.held.ensures.same x.0 x.1,
+    let given = c.in-Err-gather.answer in
+    let stops = stops_at _ _ _ _ _ place c.in-Ok.held given c.first_page-place.ensures.place
+    c.in-Err-gather.ensures.cause in (
+      from.0,
+      c.held.ensures.same from.0 from.1,
       (
-        go_ends c.args.by.token.now c.args.by.base c.in-Err-gather.answer c.let_go.result x.0 after (stops_end _ _ _ _ place c.in-Ok.held c.in-Err-gather.answer stops) x.2,
-        go_stage c.args.by.token.now _ c.in-Err-gather.answer c.let_go.result x.0 after (stops_gone _ _ _ _ place c.in-Ok.held c.in-Err-gather.answer stops) x.2,
+        go_ends c.args.by.token.now c.args.by.base given c.let_go.result from.0 after
+            (stops_end _ _ _ _ place c.in-Ok.held given stops) from.2,
+        go_stage c.args.by.token.now _ given c.let_go.result from.0 after
+            (stops_gone _ _ _ _ place c.in-Ok.held given stops) from.2,
       ),
     )
 
 pub returns-in-Err-gather-clause-cause : goal.returns-in-Err-gather-clause-cause
 returns-in-Err-gather-clause-cause g c =
+    let at = goal.at.returns-in-Err-gather-clause-cause g c in
     let place = first_place c.args.stage.now c.args.by.base c.args.by.limit in
-    let stops = stops_at _ _ _ _ _ place c.in-Ok.held c.in-Err-gather.answer c.first_page-place.ensures.place c.in-Err-gather.ensures.cause in
-    let shown : (d : Copy) → g.C.CopyKeeper.stands_for c.let_go.new.copy d → c.in-Ok.held ≡ held_list d place.kind = λ d stands.
-    let x = c.let_go.ensures.told d stands in
-    c.in-Ok.ensures.shown x.0 x.1 ∙ ap (λ (p : Place). held_list x.0 p.kind) c.first_page-place.ensures.place
-    ∙ same_list place.kind x.0 d (goes_held c.in-Err-gather.answer c.let_go.result x.0 d x.2) in
+    let given = c.in-Err-gather.answer in
+    let stops = stops_at _ _ _ _ _ place c.in-Ok.held given c.first_page-place.ensures.place
+    c.in-Err-gather.ensures.cause in
+    let still : (copy : Copy) → g.C.CopyKeeper.stands_for c.let_go.new.copy copy → c.in-Ok.held ≡ held_list copy
+    place.kind =
+    λ copy stands.
+    let from = c.let_go.ensures.told copy stands in
+    shown g at.After-gather from.0 from.1
+    ∙ same_list place.kind from.0 copy (goes_held given c.let_go.result from.0 copy from.2) in
     halts_map _ _ _ _ _ _ _ _ place c.let_go.result (λ m. m)
-    (λ (rose : Rose (g.C.CopyKeeper.fault_count c.held.new.self) (g.C.CopyKeeper.fault_count c.let_go.new.copy)). omega (arith, rose, c.held.ensures.later))
-    (stops_halt _ _ _ _ _ _ place c.in-Ok.held c.in-Err-gather.answer c.let_go.result shown stops c.let_go.ensures.ends)
+    (λ (rose : Rose (g.C.CopyKeeper.fault_count c.held.new.self) (g.C.CopyKeeper.fault_count c.let_go.new.copy)).
+    omega (arith, rose, c.held.ensures.later))
+    (stops_halt _ _ _ _ _ _ place c.in-Ok.held given c.let_go.result still stops c.let_go.ensures.ends)
 
 pub returns-in-Err-gather-clause-exact : goal.returns-in-Err-gather-clause-exact
 returns-in-Err-gather-clause-exact g c w own =
     let place = first_place c.args.stage.now c.args.by.base c.args.by.limit in
-    let stops = stops_at _ _ _ _ _ place c.in-Ok.held c.in-Err-gather.answer c.first_page-place.ensures.place c.in-Err-gather.ensures.cause in
-    halt_replies _ _ _ _ _ place c.in-Ok.held c.in-Err-gather.answer c.let_go.result stops c.let_go.ensures.ends w own
+    let given = c.in-Err-gather.answer in
+    let stops = stops_at _ _ _ _ _ place c.in-Ok.held given c.first_page-place.ensures.place
+    c.in-Err-gather.ensures.cause in
+    halt_replies _ _ _ _ _ place c.in-Ok.held given c.let_go.result stops c.let_go.ensures.ends w own
 
 pub returns-in-Err-gather-clause-link : goal.returns-in-Err-gather-clause-link
-returns-in-Err-gather-clause-link g c after tells = let y = c.gather.ensures.told after tells in (y.0, y.1, y.2)
+returns-in-Err-gather-clause-link g c after tells = let asks = c.gather.ensures.told after tells in
+    (asks.0, asks.1, asks.2)
 
 pub returns-in-Err-gather-clause-asks : goal.returns-in-Err-gather-clause-asks
-returns-in-Err-gather-clause-asks g c after tells =
-    let y = c.gather.ensures.asks after tells in
-    let sends = sends_at c.args.by.token.now c.first_page-place.result (first_place c.args.stage.now c.args.by.base c.args.by.limit) c.args.by.run c.args.count.now c.gather.new.count _ y.0.sent after.sent c.first_page-place.ensures.place y.2 in (
-      y.0,
-      y.1,
-      sends_weaker _ _ _ _ _ _ _ _ _ (λ n q h. h)
-          (λ e. let wants = err_same {a = c.in-Err-gather.answer} {b = Ended answer.NoMemory} (sym c.in-Err-gather.is ∙ e) in ap Some (c.let_go.ensures.keeps (λ gone. subst IsPinGone wants gone) ∙ wants)) sends,
-    )
+returns-in-Err-gather-clause-asks g c =
+    let given = c.in-Err-gather.answer in
+    sends g (goal.at.returns-in-Err-gather-clause-asks g c).After-gather _ (λ out.
+    let wants = err_same {a = given} {b = Ended answer.NoMemory} (sym c.in-Err-gather.is ∙ out) in
+    ap Some (c.let_go.ensures.keeps (λ gone. subst IsPinGone wants gone) ∙ wants))
 
 pub returns-in-Err-gather-clause-told : goal.returns-in-Err-gather-clause-told
 returns-in-Err-gather-clause-told g c after t stands tells =
-    let x = c.let_go.ensures.told after stands in
-    let y = c.gather.ensures.told t tells in
-    let token = c.args.by.token.now in
-    let place = first_place c.args.stage.now c.args.by.base c.args.by.limit in
-    let is = c.requires.holds x.0 (c.held.ensures.same x.0 x.1) in
-    let shown : c.in-Ok.held ≡ held_list x.0 place.kind = c.in-Ok.ensures.shown x.0 x.1 ∙ ap (λ (p : Place). held_list x.0 p.kind) c.first_page-place.ensures.place in (
-      x.0,
-      y.0,
-      c.held.ensures.same x.0 x.1,
-      y.1,
-      y.2,
+    let at = (goal.at.returns-in-Err-gather-clause-told g c).After-gather in
+    let from = c.let_go.ensures.told after stands in
+    let asks = c.gather.ensures.told t tells in
+    let stage = c.args.stage.now in (
+      from.0,
+      asks.0,
+      c.held.ensures.same from.0 from.1,
+      asks.1,
+      asks.2,
       λ ready fits has.
-          let may = may_ask x.0 c.args.stage.now y.0.hub token c.args.by.base c.args.by.limit c.in-Ok.held is c.requires.token c.requires.room fits has shown in
-          let pages = y.3 ready (subst (λ p. MayAsk y.0.hub token p c.in-Ok.held) (sym c.first_page-place.ensures.place) may) in
-          let pages' = subst (λ r. PagesTold y.0 t token place c.args.by.tries (c.gather.new.count - c.args.count.now) r) c.in-Err-gather.is
-          (subst (λ p. PagesTold y.0 t token p c.args.by.tries (c.gather.new.count - c.args.count.now) c.gather.result) c.first_page-place.ensures.place pages) in
-          stopped_told token c.args.by.limit c.args.by.tries c.args.by.base (c.gather.new.count - c.args.count.now) c.args.stage.now y.0 t x.0 is (copy_on x.0 y.0.hub t.hub y.2.moved.grew fits)
-          c.args.stage.now c.in-Err-gather.answer c.let_go.result after pages' x.2,
+          let pages = pages_told g at (Err c.in-Err-gather.answer) c.in-Err-gather.is from.0 from.1 asks.0 t
+          (asks.3 ready)
+          fits has in
+          stopped_told c.args.by.token.now c.args.by.limit c.args.by.tries c.args.by.base
+          (c.gather.new.count - c.args.count.now) stage asks.0 t from.0
+          (c.requires.holds from.0 (c.held.ensures.same from.0 from.1))
+          (copy_on from.0 asks.0.hub t.hub asks.2.moved.grew fits) stage c.in-Err-gather.answer c.let_go.result after
+          pages
+          from.2,
     )
 
 pub returns-in-None-clause-on : goal.returns-in-None-clause-on
@@ -182,40 +275,42 @@ returns-in-None-clause-page g c e = c.in-Ok-gather.ensures.page
 
 pub returns-in-None-clause-copy : goal.returns-in-None-clause-copy
 returns-in-None-clause-copy g c after stands =
-    let x = c.stage_kind.ensures.told after stands in
-    let fills = kind_fills c.in-Ok-gather.delta (kind_at (kinds_of c.args.stage.now)) c.args.stage.now c.args.by.token.now c.stage_kind.result x.0 after x.2 in
-    (x.0, c.held.ensures.same x.0 x.1, (fills, inl fills.stage))
+    let from = c.stage_kind.ensures.told after stands in
+    let kind = kind_at (kinds_of c.args.stage.now) in
+    let fills = kind_fills c.in-Ok-gather.delta kind c.args.stage.now c.args.by.token.now c.stage_kind.result from.0
+    after
+    from.2 in
+    (from.0, c.held.ensures.same from.0 from.1, (fills, inl fills.stage))
 
 pub returns-in-None-clause-link : goal.returns-in-None-clause-link
-returns-in-None-clause-link g c after tells = let y = c.gather.ensures.told after tells in (y.0, y.1, y.2)
+returns-in-None-clause-link g c after tells = let asks = c.gather.ensures.told after tells in (asks.0, asks.1, asks.2)
 
 pub returns-in-None-clause-asks : goal.returns-in-None-clause-asks
-returns-in-None-clause-asks g c after tells =
-    let y = c.gather.ensures.asks after tells in
-    let sends = sends_at c.args.by.token.now c.first_page-place.result (first_place c.args.stage.now c.args.by.base c.args.by.limit) c.args.by.run c.args.count.now c.gather.new.count _ y.0.sent after.sent c.first_page-place.ensures.place y.2 in
-    (y.0, y.1, sends_weaker _ _ _ _ _ _ _ _ _ (λ n q h. h) (λ e. ok_err {d = c.in-Ok-gather.delta} {a = Ended answer.NoMemory} (sym c.in-Ok-gather.is ∙ e)) sends)
+returns-in-None-clause-asks g c =
+    sends g (goal.at.returns-in-None-clause-asks g c).After-gather _
+    (λ out. ok_err {d = c.in-Ok-gather.delta} {a = Ended answer.NoMemory} (sym c.in-Ok-gather.is ∙ out))
 
 pub returns-in-None-clause-told : goal.returns-in-None-clause-told
 returns-in-None-clause-told g c after t stands tells =
-    let x = c.stage_kind.ensures.told after stands in
-    let y = c.gather.ensures.told t tells in
-    let token = c.args.by.token.now in
-    let place = first_place c.args.stage.now c.args.by.base c.args.by.limit in
-    let is = c.requires.holds x.0 (c.held.ensures.same x.0 x.1) in
-    let shown : c.in-Ok.held ≡ held_list x.0 place.kind = c.in-Ok.ensures.shown x.0 x.1 ∙ ap (λ (p : Place). held_list x.0 p.kind) c.first_page-place.ensures.place in (
-      x.0,
-      y.0,
-      c.held.ensures.same x.0 x.1,
-      y.1,
-      y.2,
+    let at = (goal.at.returns-in-None-clause-told g c).After-gather in
+    let delta = c.in-Ok-gather.delta in
+    let kind = kind_at (kinds_of c.args.stage.now) in
+    let from = c.stage_kind.ensures.told after stands in
+    let asks = c.gather.ensures.told t tells in (
+      from.0,
+      asks.0,
+      c.held.ensures.same from.0 from.1,
+      asks.1,
+      asks.2,
       λ ready fits has.
-          let may = may_ask x.0 c.args.stage.now y.0.hub token c.args.by.base c.args.by.limit c.in-Ok.held is c.requires.token c.requires.room fits has shown in
-          let pages = y.3 ready (subst (λ p. MayAsk y.0.hub token p c.in-Ok.held) (sym c.first_page-place.ensures.place) may) in
-          let pages' = subst (λ r. PagesTold y.0 t token place c.args.by.tries (c.gather.new.count - c.args.count.now) r) c.in-Ok-gather.is
-          (subst (λ p. PagesTold y.0 t token p c.args.by.tries (c.gather.new.count - c.args.count.now) c.gather.result) c.first_page-place.ensures.place pages) in
-          staged_told token c.args.by.limit c.args.by.tries c.args.by.base (c.gather.new.count - c.args.count.now) c.args.stage.now y.0 t x.0 after c.in-Ok-gather.delta is c.requires.token c.requires.room
-          (g.met.L.Link.is_hub c.gather.new.link t tells) fits y.2.moved.grew has pages' c.stage_kind.new.stage (c.stage_kind.ensures.on c.in-None.is)
-          (subst (λ r. StagesKind c.in-Ok-gather.delta (kind_at (kinds_of c.args.stage.now)) c.args.stage.now token r x.0 after) c.in-None.is x.2),
+          let pages = pages_told g at (Ok delta) c.in-Ok-gather.is from.0 from.1 asks.0 t (asks.3 ready) fits has in
+          staged_told c.args.by.token.now c.args.by.limit c.args.by.tries c.args.by.base
+          (c.gather.new.count - c.args.count.now)
+          c.args.stage.now asks.0 t from.0 after delta (c.requires.holds from.0 (c.held.ensures.same from.0 from.1))
+          c.requires.token c.requires.room (g.met.L.Link.is_hub c.gather.new.link t tells) fits asks.2.moved.grew has
+          pages
+          c.stage_kind.new.stage (c.stage_kind.ensures.on c.in-None.is)
+          (subst (λ r. StagesKind delta kind c.args.stage.now c.args.by.token.now r from.0 after) c.in-None.is from.2),
     )
 
 pub returns-in-Some-clause-on : goal.returns-in-Some-clause-on
@@ -229,56 +324,66 @@ returns-in-Some-clause-page g c e = absurd (none-some _ (sym e))
 
 pub returns-in-Some-clause-copy : goal.returns-in-Some-clause-copy
 returns-in-Some-clause-copy g c after stands =
-    let x = c.stage_kind.ensures.told after stands in
+    let from = c.stage_kind.ensures.told after stands in
     let kind = kind_at (kinds_of c.args.stage.now) in
-    let fills = kind_fills c.in-Ok-gather.delta kind c.args.stage.now c.args.by.token.now c.stage_kind.result x.0 after x.2 in
-    let end = unstaged_end _ _ kind c.in-Ok-gather.delta c.in-Some.answer c.in-Some.ensures.ends in
-    (x.0, c.held.ensures.same x.0 x.1, (merge_ends c.args.by.token.now c.args.by.base c.in-Some.answer x.0 after end fills, inl fills.stage))
+    let fills = kind_fills c.in-Ok-gather.delta kind c.args.stage.now c.args.by.token.now c.stage_kind.result from.0
+    after
+    from.2 in
+    let end = unstaged_end _ _ kind c.in-Ok-gather.delta c.in-Some.answer c.in-Some.ensures.ends in (
+      from.0,
+      c.held.ensures.same from.0 from.1,
+      (merge_ends c.args.by.token.now c.args.by.base c.in-Some.answer from.0 after end fills, inl fills.stage),
+    )
 
 pub returns-in-Some-clause-cause : goal.returns-in-Some-clause-cause
 returns-in-Some-clause-cause g c =
+    let at = goal.at.returns-in-Some-clause-cause g c in
+    let delta = c.in-Ok-gather.delta in
     let place = first_place c.args.stage.now c.args.by.base c.args.by.limit in
-    let gathered : IsGathered place c.in-Ok.held c.in-Ok-gather.delta = subst (λ p. IsGathered p c.in-Ok.held c.in-Ok-gather.delta) c.first_page-place.ensures.place c.in-Ok-gather.ensures.whole in
-    let stands : (d : Copy) → g.C.CopyKeeper.stands_for c.stage_kind.new.copy d → StandsOn (held_list d place.kind) c.in-Ok-gather.delta = λ d stands.
-    let x = c.stage_kind.ensures.told d stands in
-    let on = gathered_on place c.in-Ok.held (held_list x.0 place.kind) c.in-Ok-gather.delta gathered (c.in-Ok.ensures.shown x.0 x.1 ∙ ap (λ (p : Place). held_list x.0 p.kind) c.first_page-place.ensures.place) in
-    stands_behind c.in-Ok-gather.delta place.kind c.args.stage.now c.args.by.token.now c.stage_kind.result x.0 d on x.2 in
+    let whole = gathered g at.In-Ok-gather in
+    let stands : (copy : Copy) → g.C.CopyKeeper.stands_for c.stage_kind.new.copy copy
+    → StandsOn (held_list copy place.kind) delta = λ copy stands.
+    let from = c.stage_kind.ensures.told copy stands in
+    let on = gathered_on place c.in-Ok.held (held_list from.0 place.kind) delta whole
+    (shown g at.After-gather from.0 from.1) in
+    stands_behind delta place.kind c.args.stage.now c.args.by.token.now c.stage_kind.result from.0 copy on from.2 in
     halts_map _ _ _ _ _ _ _ _ place (Ended c.in-Some.answer) (λ m. m)
-    (λ (rose : Rose (g.C.CopyKeeper.fault_count c.held.new.self) (g.C.CopyKeeper.fault_count c.stage_kind.new.copy)). omega (arith, rose, c.held.ensures.later))
-    (merge_halts _ _ _ _ _ _ place c.in-Ok-gather.delta c.in-Some.answer (can_stage place c.in-Ok.held c.in-Ok-gather.delta gathered) stands c.in-Some.ensures.ends)
+    (λ (rose : Rose (g.C.CopyKeeper.fault_count c.held.new.self) (g.C.CopyKeeper.fault_count c.stage_kind.new.copy)).
+    omega (arith, rose, c.held.ensures.later))
+    (merge_halts _ _ _ _ _ _ place delta c.in-Some.answer (can_stage place c.in-Ok.held delta whole) stands
+    c.in-Some.ensures.ends)
 
 pub returns-in-Some-clause-exact : goal.returns-in-Some-clause-exact
-returns-in-Some-clause-exact g c w own = page_replies (first_place c.args.stage.now c.args.by.base c.args.by.limit) w _ (c.in-Ok-gather.ensures.page w own)
+returns-in-Some-clause-exact g c w own =
+    page_replies (first_place c.args.stage.now c.args.by.base c.args.by.limit) w _ (c.in-Ok-gather.ensures.page w own)
 
 pub returns-in-Some-clause-link : goal.returns-in-Some-clause-link
-returns-in-Some-clause-link g c after tells = let y = c.gather.ensures.told after tells in (y.0, y.1, y.2)
+returns-in-Some-clause-link g c after tells = let asks = c.gather.ensures.told after tells in (asks.0, asks.1, asks.2)
 
 pub returns-in-Some-clause-asks : goal.returns-in-Some-clause-asks
-returns-in-Some-clause-asks g c after tells =
-    let y = c.gather.ensures.asks after tells in
-    let sends = sends_at c.args.by.token.now c.first_page-place.result (first_place c.args.stage.now c.args.by.base c.args.by.limit) c.args.by.run c.args.count.now c.gather.new.count _ y.0.sent after.sent c.first_page-place.ensures.place y.2 in
-    (y.0, y.1, sends_weaker _ _ _ _ _ _ _ _ _ (λ n q h. h) (λ e. ok_err {d = c.in-Ok-gather.delta} {a = Ended answer.NoMemory} (sym c.in-Ok-gather.is ∙ e)) sends)
+returns-in-Some-clause-asks g c =
+    sends g (goal.at.returns-in-Some-clause-asks g c).After-gather _
+    (λ out. ok_err {d = c.in-Ok-gather.delta} {a = Ended answer.NoMemory} (sym c.in-Ok-gather.is ∙ out))
 
 pub returns-in-Some-clause-told : goal.returns-in-Some-clause-told
 returns-in-Some-clause-told g c after t stands tells =
-    let x = c.stage_kind.ensures.told after stands in
-    let y = c.gather.ensures.told t tells in
-    let token = c.args.by.token.now in
-    let place = first_place c.args.stage.now c.args.by.base c.args.by.limit in
-    let n = c.gather.new.count - c.args.count.now in
-    let is = c.requires.holds x.0 (c.held.ensures.same x.0 x.1) in
-    let shown : c.in-Ok.held ≡ held_list x.0 place.kind = c.in-Ok.ensures.shown x.0 x.1 ∙ ap (λ (p : Place). held_list x.0 p.kind) c.first_page-place.ensures.place in (
-      x.0,
-      y.0,
-      c.held.ensures.same x.0 x.1,
-      y.1,
-      y.2,
+    let at = (goal.at.returns-in-Some-clause-told g c).After-gather in
+    let delta = c.in-Ok-gather.delta in
+    let kind = kind_at (kinds_of c.args.stage.now) in
+    let from = c.stage_kind.ensures.told after stands in
+    let asks = c.gather.ensures.told t tells in (
+      from.0,
+      asks.0,
+      c.held.ensures.same from.0 from.1,
+      asks.1,
+      asks.2,
       λ ready fits has.
-          let may = may_ask x.0 c.args.stage.now y.0.hub token c.args.by.base c.args.by.limit c.in-Ok.held is c.requires.token c.requires.room fits has shown in
-          let pages = y.3 ready (subst (λ p. MayAsk y.0.hub token p c.in-Ok.held) (sym c.first_page-place.ensures.place) may) in
-          let pages' = subst (λ r. PagesTold y.0 t token place c.args.by.tries n r) c.in-Ok-gather.is
-          (subst (λ p. PagesTold y.0 t token p c.args.by.tries n c.gather.result) c.first_page-place.ensures.place pages) in
-          unstaged_told token c.args.by.limit c.args.by.tries c.args.by.base n c.args.stage.now y.0 t x.0 after c.in-Ok-gather.delta is c.requires.token c.requires.room
-          (g.met.L.Link.is_hub c.gather.new.link t tells) fits y.2.moved.grew has pages' c.stage_kind.new.stage c.in-Some.answer
-          (subst (λ r. StagesKind c.in-Ok-gather.delta (kind_at (kinds_of c.args.stage.now)) c.args.stage.now token r x.0 after) c.in-Some.is x.2),
+          let pages = pages_told g at (Ok delta) c.in-Ok-gather.is from.0 from.1 asks.0 t (asks.3 ready) fits has in
+          unstaged_told c.args.by.token.now c.args.by.limit c.args.by.tries c.args.by.base
+          (c.gather.new.count - c.args.count.now)
+          c.args.stage.now asks.0 t from.0 after delta (c.requires.holds from.0 (c.held.ensures.same from.0 from.1))
+          c.requires.token c.requires.room (g.met.L.Link.is_hub c.gather.new.link t tells) fits asks.2.moved.grew has
+          pages
+          c.stage_kind.new.stage c.in-Some.answer
+          (subst (λ r. StagesKind delta kind c.args.stage.now c.args.by.token.now r from.0 after) c.in-Some.is from.2),
     )

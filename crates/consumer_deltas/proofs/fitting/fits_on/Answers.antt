@@ -1,7 +1,7 @@
 use Rattle.std.proofs.Common.{◌≡◌, ◌∙◌, true, false, ℕ, List, None, refl, sym, subst}
 use Rattle.roster_types.specs.Keys.{Ascends, row_key}
 use Rattle.roster_types.specs.Records.{Record}
-use Rattle.row_deltas.specs.Deltas.{id_key}
+use Rattle.version_core.specs.Spans.{key_in}
 use Rattle.consumer_deltas.proofs.DeltaFitLemmas.{fits_by_parts}
 use Rattle.consumer_deltas.proofs.DeltaListLemmas.{ids_rise, rows_rise}
 use Rattle.consumer_deltas.specs.DeltaFits.{apart, fits}
@@ -20,7 +20,7 @@ pub are_apart-requires : goal.are_apart-requires
 are_apart-requires c = subst Rise (sym c.puts.ensures) (rows_rise c.args.kind c.args.sofar.now.puts c.requires.come.puts)
 
 pub stand_apart-requires : goal.stand_apart-requires
-stand_apart-requires c = subst (λ (ids : List (List ℕ)). Ascends (id_key c.args.kind) ids) (sym c.gone.ensures) (ids_rise c.args.kind None c.args.sofar.now.gone c.requires.come.gone)
+stand_apart-requires c = subst (λ (ids : List (List ℕ)). Ascends (key_in c.args.kind) ids) (sym c.gone.ensures) (ids_rise c.args.kind None c.args.sofar.now.gone c.requires.come.gone)
 
 -- what the three searches find
 

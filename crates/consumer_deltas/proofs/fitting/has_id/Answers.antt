@@ -4,7 +4,7 @@ use Rattle.std.proofs.lemmas.Fn.{always_returns_same}
 use Rattle.std.specs.declared.cmp.Ordering.TheVariants.{Equal}
 use Rattle.roster_types.specs.Keys.{Ascends, Key, key_cmp, look_up, row_key}
 use Rattle.roster_types.specs.Records.{Record}
-use Rattle.row_deltas.specs.Deltas.{id_key}
+use Rattle.version_core.specs.Spans.{key_in}
 use Rattle.version_core.proofs.Places.{look_up-at, look_up-gap, searchable}
 use Rattle.consumer_deltas.proofs.fitting.has_id.Goals as goal
 
@@ -15,12 +15,12 @@ has_at (row ∷ rows) k i up lt here = ap is_some (look_up-at row_key (row ∷ r
 
 pub returns-in-Ok : goal.returns-in-Ok
 returns-in-Ok c =
-    let k : Key = id_key c.args.kind c.args.id.now in
+    let k : Key = key_in c.args.kind c.args.id.now in
     let here = c.in-Ok.ensures.position (λ (row : Record). key_cmp (row_key row) k) (always_returns_same _ _ _ (λ a r f called. (search rules, search rules))) in
     sym (has_at c.args.rows.now k _ c.requires c.in-Ok.ensures.bound here)
 
 pub returns-in-Err : goal.returns-in-Err
 returns-in-Err c =
-    let k : Key = id_key c.args.kind c.args.id.now in
+    let k : Key = key_in c.args.kind c.args.id.now in
     let parted = c.in-Err.ensures.position (λ (row : Record). key_cmp (row_key row) k) (always_returns_same _ _ _ (λ a r f called. (search rules, search rules))) (searchable row_key c.args.rows.now k c.requires) in
     sym (ap is_some (look_up-gap row_key c.args.rows.now k _ parted.0 parted.1))

@@ -9,7 +9,7 @@ use Rattle.exchange_link.specs.SendCauses.{SendLastLaw}
 use Rattle.exchange_link.specs.SendCompleteness.{IsFine}
 use Rattle.exchange_link.specs.Sent.{SendLeaves}
 use Rattle.exchange_link.specs.SentTold.{WasSent}
-use Rattle.consumer_outbox.proofs.AllLemmas.{cause_more}
+use Rattle.consumer_outbox.proofs.AllLemmas.{cause_more, more_none}
 use Rattle.consumer_outbox.proofs.CallLemmas.{agree_ended, bound_begun, can_begun, last_ended, leaves_ended}
 use Rattle.consumer_outbox.proofs.CallLemmas.{ready_begun, run_is, start_fine, start_last, start_leaves, start_told}
 use Rattle.consumer_outbox.proofs.CallLemmas.{started_caused}
@@ -27,7 +27,8 @@ returns-in-Err-clause-last_run g c after stands =
     (x.0, x.1, subst (λ a. SendLastLaw a x.0 after) (sym c.not_begun.ensures) (start_last c.in-Err.why x.0 after x.2))
 
 pub returns-in-Err-clause-cause : goal.returns-in-Err-clause-cause
-returns-in-Err-clause-cause g c = started_caused c.in-Err.why c.not_begun.result c.args.token.now _ _ _ _ _ _ c.not_begun.ensures c.in-Err.ensures.cause
+returns-in-Err-clause-cause g c =
+    started_caused c.args.token.now c.args.tries _ _ (more_none _) c.in-Err.why c.not_begun.result c.not_begun.ensures c.in-Err.ensures.cause
 
 pub returns-in-Err-clause-told : goal.returns-in-Err-clause-told
 returns-in-Err-clause-told g c agree after tells stands told =

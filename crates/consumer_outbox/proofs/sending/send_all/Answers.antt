@@ -1,4 +1,4 @@
-use Rattle.std.proofs.Common.{◌≡◌, ◌+◌, inl, inr, refl, subst, ◌∙◌, Some, None, arith}
+use Rattle.std.proofs.Common.{◌≡◌, ◌+◌, ℕ, List, inl, inr, refl, subst, ◌∙◌, Some, None, arith}
 use Rattle.std.proofs.lemmas.Option.{none-some, same_Some}
 use Rattle.std.specs.Prelude.{IfSome, Option}
 use Rattle.keeper_memory.specs.copy.Copies.{Copy, first_unsettled}
@@ -7,7 +7,9 @@ use Rattle.keeper_memory.specs.declared.copy.entry.OutEntry.{OutEntry}
 use Rattle.exchange_link.specs.Exchanges.{LinkState}
 use Rattle.exchange_link.proofs.AskLemmas.{moved_on, moved_refl}
 use Rattle.exchange_link.proofs.AskedLemmas.{sends_refl, sends_weaker}
-use Rattle.exchange_link.specs.Asked.{IsWriteUnder}
+use Rattle.exchange_link.specs.Asked.{IsWriteUnder, SendsOn}
+use Rattle.status_info.specs.declared.request.Request.{Request}
+use Rattle.consumer_outbox.specs.Sends.{SoFar}
 use Rattle.consumer_outbox.proofs.AllLemmas.{aside_cause, aside_fine, aside_names, aside_settled, aside_stays}
 use Rattle.consumer_outbox.proofs.AllLemmas.{aside_told, bound_at, bound_next, can_send, cause_more, end_names}
 use Rattle.consumer_outbox.proofs.AllLemmas.{end_not_last, entry_left, more_none, more_to, rose_from}
@@ -15,7 +17,22 @@ use Rattle.consumer_outbox.proofs.AllLemmas.{settles_at_end, settles_on, settles
 use Rattle.consumer_outbox.proofs.TriedLemmas.{aside_tried, entry_tried, sends_entry}
 use Rattle.consumer_outbox.proofs.VerdictLemmas.{settled_exact}
 use Rattle.consumer_outbox.proofs.WalkLemmas.{walk_begins, walk_over}
+use Rattle.consumer_outbox.proofs.sending.send_all.Given.{Over}
+use Rattle.consumer_outbox.proofs.sending.send_all.Goals.{After-next_unsettled}
 use Rattle.consumer_outbox.proofs.sending.send_all.Goals as goal
+
+-- the copy with which the call began, and how many entries were settled since
+so_far : (g : Over) (c : After-next_unsettled g) (now : Copy) → g.C.CopyKeeper.stands_for c.next_unsettled.new.copy now
+    → (before : Copy) × g.C.CopyKeeper.stands_for c.args.copy.now before × SoFar c.entries.settled before now
+so_far g c now stands = c.entries.invariant.copy now (c.next_unsettled.ensures.same now stands)
+
+-- where no number was left out, all that was sent stands, whatever the answer
+all_sent : (token : List ℕ) (entries : List OutEntry) (run count : ℕ) (wants : Type 0) (before after : List Request)
+    → SendsOn (IsWriteUnder token entries) run 0 count ⊥ before after
+    → SendsOn (IsWriteUnder token entries) run 0 count wants before after
+all_sent token entries run count wants before after =
+    sends_weaker (IsWriteUnder token entries) (IsWriteUnder token entries) run 0 count ⊥ wants before after
+    (λ n q h. h) (λ h. absurd h)
 
 pub entries-init : goal.entries-init
 entries-init g c = record {
@@ -39,7 +56,7 @@ entries-init g c = record {
 
 pub returns-in-Err-clause-copy : goal.returns-in-Err-clause-copy
 returns-in-Err-clause-copy g c d stands =
-    let w = c.entries.invariant.copy d (c.next_unsettled.ensures.same d stands) in
+    let w = so_far g (goal.at.returns-in-Err-clause-copy g c).After-next_unsettled d stands in
     (w.0, w.1, (c.entries.settled, w.2, aside_settled c.in-Err.answer c.entries.settled d.entries c.in-Err.ensures.cause.0), bound_at c.args.by.tries c.entries.settled c.entries.count _ _ _ c.entries.invariant.bound c.entries.invariant.asked.most w.2.entries.enough)
 
 pub returns-in-Err-clause-agree : goal.returns-in-Err-clause-agree
@@ -52,7 +69,7 @@ returns-in-Err-clause-told g c entry d t stands tells =
 
 pub returns-in-Err-clause-complete : goal.returns-in-Err-clause-complete
 returns-in-Err-clause-complete g c entry link copy d t stands tells =
-    let w = c.entries.invariant.copy d (c.next_unsettled.ensures.same d stands) in
+    let w = so_far g (goal.at.returns-in-Err-clause-complete g c).After-next_unsettled d stands in
     let z = c.entries.invariant.link t tells in
     (w.0, z.0, w.1, z.1, λ quiet can. aside_fine c.in-Err.answer c.in-Err.ensures.cause.0 (λ e. copy (let rose = c.in-Err.ensures.cause.1 e in omega (arith, rose, c.entries.invariant.later))))
 
@@ -70,7 +87,7 @@ returns-in-Err-clause-cause g c = (
 
 pub returns-in-Ok-None-clause-copy : goal.returns-in-Ok-None-clause-copy
 returns-in-Ok-None-clause-copy g c d stands =
-    let w = c.entries.invariant.copy d (c.next_unsettled.ensures.same d stands) in
+    let w = so_far g (goal.at.returns-in-Ok-None-clause-copy g c).After-next_unsettled d stands in
     let none : first_unsettled d.entries ≡ None = c.in-Ok-None.ensures.next d stands ∙ c.in-Ok-None.field-0-is in
     (w.0, w.1, (c.entries.settled, w.2, (refl, none)), bound_at c.args.by.tries c.entries.settled c.entries.count _ _ _ c.entries.invariant.bound c.entries.invariant.asked.most w.2.entries.enough)
 
@@ -82,7 +99,7 @@ returns-in-Ok-None-clause-told g c entry d t stands tells = let z = c.entries.in
 
 pub returns-in-Ok-None-clause-complete : goal.returns-in-Ok-None-clause-complete
 returns-in-Ok-None-clause-complete g c entry link copy d t stands tells =
-    let w = c.entries.invariant.copy d (c.next_unsettled.ensures.same d stands) in
+    let w = so_far g (goal.at.returns-in-Ok-None-clause-complete g c).After-next_unsettled d stands in
     let z = c.entries.invariant.link t tells in
     (w.0, z.0, w.1, z.1, λ quiet can. tt)
 
@@ -94,7 +111,7 @@ returns-in-Ok-None-clause-cause g c = (c.entries.count, c.entries.invariant.aske
 pub returns-in-Some-clause-copy : goal.returns-in-Some-clause-copy
 returns-in-Some-clause-copy g c d stands =
     let x = c.in-Some.ensures.copy d stands in
-    let w = c.entries.invariant.copy x.0 (c.next_unsettled.ensures.same x.0 x.1) in
+    let w = so_far g (goal.at.returns-in-Some-clause-copy g c).After-next_unsettled x.0 x.1 in
     let first : first_unsettled x.0.entries ≡ Some c.in-Ok-Some.entry = c.in-Ok-Some.ensures.next x.0 x.1 ∙ c.in-Ok-Some.field-0-is in
     let asked = more_to _ _ _ c.entries.count c.send_entry.new.count c.entries.invariant.asked c.send_entry.ensures.count.0 c.send_entry.ensures.asked in (
       w.0,
@@ -123,7 +140,7 @@ returns-in-Some-clause-told g c entry d t stands tells =
 pub returns-in-Some-clause-complete : goal.returns-in-Some-clause-complete
 returns-in-Some-clause-complete g c entry link copy d t stands tells =
     let x = c.in-Some.ensures.copy d stands in
-    let w = c.entries.invariant.copy x.0 (c.next_unsettled.ensures.same x.0 x.1) in
+    let w = so_far g (goal.at.returns-in-Some-clause-complete g c).After-next_unsettled x.0 x.1 in
     let first : first_unsettled x.0.entries ≡ Some c.in-Ok-Some.entry = c.in-Ok-Some.ensures.next x.0 x.1 ∙ c.in-Ok-Some.field-0-is in
     let y = c.in-Some.ensures.complete (λ (e : Copy) (u : LinkState) se te. c.entries.invariant.agree entry e u (c.next_unsettled.ensures.same e se) te)
     (λ rose. link (omega (arith, rose, c.entries.invariant.heard))) (λ rose. copy (omega (arith, rose, c.entries.invariant.later, c.next_unsettled.ensures.later))) d t stands tells in
@@ -166,7 +183,7 @@ entries-preserved g c =
       kept = λ w own. c.in-None.ensures.exact w own;
       copy = λ d stands.
           let x = c.in-None.ensures.copy d stands in
-          let w = c.entries.invariant.copy x.0 (c.next_unsettled.ensures.same x.0 x.1) in
+          let w = so_far g (goal.at.entries-preserved g c).After-next_unsettled x.0 x.1 in
           (w.0, w.1, settles_on c.entries.settled _ w.0 x.0 d c.in-Ok-Some.entry w.2 (c.in-Ok-Some.ensures.next x.0 x.1 ∙ c.in-Ok-Some.field-0-is) x.2);
       link = λ t tells.
           let y = c.in-None.ensures.link t tells in
@@ -222,8 +239,15 @@ returns-in-Err-clause-asks g c = (
   c.entries.count,
   c.entries.invariant.asked,
   λ d t stands tells.
-      let z = c.entries.invariant.sends d t (c.next_unsettled.ensures.same d stands) tells in
-      (z.0, z.1, z.2, z.3, sends_weaker (IsWriteUnder c.args.by.token.now z.0.entries) (IsWriteUnder c.args.by.token.now z.0.entries) c.args.by.run 0 c.entries.count ⊥ _ _ _ (λ n q h. h) (λ h. absurd h) z.5, aside_tried c.in-Err.answer c.args.by.token.now c.args.by.run c.entries.count c.args.by.tries d.entries t.sent c.in-Err.ensures.cause.0),
+      let z = c.entries.invariant.sends d t (c.next_unsettled.ensures.same d stands) tells in (
+        z.0,
+        z.1,
+        z.2,
+        z.3,
+        all_sent c.args.by.token.now z.0.entries c.args.by.run c.entries.count _ _ _ z.5,
+        aside_tried c.in-Err.answer c.args.by.token.now c.args.by.run c.entries.count c.args.by.tries d.entries t.sent
+            c.in-Err.ensures.cause.0,
+      ),
 )
 
 pub returns-in-Ok-None-clause-asks : goal.returns-in-Ok-None-clause-asks
@@ -232,7 +256,7 @@ returns-in-Ok-None-clause-asks g c = (
   c.entries.invariant.asked,
   λ d t stands tells.
       let z = c.entries.invariant.sends d t (c.next_unsettled.ensures.same d stands) tells in
-      (z.0, z.1, z.2, z.3, sends_weaker (IsWriteUnder c.args.by.token.now z.0.entries) (IsWriteUnder c.args.by.token.now z.0.entries) c.args.by.run 0 c.entries.count ⊥ _ _ _ (λ n q h. h) (λ h. absurd h) z.5, tt),
+      (z.0, z.1, z.2, z.3, all_sent c.args.by.token.now z.0.entries c.args.by.run c.entries.count _ _ _ z.5, tt),
 )
 
 pub returns-in-Some-clause-asks : goal.returns-in-Some-clause-asks
@@ -259,7 +283,7 @@ returns-clause-asks g c = (
   c.entries.invariant.asked,
   λ d t stands tells.
       let z = c.entries.invariant.sends d t stands tells in
-      (z.0, z.1, z.2, z.3, sends_weaker (IsWriteUnder c.args.by.token.now z.0.entries) (IsWriteUnder c.args.by.token.now z.0.entries) c.args.by.run 0 c.entries.count ⊥ _ _ _ (λ n q h. h) (λ h. absurd h) z.5, tt),
+      (z.0, z.1, z.2, z.3, all_sent c.args.by.token.now z.0.entries c.args.by.run c.entries.count _ _ _ z.5, tt),
 )
 
 -- ---- what was called

@@ -8,13 +8,29 @@ use Rattle.hub_spec.specs.marks.Marked.{mark_of}
 use Rattle.status_info.specs.declared.request.Request.{Request}
 use Rattle.exchange_link.proofs.AskLemmas.{missed_other, none_other, own_other}
 use Rattle.consumer_outbox.proofs.TriedLemmas.{own_ends, sends_try}
+use Rattle.exchange_link.specs.Exchanges.{LinkState}
+use Rattle.exchange_link.specs.Owning.{IsOwnRead}
 use Rattle.exchange_link.specs.Requests.{number, numbered}
 use Rattle.consumer_outbox.specs.Sends.{ExactIf, request_of}
 use Rattle.consumer_outbox.specs.Verdicts.{verdict_of}
-use Rattle.consumer_outbox.proofs.OwnLemmas.{ready_asked, ready_taken, said_of, taken_fine, taken_told}
+use Rattle.consumer_outbox.proofs.OwnLemmas.{IsSaid, ready_asked, ready_taken, said_of, taken_fine, taken_told}
 use Rattle.consumer_outbox.proofs.StepLemmas.{carries_first, stays_first, takes_any}
 use Rattle.consumer_outbox.proofs.VerdictLemmas.{exact_of, taken_cause}
+use Rattle.consumer_outbox.proofs.sending.send_entry.Given.{Over}
+use Rattle.consumer_outbox.proofs.sending.send_entry.Goals.{In-Own}
 use Rattle.consumer_outbox.proofs.sending.send_entry.Goals as goal
+
+-- what was sent, under the number of the last try
+module _ (g : Over) (c : In-Own g) where
+  abbrev sent : Request
+  sent = numbered (request_of c.args.by.token.now c.args.entry) (number c.args.by.run c.ask_for.new.count)
+
+  -- what the hub's own reply to it says
+  own_said : (before after : LinkState) → IsOwnRead before after sent c.in-Own.reply
+      → IsSaid before after c.args.by.token.now (mark_of c.args.entry) c.in-Own.reply
+  own_said before after own =
+      let last = c.in-Own.ensures.last (own_other c.in-Own.reply) in
+      said_of before after sent c.args.by.token.now (mark_of c.args.entry) c.in-Own.reply refl last.0 own
 
 pub returns-in-Own-clause-copy : goal.returns-in-Own-clause-copy
 returns-in-Own-clause-copy g c after stands = let x = c.take_reply.ensures.told after stands in (x.0, x.1, takes_any _ _ _ _ _ x.2)
@@ -22,36 +38,36 @@ returns-in-Own-clause-copy g c after stands = let x = c.take_reply.ensures.told 
 pub returns-in-Own-clause-agree : goal.returns-in-Own-clause-agree
 returns-in-Own-clause-agree g c entry d t stands tells =
     let token = c.args.by.token.now in
-    let q : Request = numbered (request_of token c.args.entry) (number c.args.by.run c.ask_for.new.count) in
+    let here = (goal.at.returns-in-Own-clause-agree g c).In-Own in
     let x = c.take_reply.ensures.told d stands in
     let y = c.in-Own.ensures.told t tells in
     let ready = entry x.0 y.0 x.1 y.1 in
     let first = c.requires.first x.0 x.1 in
     let last = c.in-Own.ensures.last (own_other c.in-Own.reply) in
-    let said = said_of y.0 t q token (mark_of c.args.entry) c.in-Own.reply refl last.0 (y.3 ready.numbers) in
-    ready_taken y.0 t token c.args.entry c.in-Own.reply said c.args.by.run c.ask_for.new.count q c.take_reply.result x.0 d first refl last.0 (last.1 t tells) x.2
-    (ready_asked token c.args.entry c.args.by.run c.args.count.now c.ask_for.new.count x.0 y.0 t y.2 first (g.met.C.CopyKeeper.is_copy c.args.copy.now x.0 x.1) ready)
+    let said = own_said g here y.0 t (y.3 ready.numbers) in
+    let is = g.met.C.CopyKeeper.is_copy c.args.copy.now x.0 x.1 in
+    ready_taken y.0 t token c.args.entry c.in-Own.reply said c.args.by.run c.ask_for.new.count (sent g here)
+    c.take_reply.result x.0 d first refl last.0 (last.1 t tells) x.2
+    (ready_asked token c.args.entry c.args.by.run c.args.count.now c.ask_for.new.count x.0 y.0 t y.2 first is ready)
 
 pub returns-in-Own-clause-told : goal.returns-in-Own-clause-told
 returns-in-Own-clause-told g c entry d t stands tells =
     let token = c.args.by.token.now in
-    let q : Request = numbered (request_of token c.args.entry) (number c.args.by.run c.ask_for.new.count) in
+    let here = (goal.at.returns-in-Own-clause-told g c).In-Own in
     let x = c.take_reply.ensures.told d stands in
     let y = c.in-Own.ensures.told t tells in
     let ready = entry x.0 y.0 x.1 y.1 in
-    let last = c.in-Own.ensures.last (own_other c.in-Own.reply) in
-    let said = said_of y.0 t q token (mark_of c.args.entry) c.in-Own.reply refl last.0 (y.3 ready.numbers) in
+    let said = own_said g here y.0 t (y.3 ready.numbers) in
     (y.0, y.1, taken_told y.0 t token c.args.entry c.in-Own.reply said c.take_reply.result x.0 d (c.requires.first x.0 x.1) x.2 c.take_reply.ensures.answer)
 
 pub returns-in-Own-clause-complete : goal.returns-in-Own-clause-complete
 returns-in-Own-clause-complete g c entry link copy d t stands tells =
     let token = c.args.by.token.now in
-    let q : Request = numbered (request_of token c.args.entry) (number c.args.by.run c.ask_for.new.count) in
+    let here = (goal.at.returns-in-Own-clause-complete g c).In-Own in
     let x = c.take_reply.ensures.told d stands in
     let y = c.in-Own.ensures.told t tells in
     let ready = entry x.0 y.0 x.1 y.1 in
-    let last = c.in-Own.ensures.last (own_other c.in-Own.reply) in
-    let said = said_of y.0 t q token (mark_of c.args.entry) c.in-Own.reply refl last.0 (y.3 ready.numbers) in
+    let said = own_said g here y.0 t (y.3 ready.numbers) in
     let yet = found_passes (λ (e : OutEntry). is_none e.settled) x.0.entries c.args.entry (c.requires.first x.0 x.1) in
     (y.0, y.1, λ quiet can. taken_fine y.0 t token c.args.entry c.in-Own.reply said c.take_reply.result (g.met.L.Link.is_hub c.ask_for.new.link t tells) quiet can yet (λ e. copy (c.take_reply.ensures.cause e)) c.take_reply.ensures.answer)
 

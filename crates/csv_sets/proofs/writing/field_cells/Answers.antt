@@ -1,29 +1,30 @@
-use Rattle.std.proofs.Common.{◌≡◌, ◌<◌, length, map, ap, ◌∙◌, arith}
+use Rattle.std.proofs.Common.{◌<◌, length, map, ap, ◌∙◌, arith}
 use Rattle.std.proofs.lemmas.List.{take_all}
 use Rattle.roster_types.specs.Records.{all_values}
-use Rattle.roster_types.proofs.Sums.{fields-values, info_at, infos-length}
-use Rattle.roster_values.specs.Table.{info_of, table}
+use Rattle.roster_types.proofs.Sums.{are_infos, fields-values}
 use Rattle.csv_sets.specs.Written.{field_cell}
 use Rattle.csv_sets.proofs.LineSteps.{cells_push}
 use Rattle.csv_sets.proofs.writing.field_cells.Goals as goal
 
 pub field_cell-requires : goal.field_cell-requires
 field_cell-requires c =
-    let m : map info_of c.fields-infos.result.now ≡ table c.args.row.now.kind = c.fields-infos.ensures ∙ ap table c.kind.ensures.kind in
-    let n = infos-length _ _ m in
-    info_at _ _ c.loop-place.place _ m (omega (arith, n, c.loop-place-test.true))
+    let infos = are_infos c.fields-infos.ensures c.kind.ensures.kind in
+    infos.line _ _ c.loop-place-test.true
 
 pub loop-place-preserved : goal.loop-place-preserved
 loop-place-preserved c =
-    let m : map info_of c.fields-infos.result.now ≡ table c.args.row.now.kind = c.fields-infos.ensures ∙ ap table c.kind.ensures.kind in
-    let n = infos-length _ _ m in
+    let infos = are_infos c.fields-infos.ensures c.kind.ensures.kind in
     let v = fields-values c.args.row.now c.kind.ensures.row.fitting in
-    let l : c.loop-place.place < length (all_values c.args.row.now) = omega (arith, n, v, c.loop-place-test.true) in
-    rw c.in_ok-push.ensures.items (cells_push c.loop-place.cells.items (all_values c.args.row.now) c.loop-place.place c.in_ok-field_cell.field-0 c.loop-place.invariant l c.in_ok-field_cell.ensures)
+    let l : c.loop-place.place < length (all_values c.args.row.now) =
+    omega (arith, infos.as_many, v, c.loop-place-test.true) in
+    rw c.in_ok-push.ensures.items
+    (cells_push c.loop-place.cells.items (all_values c.args.row.now) c.loop-place.place c.in_ok-field_cell.field-0
+    c.loop-place.invariant l c.in_ok-field_cell.ensures)
 
 pub returns-clause-cells : goal.returns-clause-cells
 returns-clause-cells c =
-    let m : map info_of c.fields-infos.result.now ≡ table c.args.row.now.kind = c.fields-infos.ensures ∙ ap table c.kind.ensures.kind in
-    let n = infos-length _ _ m in
+    let infos = are_infos c.fields-infos.ensures c.kind.ensures.kind in
     let v = fields-values c.args.row.now c.kind.ensures.row.fitting in
-    c.loop-place.invariant ∙ ap (map field_cell) (take_all c.loop-place.place (all_values c.args.row.now) (omega (arith, n, v, c.loop-place-test.false)))
+    c.loop-place.invariant
+    ∙ ap (map field_cell) (take_all c.loop-place.place (all_values c.args.row.now)
+    (omega (arith, infos.as_many, v, c.loop-place-test.false)))

@@ -5,7 +5,8 @@ use Rattle.delta_parts.proofs.Walking.{length-kinds}
 use Rattle.delta_parts.specs.Parts.{count_on, with_option}
 use Rattle.delta_parts.specs.Turns.{entry_shown}
 use Rattle.roster_types.specs.Keys.{look_up, row_key}
-use Rattle.row_deltas.specs.Deltas.{difference, id_key}
+use Rattle.row_deltas.specs.Deltas.{difference}
+use Rattle.version_core.specs.Spans.{key_in}
 use Rattle.delta_parts.proofs.among.delta_part_among.Goals as goal
 
 pub loop-id-init : goal.loop-id-init
@@ -20,7 +21,7 @@ loop-id-preserved g c =
     let rest : List (List ℕ) = map (λ id. id.now) (drop (c.loop-id.id-index + 1) c.args.ids.now) in
     let here : map (λ id. id.now) (drop c.loop-id.id-index c.args.ids.now) ≡ id ∷ rest =
     ap (map (λ id. id.now)) (drop_more c.args.ids.now c.loop-id.id-index c.id-item.result within) ∙ (λ i. (sym c.id-item.is i).now ∷ rest) in
-    let differs : option_map entry_shown c.difference-entry.result ≡ difference (look_up row_key (id_key c.args.kind id) (g.A.Rows.rows c.args.before.now)) (look_up row_key (id_key c.args.kind id) (g.B.Rows.rows c.args.after.now)) =
+    let differs : option_map entry_shown c.difference-entry.result ≡ difference (look_up row_key (key_in c.args.kind id) (g.A.Rows.rows c.args.before.now)) (look_up row_key (key_in c.args.kind id) (g.B.Rows.rows c.args.after.now)) =
     c.difference-entry.ensures ∙ (λ i. difference (c.row.ensures i) (c.row-in-loop-id.ensures i)) in
     list_on c.args.kind c.args.paging.limit c.args.paging.offset (g.A.Rows.rows c.args.before.now) (g.B.Rows.rows c.args.after.now) c.loop-id.total c.loop-id.found.items
     (map (λ id. id.now) (drop c.loop-id.id-index c.args.ids.now)) id rest c.in_ok-total.total c.add_within.new.found.items c.ascend.ensures.order c.ascend-2.ensures.order c.loop-id.invariant here

@@ -1,4 +1,5 @@
 use Rattle.std.proofs.Common.{arith, ◌≡◌, ◌+◌, ◌<◌, refl, sym, ◌∙◌, ap}
+use Rattle.exchange_link.specs.Causes.{IsOwnReply}
 use Rattle.exchange_link.specs.Exchanges.{IsTextOf}
 use Rattle.http_wire.specs.Sending.{request_text}
 use Rattle.status_info.specs.declared.request.Echo.{Echo}
@@ -7,6 +8,8 @@ use Rattle.exchange_link.specs.Asked.{IsTry}
 use Rattle.exchange_link.specs.Requests.{IsNumbered, number, numbered}
 use Rattle.exchange_link.proofs.AskLemmas.{asks_on, asks_refl, own_map, missed_other, own_on, sent_last}
 use Rattle.exchange_link.proofs.AskedLemmas.{sends_once, sends_refl, sends_trans, sends_weaker}
+use Rattle.exchange_link.proofs.asking.ask.Given.{Over}
+use Rattle.exchange_link.proofs.asking.ask.Goals.{After-as_slice}
 use Rattle.exchange_link.proofs.asking.ask.Goals as goal
 
 pub loop-i-init : goal.loop-i-init
@@ -32,27 +35,37 @@ returns-in-Err-clause-asks g c after tells =
     let y = c.loop-i.invariant.sends after tells in
     (y.0, y.1, sends_weaker (IsTry (numbered c.args.request)) (IsTry (numbered c.args.request)) _ _ _ ⊥ _ _ _ (λ n q h. h) (λ h. absurd h) y.2)
 
+-- what is sent in a turn: the request under the next number, as its text
+module _ (g : Over) (c : After-as_slice g) where
+  abbrev under : Echo
+  under = number c.args.run (c.loop-i.count + 1)
+
+  abbrev sent : Request
+  sent = numbered c.args.request under
+
+  same : numbered c.loop-i.request under ≡ sent
+  same = ap (λ (q : Request). numbered q under) c.loop-i.invariant.request
+
+  is : IsTextOf sent c.as_slice.result.now
+  is = record {
+    can = c.requires.can under (
+      c.requires.run.0,
+      c.requires.run.1,
+      omega arith,
+      omega (arith, c.requires.few, c.loop-i.invariant.count, c.loop-i-test.true),
+    );
+    text_is = c.as_slice.ensures.value ∙ c.in-Ok.ensures ∙ ap request_text same;
+  }
+
 pub once-requires : goal.once-requires
 once-requires g c =
-    let n : Echo = number c.args.run (c.loop-i.count + 1) in
-    let same : numbered c.loop-i.request n ≡ numbered c.args.request n = ap (λ (q : Request). numbered q n) c.loop-i.invariant.request in (
-      numbered c.args.request n,
-      record {
-        can = c.requires.can n (c.requires.run.0, c.requires.run.1, omega arith, omega (arith, c.requires.few, c.loop-i.invariant.count, c.loop-i-test.true));
-        text_is = c.as_slice.ensures.value ∙ c.in-Ok.ensures ∙ ap request_text same;
-      },
-      refl,
-    )
+    let here = (goal.at.once-requires g c).After-as_slice in
+    (sent g here, is g here, refl)
 
 pub returns-in_default : goal.returns-in_default
 returns-in_default g c =
-    let n : Echo = number c.args.run (c.loop-i.count + 1) in
-    let same : numbered c.loop-i.request n ≡ numbered c.args.request n = ap (λ (q : Request). numbered q n) c.loop-i.invariant.request in
-    let q : Request = numbered c.args.request n in
-    let is : IsTextOf q c.as_slice.result.now = record {
-      can = c.requires.can n (c.requires.run.0, c.requires.run.1, omega arith, omega (arith, c.requires.few, c.loop-i.invariant.count, c.loop-i-test.true));
-      text_is = c.as_slice.ensures.value ∙ c.in-Ok.ensures ∙ ap request_text same;
-    } in
+    let here : After-as_slice g = (goal.at.returns-in_default g c).After-as_slice in
+    let q : Request = sent g here in
     record {
       count = (omega (arith, c.loop-i.invariant.count), omega (arith, c.loop-i.invariant.count, c.loop-i-test.true));
       asked = record {
@@ -61,39 +74,38 @@ returns-in_default g c =
       };
       later = omega (arith, c.loop-i.invariant.later, c.once.ensures.later);
       link_leads = g.met.L.Link.leads_on _ _ _ c.loop-i.invariant.leads c.once.ensures.link_leads;
-      own = own_map c.once.result _ _ (λ w x. record { text = x.0; number = x.1; from = omega arith }) c.once.ensures.own;
+      own = own_map c.once.result _ (IsOwnReply (g.L.Link.kept c.once.new.link) c.args.run (c.loop-i.count + 1))
+          (λ w x. record { text = x.0; number = x.1; from = omega arith }) c.once.ensures.own;
       none = λ e. let x = c.once.ensures.none e in (omega arith, x.0, x.1);
       missed = λ e. absurd (c.in_default.not-Missed e);
       told = λ after tells.
-          let x = c.once.ensures.told q is after tells in
+          let x = c.once.ensures.told q (is g here) after tells in
           let y = c.loop-i.invariant.told x.0 x.1 in (
             y.0,
             y.1,
-            asks_on c.args.run _ c.loop-i.count _ (IsNumbered c.args.request) q _ _ _ _ refl (omega arith) (n, refl) y.2 x.2,
-            λ ready. own_on c.args.run _ c.loop-i.count _ (IsNumbered c.args.request) q _ _ _ _ refl (omega arith) y.2 x.2 ready (own_map c.once.result _ _ (λ w z. z.1) c.once.ensures.own),
+            asks_on c.args.run _ c.loop-i.count _ (IsNumbered c.args.request) q _ _ _ _ refl (omega arith)
+                (under g here, refl) y.2 x.2,
+            λ ready.
+                own_on c.args.run _ c.loop-i.count _ (IsNumbered c.args.request) q _ _ _ _ refl (omega arith) y.2 x.2
+                ready (own_map c.once.result _ _ (λ w z. z.1) c.once.ensures.own),
           );
       last = λ ne after tells.
-          let x = c.once.ensures.told q is after tells in
+          let x = c.once.ensures.told q (is g here) after tells in
           sent_last q c.once.result x.0 after x.2 ne;
       asks = λ after tells.
-          let x = c.once.ensures.told q is after tells in
+          let x = c.once.ensures.told q (is g here) after tells in
           let y = c.loop-i.invariant.sends x.0 x.1 in
           (y.0, y.1, sends_trans (IsTry (numbered c.args.request)) c.args.run _ c.loop-i.count _ ⊥ _ _ _ _ (λ h. h) y.2 (sends_once (IsTry (numbered c.args.request)) c.args.run c.loop-i.count _ q c.once.result x.0 after refl refl x.2));
     }
 
 pub loop-i-preserved : goal.loop-i-preserved
 loop-i-preserved g c =
-    let n : Echo = number c.args.run (c.loop-i.count + 1) in
-    let same : numbered c.loop-i.request n ≡ numbered c.args.request n = ap (λ (q : Request). numbered q n) c.loop-i.invariant.request in
-    let q : Request = numbered c.args.request n in
-    let is : IsTextOf q c.as_slice.result.now = record {
-      can = c.requires.can n (c.requires.run.0, c.requires.run.1, omega arith, omega (arith, c.requires.few, c.loop-i.invariant.count, c.loop-i-test.true));
-      text_is = c.as_slice.ensures.value ∙ c.in-Ok.ensures ∙ ap request_text same;
-    } in
+    let here : After-as_slice g = (goal.at.loop-i-preserved g c).After-as_slice in
+    let q : Request = sent g here in
     let m = c.once.ensures.missed c.in-Missed.is in
     record {
       count = omega (arith, c.loop-i.invariant.count);
-      request = same;
+      request = same g here;
       missed = let r = c.once.ensures.misses.again m.0 in omega (arith, r, c.loop-i.invariant.missed, c.requires.tries.1, c.loop-i-test.true);
       asked = record {
         least = omega (arith, c.loop-i.invariant.asked.least, c.once.ensures.asked.least);
@@ -104,11 +116,15 @@ loop-i-preserved g c =
       rose = let r = m.0 in omega (arith, r, c.loop-i.invariant.rose);
       none = λ p w text echo. m.1 w text echo;
       told = λ after tells.
-          let x = c.once.ensures.told q is after tells in
-          let y = c.loop-i.invariant.told x.0 x.1 in
-          (y.0, y.1, asks_on c.args.run _ c.loop-i.count _ (IsNumbered c.args.request) q _ _ _ _ refl (omega arith) (n, refl) y.2 x.2);
+          let x = c.once.ensures.told q (is g here) after tells in
+          let y = c.loop-i.invariant.told x.0 x.1 in (
+            y.0,
+            y.1,
+            asks_on c.args.run _ c.loop-i.count _ (IsNumbered c.args.request) q _ _ _ _ refl (omega arith)
+                (under g here, refl) y.2 x.2,
+          );
       sends = λ after tells.
-          let x = c.once.ensures.told q is after tells in
+          let x = c.once.ensures.told q (is g here) after tells in
           let y = c.loop-i.invariant.sends x.0 x.1 in
           let one = sends_once (IsTry (numbered c.args.request)) c.args.run c.loop-i.count _ q c.once.result x.0 after refl refl x.2 in (
             y.0,
@@ -117,7 +133,7 @@ loop-i-preserved g c =
                 (sends_weaker (IsTry (numbered c.args.request)) (IsTry (numbered c.args.request)) _ _ _ _ ⊥ _ _ (λ n q h. h) (λ e. missed_other (sym c.in-Missed.is ∙ e)) one),
           );
       last = λ p after tells.
-          let x = c.once.ensures.told q is after tells in
+          let x = c.once.ensures.told q (is g here) after tells in
           sent_last q c.once.result x.0 after x.2 (λ e. missed_other (sym c.in-Missed.is ∙ e));
     }
 

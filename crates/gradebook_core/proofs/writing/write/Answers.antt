@@ -3,6 +3,7 @@ use Rattle.gradebook_core.proofs.WriteSteps.{done, failed, may_commit, told_low}
 use Rattle.gradebook_core.specs.declared.written.Written.{Written}
 use Rattle.keeper_memory.specs.Kept.{newest_kept}
 use Rattle.version_core.specs.Marks.{AreMarks}
+use Rattle.version_core.specs.Outcomes.{deleted_outcome}
 use Rattle.version_core.specs.Version.{newest_of}
 use Rattle.version_core.specs.declared.mark.MarkRow.{MarkRow}
 use Rattle.gradebook_core.proofs.writing.write.Goals as goal
@@ -34,5 +35,5 @@ returns-in-Ok-clause-outcome g c =
     let kept = c.table-table.ensures.kept.marks in
     let marks = c.marks.result.now.marks in
     let are = subst (λ (ms : List MarkRow). AreMarks (newest_kept c.args.hub.now.kept.versions).number ms) (sym c.marks.ensures) kept in
-    subst (λ (w : Written). w.outcome ≤ 9) (sym c.written_by-written.ensures)
+    subst (λ (w : Written). w.outcome ≤ deleted_outcome) (sym c.written_by-written.ensures)
     (told_low (newest_kept c.args.hub.now.kept.versions).number marks are newest c.args.asking.now.mark c.args.write c.in_ok-judgement.judgement c.in_ok-judgement.ensures.repeats)

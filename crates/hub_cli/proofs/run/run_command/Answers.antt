@@ -1,5 +1,5 @@
 use Rattle.std.proofs.Common.{refl}
-use Rattle.script_runs.specs.Below.Consumers.{copy_between, link_between}
+use Rattle.exchange_link.specs.Between.{copy_between, link_between}
 use Rattle.hub_cli.proofs.Ending.{leads-cascaded, leads-command, leads-delta, leads-entered, leads-exported}
 use Rattle.hub_cli.proofs.Ending.{leads-exported-since, leads-followed, leads-listed, leads-made-answer, leads-manifest}
 use Rattle.hub_cli.proofs.Ending.{leads-outbox, leads-rehearsed-answer, leads-resting, leads-sent, leads-shown}
@@ -22,47 +22,44 @@ returns-in-Show g c =
 
 pub returns-in-Publish : goal.returns-in-Publish
 returns-in-Publish g c =
+    let faults = faults_between g.H.HubKeeper.fault_count c.args.keeper.now c.publish.new.keeper in
+    let outside = outside_between g.F.Folder.files g.F.Folder.faults c.args.folder.now c.publish.new.folder
+    (g.K.Clock.moment c.args.clock.now) faults in
+    let copy = copy_between g.C.CopyKeeper.stands_for g.C.CopyKeeper.fault_count c.args.copy.now c.args.copy.now in
+    let link = link_between g.L.Link.tells g.L.Link.asked g.L.Link.missed g.L.Link.kept g.L.Link.fault_count
+    c.args.link.now c.args.link.now in
     writes_as _ _ _ _ _ _ _
-    (leads-told
-    (outside_between g.F.Folder.files g.F.Folder.faults c.args.folder.now c.publish.new.folder (g.K.Clock.moment c.args.clock.now) (faults_between g.H.HubKeeper.fault_count c.args.keeper.now c.publish.new.keeper))
-    (copy_between g.C.CopyKeeper.stands_for g.C.CopyKeeper.fault_count c.args.copy.now c.args.copy.now)
-    (link_between g.L.Link.tells g.L.Link.asked g.L.Link.missed g.L.Link.kept g.L.Link.fault_count c.args.link.now c.args.link.now)
+    (leads-told outside copy link
     (g.H.HubKeeper.stands_for c.args.keeper.now) (g.H.HubKeeper.stands_for c.publish.new.keeper) c.args.parsed.now (Publish c.in-Publish.feeds) c.in-Publish.is c.publish.result
-    (leads-resting
-    (outside_between g.F.Folder.files g.F.Folder.faults c.args.folder.now c.publish.new.folder (g.K.Clock.moment c.args.clock.now) (faults_between g.H.HubKeeper.fault_count c.args.keeper.now c.publish.new.keeper))
-    (copy_between g.C.CopyKeeper.stands_for g.C.CopyKeeper.fault_count c.args.copy.now c.args.copy.now)
-    (link_between g.L.Link.tells g.L.Link.asked g.L.Link.missed g.L.Link.kept g.L.Link.fault_count c.args.link.now c.args.link.now)
-    _ _ (refl, refl) _ c.publish.ensures))
+    (leads-resting outside copy link _ _ (refl, refl) _ c.publish.ensures))
     c.tell-in-Publish.ensures
 
 pub returns-in-Grant : goal.returns-in-Grant
 returns-in-Grant g c =
+    let faults = faults_between g.H.HubKeeper.fault_count c.args.keeper.now c.grant.new.keeper in
+    let outside = outside_between g.F.Folder.files g.F.Folder.faults c.args.folder.now c.grant.new.folder
+    (g.K.Clock.moment c.args.clock.now) faults in
+    let copy = copy_between g.C.CopyKeeper.stands_for g.C.CopyKeeper.fault_count c.args.copy.now c.args.copy.now in
+    let link = link_between g.L.Link.tells g.L.Link.asked g.L.Link.missed g.L.Link.kept g.L.Link.fault_count
+    c.args.link.now c.args.link.now in
     writes_as _ _ _ _ _ _ _
-    (leads-told
-    (outside_between g.F.Folder.files g.F.Folder.faults c.args.folder.now c.grant.new.folder (g.K.Clock.moment c.args.clock.now) (faults_between g.H.HubKeeper.fault_count c.args.keeper.now c.grant.new.keeper))
-    (copy_between g.C.CopyKeeper.stands_for g.C.CopyKeeper.fault_count c.args.copy.now c.args.copy.now)
-    (link_between g.L.Link.tells g.L.Link.asked g.L.Link.missed g.L.Link.kept g.L.Link.fault_count c.args.link.now c.args.link.now)
+    (leads-told outside copy link
     (g.H.HubKeeper.stands_for c.args.keeper.now) (g.H.HubKeeper.stands_for c.grant.new.keeper) c.args.parsed.now (Grant c.in-Grant.file) c.in-Grant.is c.grant.result
-    (leads-resting
-    (outside_between g.F.Folder.files g.F.Folder.faults c.args.folder.now c.grant.new.folder (g.K.Clock.moment c.args.clock.now) (faults_between g.H.HubKeeper.fault_count c.args.keeper.now c.grant.new.keeper))
-    (copy_between g.C.CopyKeeper.stands_for g.C.CopyKeeper.fault_count c.args.copy.now c.args.copy.now)
-    (link_between g.L.Link.tells g.L.Link.asked g.L.Link.missed g.L.Link.kept g.L.Link.fault_count c.args.link.now c.args.link.now)
-    _ _ (refl, refl) _ c.grant.ensures))
+    (leads-resting outside copy link _ _ (refl, refl) _ c.grant.ensures))
     c.tell-in-Grant.ensures
 
 pub returns-in-Ask : goal.returns-in-Ask
 returns-in-Ask g c =
+    let faults = faults_between g.H.HubKeeper.fault_count c.args.keeper.now c.ask.new.keeper in
+    let outside = outside_between g.F.Folder.files g.F.Folder.faults c.args.folder.now c.ask.new.folder
+    (g.K.Clock.moment c.args.clock.now) faults in
+    let copy = copy_between g.C.CopyKeeper.stands_for g.C.CopyKeeper.fault_count c.args.copy.now c.args.copy.now in
+    let link = link_between g.L.Link.tells g.L.Link.asked g.L.Link.missed g.L.Link.kept g.L.Link.fault_count
+    c.args.link.now c.args.link.now in
     writes_as _ _ _ _ _ _ _
-    (λ a leads. leads-command
-    (outside_between g.F.Folder.files g.F.Folder.faults c.args.folder.now c.ask.new.folder (g.K.Clock.moment c.args.clock.now) (faults_between g.H.HubKeeper.fault_count c.args.keeper.now c.ask.new.keeper))
-    (copy_between g.C.CopyKeeper.stands_for g.C.CopyKeeper.fault_count c.args.copy.now c.args.copy.now)
-    (link_between g.L.Link.tells g.L.Link.asked g.L.Link.missed g.L.Link.kept g.L.Link.fault_count c.args.link.now c.args.link.now)
+    (λ a leads. leads-command outside copy link
     (g.H.HubKeeper.stands_for c.args.keeper.now) (g.H.HubKeeper.stands_for c.ask.new.keeper) c.args.parsed.now (Ask c.in-Ask.file) c.in-Ask.is a
-    (leads-resting
-    (outside_between g.F.Folder.files g.F.Folder.faults c.args.folder.now c.ask.new.folder (g.K.Clock.moment c.args.clock.now) (faults_between g.H.HubKeeper.fault_count c.args.keeper.now c.ask.new.keeper))
-    (copy_between g.C.CopyKeeper.stands_for g.C.CopyKeeper.fault_count c.args.copy.now c.args.copy.now)
-    (link_between g.L.Link.tells g.L.Link.asked g.L.Link.missed g.L.Link.kept g.L.Link.fault_count c.args.link.now c.args.link.now)
-    _ _ (refl, refl) _ leads))
+    (leads-resting outside copy link _ _ (refl, refl) _ leads))
     c.ask.ensures
 
 pub returns-in-Sync : goal.returns-in-Sync

@@ -1,5 +1,5 @@
 use Rattle.std.proofs.Common.{refl}
-use Rattle.script_runs.specs.Below.Consumers.{copy_between, link_between}
+use Rattle.exchange_link.specs.Between.{copy_between, link_between}
 use Rattle.hub_cli.proofs.Ending.{leads-bad-words}
 use Rattle.script_runs.proofs.Below.Telling.{writes_as}
 use Rattle.script_runs.specs.Below.Outside.{faults_between, outside_between}

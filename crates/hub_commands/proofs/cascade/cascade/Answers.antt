@@ -1,4 +1,4 @@
-use Rattle.consumer_commands.specs.Consumers.{copy_between}
+use Rattle.exchange_link.specs.Between.{copy_between}
 use Rattle.hub_core.specs.declared.hub.Hub.{Hub}
 use Rattle.hub_commands.proofs.Cascading.{cascade_not_opened, cascade_opened}
 use Rattle.hub_commands.proofs.cascade.cascade.Goals as goal

@@ -1,4 +1,4 @@
-use Rattle.consumer_commands.specs.Consumers.{copy_between}
+use Rattle.exchange_link.specs.Between.{copy_between}
 use Rattle.hub_commands.proofs.Cascading.{cascaded}
 use Rattle.hub_commands.specs.Outside.{faults_between}
 use Rattle.hub_commands.proofs.cascade.cascade_into.Goals as goal

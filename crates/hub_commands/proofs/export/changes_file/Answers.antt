@@ -1,4 +1,4 @@
-use Rattle.consumer_commands.specs.Consumers.{copy_between}
+use Rattle.exchange_link.specs.Between.{copy_between}
 use Rattle.hub_commands.specs.ExportAnswers.{HasTooMany, IsChangesExport, rows_in}
 use Rattle.hub_commands.proofs.Exporting.{export-done, export-stopped}
 use Rattle.hub_commands.proofs.export.changes_file.Goals as goal

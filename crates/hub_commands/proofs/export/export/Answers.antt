@@ -1,7 +1,7 @@
 use Rattle.std.proofs.Common.{◌≡◌, length}
 use Rattle.csv_sets.specs.Written.{written_text}
 use Rattle.keeper_memory.specs.copy.Copies.{held_list}
-use Rattle.consumer_commands.specs.Consumers.{copy_between}
+use Rattle.exchange_link.specs.Between.{copy_between}
 use Rattle.hub_commands.specs.ExportAnswers.{IsExport}
 use Rattle.hub_commands.proofs.Exporting.{export-done, export-stopped}
 use Rattle.hub_commands.proofs.export.export.Goals as goal

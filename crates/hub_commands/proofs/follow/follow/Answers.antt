@@ -1,5 +1,5 @@
 use Rattle.std.proofs.Common.{ap, refl}
-use Rattle.consumer_commands.specs.Consumers.{CopyRun, LinkRun, copy_between, link_between}
+use Rattle.exchange_link.specs.Between.{CopyRun, LinkRun, copy_between, link_between}
 use Rattle.hub_core.specs.declared.hub.Hub.{Hub}
 use Rattle.hub_follow.specs.Causes.{keeper_view, link_view}
 use Rattle.hub_follow.specs.Ends.{synced}

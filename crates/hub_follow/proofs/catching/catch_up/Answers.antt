@@ -2,16 +2,27 @@ use Rattle.std.proofs.Common.{⊎_elim, ℕ, Result, sym, subst, ◌∙◌, arit
 use Rattle.std.specs.Prelude.{IfErr}
 use Rattle.consumer_deltas.proofs.DeltaDoneLemmas.{cause_fails}
 use Rattle.exchange_link.proofs.AskLemmas.{cause_more}
+use Rattle.exchange_link.specs.Between.{call_with, copy_between, link_between}
 use Rattle.exchange_link.specs.Completeness.{IsDone}
 use Rattle.hub_follow.proofs.Ending.{miss_delta, miss_sync, sync_whole}
 use Rattle.hub_follow.proofs.Standing.{done_delta, done_lacking, run_behind, run_low, stands_behind}
 use Rattle.hub_follow.proofs.Wholes.{by_delta, by_sync, told_by_delta, told_by_sync}
 use Rattle.hub_follow.proofs.Joining.{first_both, first_delta, leaves_both, leaves_delta, told_both, told_delta}
 use Rattle.hub_follow.specs.Catching.{CatchesUp, CatchesUpTold}
-use Rattle.hub_follow.specs.Causes.{MissedBy, MissedTold, keeper_view, link_view}
+use Rattle.hub_follow.specs.Causes.{KeeperView, LinkView, MissedBy, MissedTold, keeper_view, link_view}
 use Rattle.hub_follow.specs.Ends.{IsMiss, sync_of}
 use Rattle.hub_follow.specs.declared.answer.Missed.{Missed}
+use Rattle.hub_follow.proofs.catching.catch_up.Given.{Over}
 use Rattle.hub_follow.proofs.catching.catch_up.Goals as goal
+
+-- what is seen of the copy's keeper and of the link
+module _ (g : Over) where
+  abbrev copies_of : KeeperView g.row.C.Denot
+  copies_of = keeper_view g.C.CopyKeeper.stands_for g.C.CopyKeeper.fault_count g.C.CopyKeeper.leads
+
+  abbrev links_of : LinkView g.row.L.Denot
+  links_of = link_view g.L.Link.tells g.L.Link.asked g.L.Link.missed g.L.Link.kept g.L.Link.fault_count
+      g.L.Link.leads
 
 -- ---- a whole one behind an incremental one
 
@@ -31,8 +42,8 @@ returns-then-lacks_base-clause-copy g c after stands =
 
 pub returns-then-lacks_base-clause-cause : goal.returns-then-lacks_base-clause-cause
 returns-then-lacks_base-clause-cause g c =
-    let copies = keeper_view g.C.CopyKeeper.stands_for g.C.CopyKeeper.fault_count g.C.CopyKeeper.leads in
-    let links = link_view g.L.Link.tells g.L.Link.asked g.L.Link.missed g.L.Link.kept g.L.Link.fault_count g.L.Link.leads in
+    let copies = copies_of g in
+    let links = links_of g in
     let first = c.delta_sync-answer in
     subst (λ (r : Result ℕ Missed). MissedBy copies links c.args.token.now c.args.limit c.args.tries c.args.copy.now c.sync-whole.new.copy c.args.link.now c.sync-whole.new.link r) (sym c.end_of_sync.ensures)
     (by_sync copies links c.args.token.now c.args.limit c.args.tries c.args.copy.now first.new.copy c.sync-whole.new.copy c.args.link.now first.new.link c.sync-whole.new.link first.result c.sync-whole.result
@@ -63,7 +74,10 @@ returns-then-lacks_base-clause-first g c some after tells stands told =
     let law = c.delta_sync-answer.ensures.base y.0 y.1 in (
       w.0,
       w.1,
-      first_both c.args.token.now c.args.limit c.args.tries _ _ _ _ c.delta_sync-answer.result w.0.sent z.0.sent tells.sent y.0 y.1 (sym c.lacks_base.ensures ∙ c.if-lacks_base.true)
+      first_both (call_with c.args.token.now c.args.limit c.args.tries)
+          (copy_between g.C.CopyKeeper.stands_for g.C.CopyKeeper.fault_count c.args.copy.now c.delta_sync-answer.new.copy)
+          (link_between g.L.Link.tells g.L.Link.asked g.L.Link.missed g.L.Link.kept g.L.Link.fault_count c.args.link.now c.delta_sync-answer.new.link)
+          c.delta_sync-answer.result w.0.sent z.0.sent tells.sent y.0 y.1 (sym c.lacks_base.ensures ∙ c.if-lacks_base.true)
           (λ none. some law.0 law.1 (law.2.only none)) w.2 z.2.pages.more z.2.pages.sent,
     )
 
@@ -83,7 +97,7 @@ returns-then-lacks_base-clause-told g c agree after tells stands told =
 
 pub returns-then-lacks_base-clause-cause_told : goal.returns-then-lacks_base-clause-cause_told
 returns-then-lacks_base-clause-cause_told g c agree after tells stands told =
-    let links = link_view g.L.Link.tells g.L.Link.asked g.L.Link.missed g.L.Link.kept g.L.Link.fault_count g.L.Link.leads in
+    let links = links_of g in
     let token = c.args.token.now in
     let first = c.delta_sync-answer in
     let y = c.sync-whole.ensures.cause_told (λ m w sm tm. let x = first.ensures.told agree m w sm tm in x.4.agree) after tells stands told in
@@ -129,16 +143,22 @@ returns-else-lacks_base-clause-copy g c after stands =
 
 pub returns-else-lacks_base-clause-cause : goal.returns-else-lacks_base-clause-cause
 returns-else-lacks_base-clause-cause g c =
-    let copies = keeper_view g.C.CopyKeeper.stands_for g.C.CopyKeeper.fault_count g.C.CopyKeeper.leads in
-    let links = link_view g.L.Link.tells g.L.Link.asked g.L.Link.missed g.L.Link.kept g.L.Link.fault_count g.L.Link.leads in
+    let copies = copies_of g in
+    let links = links_of g in
     let first = c.delta_sync-answer in
     subst (λ (r : Result ℕ Missed). MissedBy copies links c.args.token.now c.args.limit c.args.tries c.args.copy.now first.new.copy c.args.link.now first.new.link r) (sym c.end_of_delta.ensures)
     (by_delta copies links c.args.token.now c.args.limit c.args.tries c.args.copy.now first.new.copy c.args.link.now first.new.link first.result (sym c.lacks_base.ensures ∙ c.if-lacks_base.false) first.ensures.cause)
 
 pub returns-else-lacks_base-clause-first : goal.returns-else-lacks_base-clause-first
 returns-else-lacks_base-clause-first g c some after tells stands told =
-    let w = c.delta_sync-answer.ensures.asks tells told in
-    (w.0, w.1, first_delta c.args.token.now c.args.limit c.args.tries _ _ _ _ c.delta_sync-answer.result w.0.sent tells.sent after stands w.2)
+    let w = c.delta_sync-answer.ensures.asks tells told in (
+      w.0,
+      w.1,
+      first_delta (call_with c.args.token.now c.args.limit c.args.tries)
+          (copy_between g.C.CopyKeeper.stands_for g.C.CopyKeeper.fault_count c.args.copy.now c.delta_sync-answer.new.copy)
+          (link_between g.L.Link.tells g.L.Link.asked g.L.Link.missed g.L.Link.kept g.L.Link.fault_count c.args.link.now c.delta_sync-answer.new.link)
+          c.delta_sync-answer.result w.0.sent tells.sent after stands w.2,
+    )
 
 pub returns-else-lacks_base-clause-told : goal.returns-else-lacks_base-clause-told
 returns-else-lacks_base-clause-told g c agree after tells stands told =
@@ -153,7 +173,7 @@ returns-else-lacks_base-clause-told g c agree after tells stands told =
 
 pub returns-else-lacks_base-clause-cause_told : goal.returns-else-lacks_base-clause-cause_told
 returns-else-lacks_base-clause-cause_told g c agree after tells stands told =
-    let links = link_view g.L.Link.tells g.L.Link.asked g.L.Link.missed g.L.Link.kept g.L.Link.fault_count g.L.Link.leads in
+    let links = links_of g in
     let q = c.delta_sync-answer.ensures.cause_told agree after tells stands told in
     subst (λ (r : Result ℕ Missed). MissedTold links c.args.token.now c.args.link.now tells r) (sym c.end_of_delta.ensures)
     (told_by_delta links c.args.token.now c.args.link.now q.0 tells c.delta_sync-answer.result (sym c.lacks_base.ensures ∙ c.if-lacks_base.false) q.1 q.2)

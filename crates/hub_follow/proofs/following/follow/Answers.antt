@@ -8,13 +8,34 @@ use Rattle.hub_follow.proofs.Standing.{followed_cascade, followed_miss, held_som
 use Rattle.hub_follow.proofs.Wholes.{err_synced, if_cascaded, if_done, if_missed, if_undone, ok_synced, rows_complete}
 use Rattle.hub_follow.proofs.Wholes.{serves, shows_rows}
 use Rattle.hub_follow.specs.Catching.{CatchesUp, CatchesUpTold, rows_seen}
-use Rattle.hub_follow.specs.Causes.{MissedBy, MissedTold, keeper_view, link_view}
-use Rattle.hub_follow.specs.Ends.{IsFollowed, IsMiss, sync_of}
+use Rattle.hub_follow.specs.Causes.{KeeperView, LinkView, MissedBy, MissedTold, keeper_view, link_view}
+use Rattle.hub_follow.specs.Ends.{IsFollowed, IsMiss, sync_of, synced}
 use Rattle.hub_follow.specs.declared.answer.Missed.{Missed}
 use Rattle.hub_spec.specs.rules.Checks.{version_at}
 use Rattle.keeper_memory.specs.Kept.{newest_kept}
 use Rattle.keeper_memory.specs.copy.Copies.{Copy}
+use Rattle.hub_follow.proofs.following.follow.Given.{Over}
+use Rattle.hub_follow.proofs.following.follow.Goals.{After-after_cascade, After-answer_of_miss}
 use Rattle.hub_follow.proofs.following.follow.Goals as goal
+
+-- what is seen of the copy's keeper and of the link
+module _ (g : Over) where
+  abbrev copies_of : KeeperView g.row.C.Denot
+  copies_of = keeper_view g.C.CopyKeeper.stands_for g.C.CopyKeeper.fault_count g.C.CopyKeeper.leads
+
+  abbrev links_of : LinkView g.row.L.Denot
+  links_of = link_view g.L.Link.tells g.L.Link.asked g.L.Link.missed g.L.Link.kept g.L.Link.fault_count
+      g.L.Link.leads
+
+-- how the synchronisation of the answer ended
+module _ (g : Over) (c : After-after_cascade g) where
+  followed_is : c.catch_up.result ≡ synced c.after_cascade.result
+  followed_is = c.in-Ok.is
+      ∙ ok_synced c.after_cascade.result c.in-Ok.version c.cascade-made.result c.after_cascade.ensures
+
+module _ (g : Over) (c : After-answer_of_miss g) where
+  missed_is : c.catch_up.result ≡ synced c.answer_of_miss.result
+  missed_is = c.in-Err.is ∙ err_synced c.answer_of_miss.result c.in-Err.missed c.answer_of_miss.ensures
 
 -- ---- a copy that is complete is cascaded
 
@@ -47,13 +68,13 @@ returns-in-Ok-clause-shape g c = subst (λ (r : Result ℕ Missed). IfErr r IsMi
 pub returns-in-Ok-clause-copy : goal.returns-in-Ok-clause-copy
 returns-in-Ok-clause-copy g c after stands =
     let x = c.catch_up.ensures.copy after (c.cascade-made.ensures.same after stands) in
-    let is = c.in-Ok.is ∙ ok_synced c.after_cascade.result c.in-Ok.version c.cascade-made.result c.after_cascade.ensures in
+    let is = followed_is g (goal.at.returns-in-Ok-clause-copy g c).After-after_cascade in
     (x.0, x.1, subst (λ (r : Result ℕ Missed). CatchesUp (sync_of r) x.0 after) is x.2)
 
 pub returns-in-Ok-clause-cause : goal.returns-in-Ok-clause-cause
 returns-in-Ok-clause-cause g c =
-    let copies = keeper_view g.C.CopyKeeper.stands_for g.C.CopyKeeper.fault_count g.C.CopyKeeper.leads in
-    let links = link_view g.L.Link.tells g.L.Link.asked g.L.Link.missed g.L.Link.kept g.L.Link.fault_count g.L.Link.leads in
+    let copies = copies_of g in
+    let links = links_of g in
     subst (λ (r : Result ℕ Missed). MissedBy copies links c.args.task.token.now c.args.task.limit c.args.task.tries c.args.copy.now c.cascade-made.new.copy c.args.link.now c.catch_up.new.link r)
     (ok_synced c.after_cascade.result c.in-Ok.version c.cascade-made.result c.after_cascade.ensures) tt
 
@@ -77,12 +98,12 @@ returns-in-Ok-clause-first g c some after tells stands told = c.catch_up.ensures
 pub returns-in-Ok-clause-synchronised : goal.returns-in-Ok-clause-synchronised
 returns-in-Ok-clause-synchronised g c agree after tells stands told =
     let x = c.catch_up.ensures.told agree after tells (c.cascade-made.ensures.same after stands) told in
-    let is = c.in-Ok.is ∙ ok_synced c.after_cascade.result c.in-Ok.version c.cascade-made.result c.after_cascade.ensures in
+    let is = followed_is g (goal.at.returns-in-Ok-clause-synchronised g c).After-after_cascade in
     (x.0, x.1, x.2, x.3, subst (λ (r : Result ℕ Missed). CatchesUpTold c.args.task.token.now (sync_of r) x.0 x.1 after tells) is x.4)
 
 pub returns-in-Ok-clause-cause_told : goal.returns-in-Ok-clause-cause_told
 returns-in-Ok-clause-cause_told g c agree after tells stands told =
-    let links = link_view g.L.Link.tells g.L.Link.asked g.L.Link.missed g.L.Link.kept g.L.Link.fault_count g.L.Link.leads in
+    let links = links_of g in
     subst (λ (r : Result ℕ Missed). MissedTold links c.args.task.token.now c.args.link.now tells r)
     (ok_synced c.after_cascade.result c.in-Ok.version c.cascade-made.result c.after_cascade.ensures) tt
 
@@ -90,7 +111,7 @@ pub returns-in-Ok-clause-caught : goal.returns-in-Ok-clause-caught
 returns-in-Ok-clause-caught g c agree link quiet after tells stands told =
     let made = c.cascade-made in
     let y = c.catch_up.ensures.complete agree link (λ rose. quiet (let later = made.ensures.later in omega (arith, rose, later))) after tells (made.ensures.same after stands) told in
-    let is = c.in-Ok.is ∙ ok_synced c.after_cascade.result c.in-Ok.version made.result c.after_cascade.ensures in
+    let is = followed_is g (goal.at.returns-in-Ok-clause-caught g c).After-after_cascade in
     (y.0, y.1, y.2, y.3, λ low hub may. subst (λ (r : Result ℕ Missed). IsDone (sync_of r)) is (y.4 low hub may))
 
 pub returns-in-Ok-clause-complete : goal.returns-in-Ok-clause-complete
@@ -161,20 +182,22 @@ pub returns-in-Err-clause-hub_leads : goal.returns-in-Err-clause-hub_leads
 returns-in-Err-clause-hub_leads g c = g.met.H.HubKeeper.stays _
 
 pub returns-in-Err-clause-shape : goal.returns-in-Err-clause-shape
-returns-in-Err-clause-shape g c = subst (λ (r : Result ℕ Missed). IfErr r IsMiss) (c.in-Err.is ∙ err_synced c.answer_of_miss.result c.in-Err.missed c.answer_of_miss.ensures) c.catch_up.ensures.shape
+returns-in-Err-clause-shape g c =
+    let is = missed_is g (goal.at.returns-in-Err-clause-shape g c).After-answer_of_miss in
+    subst (λ (r : Result ℕ Missed). IfErr r IsMiss) is c.catch_up.ensures.shape
 
 pub returns-in-Err-clause-copy : goal.returns-in-Err-clause-copy
 returns-in-Err-clause-copy g c after stands =
     let x = c.catch_up.ensures.copy after stands in
-    let is = c.in-Err.is ∙ err_synced c.answer_of_miss.result c.in-Err.missed c.answer_of_miss.ensures in
+    let is = missed_is g (goal.at.returns-in-Err-clause-copy g c).After-answer_of_miss in
     (x.0, x.1, subst (λ (r : Result ℕ Missed). CatchesUp (sync_of r) x.0 after) is x.2)
 
 pub returns-in-Err-clause-cause : goal.returns-in-Err-clause-cause
 returns-in-Err-clause-cause g c =
-    let copies = keeper_view g.C.CopyKeeper.stands_for g.C.CopyKeeper.fault_count g.C.CopyKeeper.leads in
-    let links = link_view g.L.Link.tells g.L.Link.asked g.L.Link.missed g.L.Link.kept g.L.Link.fault_count g.L.Link.leads in
+    let copies = copies_of g in
+    let links = links_of g in
     subst (λ (r : Result ℕ Missed). MissedBy copies links c.args.task.token.now c.args.task.limit c.args.task.tries c.args.copy.now c.catch_up.new.copy c.args.link.now c.catch_up.new.link r)
-    (c.in-Err.is ∙ err_synced c.answer_of_miss.result c.in-Err.missed c.answer_of_miss.ensures) c.catch_up.ensures.cause
+    (missed_is g (goal.at.returns-in-Err-clause-cause g c).After-answer_of_miss) c.catch_up.ensures.cause
 
 pub returns-in-Err-clause-copy_cause : goal.returns-in-Err-clause-copy_cause
 returns-in-Err-clause-copy_cause g c =
@@ -185,19 +208,20 @@ returns-in-Err-clause-copy_cause g c =
 pub returns-in-Err-clause-synchronised : goal.returns-in-Err-clause-synchronised
 returns-in-Err-clause-synchronised g c agree after tells stands told =
     let x = c.catch_up.ensures.told agree after tells stands told in
-    let is = c.in-Err.is ∙ err_synced c.answer_of_miss.result c.in-Err.missed c.answer_of_miss.ensures in
+    let is = missed_is g (goal.at.returns-in-Err-clause-synchronised g c).After-answer_of_miss in
     (x.0, x.1, x.2, x.3, subst (λ (r : Result ℕ Missed). CatchesUpTold c.args.task.token.now (sync_of r) x.0 x.1 after tells) is x.4)
 
 pub returns-in-Err-clause-cause_told : goal.returns-in-Err-clause-cause_told
 returns-in-Err-clause-cause_told g c agree after tells stands told =
-    let links = link_view g.L.Link.tells g.L.Link.asked g.L.Link.missed g.L.Link.kept g.L.Link.fault_count g.L.Link.leads in
+    let links = links_of g in
     subst (λ (r : Result ℕ Missed). MissedTold links c.args.task.token.now c.args.link.now tells r)
-    (c.in-Err.is ∙ err_synced c.answer_of_miss.result c.in-Err.missed c.answer_of_miss.ensures) (c.catch_up.ensures.cause_told agree after tells stands told)
+    (missed_is g (goal.at.returns-in-Err-clause-cause_told g c).After-answer_of_miss)
+    (c.catch_up.ensures.cause_told agree after tells stands told)
 
 pub returns-in-Err-clause-caught : goal.returns-in-Err-clause-caught
 returns-in-Err-clause-caught g c agree link quiet after tells stands told =
     let y = c.catch_up.ensures.complete agree link quiet after tells stands told in
-    let is = c.in-Err.is ∙ err_synced c.answer_of_miss.result c.in-Err.missed c.answer_of_miss.ensures in
+    let is = missed_is g (goal.at.returns-in-Err-clause-caught g c).After-answer_of_miss in
     (y.0, y.1, y.2, y.3, λ low hub may. subst (λ (r : Result ℕ Missed). IsDone (sync_of r)) is (y.4 low hub may))
 
 pub returns-in-Err-clause-complete : goal.returns-in-Err-clause-complete

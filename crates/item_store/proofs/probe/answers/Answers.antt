@@ -1,8 +1,7 @@
-use Rattle.std.proofs.Common.{inl, inr, refl, arith, []}
+use Rattle.std.proofs.Common.{inl, inr, refl, []}
 use Rattle.sqlite.specs.Held.{state}
-use Rattle.item_store.specs.Stands.{Earlier}
 use Rattle.item_store.specs.Table.{no_text}
-use Rattle.item_store.proofs.Lasting.{lasts_by, nothing_ran}
+use Rattle.item_store.proofs.Lasting.{clean_before, lasts_by, nothing_ran}
 use Rattle.item_store.proofs.Leaving.{nothing_commits}
 use Rattle.item_store.proofs.States.{execute_stops, ran_open, stands_stops}
 use Rattle.item_store.proofs.probe.answers.Goals as goal
@@ -11,14 +10,14 @@ pub returns-in_err-execute-clause-same : goal.returns-in_err-execute-clause-same
 returns-in_err-execute-clause-same g c m =
     let old = state g.S.Store c.args.conn.now in
     let new = state g.S.Store c.execute.new.self in
-    let earlier : Earlier old new = λ clean. omega (arith, c.execute.ensures.survives.clean) in
+    let earlier = clean_before c.execute.ensures.survives in
     stands_stops old new m earlier (λ clean. execute_stops no_text [] old new _ (c.in_err-execute.ensures.runs clean))
 
 pub returns-clause-same : goal.returns-clause-same
 returns-clause-same g c m =
     let old = state g.S.Store c.args.conn.now in
     let new = state g.S.Store c.execute.new.self in
-    let earlier : Earlier old new = λ clean. omega (arith, c.execute.ensures.survives.clean) in
+    let earlier = clean_before c.execute.ensures.survives in
     stands_stops old new m earlier (λ clean. inl (nothing_ran old new _ (c.in_ok-execute.ensures.runs clean)))
 
 pub returns-clause-live : goal.returns-clause-live

@@ -1,26 +1,25 @@
-use Rattle.std.proofs.Common.{inl, inr, refl, arith, []}
+use Rattle.std.proofs.Common.{inl, inr, refl, []}
 use Rattle.sqlite.specs.Held.{state}
 use Rattle.item_store.specs.Table.{begin_text}
-use Rattle.item_store.specs.Stands.{Earlier}
 use Rattle.item_store.proofs.States.{begin_within, on_err, execute_stops, stands_stops, ready_stands}
 use Rattle.std.proofs.lemmas.Result.{err_from_is_err_and}
 use Rattle.item_store.proofs.Leaving.{begin_commits, begin_live, err_leaves, ok_leaves}
 use Rattle.item_store.proofs.States.{ran_open}
-use Rattle.item_store.proofs.Lasting.{lasts_by}
+use Rattle.item_store.proofs.Lasting.{clean_before, lasts_by}
 use Rattle.item_store.proofs.transaction.begin.Goals as goal
 
 pub returns-in_err-execute-clause-err : goal.returns-in_err-execute-clause-err
 returns-in_err-execute-clause-err g c m h =
     let old = state g.S.Store c.args.conn.now in
     let new = state g.S.Store c.execute.new.self in
-    let earlier : Earlier old new = λ clean. omega (arith, c.execute.ensures.survives.clean) in
+    let earlier = clean_before c.execute.ensures.survives in
     on_err c.from_residual.result (stands_stops old new m earlier (λ clean. execute_stops _ _ old new _ (c.in_err-execute.ensures.runs clean)) (ready_stands old m h))
 
 pub returns-clause-ok : goal.returns-clause-ok
 returns-clause-ok g c m h =
     let old = state g.S.Store c.args.conn.now in
     let new = state g.S.Store c.execute.new.self in
-    let earlier : Earlier old new = λ clean. omega (arith, c.execute.ensures.survives.clean) in
+    let earlier = clean_before c.execute.ensures.survives in
     begin_within old new earlier _ m c.in_ok-execute.ensures.runs h
 
 pub returns-clause-asks : goal.returns-clause-asks
@@ -30,7 +29,7 @@ pub returns-in_err-execute-clause-left : goal.returns-in_err-execute-clause-left
 returns-in_err-execute-clause-left g c m h =
     let old = state g.S.Store c.args.conn.now in
     let new = state g.S.Store c.execute.new.self in
-    let earlier : Earlier old new = λ clean. omega (arith, c.execute.ensures.survives.clean) in
+    let earlier = clean_before c.execute.ensures.survives in
     let p = err_from_is_err_and c.from_residual.result c.from_residual.ensures.1 in
     err_leaves begin_text [] old new (λ _. ⊥) c.execute.ensures.survives (begin_commits old new earlier m h)
     c.from_residual.result _ p.0 p.1 c.in_err-execute.ensures.runs
@@ -39,7 +38,7 @@ pub returns-clause-left : goal.returns-clause-left
 returns-clause-left g c m h =
     let old = state g.S.Store c.args.conn.now in
     let new = state g.S.Store c.execute.new.self in
-    let earlier : Earlier old new = λ clean. omega (arith, c.execute.ensures.survives.clean) in
+    let earlier = clean_before c.execute.ensures.survives in
     ok_leaves begin_text [] old new (λ _. ⊥) c.execute.ensures.survives (begin_commits old new earlier m h)
     tt (begin_live old new earlier m h _ c.in_ok-execute.ensures.runs)
 

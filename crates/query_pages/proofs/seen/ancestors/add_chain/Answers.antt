@@ -1,73 +1,100 @@
-use Rattle.std.proofs.Common.{arith}
+use Rattle.std.proofs.Common.{◌≡◌, ◌+◌, ◌≤◌, ◌||◌, List, ℕ, None, Some, false, true, cond, bytes_eq, arith}
+use Rattle.hub_spec.specs.views.Seen.{leads_up}
+use Rattle.query_pages.specs.Ancestors.{IsClosed, has_id}
 use Rattle.query_pages.proofs.Adding.{added_all, adding_more, closed_end, closed_known, closed_turns, put_of, was_in}
-use Rattle.query_pages.proofs.Adding.{was_out}
+use Rattle.query_pages.proofs.Adding.{Adding, was_out}
+use Rattle.reference_rules.specs.Parents.{parent_of}
+use Rattle.roster_types.specs.Keys.{count_of}
+use Rattle.roster_types.specs.Records.{Record}
+use Rattle.roster_values.specs.declared.kind.Kind.TheVariants.{Orgs}
+use Rattle.query_pages.proofs.seen.ancestors.add_chain.Given.{Over}
+use Rattle.query_pages.proofs.seen.ancestors.add_chain.Goals.{In_ok-insert, In_ok-insert-2}
 use Rattle.query_pages.proofs.seen.ancestors.add_chain.Goals as goal
+
+-- a turn in which the id was put in
+module _ (g : Over) (c : In_ok-insert g) where
+  abbrev rows : List Record
+  rows = g.R.Rows.rows c.args.rows.now
+
+  abbrev current : List ℕ
+  current = c.loop-turn.current.now
+
+  put : (q : List ℕ) → has_id c.insert.new.self q ≡ cond (bytes_eq current q) true (has_id c.loop-turn.ids q)
+  put = put_of c.loop-turn.ids c.insert.new.self c.as_str.result current c.as_str.ensures.text
+      c.in_ok-insert.ensures.updates
+
+  known : c.in_ok-insert.field-0 ≡ false → has_id c.loop-turn.ids current ≡ true
+  known = was_in c.loop-turn.ids c.as_str.result.now current c.in_ok-insert.field-0 c.as_str.ensures.text
+      c.in_ok-insert.ensures.added
+
+  fresh : c.in_ok-insert.field-0 ≡ true → has_id c.loop-turn.ids current ≡ false
+  fresh = was_out c.loop-turn.ids c.as_str.result.now current c.in_ok-insert.field-0 c.as_str.ensures.text
+      c.in_ok-insert.ensures.added
+
+  known_closed : c.in_ok-insert.field-0 ≡ false → IsClosed rows c.insert.new.self
+  known_closed old = closed_known rows c.args.school.now c.args.ids.now c.loop-turn.ids c.insert.new.self
+      c.loop-turn._turn current put c.loop-turn.invariant (known old)
+
+  end_closed : None ≡ parent_of rows Orgs current → IsClosed rows c.insert.new.self
+  end_closed = closed_end rows c.args.school.now c.args.ids.now c.loop-turn.ids c.insert.new.self
+      c.loop-turn._turn current put c.loop-turn.invariant
+
+  added : c.loop-turn._turn ≤ c.args.turns → IsClosed rows c.insert.new.self → (id : List ℕ)
+      → has_id c.insert.new.self id ≡ (has_id c.args.ids.now id || leads_up rows id c.args.turns c.args.school.now)
+  added = added_all rows c.args.school.now c.args.ids.now c.loop-turn.ids c.insert.new.self
+      c.loop-turn._turn current put c.loop-turn.invariant c.args.turns
+
+  more : c.in_ok-insert.field-0 ≡ true → (next : List ℕ) → Some next ≡ parent_of rows Orgs current
+      → Adding rows c.args.school.now c.args.ids.now c.insert.new.self (c.loop-turn._turn + 1) next
+  more new = adding_more rows c.args.school.now c.args.ids.now c.loop-turn.ids c.insert.new.self
+      c.loop-turn._turn current put c.loop-turn.invariant (fresh new)
 
 -- the chain has come to an id that was in before
 pub returns-then-not-branch-clause-closed : goal.returns-then-not-branch-clause-closed
 returns-then-not-branch-clause-closed g c =
-    let ids = c.loop-turn.ids in
-    let current = c.loop-turn.current.now in
-    let put = put_of ids c.insert.new.self c.as_str.result current c.as_str.ensures.text c.in_ok-insert.ensures.updates in
-    let known = was_in ids c.as_str.result.now current c.in_ok-insert.field-0 c.as_str.ensures.text c.in_ok-insert.ensures.added c.if-not-branch.true in
-    closed_known (g.R.Rows.rows c.args.rows.now) c.args.school.now c.args.ids.now ids c.insert.new.self c.loop-turn._turn current put c.loop-turn.invariant known
+    known_closed g (goal.at.returns-then-not-branch-clause-closed g c).In_ok-insert c.if-not-branch.true
 
 pub returns-then-not-branch-clause-added : goal.returns-then-not-branch-clause-added
 returns-then-not-branch-clause-added g c =
-    let rows = g.R.Rows.rows c.args.rows.now in
-    let ids = c.loop-turn.ids in
-    let current = c.loop-turn.current.now in
-    let turn = c.loop-turn._turn in
-    let new = c.insert.new.self in
-    let put = put_of ids new c.as_str.result current c.as_str.ensures.text c.in_ok-insert.ensures.updates in
-    let known = was_in ids c.as_str.result.now current c.in_ok-insert.field-0 c.as_str.ensures.text c.in_ok-insert.ensures.added c.if-not-branch.true in
-    let closed = closed_known rows c.args.school.now c.args.ids.now ids new turn current put c.loop-turn.invariant known in
-    added_all rows c.args.school.now c.args.ids.now ids new turn current put c.loop-turn.invariant c.args.turns (omega arith) closed
+    let here = (goal.at.returns-then-not-branch-clause-added g c).In_ok-insert in
+    added g here (omega arith) (known_closed g here c.if-not-branch.true)
 
 -- the chain has ended
 pub returns-in-None-clause-closed : goal.returns-in-None-clause-closed
 returns-in-None-clause-closed g c =
-    let ids = c.loop-turn.ids in
-    let current = c.loop-turn.current.now in
-    let put = put_of ids c.insert.new.self c.as_str.result current c.as_str.ensures.text c.in_ok-insert.ensures.updates in
-    closed_end (g.R.Rows.rows c.args.rows.now) c.args.school.now c.args.ids.now ids c.insert.new.self c.loop-turn._turn current put c.loop-turn.invariant c.in-None.ensures
+    end_closed g (goal.at.returns-in-None-clause-closed g c).In_ok-insert c.in-None.ensures
 
 pub returns-in-None-clause-added : goal.returns-in-None-clause-added
 returns-in-None-clause-added g c =
-    let rows = g.R.Rows.rows c.args.rows.now in
-    let ids = c.loop-turn.ids in
-    let current = c.loop-turn.current.now in
-    let turn = c.loop-turn._turn in
-    let new = c.insert.new.self in
-    let put = put_of ids new c.as_str.result current c.as_str.ensures.text c.in_ok-insert.ensures.updates in
-    let closed = closed_end rows c.args.school.now c.args.ids.now ids new turn current put c.loop-turn.invariant c.in-None.ensures in
-    added_all rows c.args.school.now c.args.ids.now ids new turn current put c.loop-turn.invariant c.args.turns (omega arith) closed
+    let here = (goal.at.returns-in-None-clause-added g c).In_ok-insert in
+    added g here (omega arith) (end_closed g here c.in-None.ensures)
 
 pub loop-turn-preserved : goal.loop-turn-preserved
 loop-turn-preserved g c =
-    let ids = c.loop-turn.ids in
-    let current = c.loop-turn.current.now in
-    let put = put_of ids c.insert.new.self c.as_str.result current c.as_str.ensures.text c.in_ok-insert.ensures.updates in
-    let fresh = was_out ids c.as_str.result.now current c.in_ok-insert.field-0 c.as_str.ensures.text c.in_ok-insert.ensures.added c.if-not-branch.false in
-    adding_more (g.R.Rows.rows c.args.rows.now) c.args.school.now c.args.ids.now ids c.insert.new.self c.loop-turn._turn current put c.loop-turn.invariant fresh c.in-Some.parent.now c.in-Some.ensures
+    let here = (goal.at.loop-turn-preserved g c).In_ok-insert in
+    more g here c.if-not-branch.false c.in-Some.parent.now c.in-Some.ensures
 
--- the chain has passed all orgs
+-- the chain has passed all orgs: its last id is put in
+module _ (g : Over) (c : In_ok-insert-2 g) where
+  last_put : (q : List ℕ)
+      → has_id c.insert-2.new.self q ≡ cond (bytes_eq c.loop-turn.current.now q) true (has_id c.loop-turn.ids q)
+  last_put = put_of c.loop-turn.ids c.insert-2.new.self c.as_str-2.result c.loop-turn.current.now
+      c.as_str-2.ensures.text c.in_ok-insert-2.ensures.updates
+
+  last_closed : c.loop-turn._turn ≡ count_of Orgs (g.R.Rows.rows c.args.rows.now)
+      → IsClosed (g.R.Rows.rows c.args.rows.now) c.insert-2.new.self
+  last_closed = closed_turns (g.R.Rows.rows c.args.rows.now) c.args.school.now c.args.ids.now c.loop-turn.ids
+      c.insert-2.new.self c.loop-turn._turn c.loop-turn.current.now last_put c.loop-turn.invariant
+
 pub returns-clause-closed : goal.returns-clause-closed
 returns-clause-closed g c =
-    let ids = c.loop-turn.ids in
-    let current = c.loop-turn.current.now in
-    let put = put_of ids c.insert-2.new.self c.as_str-2.result current c.as_str-2.ensures.text c.in_ok-insert-2.ensures.updates in
     let turns = c.requires.turns in
-    closed_turns (g.R.Rows.rows c.args.rows.now) c.args.school.now c.args.ids.now ids c.insert-2.new.self c.loop-turn._turn current put c.loop-turn.invariant (omega (arith, turns))
+    last_closed g (goal.at.returns-clause-closed g c).In_ok-insert-2 (omega (arith, turns))
 
 pub returns-clause-added : goal.returns-clause-added
 returns-clause-added g c =
-    let rows = g.R.Rows.rows c.args.rows.now in
-    let ids = c.loop-turn.ids in
-    let current = c.loop-turn.current.now in
-    let turn = c.loop-turn._turn in
-    let new = c.insert-2.new.self in
-    let put = put_of ids new c.as_str-2.result current c.as_str-2.ensures.text c.in_ok-insert-2.ensures.updates in
+    let here = (goal.at.returns-clause-added g c).In_ok-insert-2 in
     let turns = c.requires.turns in
-    let closed = closed_turns rows c.args.school.now c.args.ids.now ids new turn current put c.loop-turn.invariant (omega (arith, turns)) in
-    added_all rows c.args.school.now c.args.ids.now ids new turn current put c.loop-turn.invariant c.args.turns (omega arith) closed
+    added_all (g.R.Rows.rows c.args.rows.now) c.args.school.now c.args.ids.now c.loop-turn.ids c.insert-2.new.self
+    c.loop-turn._turn c.loop-turn.current.now (last_put g here) c.loop-turn.invariant c.args.turns (omega arith)
+    (last_closed g here (omega (arith, turns)))

@@ -1,38 +1,77 @@
 use Rattle.std.proofs.Common.{ℕ, subst}
+use Rattle.version_changes.specs.sets.Applying.{Applies, Outcome}
 use Rattle.version_core.specs.declared.change.BaseVersion.{BaseVersion}
 use Rattle.hub_core.specs.Steps.{CountsFault}
 use Rattle.keeper_memory.specs.Calls.{calls_on}
-use Rattle.hub_spec.specs.rules.Runs.{Publish}
-use Rattle.version_changes.specs.sets.Applying.{Applies, Outcome}
-use Rattle.sync_world.proofs.ActLemmas.{held_came, held_failed, keeper_makes, publishing}
+use Rattle.hub_spec.specs.rules.Runs.{Command, Publish}
+use Rattle.sync_world.proofs.ActLemmas.{Came, IsMaking, held_came, held_failed, keeper_makes, publishing}
+use Rattle.sync_world.specs.Worlds.{whole_state}
+use Rattle.sync_world.proofs.world.World.publish.Goals.{After-hold_oldest, After-publish}
 use Rattle.sync_world.proofs.world.World.publish.Goals as goal
+
+-- what is asked for
+module _ (c : After-hold_oldest) where
+  abbrev command : Command
+  command = Publish c.args.set c.args.at
+
+  abbrev asks : BaseVersion → Outcome → Type 0
+  asks version = Applies version c.args.set c.args.at
+
+  making : IsMaking command asks
+  making = publishing c.args.set c.args.at (c.milliseconds.ensures.range, c.read_set.ensures)
+
+-- what became of the state once the oldest version was held
+module _ (c : After-publish) where
+  abbrev here : After-hold_oldest
+  here = (goal.at.After-publish c).After-hold_oldest
+
+  came : Came (command here) c.publish.result (whole_state c.self.inside.gone.items c.self.inside.keeper.kept)
+      c.hold_oldest.new.gone.items c.publish.new.keeper.kept c.self.inside.keeper.plan.faults
+      c.publish.new.keeper.plan.faults
+  came =
+      let world = c.self.inside in
+      let held = c.hold_oldest.new in
+      let after = c.publish.new.keeper in
+      let makes = keeper_makes (asks here) c.publish.result world.hub c.publish.new.self held.keeper.kept after.kept
+      c.publish.ensures.fits c.publish.ensures.told in
+      let count = subst (λ (n : ℕ). CountsFault n after.plan.faults c.publish.result) c.in-Ok.ensures.cause
+      c.publish.ensures.cause in
+      held_came (command here) (asks here) (making here) world.gone.items world.keeper.kept
+      c.self.invariant.whole world.keeper.plan.faults after.plan.faults c.publish.result held.gone.items
+      held.keeper.kept after.kept c.in-Ok.ensures.kept c.in-Ok.ensures.ok makes count
 
 pub invariant_of-self : goal.invariant_of-self
 invariant_of-self c =
-    let world = c.self.inside in
-    let held = c.hold_oldest.new in
-    let asks : BaseVersion → Outcome → Type 0 = λ version. Applies version c.args.set c.args.at in
-    let makes = keeper_makes asks c.publish.result world.hub c.publish.new.self held.keeper.kept c.publish.new.keeper.kept c.publish.ensures.fits c.publish.ensures.told in
-    let count = subst (λ (n : ℕ). CountsFault n c.publish.new.keeper.plan.faults c.publish.result) c.in-Ok.ensures.cause c.publish.ensures.cause in
-    record {
-      whole = (held_came (Publish c.args.set c.args.at) asks (publishing c.args.set c.args.at (c.milliseconds.ensures.range, c.read_set.ensures)) world.gone.items world.keeper.kept c.self.invariant.whole world.keeper.plan.faults c.publish.new.keeper.plan.faults c.publish.result held.gone.items held.keeper.kept c.publish.new.keeper.kept c.in-Ok.ensures.kept c.in-Ok.ensures.ok makes count).whole;
-      fits = c.publish.ensures.fits;
-    }
+    let here = (goal.at.invariant_of-self c).After-publish in
+    record { whole = (came here).whole; fits = c.publish.ensures.fits }
 
 pub returns-in-Ok : goal.returns-in-Ok
 returns-in-Ok c =
-    let world = c.self.inside in
-    let held = c.hold_oldest.new in
-    let asks : BaseVersion → Outcome → Type 0 = λ version. Applies version c.args.set c.args.at in
-    let makes = keeper_makes asks c.publish.result world.hub c.publish.new.self held.keeper.kept c.publish.new.keeper.kept c.publish.ensures.fits c.publish.ensures.told in
-    let count = subst (λ (n : ℕ). CountsFault n c.publish.new.keeper.plan.faults c.publish.result) c.in-Ok.ensures.cause c.publish.ensures.cause in
-    let came = held_came (Publish c.args.set c.args.at) asks (publishing c.args.set c.args.at (c.milliseconds.ensures.range, c.read_set.ensures)) world.gone.items world.keeper.kept c.self.invariant.whole world.keeper.plan.faults c.publish.new.keeper.plan.faults c.publish.result held.gone.items held.keeper.kept c.publish.new.keeper.kept c.in-Ok.ensures.kept c.in-Ok.ensures.ok makes count in
-    rw (← c.self.view_is) (record { answer = came.answer; failed = came.failed; count = came.count; step = came.step; calls = calls_on _ _ _ c.in-Ok.ensures.calls c.publish.ensures.leads; is = came.is })
+    let done = came (goal.at.returns-in-Ok c).After-publish in
+    let calls = calls_on _ _ _ c.in-Ok.ensures.calls c.publish.ensures.leads in
+    rw (← c.self.view_is) (record {
+      answer = done.answer;
+      failed = done.failed;
+      count = done.count;
+      step = done.step;
+      calls = calls;
+      is = done.is;
+    })
 
 pub returns-in-Err : goal.returns-in-Err
 returns-in-Err c =
+    let here = (goal.at.returns-in-Err c).After-hold_oldest in
     let world = c.self.inside in
     let held = c.hold_oldest.new in
-    let asks : BaseVersion → Outcome → Type 0 = λ version. Applies version c.args.set c.args.at in
-    let (answer, failed, count, step, is) = held_failed (Publish c.args.set c.args.at) asks (publishing c.args.set c.args.at (c.milliseconds.ensures.range, c.read_set.ensures)) world.gone.items world.keeper.kept c.self.invariant.whole world.keeper.plan.faults held.keeper.plan.faults c.in-Err.error c.from.result held.gone.items held.keeper.kept c.from.ensures c.in-Err.ensures.err c.in-Err.ensures.kept c.in-Err.ensures.cause in
-    rw (← c.self.view_is) (record { answer = answer; failed = failed; count = count; step = step; calls = c.in-Err.ensures.calls; is = is })
+    let (answer, failed, count, step, is) = held_failed (command here) (asks here) (making here) world.gone.items
+    world.keeper.kept c.self.invariant.whole world.keeper.plan.faults held.keeper.plan.faults c.in-Err.error
+    c.from.result held.gone.items held.keeper.kept c.from.ensures c.in-Err.ensures.err c.in-Err.ensures.kept
+    c.in-Err.ensures.cause in
+    rw (← c.self.view_is) (record {
+      answer = answer;
+      failed = failed;
+      count = count;
+      step = step;
+      calls = c.in-Err.ensures.calls;
+      is = is;
+    })

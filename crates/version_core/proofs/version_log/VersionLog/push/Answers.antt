@@ -5,7 +5,8 @@ use Rattle.version_core.specs.Changes.{change_key}
 use Rattle.version_core.specs.History.{AllHaveRoom, AreUpTo, Past, PutsRows, history_key, pasts_of}
 use Rattle.version_core.specs.RefIndex.{IsIndexed}
 use Rattle.version_core.specs.Since.{standing}
-use Rattle.version_core.specs.VersionLog.{IsLog, IsVersionIndexed, kept_of, last_number, version_at, versions_at}
+use Rattle.version_core.specs.VersionLog.{HasRoom, IsLog, IsVersionIndexed, kept_of, last_number, version_at}
+use Rattle.version_core.specs.VersionLog.{versions_at}
 use Rattle.version_core.specs.Version.{IsVersion, after, empty_version, last_or}
 use Rattle.version_core.specs.declared.change.BaseVersion.{BaseVersion}
 use Rattle.version_core.specs.declared.change.Change.{Change}
@@ -20,37 +21,44 @@ use Rattle.version_core.proofs.HistoryLemmas.{all_unmap}
 use Rattle.version_core.proofs.IndexedVersions.{overlaid_indexed}
 use Rattle.version_core.proofs.PutLemmas.{all_append}
 use Rattle.version_core.proofs.ViewLemmas.{all_last, entries_later, last_version_at, up_to_later}
+use Rattle.version_core.proofs.version_log.VersionLog.push.Goals.{After-into_vec}
 use Rattle.version_core.proofs.version_log.VersionLog.push.Goals as goal
+
+-- there is room for these rows
+room_for : (c : After-into_vec) → HasRoom c.self.inside (map change_key c.args.change.rows)
+room_for c = c.self.invariant.room (map change_key c.args.change.rows) (rw (← c.self.view_is) at c.requires.room)
 
 pub put_rows-requires-clause-grown : goal.put_rows-requires-clause-grown
 put_rows-requires-clause-grown c =
-    let room = c.self.invariant.room (map change_key c.args.change.rows) (rw (← c.self.view_is) at c.requires.room) in
+    let room = room_for (goal.at.put_rows-requires-clause-grown c).After-into_vec in
     subst (λ (rows : List RowChange). AllHaveRoom rows c.self.inside.histories.items) (sym c.into_vec.ensures.changes)
-    (all_unmap (λ key. AllByRecursion (λ (history : History). history_key history ≡ key → vec_len history.entries < vec_capacity history.entries) c.self.inside.histories.items) change_key c.args.change.rows room.grown)
+    (all_unmap (λ key. AllByRecursion (λ (history : History). history_key history ≡ key
+    → vec_len history.entries < vec_capacity history.entries) c.self.inside.histories.items) change_key
+    c.args.change.rows room.grown)
 
 pub put_rows-requires-clause-room : goal.put_rows-requires-clause-room
 put_rows-requires-clause-room c =
-    let room = c.self.invariant.room (map change_key c.args.change.rows) (rw (← c.self.view_is) at c.requires.room) in
+    let room = room_for (goal.at.put_rows-requires-clause-room c).After-into_vec in
     let len : vec_len c.into_vec.result ≡ length c.into_vec.result.items = search rules in
     omega (arith, room.histories, len, ap length c.into_vec.ensures.changes, length_map change_key c.args.change.rows)
 
 pub put_rows-requires-clause-spare_room : goal.put_rows-requires-clause-spare_room
 put_rows-requires-clause-spare_room c =
-    let room = c.self.invariant.room (map change_key c.args.change.rows) (rw (← c.self.view_is) at c.requires.room) in
+    let room = room_for (goal.at.put_rows-requires-clause-spare_room c).After-into_vec in
     let len : vec_len c.into_vec.result ≡ length c.into_vec.result.items = search rules in
     omega (arith, room.spare, len, ap length c.into_vec.ensures.changes, length_map change_key c.args.change.rows)
 
 pub put_rows-requires-clause-some : goal.put_rows-requires-clause-some
 put_rows-requires-clause-some c =
-    let room = c.self.invariant.room (map change_key c.args.change.rows) (rw (← c.self.view_is) at c.requires.room) in
+    let room = room_for (goal.at.put_rows-requires-clause-some c).After-into_vec in
     let len : vec_len c.into_vec.result ≡ length c.into_vec.result.items = search rules in
     omega (arith, room.fresh, len, ap length c.into_vec.ensures.changes, length_map change_key c.args.change.rows)
 
 pub put_grants-requires : goal.put_grants-requires
-put_grants-requires c = (c.self.invariant.room (map change_key c.args.change.rows) (rw (← c.self.view_is) at c.requires.room)).grants
+put_grants-requires c = (room_for (goal.at.put_grants-requires c).After-into_vec).grants
 
 pub push_reserved-requires : goal.push_reserved-requires
-push_reserved-requires c = (c.self.invariant.room (map change_key c.args.change.rows) (rw (← c.self.view_is) at c.requires.room)).moments
+push_reserved-requires c = (room_for (goal.at.push_reserved-requires c).After-into_vec).moments
 
 -- the number after the newest one
 next_is : (table : Inside) (change : Change) → change.version ≡ (last_or empty_version (kept_of table)).number + 1 → change.version ≡ last_number table + 1

@@ -16,6 +16,7 @@ use Rattle.row_json.specs.Puts.{put_of}
 use Rattle.row_json.specs.declared.fault.JsonFault.{JsonFault}
 use Rattle.status_info.specs.declared.reply.Reply.{Reply}
 use Rattle.version_core.specs.HubStates.{HubState}
+use Rattle.version_core.specs.Outcomes.{bad_body_outcome}
 use Rattle.version_core.specs.declared.change.BaseVersion.{BaseVersion}
 use Rattle.version_core.specs.declared.grant_row.GrantRow.{GrantRow}
 use Rattle.version_core.specs.declared.mark.MarkRow.{MarkRow}
@@ -36,7 +37,7 @@ module _ (newest : BaseVersion) (by : GrantRow) (write : Write) (at : ℤ) where
   put_judged row None = makes (record { row = row; owner = Caller by.caller }) (stored_at newest write)
 
   body_judged : (r : Result Record JsonFault) → (verdict : Verdict) × BodyJudged newest by write at r verdict
-  body_judged (Err fault) = (Refused 2, refl)
+  body_judged (Err fault) = (Refused bad_body_outcome, refl)
   body_judged (Ok row) = put_judged row (put_refusal newest by write row)
 
   new_judged : (b : Bool) → (verdict : Verdict) × NewJudged b newest by write at verdict
