@@ -13,7 +13,7 @@ use Rattle.keeper_memory.specs.copy.States.{stage_of, state_of}
 use Rattle.keeper_memory.specs.declared.copy.state.StageState.{StageState}
 use Rattle.exchange_link.proofs.CutLemmas.{IsGood, cut_whole, list_good}
 use Rattle.exchange_link.specs.Agreement.{AreSeen, CopyFits, HeldFitsIf, IsFrontOf, StageFits, StageFitsIf}
-use Rattle.exchange_link.specs.Places.{kind_at, kinds_of, pin_of, staged_of}
+use Rattle.exchange_link.specs.Places.{kind_at, kinds_of, next_kind, pin_of, staged_of}
 use Rattle.exchange_link.specs.Sayings.{knows, list_at}
 use Rattle.exchange_link.specs.declared.answer.SyncAnswer.{SyncAnswer}
 use Rattle.hub_spec.proofs.CutDeltas.{cut_to_cut}
@@ -68,7 +68,7 @@ list_as_asked s h token et lt = ap (list_at (version_at h s.pin) token) (place_a
 
 staged_some : (stage : Option Stage) (h : HubState) (token : List ℕ) → HasToken token (option_map state_of stage) → StageFitsIf stage h → kinds_of (option_map state_of stage) < kind_count
     → (staged_of (option_map state_of stage) == 0) ≡ false
-    → IsSomeAnd (pin_of (option_map state_of stage)) (λ pin. list_at (version_at h pin) token (place_of_kind (kind_at (kinds_of (option_map state_of stage)))) ≢ [])
+    → IsSomeAnd (pin_of (option_map state_of stage)) (λ pin. list_at (version_at h pin) token (place_of_kind (next_kind (option_map state_of stage))) ≢ [])
 staged_some None h token et x lt fresh = cc
 staged_some (Some s) h token et x lt fresh = λ none.
     let some : length s.present ≢ 0 = grind (arith, nat_tests, fresh) in
@@ -82,10 +82,10 @@ held_is (Some held) stage h base token kind x has =
     ap (λ (ls : List (List Record)). get_or ls (place_of_kind kind) []) seen.same ∙ ap (λ n. list_in (version_at h n) token kind) has.0
 
 pub may_ask : (c : Copy) (stage : Option StageState) (h : HubState) (token : List ℕ) (base limit : ℕ) (held : List Record) → stage_of c ≡ stage → HasToken token stage → kinds_of stage < kind_count → CopyFits c h → HasBase base token c
-    → held ≡ held_list c (kind_at (kinds_of stage)) → MayAsk h token (first_place stage base limit) held
+    → held ≡ held_list c (next_kind stage) → MayAsk h token (first_place stage base limit) held
 may_ask c stage h token base limit held e et lt x has shown = subst (λ s. MayAsk h token (first_place s base limit) held) e (record {
   based = base_stands c.held c.stage h base token x.held has;
-  shown = shown ∙ ap (λ s. held_list c (kind_at (kinds_of s))) (sym e) ∙ held_is c.held c.stage h base token (kind_at (kinds_of (stage_of c))) x.held has;
+  shown = shown ∙ ap (λ s. held_list c (next_kind s)) (sym e) ∙ held_is c.held c.stage h base token (next_kind (stage_of c)) x.held has;
   pinned = pin_stands c.held c.stage h base token x.stage x.held has;
   staged = staged_some c.stage h token (subst (λ s. HasToken token s) (sym e) et) x.stage (subst (λ s. kinds_of s < kind_count) (sym e) lt);
 })
@@ -195,7 +195,7 @@ module _ (c : Copy) (h : HubState) (token : List ℕ) (base pin : ℕ) (x : Copy
 
 module _ (c after : Copy) (stage : Option StageState) (a h : HubState) (hub : IsHub h) (token : List ℕ) (base limit : ℕ) (e : stage_of c ≡ stage) (et : HasToken token stage) (lt : kinds_of stage < kind_count) (x : CopyFits c h) (has : HasBase base token c) where
   abbrev kind : Kind
-  kind = kind_at (kinds_of stage)
+  kind = next_kind stage
 
   et' : HasToken token (option_map state_of c.stage)
   et' = subst (λ s. HasToken token s) (sym e) et

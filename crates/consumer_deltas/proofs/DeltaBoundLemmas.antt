@@ -1,5 +1,5 @@
 -- Kind after kind, over a link that tells.
-use Rattle.std.proofs.Common.{◌≡◌, ◌⊎◌, ⊎_elim, inl, inr, ◌+◌, ◌-◌, ◌*◌, ◌<◌, ◌≤◌, ℕ, true, [], ◌∷◌, drop, List, length}
+use Rattle.std.proofs.Common.{◌≡◌, ◌⊎◌, ⊎_elim, inl, inr, ◌+◌, ◌-◌, ◌*◌, ◌<◌, ◌≤◌, ℕ, [], ◌∷◌, drop, List, length}
 use Rattle.std.proofs.Common.{Option, Some, None, refl, sym, subst, ap, ◌∙◌, arith, max}
 use Rattle.std.specs.Prelude.{IfSome, option_map}
 use Rattle.std.proofs.Math.Nat.{mul-le-mul_left}
@@ -13,7 +13,7 @@ use Rattle.exchange_link.proofs.AskLemmas.{cause_more, grew_on}
 use Rattle.exchange_link.specs.Agreement.{CopyFits, StageFitsIf}
 use Rattle.exchange_link.specs.Bounds.{pages}
 use Rattle.exchange_link.specs.Exchanges.{LinkState}
-use Rattle.exchange_link.specs.Places.{kind_at, kinds_of, pin_of}
+use Rattle.exchange_link.specs.Places.{kind_at, kinds_of, next_kind, pin_of}
 use Rattle.exchange_link.specs.Requests.{Moved}
 use Rattle.exchange_link.specs.Synchronised.{StageOn}
 use Rattle.exchange_link.specs.declared.answer.SyncAnswer.{SyncAnswer}
@@ -26,7 +26,7 @@ use Rattle.roster_values.specs.declared.kind.Kind.TheVariants.{Orgs}
 use Rattle.version_core.specs.HubStates.{HubState}
 use Rattle.consumer_sync.proofs.BoundLemmas.{times_some}
 use Rattle.consumer_sync.specs.Filling.{PinLaw, StageEnds}
-use Rattle.consumer_sync.specs.Judging.{opened, paged}
+use Rattle.consumer_sync.specs.Judging.{kind_done}
 use Rattle.consumer_deltas.proofs.DeltaAgreeLemmas.{IsBase, base_stands}
 use Rattle.consumer_deltas.specs.DeltaAnswers.{DeltaTold, HasBase}
 use Rattle.consumer_deltas.specs.DeltaCalls.{DeltaBounded, IsNewPin, delta_pages, delta_work}
@@ -81,10 +81,10 @@ unfolding kind_at
 kinds_next k lt = drop_more all_kinds k Orgs lt
 
 work_next : (limit : ℕ) (token : List ℕ) (old new : Option StageState) (h : HubState) (base pin : ℕ) → kinds_of old < kind_count → kinds_of new ≡ kinds_of old + 1
-    → delta_work limit token old h base pin ≡ max 1 (pages limit (length (what_differs (version_at h base) (version_at h pin) token (kind_at (kinds_of old))))) + delta_work limit token new h base pin
+    → delta_work limit token old h base pin ≡ max 1 (pages limit (length (what_differs (version_at h base) (version_at h pin) token (next_kind old)))) + delta_work limit token new h base pin
 work_next limit token old new h base pin lt next =
     ap (delta_pages limit token (version_at h base) (version_at h pin)) (kinds_next (kinds_of old) lt)
-    ∙ ap (λ k. max 1 (pages limit (length (what_differs (version_at h base) (version_at h pin) token (kind_at (kinds_of old))))) + delta_pages limit token (version_at h base) (version_at h pin) (drop k all_kinds)) (sym next)
+    ∙ ap (λ k. max 1 (pages limit (length (what_differs (version_at h base) (version_at h pin) token (next_kind old)))) + delta_pages limit token (version_at h base) (version_at h pin) (drop k all_kinds)) (sym next)
 
 -- the same in numbers: the tries `t`, the exchanges `n` before and `m` of a kind, its pages `p`, the work `w` before
 -- and `w'` behind, and the whole work `f`
@@ -112,49 +112,49 @@ done_num : (n t w f : ℕ) → n + t * w ≤ t * f → n ≤ t * f
 done_num n t w f so = omega (arith, so)
 
 module _ (tries limit : ℕ) (token : List ℕ) (base : ℕ) where
-  abbrev W : Option StageState → HubState → ℕ → ℕ
-  W stage h pin = delta_work limit token stage h base pin
+  abbrev work_left : Option StageState → HubState → ℕ → ℕ
+  work_left stage h pin = delta_work limit token stage h base pin
 
-  abbrev P : Option StageState → HubState → ℕ → ℕ
-  P old h pin = pages limit (length (what_differs (version_at h base) (version_at h pin) token (kind_at (kinds_of old))))
+  abbrev pages_next : Option StageState → HubState → ℕ → ℕ
+  pages_next old h pin = pages limit (length (what_differs (version_at h base) (version_at h pin) token (next_kind old)))
 
   -- behind one kind more
   so_on : (n m v : ℕ) (first old new : Option StageState) (start a b : HubState) → SoFar n tries limit token base first old a → PinLaw first start old → Grew a b → base < length a.published → StandsIf old a
-      → kinds_of old < kind_count → kinds_of new ≡ kinds_of old + 1 → pin_of new ≡ Some v → IsPinFrom (pin_of old) a v → m ≤ tries * max 1 (P old b v) → SoFar (n + m) tries limit token base first new b
+      → kinds_of old < kind_count → kinds_of new ≡ kinds_of old + 1 → pin_of new ≡ Some v → IsPinFrom (pin_of old) a v → m ≤ tries * max 1 (pages_next old b v) → SoFar (n + m) tries limit token base first new b
   so_on n m v first old None start a b so law g low stands lt next e from few = absurd (none-some _ e)
   so_on n m v (Some f) None new start a b so law g low stands lt next e from few = absurd law
   so_on n m v None None (Some s) start a b so law g low stands lt next e from few =
-      let few' : m ≤ tries * max 1 (P None b s.pin) = subst (λ v. m ≤ tries * max 1 (P None b v)) (sym (same_Some _ _ e)) few in
-      first_num n m tries (max 1 (P None b s.pin)) (W None b s.pin) (W (Some s) b s.pin) so few' (work_next limit token None (Some s) b base s.pin lt next)
+      let few' : m ≤ tries * max 1 (pages_next None b s.pin) = subst (λ v. m ≤ tries * max 1 (pages_next None b v)) (sym (same_Some _ _ e)) few in
+      first_num n m tries (max 1 (pages_next None b s.pin)) (work_left None b s.pin) (work_left (Some s) b s.pin) so few' (work_next limit token None (Some s) b base s.pin lt next)
   so_on n m v first (Some o) (Some s) start a b so law g low stands lt next e from few =
       let ps : o.pin ≡ s.pin = sym from ∙ sym (same_Some _ _ e) in
-      let few' : m ≤ tries * max 1 (P (Some o) b s.pin) = subst (λ v. m ≤ tries * max 1 (P (Some o) b v)) (sym (same_Some _ _ e)) few in
-      let moved : n + tries * W (Some o) b o.pin ≤ tries * W first b o.pin =
-      moved_num n tries (W (Some o) a o.pin) (W (Some o) b o.pin) (W first a o.pin) (W first b o.pin) (work_same limit token (Some o) a b base o.pin g low stands) (work_same limit token first a b base o.pin g low stands) so in
-      let at : n + tries * W (Some o) b s.pin ≤ tries * W first b s.pin = subst (λ p. n + tries * W (Some o) b p ≤ tries * W first b p) ps moved in
-      next_num n m tries (max 1 (P (Some o) b s.pin)) (W (Some o) b s.pin) (W (Some s) b s.pin) (W first b s.pin) at few' (work_next limit token (Some o) (Some s) b base s.pin lt next)
+      let few' : m ≤ tries * max 1 (pages_next (Some o) b s.pin) = subst (λ v. m ≤ tries * max 1 (pages_next (Some o) b v)) (sym (same_Some _ _ e)) few in
+      let moved : n + tries * work_left (Some o) b o.pin ≤ tries * work_left first b o.pin =
+      moved_num n tries (work_left (Some o) a o.pin) (work_left (Some o) b o.pin) (work_left first a o.pin) (work_left first b o.pin) (work_same limit token (Some o) a b base o.pin g low stands) (work_same limit token first a b base o.pin g low stands) so in
+      let at : n + tries * work_left (Some o) b s.pin ≤ tries * work_left first b s.pin = subst (λ p. n + tries * work_left (Some o) b p ≤ tries * work_left first b p) ps moved in
+      next_num n m tries (max 1 (pages_next (Some o) b s.pin)) (work_left (Some o) b s.pin) (work_left (Some s) b s.pin) (work_left first b s.pin) at few' (work_next limit token (Some o) (Some s) b base s.pin lt next)
 
   most_by : (n m : ℕ) (first : Option StageState) (o : StageState) (a b : HubState) → SoFar n tries limit token base first (Some o) a → Grew a b → base < length a.published → o.pin < length a.published → o.kinds_done < kind_count
-      → (m ≤ tries) ⊎ (m ≤ tries * P (Some o) b o.pin) → n + m ≤ tries * W first b o.pin
+      → (m ≤ tries) ⊎ (m ≤ tries * pages_next (Some o) b o.pin) → n + m ≤ tries * work_left first b o.pin
   most_by n m first o a b so g low stands lt x =
       let next : Option StageState = Some (record o { kinds_done = o.kinds_done + 1 }) in
-      let some = some_num (P (Some o) b o.pin) (W (Some o) b o.pin) (W next b o.pin) (work_next limit token (Some o) next b base o.pin lt refl) in
-      let moved : n + tries * W (Some o) b o.pin ≤ tries * W first b o.pin =
-      moved_num n tries (W (Some o) a o.pin) (W (Some o) b o.pin) (W first a o.pin) (W first b o.pin) (work_same limit token (Some o) a b base o.pin g low stands) (work_same limit token first a b base o.pin g low stands) so in
-      last_num n m tries (P (Some o) b o.pin) (W (Some o) b o.pin) (W first b o.pin) moved some.0 some.1 x
+      let some = some_num (pages_next (Some o) b o.pin) (work_left (Some o) b o.pin) (work_left next b o.pin) (work_next limit token (Some o) next b base o.pin lt refl) in
+      let moved : n + tries * work_left (Some o) b o.pin ≤ tries * work_left first b o.pin =
+      moved_num n tries (work_left (Some o) a o.pin) (work_left (Some o) b o.pin) (work_left first a o.pin) (work_left first b o.pin) (work_same limit token (Some o) a b base o.pin g low stands) (work_same limit token first a b base o.pin g low stands) so in
+      last_num n m tries (pages_next (Some o) b o.pin) (work_left (Some o) b o.pin) (work_left first b o.pin) moved some.0 some.1 x
 
   abbrev IsLast : Option StageState → (ℕ → Type 0) → Copy → HubState → HubState → ℕ → Type 0
-  IsLast old names c a b m = (m ≤ tries) ⊎ ((v : ℕ) × IsPinFrom (pin_of old) a v × (v < length b.published) × names v × IfSome c.stage (λ x. x.pin ≡ v) × (m ≤ tries * P old b v))
+  IsLast old names c a b m = (m ≤ tries) ⊎ ((v : ℕ) × IsPinFrom (pin_of old) a v × (v < length b.published) × names v × IfSome c.stage (λ x. x.pin ≡ v) × (m ≤ tries * pages_next old b v))
 
-  last_by : (o : StageState) (names : ℕ → Type 0) (c : Copy) (a b : HubState) (m : ℕ) → IsLast (Some o) names c a b m → (m ≤ tries) ⊎ (m ≤ tries * P (Some o) b o.pin)
-  last_by o names c a b m x = ⊎_elim (λ (few : m ≤ tries). inl few) (λ y. inr (subst (λ v. m ≤ tries * P (Some o) b v) y.1 y.5)) x
+  last_by : (o : StageState) (names : ℕ → Type 0) (c : Copy) (a b : HubState) (m : ℕ) → IsLast (Some o) names c a b m → (m ≤ tries) ⊎ (m ≤ tries * pages_next (Some o) b o.pin)
+  last_by o names c a b m x = ⊎_elim (λ (few : m ≤ tries). inl few) (λ y. inr (subst (λ v. m ≤ tries * pages_next (Some o) b v) y.1 y.5)) x
 
   new_by : (n m : ℕ) (names : ℕ → Type 0) (c : Copy) (start a b : HubState) → n ≡ 0 → Grew start a → IsLast None names c a b m → DeltaBounded (n + m) tries limit token base None (IsNewPin names c start b) b
   new_by n m names c start a b so g x = ⊎_elim (λ (few : m ≤ tries). inl (omega (arith, so, few)))
       (λ y.
       let next : Option StageState = Some (record { pin = y.0; token = token; kinds_done = 1; staged = 0; total = None; last = None }) in
-      let some = some_num (P None b y.0) (W None b y.0) (W next b y.0) (work_next limit token None next b base y.0 (omega arith) refl) in
-      inr (y.0, record { newest = omega (arith, y.1, g.longer); standing = y.2; named = y.3; stage = y.4 }, new_num n m tries (P None b y.0) (W None b y.0) so y.5 some.1)) x
+      let some = some_num (pages_next None b y.0) (work_left None b y.0) (work_left next b y.0) (work_next limit token None next b base y.0 (omega arith) refl) in
+      inr (y.0, record { newest = omega (arith, y.1, g.longer); standing = y.2; named = y.3; stage = y.4 }, new_num n m tries (pages_next None b y.0) (work_left None b y.0) so y.5 some.1)) x
 
   -- at an answer, with the tries of one request more, or those of the kind's pages
   so_end : (n m : ℕ) (first old : Option StageState) (names : ℕ → Type 0) (c : Copy) (start a b : HubState) → SoFar n tries limit token base first old a → PinLaw first start old → Grew start a → Grew a b → base < length a.published → StandsIf old a
@@ -164,15 +164,15 @@ module _ (tries limit : ℕ) (token : List ℕ) (base : ℕ) where
       let at = named o refl in
       inr (o.pin, record { newest = law; standing = omega (arith, stands, h.longer); named = at.0; stage = at.1 }, most_by n m None o a b so h low stands lt (last_by o names c a b m x))
   so_end n m (Some f) None names c start a b so law g h low stands lt named x = absurd law
-  so_end n m (Some f) (Some o) names c start a b so law g h low stands lt named x = subst (λ p. n + m ≤ tries * W (Some f) b p) law (most_by n m (Some f) o a b so h low stands lt (last_by o names c a b m x))
+  so_end n m (Some f) (Some o) names c start a b so law g h low stands lt named x = subst (λ p. n + m ≤ tries * work_left (Some f) b p) law (most_by n m (Some f) o a b so h low stands lt (last_by o names c a b m x))
 
   -- or where all kinds are done
   so_done : (n : ℕ) (first last : Option StageState) (c : Copy) (start b : HubState) → SoFar n tries limit token base first last b → PinLaw first start last → StandsIf last b
       → ((s : StageState) → last ≡ Some s → IfSome c.stage (λ x. x.pin ≡ s.pin)) → DeltaBounded n tries limit token base first (IsNewPin (NamesPinIf None) c start b) b
   so_done n None None c start b so law stands left = inl (omega (arith, so))
-  so_done n None (Some o) c start b so law stands left = inr (o.pin, record { newest = law; standing = stands; named = tt; stage = left o refl }, done_num n tries (W (Some o) b o.pin) (W None b o.pin) so)
+  so_done n None (Some o) c start b so law stands left = inr (o.pin, record { newest = law; standing = stands; named = tt; stage = left o refl }, done_num n tries (work_left (Some o) b o.pin) (work_left None b o.pin) so)
   so_done n (Some f) None c start b so law stands left = absurd law
-  so_done n (Some f) (Some o) c start b so law stands left = subst (λ p. n ≤ tries * W (Some f) b p) law (done_num n tries (W (Some o) b o.pin) (W (Some f) b o.pin) so)
+  so_done n (Some f) (Some o) c start b so law stands left = subst (λ p. n ≤ tries * work_left (Some f) b p) law (done_num n tries (work_left (Some o) b o.pin) (work_left (Some f) b o.pin) so)
 
 -- ---- the pin of the stage that is left
 
@@ -216,28 +216,53 @@ based_behind first old h c a law e = tt
 stands_as : (c : Copy) (old : Option StageState) (h : HubState) → stage_of c ≡ old → CopyFits c h → StandsIf old h
 stands_as c old h e fits = subst (λ s. StandsIf s h) e (stands_by c.stage h fits.stage)
 
-module _ (token : List ℕ) (limit tries base n m : ℕ) (first old new : Option StageState) (start told t : LinkState) (before c : Copy) (e : stage_of before ≡ old) (fits : CopyFits before told.hub) (has : HasBase base token before) (lt : kinds_of old < kind_count)
-    (law : PinLaw first start.hub old) (so : SoFar n tries limit token base first old told.hub) (moved : Moved start told) (grew : Grew told.hub t.hub) where
+-- where the kinds stand before the next one: the copy with which it begins, what the link told at first and then
+pub record BeforeKind (token : List ℕ) (limit tries base n : ℕ) (first old : Option StageState) (start told : LinkState) (before : Copy) : Type 0 where
+  pub stage_is : stage_of before ≡ old
+  pub fits : CopyFits before told.hub
+  pub has : HasBase base token before
+  pub room : kinds_of old < kind_count
+  pub law : PinLaw first start.hub old
+  pub so_far : SoFar n tries limit token base first old told.hub
+  pub moved : Moved start told
+
+pub count_same : (n m : ℕ) → n ≤ m → (Q : ℕ → Type 0) → Q (n + (m - n)) → Q m
+count_same n m le Q x = let e : n + (m - n) ≡ m = omega (arith, le) in subst Q e x
+
+module _ {token : List ℕ} {limit tries base n : ℕ} {first old : Option StageState} {start told : LinkState} {before : Copy} (here : BeforeKind token limit tries base n first old start told before) where
   low : base < length told.hub.published
-  low = base_stands before.held before.stage told.hub base token fits.held has
+  low = base_stands before.held before.stage told.hub base token here.fits.held here.has
+
+  stood : StandsIf old told.hub
+  stood = stands_as before old told.hub here.stage_is here.fits
 
   -- a kind with which the call ends
-  pub kind_end : (a : DeltaAnswer) → ((s : StageState) → old ≡ Some s → IfSome c.stage (λ x. x.pin ≡ s.pin)) → KindTold token limit tries base m old new (Some a) told t c → FillTold token limit tries base (n + m) first new (Some a) start t c
-  kind_end a left k = record {
-    fits = k.fits;
+  kind_end : {m : ℕ} {new : Option StageState} {tells : LinkState} {after : Copy} (a : DeltaAnswer) → KindTold token limit tries base m old new (Some a) told tells after → Grew told.hub tells.hub
+      → ((s : StageState) → old ≡ Some s → IfSome after.stage (λ x. x.pin ≡ s.pin)) → FillTold token limit tries base (n + m) first new (Some a) start tells after
+  kind_end {m} {new} {tells} {after} a kind grew left = record {
+    fits = kind.fits;
     pin = λ none. absurd (none-some _ (sym none));
-    cause = told_more token start told t a moved k.cause;
-    gone = gone_behind first old start.hub told.hub a law moved.grew k.gone;
-    stays = based_behind first old start.hub c a law k.stays;
-    bound = so_end tries limit token base n m first old (NamesPin a) c start.hub told.hub t.hub so law moved.grew grew low (stands_as before old told.hub e fits) lt (λ s at. (names_as told.hub a old k.gone s at, left s at)) k.bound;
+    cause = told_more token start told tells a here.moved kind.cause;
+    gone = gone_behind first old start.hub told.hub a here.law here.moved.grew kind.gone;
+    stays = based_behind first old start.hub after a here.law kind.stays;
+    bound = so_end tries limit token base n m first old (NamesPin a) after start.hub told.hub tells.hub here.so_far here.law here.moved.grew grew low stood here.room (λ s at. (names_as told.hub a old kind.gone s at, left s at)) kind.bound;
   }
 
+  -- the same for any result; the copy from which the kind's comes may be another with the same stage
+  pub kind_end_if : (m : ℕ) {new : Option StageState} {tells : LinkState} {after : Copy} (result : Option DeltaAnswer) → (result ≡ None → ⊥) → KindTold token limit tries base (m - n) old new result told tells after
+      → n ≤ m → Grew told.hub tells.hub → (other : Copy) → stage_of other ≡ old → DeltaEnds token base result other after → FillTold token limit tries base m first new result start tells after
+  kind_end_if m {new} {tells} {after} None not kind le grew other is ends = absurd (not refl)
+  kind_end_if m {new} {tells} {after} (Some a) not kind le grew other is ends =
+      count_same n m le (λ x. FillTold token limit tries base x first new (Some a) start tells after)
+      (kind_end a kind grew (left_pinned token base a other after old is ends))
+
   -- one behind which it goes on
-  pub kind_on : kinds_of new ≡ kinds_of old + 1 → KindTold token limit tries base m old new None told t c → PinLaw first start.hub new × SoFar (n + m) tries limit token base first new t.hub
-  kind_on next k =
-      let b = k.bound in (
-        pin_goes_on first old new start.hub told.hub b.0 law moved.grew b.2 b.1,
-        so_on tries limit token base n m b.0 first old new start.hub told.hub t.hub so law grew low (stands_as before old told.hub e fits) lt next b.1 b.2 b.3,
+  pub kind_on : {m : ℕ} {new : Option StageState} {tells : LinkState} {after : Copy} → KindTold token limit tries base m old new None told tells after → Grew told.hub tells.hub → kinds_of new ≡ kinds_of old + 1
+      → PinLaw first start.hub new × SoFar (n + m) tries limit token base first new tells.hub
+  kind_on {m} {new} {tells} {after} kind grew next =
+      let bound = kind.bound in (
+        pin_goes_on first old new start.hub told.hub bound.0 here.law here.moved.grew bound.2 bound.1,
+        so_on tries limit token base n m bound.0 first old new start.hub told.hub tells.hub here.so_far here.law grew low stood here.room next bound.1 bound.2 bound.3,
       )
 
 -- all kinds are done
@@ -266,20 +291,9 @@ same_pin (Some s) h = refl
 
 -- ---- in the loop
 
-pub kinds_paged : (stage : Option StageState) (v : ℕ) (token : List ℕ) → kinds_of (Some (paged (opened stage v token) [] 0 true)) ≡ kinds_of stage + 1
+pub kinds_paged : (stage : Option StageState) (v : ℕ) (token : List ℕ) → kinds_of (Some (kind_done stage v token)) ≡ kinds_of stage + 1
 kinds_paged None v token = refl
 kinds_paged (Some s) v token = refl
 
 pub held_on : (base : ℕ) (token : List ℕ) (a b : Copy) → b.held ≡ a.held → HasBase base token a → HasBase base token b
 held_on base token a b e has = subst (λ o. IsBase base token o) (sym e) has
-
-pub count_same : (n m : ℕ) → n ≤ m → (Q : ℕ → Type 0) → Q (n + (m - n)) → Q m
-count_same n m le Q x = let e : n + (m - n) ≡ m = omega (arith, le) in subst Q e x
-
-pub kind_end_if : (token : List ℕ) (limit tries base n m : ℕ) (first old new : Option StageState) (start told t : LinkState) (before other c : Copy) (r : Option DeltaAnswer) → (r ≡ None → ⊥) → n ≤ m → stage_of before ≡ old → stage_of other ≡ old
-    → CopyFits before told.hub → HasBase base token before → kinds_of old < kind_count → PinLaw first start.hub old → SoFar n tries limit token base first old told.hub → Moved start told → Grew told.hub t.hub
-    → DeltaEnds token base r other c → KindTold token limit tries base (m - n) old new r told t c → FillTold token limit tries base m first new r start t c
-kind_end_if token limit tries base n m first old new start told t before other c None not le e e' fits has lt law so moved grew ends k = absurd (not refl)
-kind_end_if token limit tries base n m first old new start told t before other c (Some a) not le e e' fits has lt law so moved grew ends k =
-    count_same n m le (λ x. FillTold token limit tries base x first new (Some a) start t c)
-    (kind_end token limit tries base n (m - n) first old new start told t before c e fits has lt law so moved grew a (left_pinned token base a other c old e' ends) k)

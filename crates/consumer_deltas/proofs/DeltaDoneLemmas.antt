@@ -65,26 +65,27 @@ unmerged_needs missed broke copies kind entries s (Broken b e) = subst (λ s. Ne
 unmerged_needs missed broke copies kind entries s (Wanting e) = subst (λ s. Needs missed broke (Ended s)) (sym e) tt
 unmerged_needs missed broke copies kind entries s (OverLimit n many is e) = subst (λ s. Needs missed broke (Ended s)) (sym e) tt
 
-halts_needs : (kept : List ℕ) (run count : ℕ) (missed broke : Type 0) (copies : Copy → Type 0) (place : Place) (a : DeltaAnswer) → Halts kept run count missed broke copies place a → Needs missed broke a
-halts_needs kept run count missed broke copies place a (Stopped held shown (Given g)) = subst (Needs missed broke) (sym g.given) (given_needs missed broke (delta_judged g.here g.sofar g.reply) g.here (count_in g.sofar))
-halts_needs kept run count missed broke copies place a (Stopped held shown (NoneCame offset m unlike e)) = subst (Needs missed broke) (sym e) m
-halts_needs kept run count missed broke copies place a (Stopped held shown (NoReply offset unlike e)) = subst (Needs missed broke) (sym e) tt
-halts_needs kept run count missed broke copies place a (Stopped held shown (Wants e)) = subst (Needs missed broke) (sym e) tt
-halts_needs kept run count missed broke copies place a (Merging entries are shown s u e) = subst (Needs missed broke) (sym e) (unmerged_needs missed broke copies place.kind entries s u)
-halts_needs kept run count missed broke copies place a (Broke b e) = subst (Needs missed broke) (sym e) b
-halts_needs kept run count missed broke copies place a (WantsBeside e) = subst (Needs missed broke) (sym e) tt
+module _ (kept : List ℕ) (run count : ℕ) (missed broke : Type 0) (copies : Copy → Type 0) (place : Place) (a : DeltaAnswer) where
+  halts_needs : Halts kept run count missed broke copies place a → Needs missed broke a
+  halts_needs (Stopped held shown (Given g)) = subst (Needs missed broke) (sym g.given) (given_needs missed broke (delta_judged g.here g.sofar g.reply) g.here (count_in g.sofar))
+  halts_needs (Stopped held shown (NoneCame offset all_missed unlike is)) = subst (Needs missed broke) (sym is) all_missed
+  halts_needs (Stopped held shown (NoReply offset unlike is)) = subst (Needs missed broke) (sym is) tt
+  halts_needs (Stopped held shown (Wants is)) = subst (Needs missed broke) (sym is) tt
+  halts_needs (Merging entries are shown s unmerged is) = subst (Needs missed broke) (sym is) (unmerged_needs missed broke copies place.kind entries s unmerged)
+  halts_needs (Broke rose is) = subst (Needs missed broke) (sym is) rose
+  halts_needs (WantsBeside is) = subst (Needs missed broke) (sym is) tt
 
-cause_needs : (kept : List ℕ) (run count : ℕ) (missed broke : Type 0) (copies : Copy → Type 0) (place : Place) (a : DeltaAnswer) → DeltaCause kept run count missed broke copies place a → Needs missed broke a
-cause_needs kept run count missed broke copies place a (Unbased none e) = subst (Needs missed broke) (sym e) tt
-cause_needs kept run count missed broke copies place a (OutOfRuns none e) = subst (Needs missed broke) (sym e) tt
-cause_needs kept run count missed broke copies place a (Swapped version e) = subst (Needs missed broke) (sym e) tt
-cause_needs kept run count missed broke copies place a (BrokeBeside b e) = subst (Needs missed broke) (sym e) b
-cause_needs kept run count missed broke copies place a (WantsAlone e) = subst (Needs missed broke) (sym e) tt
-cause_needs kept run count missed broke copies place a (Halted h) = halts_needs kept run count missed broke copies place a h
+  cause_needs : DeltaCause kept run count missed broke copies place a → Needs missed broke a
+  cause_needs (Unbased none is) = subst (Needs missed broke) (sym is) tt
+  cause_needs (OutOfRuns none is) = subst (Needs missed broke) (sym is) tt
+  cause_needs (Swapped version is) = subst (Needs missed broke) (sym is) tt
+  cause_needs (BrokeBeside rose is) = subst (Needs missed broke) (sym is) rose
+  cause_needs (WantsAlone is) = subst (Needs missed broke) (sym is) tt
+  cause_needs (Halted halts) = halts_needs halts
 
--- a keeper's fault comes only where its count rose
-pub cause_fails : (kept : List ℕ) (run count : ℕ) (missed broke : Type 0) (copies : Copy → Type 0) (place : Place) (a : DeltaAnswer) → DeltaCause kept run count missed broke copies place a → a ≡ Ended answer.KeeperFault → broke
-cause_fails kept run count missed broke copies place a cause e = subst (Needs missed broke) e (cause_needs kept run count missed broke copies place a cause)
+  -- a keeper's fault comes only where its count rose
+  pub cause_fails : DeltaCause kept run count missed broke copies place a → a ≡ Ended answer.KeeperFault → broke
+  cause_fails cause is = subst (Needs missed broke) is (cause_needs cause)
 
 -- ---- grants
 
@@ -144,27 +145,29 @@ module _ (mid u : HubState) (hub : IsHub u) (grew : Grew mid u) (token : List �
           (λ (above : length mid.published ≤ v). absurd (none-some _ (sym (ap (λ (version : BaseVersion). grant_of token version.grants) (beyond v mid.published above)) ∙ known)))
           (cases_lt v (length mid.published))
 
--- where nothing fails and both versions stand, the call is complete, or wants memory
-pub done_of : (kept : List ℕ) (run count : ℕ) (missed broke : Type 0) (copies : Copy → Type 0) (place : Place) (a : DeltaAnswer) (token : List ℕ) (first : Option StageState) (t u : LinkState) → IsHub u.hub
-    → Halts kept run count missed broke copies place a → DeltaTold token t u a → GoneBehind first t.hub a → (missed → ⊥) → (broke → ⊥) → (Rose t.hub_faults u.hub_faults → ⊥)
-    → place.base < length t.hub.published → StandsAt (first_pin first t.hub) token u.hub → StandsAt place.base token u.hub → IsDeltaDone a
-done_of kept run count missed broke copies place (Ended (answer.Complete v)) token first t u hub halts told gone m b quiet low at on = tt
-done_of kept run count missed broke copies place (Ended answer.NoMemory) token first t u hub halts told gone m b quiet low at on = tt
-done_of kept run count missed broke copies place (Ended answer.HubNoMemory) token first t u hub halts told gone m b quiet low at on = tt
-done_of kept run count missed broke copies place (Ended (answer.Interrupted kind offset)) token first t u hub halts told gone m b quiet low at on =
-    m (halts_needs kept run count missed broke copies place (Ended (answer.Interrupted kind offset)) halts)
-done_of kept run count missed broke copies place (Ended answer.KeeperFault) token first t u hub halts told gone m b quiet low at on = b (halts_needs kept run count missed broke copies place (Ended answer.KeeperFault) halts)
-done_of kept run count missed broke copies place (Ended (answer.PinGone pin oldest)) token first t u hub halts told gone m b quiet low at on =
-    let same : at.by ≡ on.by = same_Some _ _ (sym at.known ∙ on.known) in
-    let since : on.by.grant.since ≤ pin = (let s = subst (λ (r : GrantRow). r.grant.since ≤ first_pin first t.hub) same at.since in omega (arith, s, gone)) in
-    not_gone told.0 u.hub hub told.2 token place.base (omega (arith, low, told.1.longer)) on pin told.3 (omega (arith, at.oldest, gone)) since told.4 told.5
-done_of kept run count missed broke copies place (Ended answer.UnknownToken) token first t u hub halts told gone m b quiet low at on =
-    known_not _ on.by (was_known told.0 u.hub hub told.2 token place.base (omega (arith, low, told.1.longer)) on) told.3
-done_of kept run count missed broke copies place (Ended (answer.TooLarge kind total)) token first t u hub halts told gone m b quiet low at on = told
-done_of kept run count missed broke copies place (Ended (answer.BadReply kind offset)) token first t u hub halts told gone m b quiet low at on = told
-done_of kept run count missed broke copies place (Ended answer.HubFault) token first t u hub halts told gone m b quiet low at on = quiet told
-done_of kept run count missed broke copies place (Ended answer.LastRun) token first t u hub halts told gone m b quiet low at on = halts_end kept run count missed broke copies place (Ended answer.LastRun) halts
-done_of kept run count missed broke copies place NoBase token first t u hub halts told gone m b quiet low at on = halts_end kept run count missed broke copies place NoBase halts
-done_of kept run count missed broke copies place (BaseGone held oldest) token first t u hub halts told gone m b quiet low at on =
-    let same : held ≡ place.base = halts_end kept run count missed broke copies place (BaseGone held oldest) halts in
-    base_kept told.0 u.hub hub told.2 token place.base (omega (arith, low, told.1.longer)) on told.3 told.4 told.5 (subst (λ n. (n < oldest_number told.0) ⊎ (n < told.4.grant.since)) same told.6)
+module _ (kept : List ℕ) (run count : ℕ) (missed broke : Type 0) (copies : Copy → Type 0) (place : Place)
+    (token : List ℕ) (first : Option StageState) (before after : LinkState) (hub : IsHub after.hub)
+    (no_miss : missed → ⊥) (no_break : broke → ⊥) (quiet : Rose before.hub_faults after.hub_faults → ⊥)
+    (low : place.base < length before.hub.published)
+    (at : StandsAt (first_pin first before.hub) token after.hub) (on : StandsAt place.base token after.hub) where
+  -- where nothing fails and both versions stand, the call is complete, or wants memory
+  pub done_of : (a : DeltaAnswer) → Halts kept run count missed broke copies place a → DeltaTold token before after a → GoneBehind first before.hub a → IsDeltaDone a
+  done_of (Ended (answer.Complete v)) halts told gone = tt
+  done_of (Ended answer.NoMemory) halts told gone = tt
+  done_of (Ended answer.HubNoMemory) halts told gone = tt
+  done_of (Ended (answer.Interrupted kind offset)) halts told gone = no_miss (halts_needs kept run count missed broke copies place (Ended (answer.Interrupted kind offset)) halts)
+  done_of (Ended answer.KeeperFault) halts told gone = no_break (halts_needs kept run count missed broke copies place (Ended answer.KeeperFault) halts)
+  done_of (Ended (answer.PinGone pin oldest)) halts told gone =
+      let same : at.by ≡ on.by = same_Some _ _ (sym at.known ∙ on.known) in
+      let since : on.by.grant.since ≤ pin = (let s = subst (λ (r : GrantRow). r.grant.since ≤ first_pin first before.hub) same at.since in omega (arith, s, gone)) in
+      not_gone told.0 after.hub hub told.2 token place.base (omega (arith, low, told.1.longer)) on pin told.3 (omega (arith, at.oldest, gone)) since told.4 told.5
+  done_of (Ended answer.UnknownToken) halts told gone =
+      known_not _ on.by (was_known told.0 after.hub hub told.2 token place.base (omega (arith, low, told.1.longer)) on) told.3
+  done_of (Ended (answer.TooLarge kind total)) halts told gone = told
+  done_of (Ended (answer.BadReply kind offset)) halts told gone = told
+  done_of (Ended answer.HubFault) halts told gone = quiet told
+  done_of (Ended answer.LastRun) halts told gone = halts_end kept run count missed broke copies place (Ended answer.LastRun) halts
+  done_of NoBase halts told gone = halts_end kept run count missed broke copies place NoBase halts
+  done_of (BaseGone held oldest) halts told gone =
+      let same : held ≡ place.base = halts_end kept run count missed broke copies place (BaseGone held oldest) halts in
+      base_kept told.0 after.hub hub told.2 token place.base (omega (arith, low, told.1.longer)) on told.3 told.4 told.5 (subst (λ n. (n < oldest_number told.0) ⊎ (n < told.4.grant.since)) same told.6)

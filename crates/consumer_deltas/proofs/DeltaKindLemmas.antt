@@ -1,5 +1,5 @@
 -- What one kind makes of a copy and a hub that agree.
-use Rattle.std.proofs.Common.{◌≡◌, ◌⊎◌, ⊎_elim, inl, inr, ◌*◌, ◌<◌, ◌≤◌, ℕ, true, List, [], length, Option, Some, None}
+use Rattle.std.proofs.Common.{◌≡◌, ◌⊎◌, ⊎_elim, inl, inr, ◌*◌, ◌<◌, ◌≤◌, ℕ, List, [], length, Option, Some, None}
 use Rattle.std.proofs.Common.{Ok, Err, refl, sym, subst, ap, ◌∙◌, arith, max}
 use Rattle.std.specs.Prelude.{IfSome, Result, option_map, unwrap_or}
 use Rattle.std.proofs.Math.Nat.{mul-le-mul_left}
@@ -14,7 +14,7 @@ use Rattle.exchange_link.proofs.FitLemmas.{copy_on, held_alone}
 use Rattle.exchange_link.specs.Agreement.{CopyFits}
 use Rattle.exchange_link.specs.Bounds.{pages}
 use Rattle.exchange_link.specs.Exchanges.{LinkState}
-use Rattle.exchange_link.specs.Places.{kind_at, kinds_of, pin_of}
+use Rattle.exchange_link.specs.Places.{kinds_of, next_kind, pin_of}
 use Rattle.exchange_link.specs.declared.answer.SyncAnswer.{SyncAnswer}
 use Rattle.exchange_link.specs.declared.answer.SyncAnswer.TheVariants as answer
 use Rattle.hub_spec.specs.rules.Checks.{version_at}
@@ -28,7 +28,7 @@ use Rattle.roster_values.specs.declared.kind.Kind.{Kind}
 use Rattle.version_core.specs.HubStates.{HubState}
 use Rattle.consumer_sync.proofs.StageLemmas.{pin-stage_after}
 use Rattle.consumer_sync.specs.Filling.{HasToken}
-use Rattle.consumer_sync.specs.Judging.{opened, paged}
+use Rattle.consumer_sync.specs.Judging.{kind_done}
 use Rattle.consumer_sync.specs.Staging.{Adds, IsBroken, Taking, broken_answer, open_copy, taken}
 use Rattle.consumer_sync.specs.Staging.Adds.{Opened, Stays as StaysAdded, Takes}
 use Rattle.consumer_deltas.proofs.DeltaAgreeLemmas.{kind_fits}
@@ -209,7 +209,7 @@ told_from : (a h : HubState) (token : List ℕ) (here : Place) (d : Delta) → T
 told_from a h token here (delta.Closed pin) x = x.1
 told_from a h token here (delta.Whole pin entries) x = x.1
 
-pin_paged : (stage : Option StageState) (h : HubState) (v : ℕ) (token : List ℕ) → IsPinFrom (pin_of stage) h v → pin_of (Some (paged (opened stage v token) [] 0 true)) ≡ Some v
+pin_paged : (stage : Option StageState) (h : HubState) (v : ℕ) (token : List ℕ) → IsPinFrom (pin_of stage) h v → pin_of (Some (kind_done stage v token)) ≡ Some v
 pin_paged None h v token from = refl
 pin_paged (Some s) h v token from = ap Some (sym from)
 
@@ -225,7 +225,7 @@ more_num n t p few = let le : p ≤ max 1 p = omega arith in let x : t * p ≤ t
 module _ (token : List ℕ) (limit tries base n : ℕ) (stage : Option StageState) (told t : LinkState) (before after : Copy) (d : Delta) (e : stage_of before ≡ stage) (et : HasToken token stage) (lt : kinds_of stage < kind_count)
     (hub : IsHub t.hub) (y : CopyFits before told.hub) (grew : Grew told.hub t.hub) (has : HasBase base token before) (p : PagesTold told t token (first_place stage base limit) tries n (let r : Result Delta DeltaAnswer = Ok d in r)) where
   abbrev kind : Kind
-  kind = kind_at (kinds_of stage)
+  kind = next_kind stage
 
   x : CopyFits before t.hub
   x = copy_on before told.hub t.hub grew y
@@ -237,7 +237,7 @@ module _ (token : List ℕ) (limit tries base n : ℕ) (stage : Option StageStat
   staged r s = kind_fits before after stage told.hub t.hub hub token base limit e et lt x has d r y p.whole s
 
   -- and staged
-  pub staged_told : (new : Option StageState) → new ≡ Some (paged (opened stage (pin_in d) token) [] 0 true) → StagesKind d kind stage token None before after → KindTold token limit tries base n stage new None told t after
+  pub staged_told : (new : Option StageState) → new ≡ Some (kind_done stage (pin_in d) token) → StagesKind d kind stage token None before after → KindTold token limit tries base n stage new None told t after
   staged_told new is s = record {
     fits = (staged None s).0;
     cause = tt;

@@ -471,6 +471,11 @@ pub record Gathering (before h : HubState) (token : List ℕ) (place here : Plac
   pub known : Knows h token here sofar
   pub pin : (v : ℕ) → IsPinFrom here.pin h v → IsPinFrom place.pin before v
 
+-- the same, and how many pages were asked for
+abbrev pub GatheredBy : HubState → HubState → List ℕ → Place → Place → Sofar → ℕ → ℕ → Type 0
+GatheredBy before h token place here sofar tries n =
+    Gathering before h token place here sofar × Paged before h token place here sofar tries n
+
 pub gathering_first : (h : HubState) (token : List ℕ) (place : Place) (held : List Record) (sofar : Sofar) → sofar ≡ nothing_yet held → MayAsk h token place held → Gathering h h token place place sofar
 gathering_first h token place held sofar e may = subst (λ s. Gathering h h token place place s) (sym e) (record { known = knows_first h token place held may; pin = λ v x. x })
 

@@ -7,7 +7,7 @@ use Rattle.std.specs.Option.{option_map_or}
 use Rattle.keeper_memory.specs.copy.Changes.{copy_after, swapped}
 use Rattle.keeper_memory.specs.copy.Copies.{Copy, Held, Stage, held_token}
 use Rattle.keeper_memory.specs.copy.States.{small_part, stage_of, state_of}
-use Rattle.keeper_memory.specs.declared.copy.change.CopyChange.TheVariants.{Run, Swap}
+use Rattle.keeper_memory.specs.declared.copy.change.CopyChange.TheVariants.{Swap}
 use Rattle.keeper_memory.specs.declared.copy.state.CopyState.{CopyState}
 use Rattle.keeper_memory.specs.declared.copy.state.StageState.{StageState}
 use Rattle.keeper_memory.specs.declared.copy.state.TheConstants.{LAST}
@@ -34,7 +34,7 @@ use Rattle.consumer_sync.specs.Faulted.{FaultLaw, SaysGone}
 use Rattle.consumer_sync.specs.Filling.{Ends, Fills, PinLaw}
 use Rattle.consumer_sync.specs.Requests.{IsUnmarked}
 use Rattle.consumer_sync.specs.Staging.{broken_answer}
-use Rattle.consumer_sync.specs.Starting.{Aborts, Drops, StartCause, SwapsIn, unentered, without_other}
+use Rattle.consumer_sync.specs.Starting.{Aborts, Drops, StartCause, SwapsIn, run_begun, unentered}
 use Rattle.consumer_deltas.proofs.DeltaAgreeLemmas.{IsBase, base_stands as held_stands}
 use Rattle.consumer_deltas.proofs.DeltaStopLemmas.{IsDeltaEnd}
 use Rattle.consumer_deltas.specs.DeltaAnswers.{BaseLaw, DeltaLeaves, DeltaTold, HasBase, LacksBase}
@@ -135,13 +135,19 @@ pub broken_done : (e : KeeperError) (K : Type 0) → (e ≡ fault.Failed → K) 
 broken_done fault.Failed K f quiet = absurd (quiet (f refl))
 broken_done fault.NoMemory K f quiet = tt
 
-why_broken : (kept : List ℕ) (run count : ℕ) (missed broke : Type 0) (copies : Copy → Type 0) (place : Place) (e : KeeperError) → (e ≡ fault.Failed → broke) → DeltaCause kept run count missed broke copies place (Ended (broken_answer e))
-why_broken kept run count missed broke copies place fault.Failed f = Broke (f refl) refl
-why_broken kept run count missed broke copies place fault.NoMemory f = Wants refl
+module _ (kept : List ℕ) (run count : ℕ) (missed broke : Type 0) (copies : Copy → Type 0) (place : Place) where
+  why_broken : (e : KeeperError) → (e ≡ fault.Failed → broke) → DeltaCause kept run count missed broke copies place (Ended (broken_answer e))
+  why_broken fault.Failed f = Broke (f refl) refl
+  why_broken fault.NoMemory f = Wants refl
 
-pub broken_cause : (kept : List ℕ) (run count : ℕ) (missed broke : Type 0) (copies : Copy → Type 0) (place : Place) (e : KeeperError) (a : SyncAnswer) → a ≡ broken_answer e → (e ≡ fault.Failed → broke)
-    → DeltaCause kept run count missed broke copies place (Ended a)
-broken_cause kept run count missed broke copies place e a is f = subst (λ a. DeltaCause kept run count missed broke copies place (Ended a)) (sym is) (why_broken kept run count missed broke copies place e f)
+  pub broken_cause : (e : KeeperError) (a : SyncAnswer) → a ≡ broken_answer e → (e ≡ fault.Failed → broke) → DeltaCause kept run count missed broke copies place (Ended a)
+  broken_cause e a is f = subst (λ a. DeltaCause kept run count missed broke copies place (Ended a)) (sym is) (why_broken e f)
+
+  pub start_cause : (a : SyncAnswer) → count ≡ 0 → StartCause broke a → DeltaCause kept run count missed broke copies place (Ended a)
+  start_cause answer.LastRun none cause = OutOfRuns none refl
+  start_cause answer.KeeperFault none cause = Broke cause refl
+  start_cause answer.NoMemory none cause = Wants refl
+  start_cause a none cause = absurd cause
 
 -- ---- as a synchronisation ends
 
@@ -157,12 +163,6 @@ last_as a b c l = record { only = λ e. l.only (ended_same e); exact = λ e. inr
 pub faults_as : (token kept : List ℕ) (a : SyncAnswer) (b c : Copy) → (a ≡ answer.KeeperFault → FaultLaw token kept b c) → DeltaFaultLaw token kept (Ended a) b c
 faults_as token kept answer.KeeperFault b c f = f refl
 faults_as token kept a b c f = tt
-
-pub start_cause : (kept : List ℕ) (run count : ℕ) (missed broke : Type 0) (copies : Copy → Type 0) (place : Place) (a : SyncAnswer) → count ≡ 0 → StartCause broke a → DeltaCause kept run count missed broke copies place (Ended a)
-start_cause kept run count missed broke copies place answer.LastRun none k = OutOfRuns none refl
-start_cause kept run count missed broke copies place answer.KeeperFault none k = Broke k refl
-start_cause kept run count missed broke copies place answer.NoMemory none k = Wants refl
-start_cause kept run count missed broke copies place a none k = absurd k
 
 pub start_more : (broke more : Type 0) (a : SyncAnswer) → (broke → more) → StartCause broke a → StartCause more a
 start_more broke more answer.LastRun f k = tt
@@ -190,10 +190,7 @@ enter_law token kept e s b a is x = subst (λ s. DeltaFaultLaw token kept (Ended
 
 -- ---- the kinds ended with an answer
 
-abbrev pub begun : List ℕ → Copy → Copy
-begun token b = without_other token (copy_after (Run (b.run + 1)) b)
-
-pub end_leaves : (token : List ℕ) (base : ℕ) (a : DeltaAnswer) (b d c : Copy) → d ≡ begun token b → IsDeltaEnd base a → HasBase base token b → DeltaEnds token base (Some a) d c → DeltaLeaves token a b c
+pub end_leaves : (token : List ℕ) (base : ℕ) (a : DeltaAnswer) (b d c : Copy) → d ≡ run_begun token b → IsDeltaEnd base a → HasBase base token b → DeltaEnds token base (Some a) d c → DeltaLeaves token a b c
 end_leaves token base (Ended e) b d c ed end has x = fill_leaves token e b d c ed end x
 end_leaves token base NoBase b d c ed end has x = absurd x
 end_leaves token base (BaseGone held oldest) b d c ed end has x =
@@ -204,7 +201,7 @@ left_pin : (token : List ℕ) (old new : Option Stage) (h : HubState) → PinLaw
 left_pin token old None h law = tt
 left_pin token old (Some s) h law = pin_law token old h (state_of s) law
 
-pub end_sync : (token : List ℕ) (base run n : ℕ) (a : DeltaAnswer) (b d c : Copy) (t u : LinkState) → d ≡ begun token b → IsDeltaEnd base a → HasBase base token b → DeltaEnds token base (Some a) d c → run ≡ b.run + 1 → Asks run 0 n IsUnmarked t u → StageAgrees b t
+pub end_sync : (token : List ℕ) (base run n : ℕ) (a : DeltaAnswer) (b d c : Copy) (t u : LinkState) → d ≡ run_begun token b → IsDeltaEnd base a → HasBase base token b → DeltaEnds token base (Some a) d c → run ≡ b.run + 1 → Asks run 0 n IsUnmarked t u → StageAgrees b t
     → CopyFits c u.hub → BasedBehind (own_state token (stage_of b)) t.hub c a → DeltaSynchronised token a b t c u
 end_sync token base run n (Ended e) b d c t u ed end has x er asks agree fits stays = sync_as token e b t c u asks.moved (fill_sync token run n e b d c t u ed end x er asks agree fits)
 end_sync token base run n NoBase b d c t u ed end has x er asks agree fits stays = absurd x
@@ -212,7 +209,7 @@ end_sync token base run n (BaseGone held oldest) b d c t u ed end has x er asks 
     let s = fill_sync token run n answer.HubFault b d c t u ed tt (fills_end token (Some answer.HubFault) d c tt x.1) er asks agree fits in
     record { leaves = end_leaves token base (BaseGone held oldest) b d c ed end has x; agree = s.agree; held = s.held; pin = left_pin token b.stage c.stage t.hub stays; moved = asks.moved }
 
-pub end_faults : (token kept : List ℕ) (a : DeltaAnswer) (b d c : Copy) → d ≡ begun token b → StageOn token d.stage c.stage ⊎ SaysGone kept → DeltaFaultLaw token kept a b c
+pub end_faults : (token kept : List ℕ) (a : DeltaAnswer) (b d c : Copy) → d ≡ run_begun token b → StageOn token d.stage c.stage ⊎ SaysGone kept → DeltaFaultLaw token kept a b c
 end_faults token kept (Ended answer.KeeperFault) b d c ed x = fill_faults token kept b d c ed x
 end_faults token kept (Ended a) b d c ed x = tt
 end_faults token kept NoBase b d c ed x = tt

@@ -10,7 +10,7 @@ use Rattle.std.proofs.lemmas.List.Elements.{All-tail, All-take}
 use Rattle.consumer_deltas.specs.DeltaStaging.{Stages, above, following, part_of}
 use Rattle.consumer_deltas.specs.DeltaStaging.Stages.{Opens, Part, Whole, Stays as StaysAll}
 use Rattle.consumer_sync.proofs.DoneLemmas.{ascends-append}
-use Rattle.consumer_sync.specs.Judging.{opened, paged}
+use Rattle.consumer_sync.specs.Judging.{kind_done, opened, paged}
 use Rattle.consumer_sync.specs.Staging.{Adds, IsBroken, Taking, open_copy, taken}
 use Rattle.consumer_sync.specs.Staging.Adds.{Opened, Stays, Takes}
 use Rattle.exchange_link.specs.Agreement.{IsFrontOf}
@@ -79,7 +79,7 @@ paged_staged (Some s) pin token rows total = refl
 
 -- the stage at the end of the kind looks at pin, token and kinds alone
 pub ended_same : (stage : Option StageState) (pin : ℕ) (token : List ℕ) (rows : List Record) (total : ℕ)
-    → paged (opened (Some (paged (opened stage pin token) rows total false)) pin token) [] 0 true ≡ paged (opened stage pin token) [] 0 true
+    → kind_done (Some (paged (opened stage pin token) rows total false)) pin token ≡ kind_done stage pin token
 ended_same None pin token rows total = refl
 ended_same (Some s) pin token rows total = refl
 

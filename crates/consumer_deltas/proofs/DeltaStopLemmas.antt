@@ -54,14 +54,6 @@ ending_end act.HubFault here n = tt
 ending_end act.HubNoMemory here n = tt
 ending_end x here n = tt
 
-pub stops_end : (kept : List ℕ) (run count : ℕ) (missed : Type 0) (place : Place) (held : List Record) (a : DeltaAnswer) → Stops kept run count missed place held a → IsDeltaEnd place.base a
-stops_end kept run count missed place held a (Given g) =
-    let here : Place = g.here in
-    subst (λ b. IsDeltaEnd b a) g.base (subst (λ r. IsDeltaEnd here.base r) (sym g.given) (ending_end (delta_judged here g.sofar g.reply) here (count_in g.sofar)))
-stops_end kept run count missed place held a (NoneCame offset m unlike e) = subst (λ r. IsDeltaEnd place.base r) (sym e) tt
-stops_end kept run count missed place held a (NoReply offset unlike e) = subst (λ r. IsDeltaEnd place.base r) (sym e) tt
-stops_end kept run count missed place held a (Wants e) = subst (λ r. IsDeltaEnd place.base r) (sym e) tt
-
 -- ---- a pin that is gone
 
 abbrev IsGoneAct : DeltaAct → Type 0
@@ -138,14 +130,6 @@ gone_says place sofar w =
     (λ _. either (SaysOldest w) (w.status == 401) _ _ (λ _ is. absurd is)
     (λ _. either (SaysOldest w) (w.status == 500) _ _ (λ _ is. absurd is)
     (λ _. either (SaysOldest w) (w.status == 503) _ _ (λ _ is. absurd is) (λ _ is. absurd is))))))
-
-pub stops_gone : (kept : List ℕ) (run count : ℕ) (missed : Type 0) (place : Place) (held : List Record) (a : DeltaAnswer) → Stops kept run count missed place held a → IsPinGone a → SaysGone kept
-stops_gone kept run count missed place held a (Given g) is =
-    let says = gone_says g.here g.sofar g.reply (gone_act (delta_judged g.here g.sofar g.reply) g.here (count_in g.sofar) (subst IsPinGone g.given is)) in
-    (g.reply, g.own.text, says.0, says.1)
-stops_gone kept run count missed place held a (NoneCame offset m unlike e) is = absurd (subst IsPinGone e is)
-stops_gone kept run count missed place held a (NoReply offset unlike e) is = absurd (subst IsPinGone e is)
-stops_gone kept run count missed place held a (Wants e) is = absurd (subst IsPinGone e is)
 
 -- the pin that is gone is the one that was asked for
 abbrev pub GoneAt : Option ℕ → DeltaAct → Type 0
@@ -234,12 +218,47 @@ gives here sofar w n = record {
   base_gone = λ oldest es eo lt le. ap (λ x. ending_of x here n) (judged_at here sofar w 404 es ∙ ap (lost_act here.base here.pin) eo ∙ lost_base here.base here.pin oldest lt le);
 }
 
-pub stops_replies : (kept : List ℕ) (run count : ℕ) (missed : Type 0) (place : Place) (held : List Record) (a : DeltaAnswer) → Stops kept run count missed place held a → (w : WireReply) → IsOwnReply kept run count w → RepliesIf place w a
-stops_replies kept run count missed place held a (Given g) w own =
-    inr (g.here, g.base, g.pin, subst (λ r. RepliesTo g.here r a) (one_answer kept g.reply w g.own.text own.text) (subst (λ r. RepliesTo g.here g.reply r) (sym g.given) (gives g.here g.sofar g.reply (count_in g.sofar))))
-stops_replies kept run count missed place held a (NoneCame offset m unlike e) w own = absurd (unlike w own)
-stops_replies kept run count missed place held a (NoReply offset unlike e) w own = absurd (unlike w own.text)
-stops_replies kept run count missed place held a (Wants e) w own = inl (subst IsDeltaAside (sym e) tt)
+-- ---- what holds where the pages stop
+
+-- where the answer says that the base is gone, the hub was asked
+asks_some : (a : DeltaAnswer) (count : ℕ) → 1 ≤ count → AsksSome a count
+asks_some (BaseGone held oldest) count some = some
+asks_some a count some = tt
+
+module _ (kept : List ℕ) (run count : ℕ) (missed : Type 0) (place : Place) (held : List Record) (a : DeltaAnswer) where
+  -- the pages don't end with other answers
+  pub stops_end : Stops kept run count missed place held a → IsDeltaEnd place.base a
+  stops_end (Given g) =
+      let here : Place = g.here in
+      subst (λ b. IsDeltaEnd b a) g.base (subst (λ r. IsDeltaEnd here.base r) (sym g.given) (ending_end (delta_judged here g.sofar g.reply) here (count_in g.sofar)))
+  stops_end (NoneCame offset all_missed unlike is) = subst (λ r. IsDeltaEnd place.base r) (sym is) tt
+  stops_end (NoReply offset unlike is) = subst (λ r. IsDeltaEnd place.base r) (sym is) tt
+  stops_end (Wants is) = subst (λ r. IsDeltaEnd place.base r) (sym is) tt
+
+  -- a pin is gone only where a reply says so
+  pub stops_gone : Stops kept run count missed place held a → IsPinGone a → SaysGone kept
+  stops_gone (Given g) gone =
+      let says = gone_says g.here g.sofar g.reply (gone_act (delta_judged g.here g.sofar g.reply) g.here (count_in g.sofar) (subst IsPinGone g.given gone)) in
+      (g.reply, g.own.text, says.0, says.1)
+  stops_gone (NoneCame offset all_missed unlike is) gone = absurd (subst IsPinGone is gone)
+  stops_gone (NoReply offset unlike is) gone = absurd (subst IsPinGone is gone)
+  stops_gone (Wants is) gone = absurd (subst IsPinGone is gone)
+
+  -- the own reply gives the answer, or it's an answer beside
+  pub stops_replies : Stops kept run count missed place held a → (w : WireReply) → IsOwnReply kept run count w → RepliesIf place w a
+  stops_replies (Given g) w own =
+      inr (g.here, g.base, g.pin, subst (λ r. RepliesTo g.here r a) (one_answer kept g.reply w g.own.text own.text) (subst (λ r. RepliesTo g.here g.reply r) (sym g.given) (gives g.here g.sofar g.reply (count_in g.sofar))))
+  stops_replies (NoneCame offset all_missed unlike is) w own = absurd (unlike w own)
+  stops_replies (NoReply offset unlike is) w own = absurd (unlike w own.text)
+  stops_replies (Wants is) w own = inl (subst IsDeltaAside (sym is) tt)
+
+  stops_some : Stops kept run count missed place held a → AsksSome a count
+  stops_some (Given g) = asks_some a count g.own.from
+  stops_some (NoneCame offset all_missed unlike is) = subst (λ a. AsksSome a count) (sym is) tt
+  stops_some (NoReply offset unlike is) = subst (λ a. AsksSome a count) (sym is) tt
+  stops_some (Wants is) = subst (λ a. AsksSome a count) (sym is) tt
+
+-- ---- behind a page
 
 not_page : (w : WireReply) (n : ℕ) (K : Type 0) → IsPageStatus w.status → w.status ≡ n → (n ≡ 200 → ⊥) → (n ≡ 403 → ⊥) → K
 not_page w n K page e a b = absurd (⊎_elim (λ (x : w.status ≡ 200). a (sym e ∙ x)) (λ (x : w.status ≡ 403). b (sym e ∙ x)) page)
@@ -264,23 +283,24 @@ aside_replies place w a is = inl is
 
 -- ---- with other counts
 
-stops_map : (kept : List ℕ) (run count : ℕ) (missed other : Type 0) (place : Place) (held : List Record) (a : DeltaAnswer) → (missed → other) → Stops kept run count missed place held a → Stops kept run count other place held a
-stops_map kept run count missed other place held a f (Given g) = Given g
-stops_map kept run count missed other place held a f (NoneCame offset m unlike e) = NoneCame offset (f m) unlike e
-stops_map kept run count missed other place held a f (NoReply offset unlike e) = NoReply offset unlike e
-stops_map kept run count missed other place held a f (Wants e) = Wants e
+module _ (kept : List ℕ) (run count : ℕ) (missed other : Type 0) (place : Place) (held : List Record) (a : DeltaAnswer) (f : missed → other) where
+  stops_map : Stops kept run count missed place held a → Stops kept run count other place held a
+  stops_map (Given g) = Given g
+  stops_map (NoneCame offset all_missed unlike is) = NoneCame offset (f all_missed) unlike is
+  stops_map (NoReply offset unlike is) = NoReply offset unlike is
+  stops_map (Wants is) = Wants is
 
 unmerged_map : (broke broken : Type 0) (copies : Copy → Type 0) (kind : Kind) (entries : Sofar) (s : SyncAnswer) → (broke → broken) → Unmerged broke copies kind entries s → Unmerged broken copies kind entries s
 unmerged_map broke broken copies kind entries s f (Broken b e) = Broken (f b) e
 unmerged_map broke broken copies kind entries s f (Wanting e) = Wanting e
 unmerged_map broke broken copies kind entries s f (OverLimit n many is e) = OverLimit n many is e
 
-pub halts_map : (kept : List ℕ) (run count : ℕ) (missed other broke broken : Type 0) (copies : Copy → Type 0) (place : Place) (a : DeltaAnswer) → (missed → other) → (broke → broken)
-    → Halts kept run count missed broke copies place a → Halts kept run count other broken copies place a
-halts_map kept run count missed other broke broken copies place a f g (Stopped held shown s) = Stopped held shown (stops_map kept run count missed other place held a f s)
-halts_map kept run count missed other broke broken copies place a f g (Merging entries are shown s u e) = Merging entries are shown s (unmerged_map broke broken copies place.kind entries s g u) e
-halts_map kept run count missed other broke broken copies place a f g (Broke b e) = Broke (g b) e
-halts_map kept run count missed other broke broken copies place a f g (WantsBeside e) = WantsBeside e
+module _ (kept : List ℕ) (run count : ℕ) (missed other broke broken : Type 0) (copies : Copy → Type 0) (place : Place) (a : DeltaAnswer) (f : missed → other) (g : broke → broken) where
+  pub halts_map : Halts kept run count missed broke copies place a → Halts kept run count other broken copies place a
+  halts_map (Stopped held shown stops) = Stopped held shown (stops_map kept run count missed other place held a f stops)
+  halts_map (Merging entries are shown s unmerged is) = Merging entries are shown s (unmerged_map broke broken copies place.kind entries s g unmerged) is
+  halts_map (Broke rose is) = Broke (g rose) is
+  halts_map (WantsBeside is) = WantsBeside is
 
 -- ---- what they end with
 
@@ -289,11 +309,18 @@ merged_end broke copies kind entries a (Broken b e) = subst IsEnd (sym e) tt
 merged_end broke copies kind entries a (Wanting e) = subst IsEnd (sym e) tt
 merged_end broke copies kind entries a (OverLimit n many is e) = subst IsEnd (sym e) tt
 
-pub halts_end : (kept : List ℕ) (run count : ℕ) (missed broke : Type 0) (copies : Copy → Type 0) (place : Place) (a : DeltaAnswer) → Halts kept run count missed broke copies place a → IsDeltaEnd place.base a
-halts_end kept run count missed broke copies place a (Stopped held shown s) = stops_end kept run count missed place held a s
-halts_end kept run count missed broke copies place a (Merging entries are shown s u e) = subst (λ r. IsDeltaEnd place.base r) (sym e) (merged_end broke copies place.kind entries s u)
-halts_end kept run count missed broke copies place a (Broke b e) = subst (λ r. IsDeltaEnd place.base r) (sym e) tt
-halts_end kept run count missed broke copies place a (WantsBeside e) = subst (λ r. IsDeltaEnd place.base r) (sym e) tt
+module _ (kept : List ℕ) (run count : ℕ) (missed broke : Type 0) (copies : Copy → Type 0) (place : Place) (a : DeltaAnswer) where
+  pub halts_end : Halts kept run count missed broke copies place a → IsDeltaEnd place.base a
+  halts_end (Stopped held shown stops) = stops_end kept run count missed place held a stops
+  halts_end (Merging entries are shown s unmerged is) = subst (λ r. IsDeltaEnd place.base r) (sym is) (merged_end broke copies place.kind entries s unmerged)
+  halts_end (Broke rose is) = subst (λ r. IsDeltaEnd place.base r) (sym is) tt
+  halts_end (WantsBeside is) = subst (λ r. IsDeltaEnd place.base r) (sym is) tt
+
+  halts_some : Halts kept run count missed broke copies place a → AsksSome a count
+  halts_some (Stopped held shown stops) = stops_some kept run count missed place held a stops
+  halts_some (Merging entries are shown s unmerged is) = subst (λ a. AsksSome a count) (sym is) tt
+  halts_some (Broke rose is) = subst (λ a. AsksSome a count) (sym is) tt
+  halts_some (WantsBeside is) = subst (λ a. AsksSome a count) (sym is) tt
 
 -- ---- in the loop
 
@@ -301,6 +328,10 @@ pub halts_if : (kept : List ℕ) (run count : ℕ) (missed other broke broken : 
     → IfSome r (Halts kept run count missed broke copies place) → IfSome r (Halts kept run count other broken copies place)
 halts_if kept run count missed other broke broken copies place None f g x = tt
 halts_if kept run count missed other broke broken copies place (Some a) f g x = halts_map kept run count missed other broke broken copies place a f g x
+
+pub some_if : (kept : List ℕ) (run count : ℕ) (missed broke : Type 0) (copies : Copy → Type 0) (place : Place) (r : Option DeltaAnswer) → IfSome r (Halts kept run count missed broke copies place) → IfSome r (λ a. AsksSome a count)
+some_if kept run count missed broke copies place None h = tt
+some_if kept run count missed broke copies place (Some a) h = halts_some kept run count missed broke copies place a h
 
 pub replies_on : (kept : List ℕ) (run count : ℕ) (place : Place) (r : Option DeltaAnswer) → (r ≡ None → ⊥) → IfSome r (λ a. (w : WireReply) → IsOwnReply kept run count w → RepliesIf place w a)
     → (w : WireReply) → IsOwnReply kept run count w → RepliesOn place w r
@@ -312,16 +343,16 @@ replies_on kept run count place (Some a) not x w own = x w own
 abbrev pub Outcome : DeltaAnswer → DeltaAnswer → Type 0 → Type 0
 Outcome given result broke = (result ≡ given) ⊎ (((result ≡ Ended answer.KeeperFault) × broke) ⊎ (result ≡ Ended answer.NoMemory))
 
-pub stops_halt : (kept : List ℕ) (run count : ℕ) (missed broke : Type 0) (copies : Copy → Type 0) (place : Place) (held : List Record) (given result : DeltaAnswer) → ((c : Copy) → copies c → held ≡ held_list c place.kind) → Stops kept run count missed place held given → Outcome given result broke
-    → Halts kept run count missed broke copies place result
-stops_halt kept run count missed broke copies place held given result shown stops out = ⊎_elim
-    (λ (e : result ≡ given). Stopped held shown (subst (λ a. Stops kept run count missed place held a) (sym e) stops))
-    (λ y. ⊎_elim (λ (x : (result ≡ Ended answer.KeeperFault) × broke). Broke x.1 x.0) (λ (e : result ≡ Ended answer.NoMemory). WantsBeside e) y) out
+module _ (kept : List ℕ) (run count : ℕ) (missed broke : Type 0) (place : Place) (held : List Record) (given result : DeltaAnswer) (stops : Stops kept run count missed place held given) (out : Outcome given result broke) where
+  pub stops_halt : (copies : Copy → Type 0) → ((c : Copy) → copies c → held ≡ held_list c place.kind) → Halts kept run count missed broke copies place result
+  stops_halt copies shown = ⊎_elim
+      (λ (same : result ≡ given). Stopped held shown (subst (λ a. Stops kept run count missed place held a) (sym same) stops))
+      (λ beside. ⊎_elim (λ (fault : (result ≡ Ended answer.KeeperFault) × broke). Broke fault.1 fault.0) (λ (wants : result ≡ Ended answer.NoMemory). WantsBeside wants) beside) out
 
-pub halt_replies : (kept : List ℕ) (run count : ℕ) (missed broke : Type 0) (place : Place) (held : List Record) (given result : DeltaAnswer) → Stops kept run count missed place held given → Outcome given result broke → (w : WireReply) → IsOwnReply kept run count w → RepliesIf place w result
-halt_replies kept run count missed broke place held given result stops out w own = ⊎_elim
-    (λ (e : result ≡ given). subst (λ a. RepliesIf place w a) (sym e) (stops_replies kept run count missed place held given stops w own))
-    (λ y. inl (⊎_elim (λ (x : (result ≡ Ended answer.KeeperFault) × broke). subst IsDeltaAside (sym x.0) tt) (λ (e : result ≡ Ended answer.NoMemory). subst IsDeltaAside (sym e) tt) y)) out
+  pub halt_replies : (w : WireReply) → IsOwnReply kept run count w → RepliesIf place w result
+  halt_replies w own = ⊎_elim
+      (λ (same : result ≡ given). subst (λ a. RepliesIf place w a) (sym same) (stops_replies kept run count missed place held given stops w own))
+      (λ beside. inl (⊎_elim (λ (fault : (result ≡ Ended answer.KeeperFault) × broke). subst IsDeltaAside (sym fault.0) tt) (λ (wants : result ≡ Ended answer.NoMemory). subst IsDeltaAside (sym wants) tt) beside)) out
 
 -- at the same place
 pub stops_at : (kept : List ℕ) (run count : ℕ) (missed : Type 0) (here there : Place) (held : List Record) (a : DeltaAnswer) → here ≡ there → Stops kept run count missed here held a → Stops kept run count missed there held a
@@ -330,25 +361,3 @@ stops_at kept run count missed here there held a e x = subst (λ p. Stops kept r
 pub sends_at : (token : List ℕ) (here there : Place) (run from to : ℕ) (wants : Type 0) (before after : List Request) → here ≡ there → SendsOn (IsDeltaUnder token here.limit here.base) run from to wants before after
     → SendsOn (IsDeltaUnder token there.limit there.base) run from to wants before after
 sends_at token here there run from to wants before after e x = subst (λ (p : Place). SendsOn (IsDeltaUnder token p.limit p.base) run from to wants before after) e x
-
--- ---- the hub was asked, where it says that the base is gone
-
-asks_some : (a : DeltaAnswer) (count : ℕ) → 1 ≤ count → AsksSome a count
-asks_some (BaseGone held oldest) count some = some
-asks_some a count some = tt
-
-stops_some : (kept : List ℕ) (run count : ℕ) (missed : Type 0) (place : Place) (held : List Record) (a : DeltaAnswer) → Stops kept run count missed place held a → AsksSome a count
-stops_some kept run count missed place held a (Given g) = asks_some a count g.own.from
-stops_some kept run count missed place held a (NoneCame offset m unlike e) = subst (λ a. AsksSome a count) (sym e) tt
-stops_some kept run count missed place held a (NoReply offset unlike e) = subst (λ a. AsksSome a count) (sym e) tt
-stops_some kept run count missed place held a (Wants e) = subst (λ a. AsksSome a count) (sym e) tt
-
-halts_some : (kept : List ℕ) (run count : ℕ) (missed broke : Type 0) (copies : Copy → Type 0) (place : Place) (a : DeltaAnswer) → Halts kept run count missed broke copies place a → AsksSome a count
-halts_some kept run count missed broke copies place a (Stopped held shown s) = stops_some kept run count missed place held a s
-halts_some kept run count missed broke copies place a (Merging entries are shown s u e) = subst (λ a. AsksSome a count) (sym e) tt
-halts_some kept run count missed broke copies place a (Broke b e) = subst (λ a. AsksSome a count) (sym e) tt
-halts_some kept run count missed broke copies place a (WantsBeside e) = subst (λ a. AsksSome a count) (sym e) tt
-
-pub some_if : (kept : List ℕ) (run count : ℕ) (missed broke : Type 0) (copies : Copy → Type 0) (place : Place) (r : Option DeltaAnswer) → IfSome r (Halts kept run count missed broke copies place) → IfSome r (λ a. AsksSome a count)
-some_if kept run count missed broke copies place None h = tt
-some_if kept run count missed broke copies place (Some a) h = halts_some kept run count missed broke copies place a h

@@ -18,7 +18,7 @@ use Rattle.exchange_link.specs.Agreement.{CopyFits}
 use Rattle.exchange_link.specs.Bounds.{pages}
 use Rattle.exchange_link.specs.Completeness.{first_pin}
 use Rattle.exchange_link.specs.Exchanges.{LinkState}
-use Rattle.exchange_link.specs.Places.{kind_at, kinds_of, pin_of, staged_of}
+use Rattle.exchange_link.specs.Places.{next_kind, pin_of, staged_of}
 use Rattle.exchange_link.specs.declared.answer.SyncAnswer.{SyncAnswer}
 use Rattle.exchange_link.specs.declared.answer.SyncAnswer.TheVariants as answer
 use Rattle.hub_spec.specs.rules.Checks.{version_at}
@@ -36,7 +36,7 @@ use Rattle.version_core.specs.HubStates.{HubState}
 -- the first page of the next kind of a stage
 abbrev pub first_place : Option StageState → ℕ → ℕ → Place
 first_place stage base limit = record {
-  kind = kind_at (kinds_of stage);
+  kind = next_kind stage;
   base = base;
   limit = limit;
   pin = pin_of stage;
@@ -117,10 +117,10 @@ DeltaToldIf token before after (Some a) = DeltaTold token before after a
 abbrev pub KindBounded : ℕ → ℕ → ℕ → List ℕ → ℕ → Option StageState → Option StageState → Option DeltaAnswer → HubState → HubState → Copy → Type 0
 KindBounded n tries limit token base old new None before after c =
     (v : ℕ) × (pin_of new ≡ Some v) × IsPinFrom (pin_of old) before v
-    × (n ≤ tries * max 1 (pages limit (length (what_differs (version_at after base) (version_at after v) token (kind_at (kinds_of old))))))
+    × (n ≤ tries * max 1 (pages limit (length (what_differs (version_at after base) (version_at after v) token (next_kind old)))))
 KindBounded n tries limit token base old new (Some a) before after c =
     (n ≤ tries) ⊎ ((v : ℕ) × IsPinFrom (pin_of old) before v × (v < length after.published) × NamesPin a v × IfSome c.stage (λ s. s.pin ≡ v)
-    × (n ≤ tries * pages limit (length (what_differs (version_at after base) (version_at after v) token (kind_at (kinds_of old))))))
+    × (n ≤ tries * pages limit (length (what_differs (version_at after base) (version_at after v) token (next_kind old)))))
 
 -- where the base is gone, the stage stands as it was
 abbrev pub StaysBased : Option StageState → Copy → DeltaAnswer → Type 0

@@ -19,6 +19,7 @@ use Rattle.hub_spec.specs.rules.Checks.{version_at}
 use Rattle.hub_spec.specs.views.Cuts.{list_in}
 use Rattle.hub_spec.specs.views.Deltas.{delta as what_differs}
 use Rattle.hub_spec.specs.views.Pages.{slice}
+use Rattle.keeper_memory.specs.copy.Copies.{largest_tries}
 use Rattle.keeper_memory.specs.declared.copy.state.TheConstants.{LAST}
 use Rattle.roster_types.specs.Records.{Record}
 use Rattle.roster_values.specs.declared.kind.Kind.{Kind}
@@ -36,10 +37,10 @@ ending_of act.HubFault place offset = Ended answer.HubFault
 ending_of act.HubNoMemory place offset = Ended answer.HubNoMemory
 ending_of a place offset = Ended (answer.BadReply place.kind offset)
 
--- the most exchanges for a kind: each page but the last has an entry, and is asked for at most 100 times, as often as
--- one request may be tried
+-- the most exchanges for a kind: each page but the last has an entry, and is asked for as often as one request may be
+-- tried
 abbrev pub most_asked : ℕ
-most_asked = 100 * (entry_limit + 2)
+most_asked = largest_tries * (entry_limit + 2)
 
 -- entries of a kind that may be merged with the rows that are held
 pub record AreEntries (kind : Kind) (entries : Sofar) : Type 0 where

@@ -10,22 +10,21 @@ ghost use Rattle.consumer_deltas.specs.DeltaGathering.{most_asked};
 ghost use Rattle.consumer_deltas.specs.DeltaRequests.{IsDeltaUnder};
 ghost use Rattle.consumer_sync.specs.Faulted.{SaysGone};
 ghost use Rattle.consumer_sync.specs.Filling.{HasToken};
-ghost use Rattle.consumer_sync.specs.Judging.{opened, paged};
+ghost use Rattle.consumer_sync.specs.Judging.{kind_done};
 ghost use Rattle.consumer_sync.specs.Requests.{IsUnmarked};
 ghost use Rattle.consumer_deltas.specs.declared.judging.Place.{Place as Placed};
 ghost use Rattle.exchange_link.specs.Agreement.{CopyFits};
 ghost use Rattle.exchange_link.specs.Asked.{SendsOn};
 ghost use Rattle.exchange_link.specs.Calls.{CanTry, IsRunNumber, last_exchange};
-ghost use Rattle.exchange_link.specs.Causes.{IsMore, IsOwnReply, IsPageStatus, RoseBy};
+ghost use Rattle.exchange_link.specs.Causes.{IsMore, IsOwnReply, IsPageStatus, MissedTries};
 ghost use Rattle.exchange_link.specs.Exchanges.{LinkState};
 ghost use Rattle.exchange_link.specs.Pairs.{AtEach, CopyFrom, LinkFrom};
-ghost use Rattle.exchange_link.specs.Places.{kind_at, kinds_of};
+ghost use Rattle.exchange_link.specs.Places.{IsStaged, kinds_of, next_kind};
 ghost use Rattle.exchange_link.specs.Requests.{Asks, IsReady};
 ghost use Rattle.exchange_link.specs.Synchronised.{StageOn};
 ghost use Rattle.http_wire.specs.declared.reply_reading.WireReply.{WireReply as Reply};
 ghost use Rattle.keeper_memory.specs.copy.Copies.{Copy, held_list, largest_limit};
 ghost use Rattle.keeper_memory.specs.copy.Lists.{kind_count};
-ghost use Rattle.keeper_memory.specs.copy.States.{stage_of};
 ghost use Rattle.keeper_memory.specs.declared.copy.state.TheConstants.{LAST};
 ghost use Rattle.roster_base.specs.Faults.{Rose};
 
@@ -87,14 +86,14 @@ fn stage_kind<C: CopyKeeper>(
     token: &Token,
     delta: Delta,
 ) -> Option<SyncAnswer>
-    requires holds { (c : Copy) → C.stands_for copy.old c → stage_of c ≡ stage.old }
+    requires holds { IsStaged (C.stands_for copy.old) stage.old }
     requires room { kinds_of stage.old < kind_count }
-    requires gathered { CanStage (kind_at (kinds_of stage.old)) delta }
-    requires held { (c : Copy) → C.stands_for copy.old c → StandsOn (held_list c (kind_at (kinds_of stage.old))) delta }
-    ensures on { result ≡ None → stage.new ≡ Some (paged (opened stage.old (pin_in delta) token.now) [] 0 true) }
-    ensures holds { result ≡ None → (c : Copy) → C.stands_for copy.new c → stage_of c ≡ stage.new }
-    ensures told { CopyFrom (C.stands_for copy.old) (C.stands_for copy.new) (StagesKind delta (kind_at (kinds_of stage.old)) stage.old token.now result) }
-    ensures ends { IfSome result (Unstaged (Rose (C.fault_count copy.old) (C.fault_count copy.new)) (C.stands_for copy.new) (kind_at (kinds_of stage.old)) delta) }
+    requires gathered { CanStage (next_kind stage.old) delta }
+    requires held { (c : Copy) → C.stands_for copy.old c → StandsOn (held_list c (next_kind stage.old)) delta }
+    ensures on { result ≡ None → stage.new ≡ Some (kind_done stage.old (pin_in delta) token.now) }
+    ensures holds { result ≡ None → IsStaged (C.stands_for copy.new) stage.new }
+    ensures told { CopyFrom (C.stands_for copy.old) (C.stands_for copy.new) (StagesKind delta (next_kind stage.old) stage.old token.now result) }
+    ensures ends { IfSome result (Unstaged (Rose (C.fault_count copy.old) (C.fault_count copy.new)) (C.stands_for copy.new) (next_kind stage.old) delta) }
     ensures later { C.fault_count copy.old ≤ C.fault_count copy.new }
     ensures copy_leads { C.leads copy.old copy.new }
 {
@@ -124,7 +123,7 @@ fn fill_kind<C: CopyKeeper, L: Link>(
     by: Asker<'_>,
     count: &mut u64,
 ) -> Option<DeltaAnswer>
-    requires holds { (c : Copy) → C.stands_for copy.old c → stage_of c ≡ stage.old }
+    requires holds { IsStaged (C.stands_for copy.old) stage.old }
     requires token { HasToken by.token.now stage.old }
     requires room { kinds_of stage.old < kind_count }
     requires base { by.base ≤ LAST }
@@ -132,11 +131,11 @@ fn fill_kind<C: CopyKeeper, L: Link>(
     requires limit { (0 < by.limit) × (by.limit ≤ largest_limit) }
     requires tries { CanTry by.tries }
     requires few { count.old + most_asked ≤ last_exchange }
-    ensures on { result ≡ None → (v : ℕ) × (stage.new ≡ Some (paged (opened stage.old v by.entry.token.now) [] 0 true)) }
-    ensures holds { result ≡ None → (c : Copy) → C.stands_for copy.new c → stage_of c ≡ stage.new }
+    ensures on { result ≡ None → (v : ℕ) × (stage.new ≡ Some (kind_done stage.old v by.entry.token.now)) }
+    ensures holds { result ≡ None → IsStaged (C.stands_for copy.new) stage.new }
     ensures copy { (after : Copy) → C.stands_for copy.new after → (before : Copy) × C.stands_for copy.old before
         × (DeltaEnds by.entry.token.now by.entry.base result before after × (StageOn by.entry.token.now before.stage after.stage ⊎ SaysGone (L.kept link.new))) }
-    ensures cause { IfSome result (Halts (L.kept link.new) by.entry.run count.new ((by.entry.tries ≤ L.missed link.new) × (by.entry.tries ≤ count.new) × RoseBy by.entry.tries (L.fault_count link.old) (L.fault_count link.new)) (Rose (C.fault_count copy.old) (C.fault_count copy.new)) (C.stands_for copy.new) (first_place stage.old by.entry.base by.entry.limit)) }
+    ensures cause { IfSome result (Halts (L.kept link.new) by.entry.run count.new (MissedTries by.entry.tries (L.missed link.new) count.new (L.fault_count link.old) (L.fault_count link.new)) (Rose (C.fault_count copy.old) (C.fault_count copy.new)) (C.stands_for copy.new) (first_place stage.old by.entry.base by.entry.limit)) }
     ensures page { result ≡ None → (w : Reply) → IsOwnReply (L.kept link.new) by.entry.run count.new w → IsPageStatus w.status }
     ensures exact { IfSome result (λ a. (w : Reply) → IsOwnReply (L.kept link.new) by.entry.run count.new w → RepliesIf (first_place stage.old by.entry.base by.entry.limit) w a) }
     ensures count { (count.old ≤ count.new) × (count.new ≤ count.old + most_asked) }
@@ -176,19 +175,19 @@ pub fn fill<C: CopyKeeper, L: Link>(
     stage: &mut Option<StageState>,
     by: Asker<'_>,
 ) -> Option<DeltaAnswer>
-    requires holds { (c : Copy) → C.stands_for copy.old c → stage_of c ≡ stage.old }
+    requires holds { IsStaged (C.stands_for copy.old) stage.old }
     requires token { HasToken by.token.now stage.old }
     requires few { kinds_of stage.old ≤ kind_count }
     requires base { by.base ≤ LAST }
     requires run { IsRunNumber by.run }
     requires limit { (0 < by.limit) × (by.limit ≤ largest_limit) }
     requires tries { CanTry by.tries }
-    ensures holds { result ≡ None → (c : Copy) → C.stands_for copy.new c → stage_of c ≡ stage.new }
+    ensures holds { result ≡ None → IsStaged (C.stands_for copy.new) stage.new }
     ensures done { result ≡ None → kinds_of stage.new ≡ kind_count }
     ensures copy { (after : Copy) → C.stands_for copy.new after → (before : Copy) × C.stands_for copy.old before
         × (DeltaEnds by.entry.token.now by.entry.base result before after × (StageOn by.entry.token.now before.stage after.stage ⊎ SaysGone (L.kept link.new))) }
     ensures cause { (place : Placed) × (n : ℕ) × (place.base ≡ by.entry.base) × (place.limit ≡ by.entry.limit) × IsMore (L.asked link.old) n (L.asked link.new)
-        × IfSome result (Halts (L.kept link.new) by.entry.run n ((by.entry.tries ≤ L.missed link.new) × (by.entry.tries ≤ n) × RoseBy by.entry.tries (L.fault_count link.old) (L.fault_count link.new)) (Rose (C.fault_count copy.old) (C.fault_count copy.new)) (C.stands_for copy.new) place)
+        × IfSome result (Halts (L.kept link.new) by.entry.run n (MissedTries by.entry.tries (L.missed link.new) n (L.fault_count link.old) (L.fault_count link.new)) (Rose (C.fault_count copy.old) (C.fault_count copy.new)) (C.stands_for copy.new) place)
         × ((w : Reply) → IsOwnReply (L.kept link.new) by.entry.run n w → RepliesOn place w result) }
     ensures link { (after : LinkState) → L.tells link.new after → (before : LinkState) × L.tells link.old before
         × (count : ℕ) × Asks by.entry.run 0 count IsUnmarked before after }

@@ -11,7 +11,7 @@ ghost use Rattle.consumer_sync.specs.Requests.{IsUnmarked};
 ghost use Rattle.exchange_link.specs.Exchanges.{LinkState};
 ghost use Rattle.exchange_link.specs.Asked.{SendsOn};
 ghost use Rattle.exchange_link.specs.Calls.{CanTry, CountsOn, IsRunNumber, last_exchange};
-ghost use Rattle.exchange_link.specs.Causes.{IsMore, IsOwnReply, IsPageStatus, RoseBy};
+ghost use Rattle.exchange_link.specs.Causes.{IsMore, IsOwnReply, IsPageStatus, MissedTries};
 ghost use Rattle.exchange_link.specs.DeltaPages.{delta_page_request};
 ghost use Rattle.exchange_link.specs.Owning.{IsOwnRead};
 ghost use Rattle.exchange_link.specs.Pairs.{LinkFrom};
@@ -88,7 +88,7 @@ fn next_act<L: Link>(
     ensures link_leads { L.leads link.old link.new }
     ensures act { IfOk result (λ a. (w : Reply) × IsOwnReply (L.kept link.new) by.entry.run count.new w × (a ≡ delta_judged place sofar.now w)) }
     ensures kinds { IfOk result (ArePuts place.kind) }
-    ensures cause { IfErr result (Stops (L.kept link.new) by.entry.run count.new ((by.entry.tries ≤ L.missed link.new) × (by.entry.tries ≤ count.new) × RoseBy by.entry.tries (L.fault_count link.old) (L.fault_count link.new)) place sofar.now.held) }
+    ensures cause { IfErr result (Stops (L.kept link.new) by.entry.run count.new (MissedTries by.entry.tries (L.missed link.new) count.new (L.fault_count link.old) (L.fault_count link.new)) place sofar.now.held) }
     ensures gone { IfErr result (λ a. IsPinGone a → ⊥) }
     // Over a link that tells, where no number was used twice, the reply is the hub's own.
     ensures told { (after : LinkState) → L.tells link.new after → (before : LinkState) × L.tells link.old before
@@ -153,7 +153,7 @@ pub fn gather<L: Link>(
     requires tries { CanTry by.tries }
     requires few { count.old + most_asked ≤ last_exchange }
     ensures whole { IfOk result (IsGathered place held) }
-    ensures cause { IfErr result (Stops (L.kept link.new) by.entry.run count.new ((by.entry.tries ≤ L.missed link.new) × (by.entry.tries ≤ count.new) × RoseBy by.entry.tries (L.fault_count link.old) (L.fault_count link.new)) place held) }
+    ensures cause { IfErr result (Stops (L.kept link.new) by.entry.run count.new (MissedTries by.entry.tries (L.missed link.new) count.new (L.fault_count link.old) (L.fault_count link.new)) place held) }
     ensures count { (count.old ≤ count.new) × (count.new ≤ count.old + most_asked) }
     ensures asked { IsMore (L.asked link.old) (count.new - count.old) (L.asked link.new) }
     ensures later { L.fault_count link.old ≤ L.fault_count link.new }

@@ -1,16 +1,15 @@
 //! The delta of a kind, merged with what is held of it, and staged.
 
-ghost use Rattle.std.specs.Prelude.{◌≡◌, ◌⊎◌, ◌<◌, ◌≤◌, [], true, None, Some, IfOk, IfSome, length, map};
+ghost use Rattle.std.specs.Prelude.{◌≡◌, ◌⊎◌, ◌<◌, ◌≤◌, [], None, Some, IfOk, IfSome, length, map};
 ghost use Rattle.consumer_deltas.specs.DeltaGathering.{AreEntries};
 ghost use Rattle.consumer_deltas.specs.DeltaJudging.{MayCome};
 ghost use Rattle.consumer_deltas.specs.DeltaMerging.{Merges, StagesList, Unmerged};
-ghost use Rattle.consumer_sync.specs.Judging.{opened, paged};
+ghost use Rattle.consumer_sync.specs.Judging.{kind_done};
 ghost use Rattle.consumer_sync.specs.Staging.{IsBroken};
 ghost use Rattle.exchange_link.specs.Pairs.{CopyFrom};
-ghost use Rattle.exchange_link.specs.Places.{kind_at, kinds_of};
+ghost use Rattle.exchange_link.specs.Places.{IsStaged, kinds_of, next_kind};
 ghost use Rattle.keeper_memory.specs.copy.Copies.{Copy, held_list};
 ghost use Rattle.keeper_memory.specs.copy.Lists.{IsList, kind_count};
-ghost use Rattle.keeper_memory.specs.copy.States.{stage_of};
 ghost use Rattle.keeper_memory.specs.declared.copy.state.TheConstants.{LAST};
 ghost use Rattle.roster_base.specs.Faults.{Rose};
 ghost use Rattle.row_deltas.specs.Deltas.{merged};
@@ -37,14 +36,14 @@ fn stage_list<C: CopyKeeper>(
     pin: u64,
     rows: &[&Row],
 ) -> Option<SyncAnswer>
-    requires holds { (c : Copy) → C.stands_for copy.old c → stage_of c ≡ stage.old }
+    requires holds { IsStaged (C.stands_for copy.old) stage.old }
     requires last { pin ≤ LAST }
     requires room { kinds_of stage.old < kind_count }
-    requires rows { IsList (kind_at (kinds_of stage.old)) (map (λ row. row.now) rows.now) }
-    ensures on { result ≡ None → stage.new ≡ Some (paged (opened stage.old pin token.now) [] 0 true) }
-    ensures holds { result ≡ None → (c : Copy) → C.stands_for copy.new c → stage_of c ≡ stage.new }
-    ensures told { CopyFrom (C.stands_for copy.old) (C.stands_for copy.new) (StagesList (kind_at (kinds_of stage.old)) stage.old pin token.now (map (λ row. row.now) rows.now) result) }
-    ensures ends { (result ≡ None) ⊎ (IsBroken result ⊎ ((row_limit < length rows.now) × (result ≡ Some (SyncAnswer.TooLarge (kind_at (kinds_of stage.old)) (length rows.now))))) }
+    requires rows { IsList (next_kind stage.old) (map (λ row. row.now) rows.now) }
+    ensures on { result ≡ None → stage.new ≡ Some (kind_done stage.old pin token.now) }
+    ensures holds { result ≡ None → IsStaged (C.stands_for copy.new) stage.new }
+    ensures told { CopyFrom (C.stands_for copy.old) (C.stands_for copy.new) (StagesList (next_kind stage.old) stage.old pin token.now (map (λ row. row.now) rows.now) result) }
+    ensures ends { (result ≡ None) ⊎ (IsBroken result ⊎ ((row_limit < length rows.now) × (result ≡ Some (SyncAnswer.TooLarge (next_kind stage.old) (length rows.now))))) }
     ensures later { C.fault_count copy.old ≤ C.fault_count copy.new }
     ensures copy_leads { C.leads copy.old copy.new }
     ensures cause { result ≡ Some SyncAnswer.KeeperFault → Rose (C.fault_count copy.old) (C.fault_count copy.new) }
@@ -80,15 +79,15 @@ pub fn stage_delta<C: CopyKeeper>(
     pin: u64,
     entries: &Gathered,
 ) -> Option<SyncAnswer>
-    requires holds { (c : Copy) → C.stands_for copy.old c → stage_of c ≡ stage.old }
+    requires holds { IsStaged (C.stands_for copy.old) stage.old }
     requires last { pin ≤ LAST }
     requires room { kinds_of stage.old < kind_count }
-    requires entries { AreEntries (kind_at (kinds_of stage.old)) entries.now }
-    requires held { (c : Copy) → C.stands_for copy.old c → entries.now.held ≡ held_list c (kind_at (kinds_of stage.old)) }
-    ensures on { result ≡ None → stage.new ≡ Some (paged (opened stage.old pin token.now) [] 0 true) }
-    ensures holds { result ≡ None → (c : Copy) → C.stands_for copy.new c → stage_of c ≡ stage.new }
-    ensures told { CopyFrom (C.stands_for copy.old) (C.stands_for copy.new) (Merges (kind_at (kinds_of stage.old)) entries.now stage.old pin token.now result) }
-    ensures ends { IfSome result (Unmerged (Rose (C.fault_count copy.old) (C.fault_count copy.new)) (C.stands_for copy.new) (kind_at (kinds_of stage.old)) entries.now) }
+    requires entries { AreEntries (next_kind stage.old) entries.now }
+    requires held { (c : Copy) → C.stands_for copy.old c → entries.now.held ≡ held_list c (next_kind stage.old) }
+    ensures on { result ≡ None → stage.new ≡ Some (kind_done stage.old pin token.now) }
+    ensures holds { result ≡ None → IsStaged (C.stands_for copy.new) stage.new }
+    ensures told { CopyFrom (C.stands_for copy.old) (C.stands_for copy.new) (Merges (next_kind stage.old) entries.now stage.old pin token.now result) }
+    ensures ends { IfSome result (Unmerged (Rose (C.fault_count copy.old) (C.fault_count copy.new)) (C.stands_for copy.new) (next_kind stage.old) entries.now) }
     ensures later { C.fault_count copy.old ≤ C.fault_count copy.new }
     ensures copy_leads { C.leads copy.old copy.new }
     ensures cause { result ≡ Some SyncAnswer.KeeperFault → Rose (C.fault_count copy.old) (C.fault_count copy.new) }

@@ -5,13 +5,12 @@ ghost use Rattle.std.specs.Prelude.{map, option_copied, take};
 ghost use Rattle.consumer_deltas.specs.declared.staged.TheConstants.{PAGE};
 ghost use Rattle.std.specs.List.{All};
 ghost use Rattle.consumer_deltas.specs.DeltaStaging.{Stages, above, following};
-ghost use Rattle.consumer_sync.specs.Judging.{opened, paged};
+ghost use Rattle.consumer_sync.specs.Judging.{kind_done, opened, paged};
 ghost use Rattle.consumer_sync.specs.Staging.{Adds, IsBroken};
 ghost use Rattle.exchange_link.specs.Pairs.{CopyFrom};
-ghost use Rattle.exchange_link.specs.Places.{kinds_of, last_of, staged_of};
+ghost use Rattle.exchange_link.specs.Places.{IsStaged, kinds_of, last_of, staged_of};
 ghost use Rattle.keeper_memory.specs.copy.Copies.{Copy};
 ghost use Rattle.keeper_memory.specs.copy.Lists.{IsList, ascends, kind_count};
-ghost use Rattle.keeper_memory.specs.copy.States.{stage_of};
 ghost use Rattle.keeper_memory.specs.declared.copy.state.TheConstants.{LAST};
 ghost use Rattle.roster_base.specs.Faults.{Rose};
 ghost use Rattle.roster_values.specs.Kinds.{place_of_kind};
@@ -105,7 +104,7 @@ fn stage_page<C: CopyKeeper>(
     rows: &[&Row],
     done: bool,
 ) -> Option<SyncAnswer>
-    requires holds { (c : Copy) → C.stands_for copy.old c → stage_of c ≡ stage.old }
+    requires holds { IsStaged (C.stands_for copy.old) stage.old }
     requires last { list.pin ≤ LAST }
     requires room { kinds_of stage.old < kind_count }
     requires kind { place_of_kind list.kind ≡ kinds_of stage.old }
@@ -113,7 +112,7 @@ fn stage_page<C: CopyKeeper>(
     requires ascend { ascends (last_of stage.old) (map (λ row. row.now) rows.now) ≡ true }
     requires fits { staged_of stage.old + length rows.now < 2 ^ 64 }
     ensures on { result ≡ None → stage.new ≡ Some (paged (opened stage.old list.entry.pin list.entry.token.now) (map (λ row. row.now) rows.now) list.entry.total done) }
-    ensures holds { result ≡ None → (c : Copy) → C.stands_for copy.new c → stage_of c ≡ stage.new }
+    ensures holds { result ≡ None → IsStaged (C.stands_for copy.new) stage.new }
     ensures told { CopyFrom (C.stands_for copy.old) (C.stands_for copy.new) (Adds (record { pin = list.entry.pin; rows = map (λ row. row.now) rows.now; total = list.entry.total; done = done }) list.entry.token.now result) }
     ensures broken { (result ≡ None) ⊎ IsBroken result }
     ensures later { C.fault_count copy.old ≤ C.fault_count copy.new }
@@ -143,13 +142,13 @@ pub fn stage_rows<C: CopyKeeper>(
     list: ListAt<'_>,
     rows: &[&Row],
 ) -> Option<SyncAnswer>
-    requires holds { (c : Copy) → C.stands_for copy.old c → stage_of c ≡ stage.old }
+    requires holds { IsStaged (C.stands_for copy.old) stage.old }
     requires last { list.pin ≤ LAST }
     requires room { kinds_of stage.old < kind_count }
     requires kind { place_of_kind list.kind ≡ kinds_of stage.old }
     requires rows { IsList list.kind (map (λ row. row.now) rows.now) }
-    ensures on { result ≡ None → stage.new ≡ Some (paged (opened stage.old list.entry.pin list.entry.token.now) [] 0 true) }
-    ensures holds { result ≡ None → (c : Copy) → C.stands_for copy.new c → stage_of c ≡ stage.new }
+    ensures on { result ≡ None → stage.new ≡ Some (kind_done stage.old list.entry.pin list.entry.token.now) }
+    ensures holds { result ≡ None → IsStaged (C.stands_for copy.new) stage.new }
     ensures told { CopyFrom (C.stands_for copy.old) (C.stands_for copy.new) (Stages (record { pin = list.entry.pin; rows = following stage.old (map (λ row. row.now) rows.now); total = list.entry.total; done = true }) list.entry.token.now result) }
     ensures broken { (result ≡ None) ⊎ IsBroken result }
     ensures later { C.fault_count copy.old ≤ C.fault_count copy.new }

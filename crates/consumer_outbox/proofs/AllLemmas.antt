@@ -66,16 +66,7 @@ settles_up_to number mid after entry is first (SettlesAny status version y e) = 
 
 entry_end_settled : (a : SendAnswer) (n : ℕ) (entries : List OutEntry) → IsEntryEnd a → AllSettled a n entries
 entry_end_settled (answer.Settled count) n entries e = absurd e
-entry_end_settled answer.LastRun n entries e = tt
-entry_end_settled answer.KeeperFault n entries e = tt
-entry_end_settled answer.NoMemory n entries e = tt
-entry_end_settled (answer.Interrupted number) n entries e = tt
-entry_end_settled answer.UnknownToken n entries e = tt
-entry_end_settled (answer.NoScope number) n entries e = tt
-entry_end_settled (answer.BadReply number) n entries e = tt
-entry_end_settled (answer.MarkTaken number) n entries e = tt
-entry_end_settled (answer.HubFault number) n entries e = tt
-entry_end_settled (answer.HubNoMemory number) n entries e = tt
+entry_end_settled a n entries e = tt
 
 -- where it ends at an entry, as many are settled, or one more where the keeper or memory gave up
 pub settles_at_end : (n number : ℕ) (a : SendAnswer) (before mid after : Copy) (entry : OutEntry) → SoFar n before mid → first_unsettled mid.entries ≡ Some entry → IsEntryEnd a → TakesAny number (Some a) mid after
@@ -131,16 +122,13 @@ end_not_last a e same = subst IsEntryEnd same e
 
 pub end_names : (a : SendAnswer) (entries : List OutEntry) (entry : OutEntry) → IsEntryEnd a → (EndsAtEntry a → first_unsettled entries ≡ Some entry) → IfSome (number_in a) (λ n. n ≡ entry.number) → NamesFirst a entries
 end_names (answer.Settled count) entries entry e f named = absurd e
-end_names answer.LastRun entries entry e f named = tt
-end_names answer.KeeperFault entries entry e f named = tt
-end_names answer.NoMemory entries entry e f named = tt
-end_names answer.UnknownToken entries entry e f named = tt
 end_names (answer.Interrupted number) entries entry e f named = names_first (answer.Interrupted number) entries entry (f tt) named
 end_names (answer.NoScope number) entries entry e f named = names_first (answer.NoScope number) entries entry (f tt) named
 end_names (answer.BadReply number) entries entry e f named = names_first (answer.BadReply number) entries entry (f tt) named
 end_names (answer.MarkTaken number) entries entry e f named = names_first (answer.MarkTaken number) entries entry (f tt) named
 end_names (answer.HubFault number) entries entry e f named = names_first (answer.HubFault number) entries entry (f tt) named
 end_names (answer.HubNoMemory number) entries entry e f named = names_first (answer.HubNoMemory number) entries entry (f tt) named
+end_names a entries entry e f named = tt
 
 pub cause_more : (kept : List ℕ) (run n : ℕ) (missed broke wide more : Type 0) (a : SendAnswer) → (missed → wide) → (broke → more) → SendCauseOf (kept_of kept run n) missed broke a → SendCauseOf (kept_of kept run n) wide more a
 cause_more kept run n missed broke wide more (answer.Settled count) f h x = tt
@@ -148,12 +136,7 @@ cause_more kept run n missed broke wide more answer.LastRun f h x = tt
 cause_more kept run n missed broke wide more answer.NoMemory f h x = tt
 cause_more kept run n missed broke wide more (answer.Interrupted number) f h x = f x
 cause_more kept run n missed broke wide more answer.KeeperFault f h x = h x
-cause_more kept run n missed broke wide more answer.UnknownToken f h x = x
-cause_more kept run n missed broke wide more (answer.NoScope number) f h x = x
-cause_more kept run n missed broke wide more (answer.MarkTaken number) f h x = x
-cause_more kept run n missed broke wide more (answer.BadReply number) f h x = x
-cause_more kept run n missed broke wide more (answer.HubFault number) f h x = x
-cause_more kept run n missed broke wide more (answer.HubNoMemory number) f h x = x
+cause_more kept run n missed broke wide more a f h x = x
 
 pub rose_from : (n first before now : ℕ) → first ≤ before → RoseBy n before now → RoseBy n first now
 rose_from n first before now le x = omega (arith, le, x)
@@ -169,12 +152,7 @@ told_on token first before after entries (answer.HubFault number) moved x = let 
 told_on token first before after entries answer.UnknownToken moved x = (x.0, wider first before after x.0 moved x.1, x.2)
 told_on token first before after entries (answer.NoScope number) moved x = (x.0, wider first before after x.0 moved x.1, x.2, x.3, x.4)
 told_on token first before after entries (answer.MarkTaken number) moved x = (x.0, wider first before after x.0 moved x.1, x.2, x.3, x.4)
-told_on token first before after entries (answer.Settled count) moved x = tt
-told_on token first before after entries answer.LastRun moved x = tt
-told_on token first before after entries answer.KeeperFault moved x = tt
-told_on token first before after entries answer.NoMemory moved x = tt
-told_on token first before after entries (answer.Interrupted number) moved x = tt
-told_on token first before after entries (answer.HubNoMemory number) moved x = tt
+told_on token first before after entries a moved x = tt
 
 -- what may be sent of all entries, may be of the next
 pub can_send : (token : List ℕ) (n : ℕ) (first before : LinkState) (state : HubState) (start mid : Copy) (entry : OutEntry) → Moved first before → SoFar n start mid → first_unsettled mid.entries ≡ Some entry

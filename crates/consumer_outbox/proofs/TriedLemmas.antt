@@ -82,16 +82,7 @@ pub entry_tried : (a : SendAnswer) (token : List ℕ) (run count to tries : ℕ)
     → SendsOn (IsTry (numbered (request_of token entry))) run count to (Some a ≡ Some answer.NoMemory) x y → TriedEntry a token run to tries entries y
 entry_tried (answer.Interrupted number) token run count to tries entry entries x y first full s =
     (entry, first tt, (x, count, sym (full tt), sends_try token entry run count to _ ⊥ x y (λ e. interrupted_memory e) s))
-entry_tried (answer.Settled n) token run count to tries entry entries x y first full s = tt
-entry_tried answer.LastRun token run count to tries entry entries x y first full s = tt
-entry_tried answer.KeeperFault token run count to tries entry entries x y first full s = tt
-entry_tried answer.NoMemory token run count to tries entry entries x y first full s = tt
-entry_tried answer.UnknownToken token run count to tries entry entries x y first full s = tt
-entry_tried (answer.NoScope number) token run count to tries entry entries x y first full s = tt
-entry_tried (answer.BadReply number) token run count to tries entry entries x y first full s = tt
-entry_tried (answer.MarkTaken number) token run count to tries entry entries x y first full s = tt
-entry_tried (answer.HubFault number) token run count to tries entry entries x y first full s = tt
-entry_tried (answer.HubNoMemory number) token run count to tries entry entries x y first full s = tt
+entry_tried other token run count to tries entry entries x y first full s = tt
 
 pub begun_tried : (cause : NoRun) (token : List ℕ) (run count tries : ℕ) (entries : List OutEntry) (sent : List Request) → TriedEntry (not_begun cause) token run count tries entries sent
 begun_tried why.LastRun token run count tries entries sent = tt

@@ -1,6 +1,7 @@
 -- What a verdict says of the reply, and of the answer.
 use Rattle.std.proofs.Common.{◌≡◌, ◌≢◌, ◌⊎◌, inl, inr, ⊎_elim, ℕ, ◌==◌, Bool, true, false, cond, List, Option, Some}
 use Rattle.std.proofs.Common.{None, refl, sym, ◌∙◌, ap, subst, arith}
+use Rattle.std.specs.Prelude.{⊤}
 use Rattle.std.proofs.lemmas.Bool.Decides.{nat_tests}
 use Rattle.exchange_link.specs.Causes.{IsOwnReply}
 use Rattle.exchange_link.specs.SendCauses.{AnswersSend, IsBadAnswer, IsOther, IsSendAside, NoVersion, OtherMark}
@@ -58,8 +59,29 @@ judged number w = by (w.status == 401) (w.status == 500) (w.status == 503) refl 
 
 -- ---- what a reply forces
 
-clash : {a b n : ℕ} → n ≡ a → n ≡ b → (a == b) ≡ false → ⊥
-clash {a} {b} {n} e f g = (test a b false g).1 refl (sym e ∙ f)
+-- the one where the test holds, else the other
+abbrev Either : Bool → Type 0 → Type 0 → Type 0
+Either true A B = A
+Either false A B = B
+
+-- what a status forces of the answer
+abbrev Forced : SendAnswer → ℕ → Type 0
+Forced a status =
+    Either (status == 401) (a ≡ answer.UnknownToken)
+    (Either (status == 500) ((number : ℕ) × (a ≡ answer.HubFault number))
+    (Either (status == 503) ((number : ℕ) × (a ≡ answer.HubNoMemory number))
+    (Either (status == 403) ((number : ℕ) × (a ≡ answer.NoScope number))
+    (Either (status == 422) ((number : ℕ) × (a ≡ answer.MarkTaken number)) ⊤))))
+
+-- a reply of one status forces what this status does, and nothing by another one
+forced_at : {w : WireReply} {a : SendAnswer} {status : ℕ} → w.status ≡ status → Forced a status → AnswersSend w a
+forced_at {w} {a} {status} s own = record {
+  unknown = λ t. subst (Forced a) (sym s ∙ t) own;
+  broke = λ t. subst (Forced a) (sym s ∙ t) own;
+  wants = λ t. subst (Forced a) (sym s ∙ t) own;
+  shut = λ t _. subst (Forced a) (sym s ∙ t) own;
+  taken = λ t _. subst (Forced a) (sym s ∙ t) own;
+}
 
 none_some : {n : ℕ} {o : Option ℕ} → o ≡ None → o ≡ Some n → ⊥
 none_some e f = cc
@@ -85,63 +107,26 @@ bad_forces number w a (Unmarked other not_shut not_taken none) = record {
 bad_forces number w a (OtherMark mark other marked differs) = settled_forces w mark a other marked
 bad_forces number w a (NoVersion mark other marked none) = settled_forces w mark a other marked
 
+-- the answer that a verdict gives, where it is this one
+is_given : {v v' : Verdict} (number : ℕ) {a b : SendAnswer} → answer_of v number ≡ Some a → v ≡ v' → answer_of v' number ≡ Some b → a ≡ b
+is_given number given e is = let same = sym given ∙ ap (λ v. answer_of v number) e ∙ is in cc same
+
 -- the answer of the status that it has
 pub forces : (number : ℕ) (w : WireReply) (v : Verdict) (a : SendAnswer) → Judged number w v → answer_of v number ≡ Some a → AnswersSend w a
-forces number w v a (Unknown s e) is = record {
-  unknown = λ _. same (sym is ∙ ap (λ v. answer_of v number) e);
-  broke = λ t. absurd (clash s t refl);
-  wants = λ t. absurd (clash s t refl);
-  shut = λ t _. absurd (clash s t refl);
-  taken = λ t _. absurd (clash s t refl);
-}
-  where
-    same : Some a ≡ Some answer.UnknownToken → a ≡ answer.UnknownToken
-    same e = cc
-forces number w v a (Fault s e) is = record {
-  unknown = λ t. absurd (clash s t refl);
-  broke = λ _. (number, same (sym is ∙ ap (λ v. answer_of v number) e));
-  wants = λ t. absurd (clash s t refl);
-  shut = λ t _. absurd (clash s t refl);
-  taken = λ t _. absurd (clash s t refl);
-}
-  where
-    same : Some a ≡ Some (answer.HubFault number) → a ≡ answer.HubFault number
-    same e = cc
-forces number w v a (Wants s e) is = record {
-  unknown = λ t. absurd (clash s t refl);
-  broke = λ t. absurd (clash s t refl);
-  wants = λ _. (number, same (sym is ∙ ap (λ v. answer_of v number) e));
-  shut = λ t _. absurd (clash s t refl);
-  taken = λ t _. absurd (clash s t refl);
-}
-  where
-    same : Some a ≡ Some (answer.HubNoMemory number) → a ≡ answer.HubNoMemory number
-    same e = cc
-forces number w v a (Shut s none e) is = record {
-  unknown = λ t. absurd (clash s t refl);
-  broke = λ t. absurd (clash s t refl);
-  wants = λ t. absurd (clash s t refl);
-  shut = λ _ _. (number, same (sym is ∙ ap (λ v. answer_of v number) e));
-  taken = λ t _. absurd (clash s t refl);
-}
-  where
-    same : Some a ≡ Some (answer.NoScope number) → a ≡ answer.NoScope number
-    same e = cc
-forces number w v a (Taken s none e) is = record {
-  unknown = λ t. absurd (clash s t refl);
-  broke = λ t. absurd (clash s t refl);
-  wants = λ t. absurd (clash s t refl);
-  shut = λ t _. absurd (clash s t refl);
-  taken = λ _ _. (number, same (sym is ∙ ap (λ v. answer_of v number) e));
-}
-  where
-    same : Some a ≡ Some (answer.MarkTaken number) → a ≡ answer.MarkTaken number
-    same e = cc
-forces number w v a (Bad bad e) is = bad_forces number w a bad
-forces number w v a (Shown version other marked shown e) is = settled_forces w number a other marked
+forces number w v a (Unknown s e) given = forced_at s (is_given number given e refl)
+forces number w v a (Fault s e) given = forced_at s (number, is_given number given e refl)
+forces number w v a (Wants s e) given = forced_at s (number, is_given number given e refl)
+forces number w v a (Shut s none e) given = forced_at s (number, is_given number given e refl)
+forces number w v a (Taken s none e) given = forced_at s (number, is_given number given e refl)
+forces number w v a (Bad bad e) given = bad_forces number w a bad
+forces number w v a (Shown version other marked shown e) given = settled_forces w number a other marked
+
+-- what is answered on the reply to an entry: what its verdict says, unless the keeper or memory gave up as it was settled
+abbrev AnswersReply : ℕ → WireReply → Option SendAnswer → Type 0
+AnswersReply number w result = (result ≡ answer_of (verdict_of number w) number) ⊎ (IsBroken result × (does_settle (verdict_of number w) ≡ true))
 
 -- what the reply forces, whatever the copy's keeper did
-pub exact_of : (number : ℕ) (w : WireReply) (result : Option SendAnswer) → (result ≡ answer_of (verdict_of number w) number) ⊎ (IsBroken result × (does_settle (verdict_of number w) ≡ true)) → ExactIf w result
+pub exact_of : (number : ℕ) (w : WireReply) (result : Option SendAnswer) → AnswersReply number w result → ExactIf w result
 exact_of number w None x = ⊎_elim (λ (e : None ≡ answer_of (verdict_of number w) number). (number, settles (verdict_of number w) e)) (λ y. (number, y.1)) x
   where
     settles : (v : Verdict) → None ≡ answer_of v number → does_settle v ≡ true
@@ -178,23 +163,29 @@ settled_exact w a (number, settles) = by (verdict_of number w) (judged number w)
 
 -- ---- why
 
--- the cause of the answer that a verdict gives
-pub verdict_cause : (number : ℕ) (w : WireReply) (v : Verdict) (kept : List ℕ) (run n : ℕ) (missed broke : Type 0) → IsOwnReply kept run n w → Judged number w v → CauseIf kept run n missed broke (answer_of v number)
-verdict_cause number w v kept run n missed broke own (Unknown s e) = subst (λ v. CauseIf kept run n missed broke (answer_of v number)) (sym e) (tt, (w, own, s))
-verdict_cause number w v kept run n missed broke own (Fault s e) = subst (λ v. CauseIf kept run n missed broke (answer_of v number)) (sym e) (tt, (w, own, s))
-verdict_cause number w v kept run n missed broke own (Wants s e) = subst (λ v. CauseIf kept run n missed broke (answer_of v number)) (sym e) (tt, (w, own, s))
-verdict_cause number w v kept run n missed broke own (Shut s none e) = subst (λ v. CauseIf kept run n missed broke (answer_of v number)) (sym e) (tt, (w, own, s, none))
-verdict_cause number w v kept run n missed broke own (Taken s none e) = subst (λ v. CauseIf kept run n missed broke (answer_of v number)) (sym e) (tt, (w, own, s, none))
-verdict_cause number w v kept run n missed broke own (Bad bad e) = subst (λ v. CauseIf kept run n missed broke (answer_of v number)) (sym e) (tt, inr (w, own, bad))
-verdict_cause number w v kept run n missed broke own (Shown version other marked shown e) = subst (λ v. CauseIf kept run n missed broke (answer_of v number)) (sym e) tt
+module _ (kept : List ℕ) (run count : ℕ) (missed broke : Type 0) where
+  abbrev HasCause : Option SendAnswer → Type 0
+  HasCause = CauseIf kept run count missed broke
 
-pub broken_cause : (kept : List ℕ) (run n : ℕ) (missed broke : Type 0) (result : Option SendAnswer) → IsBroken result → (result ≡ Some answer.KeeperFault → broke) → CauseIf kept run n missed broke result
-broken_cause kept run n missed broke result b f = ⊎_elim
-    (λ (e : result ≡ Some answer.KeeperFault). subst (CauseIf kept run n missed broke) (sym e) (tt, f e))
-    (λ (e : result ≡ Some answer.NoMemory). subst (CauseIf kept run n missed broke) (sym e) (tt, tt)) b
+  -- the cause of the answer that a verdict gives, where it is this one
+  cause_at : (number : ℕ) (v v' : Verdict) → v ≡ v' → HasCause (answer_of v' number) → HasCause (answer_of v number)
+  cause_at number v v' e = subst (λ x. HasCause (answer_of x number)) (sym e)
 
-pub taken_cause : (number : ℕ) (w : WireReply) (kept : List ℕ) (run n : ℕ) (missed broke : Type 0) (result : Option SendAnswer) → IsOwnReply kept run n w
-    → (result ≡ answer_of (verdict_of number w) number) ⊎ (IsBroken result × (does_settle (verdict_of number w) ≡ true)) → (result ≡ Some answer.KeeperFault → broke) → CauseIf kept run n missed broke result
-taken_cause number w kept run n missed broke result own x f = ⊎_elim
-    (λ (e : result ≡ answer_of (verdict_of number w) number). subst (CauseIf kept run n missed broke) (sym e) (verdict_cause number w (verdict_of number w) kept run n missed broke own (judged number w)))
-    (λ y. broken_cause kept run n missed broke result y.0 f) x
+  pub verdict_cause : (number : ℕ) (w : WireReply) (v : Verdict) → IsOwnReply kept run count w → Judged number w v → HasCause (answer_of v number)
+  verdict_cause number w v own (Unknown s e) = cause_at number v _ e (tt, (w, own, s))
+  verdict_cause number w v own (Fault s e) = cause_at number v _ e (tt, (w, own, s))
+  verdict_cause number w v own (Wants s e) = cause_at number v _ e (tt, (w, own, s))
+  verdict_cause number w v own (Shut s none e) = cause_at number v _ e (tt, (w, own, s, none))
+  verdict_cause number w v own (Taken s none e) = cause_at number v _ e (tt, (w, own, s, none))
+  verdict_cause number w v own (Bad bad e) = cause_at number v _ e (tt, inr (w, own, bad))
+  verdict_cause number w v own (Shown version other marked shown e) = cause_at number v _ e tt
+
+  pub broken_cause : (result : Option SendAnswer) → IsBroken result → (result ≡ Some answer.KeeperFault → broke) → HasCause result
+  broken_cause result broken fault = ⊎_elim
+      (λ (e : result ≡ Some answer.KeeperFault). subst HasCause (sym e) (tt, fault e))
+      (λ (e : result ≡ Some answer.NoMemory). subst HasCause (sym e) (tt, tt)) broken
+
+  pub taken_cause : (number : ℕ) (w : WireReply) (result : Option SendAnswer) → IsOwnReply kept run count w → AnswersReply number w result → (result ≡ Some answer.KeeperFault → broke) → HasCause result
+  taken_cause number w result own answers fault = ⊎_elim
+      (λ (e : result ≡ answer_of (verdict_of number w) number). subst HasCause (sym e) (verdict_cause number w (verdict_of number w) own (judged number w)))
+      (λ broken. broken_cause result broken.0 fault) answers

@@ -7,7 +7,7 @@ ghost use Rattle.keeper_memory.specs.copy.States.{CanBeEntry};
 ghost use Rattle.keeper_memory.specs.declared.copy.state.TheConstants.{LAST};
 ghost use Rattle.exchange_link.specs.Asked.{IsTry, IsWriteUnder, SendsOn, TriedEntry};
 ghost use Rattle.exchange_link.specs.Calls.{CanTry, CountsOn, IsRunNumber, KeepsNoOwn, KeepsNoReply, last_exchange};
-ghost use Rattle.exchange_link.specs.Causes.{IsLast, IsMore, IsOwnReply, RoseBy, kept_of};
+ghost use Rattle.exchange_link.specs.Causes.{IsLast, IsMore, IsOwnReply, MissedTries, RoseBy, kept_of};
 ghost use Rattle.exchange_link.specs.Exchanges.{LinkState};
 ghost use Rattle.exchange_link.specs.SendCauses.{CarriesFirst, EndsAtEntry, IsSendAside, AnswersSend, SendCauseOf};
 ghost use Rattle.exchange_link.specs.SendCauses.{SendToldCause};
@@ -176,7 +176,7 @@ fn send_entry<C: CopyKeeper, L: Link>(
         → ¬ Rose (L.fault_count link.old) (L.fault_count link.new) → ¬ Rose (C.fault_count copy.old) (C.fault_count copy.new)
         → AtEach (C.stands_for copy.new) (L.tells link.new) (λ c t. (before : LinkState) × L.tells link.old before
         × (¬ Rose before.hub_faults t.hub_faults → CanSendAll by.entry.token.now (newest_number before.hub) (entry ∷ []) t.hub → IsFineIf result)) }
-    ensures cause { CauseIf (L.kept link.new) by.entry.run count.new ((by.entry.tries ≤ L.missed link.new) × (by.entry.tries ≤ count.new) × RoseBy by.entry.tries (L.fault_count link.old) (L.fault_count link.new)) (Rose (C.fault_count copy.old) (C.fault_count copy.new)) result }
+    ensures cause { CauseIf (L.kept link.new) by.entry.run count.new (MissedTries by.entry.tries (L.missed link.new) count.new (L.fault_count link.old) (L.fault_count link.new)) (Rose (C.fault_count copy.old) (C.fault_count copy.new)) result }
     ensures exact { (w : Reply) → IsOwnReply (L.kept link.new) by.entry.run count.new w → ExactIf w result }
     ensures names { IfSome result (λ a. IfSome (number_in a) (λ n. n ≡ entry.number)) }
     ensures stays { (c : Copy) → C.stands_for copy.new c → EndsIf result → first_unsettled c.entries ≡ Some entry }
@@ -258,7 +258,7 @@ pub fn send_all<C: CopyKeeper, L: Link>(
     ensures not_last { result ≢ SendAnswer.LastRun }
     ensures link_leads { L.leads link.old link.new }
     ensures cause { (n : ℕ) × IsMore (L.asked link.old) n (L.asked link.new)
-        × SendCauseOf (kept_of (L.kept link.new) by.entry.run n) ((by.entry.tries ≤ L.missed link.new) × (by.entry.tries ≤ n) × RoseBy by.entry.tries (L.fault_count link.old) (L.fault_count link.new)) (Rose (C.fault_count copy.old) (C.fault_count copy.new)) result
+        × SendCauseOf (kept_of (L.kept link.new) by.entry.run n) (MissedTries by.entry.tries (L.missed link.new) n (L.fault_count link.old) (L.fault_count link.new)) (Rose (C.fault_count copy.old) (C.fault_count copy.new)) result
         × ((w : Reply) → IsOwnReply (L.kept link.new) by.entry.run n w → IsSendAside result ⊎ AnswersSend w result)
         × ((c : Copy) → C.stands_for copy.new c → NamesFirst result c.entries)
         × (EndsAtEntry result → (1 ≤ n) × AtEach (C.stands_for copy.new) (L.tells link.new) (λ c t.

@@ -21,7 +21,7 @@ use Rattle.hub_spec.specs.rules.Checks.{version_at}
 use Rattle.hub_spec.specs.rules.Growth.{Grew}
 use Rattle.hub_spec.specs.rules.States.{IsHub}
 use Rattle.exchange_link.specs.Pages.{Page, asked_by}
-use Rattle.exchange_link.specs.Places.{kind_at, kinds_of, next_page, pin_of, staged_of}
+use Rattle.exchange_link.specs.Places.{kinds_of, next_kind, next_page, pin_of, staged_of}
 use Rattle.exchange_link.specs.declared.answer.SyncAnswer.{SyncAnswer}
 use Rattle.exchange_link.proofs.CutLemmas.{cut_whole}
 use Rattle.exchange_link.proofs.TellLemmas.{told_of}
@@ -181,7 +181,7 @@ says_page a mid b stage token limit w k g h lt page from (Shut v read st ver non
     nothing limit = take_all limit [] (omega arith)
 says_page a mid b stage token limit w k g h lt page from (Listed v read st ver tot rows) = ⊎_elim
     (λ (f : IsListed stage w k).
-    let at : list_at (version_at mid v) token (place_of_kind (kind_at (kinds_of stage))) ≡ list_at (version_at mid v) token (kinds_of stage) = ap (list_at (version_at mid v) token) (place_at (kinds_of stage) lt) in
+    let at : list_at (version_at mid v) token (place_of_kind (next_kind stage)) ≡ list_at (version_at mid v) token (kinds_of stage) = ap (list_at (version_at mid v) token) (place_at (kinds_of stage) lt) in
     read_page a mid b stage token limit v k g h lt read (same_Some _ _ (sym ver ∙ f.version))
     (ok_rows (sym f.rows ∙ rows) ∙ ap (λ l. take limit (drop (staged_of stage) l)) at) (same_Some _ _ (sym f.total ∙ tot) ∙ ap length at) page.done)
     (λ (f : IsShut stage w k). let u = f.status in absurd (omega (arith, u, st)))

@@ -30,7 +30,7 @@ use Rattle.version_core.specs.HubStates.{HubState}
 use Rattle.version_core.specs.declared.change.BaseVersion.{BaseVersion}
 use Rattle.consumer_sync.specs.Filling.{BoundSoFar, CauseIf, IsCallPinIf, LastAsked, PinLaw, request_of}
 use Rattle.consumer_sync.specs.Judging.{opened, paged}
-use Rattle.consumer_sync.specs.Staging.{MayEnd, Performs, Taking}
+use Rattle.consumer_sync.specs.Staging.{MayEnd, Performs, Taking, after_page}
 use Rattle.consumer_sync.specs.Staging.Adds.{Stays, Opened, Takes}
 use Rattle.consumer_sync.specs.Staging.Performs.{Kept, Grown, Cleared}
 use Rattle.consumer_sync.specs.declared.judging.Act.{Act}
@@ -66,7 +66,7 @@ less s v token limit total rows done false pos lt tot count e f =
 
 -- one round less with each page
 pub work_less : (stage : Option StageState) (v : BaseVersion) (limit : ℕ) (token : List ℕ) (k : Taking) → 0 < limit → IsPage stage limit k → FromVersion v token limit (kinds_of stage) (staged_of stage) k
-    → work limit token (Some (paged (opened stage k.pin token) k.rows k.total k.done)) v + 1 ≤ work limit token stage v
+    → work limit token (Some (after_page stage k token)) v + 1 ≤ work limit token stage v
 work_less None v limit token k pos p f = less (opened None k.pin token) v token limit k.total k.rows k.done k.done pos f.kind f.total p.count p.done refl
 work_less (Some s) v limit token k pos p f = less s v token limit k.total k.rows k.done k.done pos f.kind f.total p.count p.done refl
 
@@ -89,9 +89,9 @@ standing_if (Some s) h x = x.standing
 
 -- the bound goes on with a page
 pub bound_on : (n m tries limit : ℕ) (token : List ℕ) (first stage : Option StageState) (start h i : HubState) (k : Taking) → 0 < limit → BoundSoFar n tries limit token first stage h → m ≤ n + tries → Grew h i → StandingIf stage h → PinLaw first start stage
-    → IsPage stage limit k → StandsIn stage h i token limit k → BoundSoFar m tries limit token first (Some (paged (opened stage k.pin token) k.rows k.total k.done)) i
+    → IsPage stage limit k → StandsIn stage h i token limit k → BoundSoFar m tries limit token first (Some (after_page stage k token)) i
 bound_on n m tries limit token None None start h i k pos b le g st law p y =
-    let next = paged (opened None k.pin token) k.rows k.total k.done in
+    let next = after_page None k token in
     let e : next.pin ≡ k.pin = pin-paged (opened None k.pin token) k.rows k.total k.done in
     let w = times_less tries _ _ (work_less None (version_at i k.pin) limit token k pos p y.from) in
     subst (λ x. m + tries * work limit token (Some next) (version_at i x) ≤ tries * work limit token None (version_at i x)) (sym e) (omega (arith, w, le, b))

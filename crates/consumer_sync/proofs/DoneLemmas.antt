@@ -22,7 +22,7 @@ use Rattle.hub_spec.specs.rules.Verdicts.{newest_in}
 use Rattle.hub_spec.specs.rules.Checks.{version_at}
 use Rattle.hub_spec.specs.rules.Growth.{Grew}
 use Rattle.hub_spec.specs.rules.States.{IsHub}
-use Rattle.exchange_link.specs.Places.{kind_at, kinds_of, last_of, next_page, pin_of, staged_of, total_of}
+use Rattle.exchange_link.specs.Places.{kind_at, kinds_of, last_of, next_kind, next_page, pin_of, staged_of, total_of}
 use Rattle.exchange_link.specs.declared.answer.SyncAnswer.{SyncAnswer}
 use Rattle.exchange_link.specs.declared.answer.SyncAnswer.TheVariants as answer
 use Rattle.exchange_link.proofs.FitLemmas.{stage_if_on}
@@ -58,7 +58,7 @@ pass true x y e = refl
 pass false x y e = cc
 
 page_take : (stage : Option StageState) (limit v t : ℕ) (body : List ℕ) (rows : List Record) → agrees (pin_of stage) v ≡ true → nat_lt row_limit t ≡ false → agrees (total_of stage) t ≡ true
-    → rows_of (kind_at (kinds_of stage)) body ≡ Ok rows → (length rows == min limit (t - staged_of stage)) ≡ true
+    → rows_of (next_kind stage) body ≡ Ok rows → (length rows == min limit (t - staged_of stage)) ≡ true
     → ascends (last_of stage) rows ≡ true → page_act stage limit v t body ≡ act.Take v rows t (length rows == t - staged_of stage)
 page_take stage limit v t body rows a b d r e f =
     pass (agrees (pin_of stage) v) _ _ a ∙ cond-false (nat_lt row_limit t) _ _ b ∙ pass (agrees (total_of stage) t) _ _ d ∙ ap (read_act stage limit v t) r
@@ -101,12 +101,16 @@ total_test : (t : Option ℕ) (n : ℕ) → FitsTotal t n → agrees t n ≡ tru
 total_test None n e = refl
 total_test (Some t) n e = eq-eqb t n e
 
+-- what a stage shows
+abbrev shown : Option Stage → Option StageState
+shown o = option_map state_of o
+
 -- a page of a list, given where the stage stands
-listed_done : (o : Option Stage) (limit v : ℕ) (kind : Kind) (offset : ℕ) (w : WireReply) (l : List Record) → agrees (pin_of (option_map state_of o)) v ≡ true → IsGood l → FitsTotal (total_of (option_map state_of o)) (length l)
-    → (p : List Record) → staged_of (option_map state_of o) ≡ length p → last_of (option_map state_of o) ≡ last_from None p → IsFrontOf p l → w.status ≡ 200 → w.version ≡ Some v → w.total ≡ Some (length l)
-    → rows_of (kind_at (kinds_of (option_map state_of o))) w.body ≡ Ok (take limit (drop (length p) l)) → answer_of (judged (option_map state_of o) limit w) kind offset ≡ None
+listed_done : (o : Option Stage) (limit v : ℕ) (kind : Kind) (offset : ℕ) (w : WireReply) (l : List Record) → agrees (pin_of (shown o)) v ≡ true → IsGood l → FitsTotal (total_of (shown o)) (length l)
+    → (p : List Record) → staged_of (shown o) ≡ length p → last_of (shown o) ≡ last_from None p → IsFrontOf p l → w.status ≡ 200 → w.version ≡ Some v → w.total ≡ Some (length l)
+    → rows_of (next_kind (shown o)) w.body ≡ Ok (take limit (drop (length p) l)) → answer_of (judged (shown o) limit w) kind offset ≡ None
 listed_done o limit v kind offset w l pin good total p es el front st ver tot rows =
-    let stage = option_map state_of o in
+    let stage = shown o in
     let part : List Record = take limit (drop (length p) l) in
     let listed : listed_act stage limit w.version w.total w.body ≡ page_act stage limit v (length l) w.body =
     ap (λ x. listed_act stage limit x w.total w.body) ver ∙ ap (λ x. listed_act stage limit (Some v) x w.body) tot in
@@ -116,11 +120,11 @@ listed_done o limit v kind offset w l pin good total p es el front st ver tot ro
     (judged_at stage limit w 200 st ∙ listed ∙ page_take stage limit v (length l) w.body part pin (few_test (length l) good.few) (total_test (total_of stage) (length l) total) rows (eq-eqb _ _ count) asc)
 
 -- a list as the version has it, whatever stage stands
-read_done : (o : Option Stage) (token : List ℕ) (limit v : ℕ) (w : WireReply) (mid : HubState) (kind : Kind) (offset : ℕ) → IsHub mid → HasToken token (option_map state_of o) → StageFitsIf o mid → kinds_of (option_map state_of o) < kind_count
-    → IsRead mid (next_page token limit (option_map state_of o)) v
-    → w.status ≡ 200 → w.version ≡ Some v → w.total ≡ Some (length (list_at (version_at mid v) token (place_of_kind (kind_at (kinds_of (option_map state_of o))))))
-    → rows_of (kind_at (kinds_of (option_map state_of o))) w.body ≡ Ok (take limit (drop (staged_of (option_map state_of o)) (list_at (version_at mid v) token (place_of_kind (kind_at (kinds_of (option_map state_of o)))))))
-    → answer_of (judged (option_map state_of o) limit w) kind offset ≡ None
+read_done : (o : Option Stage) (token : List ℕ) (limit v : ℕ) (w : WireReply) (mid : HubState) (kind : Kind) (offset : ℕ) → IsHub mid → HasToken token (shown o) → StageFitsIf o mid → kinds_of (shown o) < kind_count
+    → IsRead mid (next_page token limit (shown o)) v
+    → w.status ≡ 200 → w.version ≡ Some v → w.total ≡ Some (length (list_at (version_at mid v) token (place_of_kind (next_kind (shown o)))))
+    → rows_of (next_kind (shown o)) w.body ≡ Ok (take limit (drop (staged_of (shown o)) (list_at (version_at mid v) token (place_of_kind (next_kind (shown o))))))
+    → answer_of (judged (shown o) limit w) kind offset ≡ None
 read_done None token limit v w mid kind offset is_hub et x lt read st ver tot rows =
     let l = list_at (version_at mid v) token (place_of_kind (kind_at 0)) in
     listed_done None limit v kind offset w l refl (list_good mid is_hub v token (place_of_kind (kind_at 0)) read.standing) tt [] refl refl (l, refl) st ver tot rows
@@ -135,9 +139,9 @@ read_done (Some s) token limit v w mid kind offset is_hub et x lt read st ver to
     (rows ∙ ap (λ (xs : List Record). let o : Result (List Record) JsonFault = Ok (take limit (drop (length s.present) xs)) in o) at)
 
 -- a kind that isn't opened
-shut_done : (o : Option Stage) (token : List ℕ) (limit v : ℕ) (w : WireReply) (mid : HubState) (kind : Kind) (offset : ℕ) → HasToken token (option_map state_of o) → StageFitsIf o mid → kinds_of (option_map state_of o) < kind_count
-    → IsRead mid (next_page token limit (option_map state_of o)) v
-    → w.status ≡ 403 → w.version ≡ Some v → list_at (version_at mid v) token (place_of_kind (kind_at (kinds_of (option_map state_of o)))) ≡ [] → answer_of (judged (option_map state_of o) limit w) kind offset ≡ None
+shut_done : (o : Option Stage) (token : List ℕ) (limit v : ℕ) (w : WireReply) (mid : HubState) (kind : Kind) (offset : ℕ) → HasToken token (shown o) → StageFitsIf o mid → kinds_of (shown o) < kind_count
+    → IsRead mid (next_page token limit (shown o)) v
+    → w.status ≡ 403 → w.version ≡ Some v → list_at (version_at mid v) token (place_of_kind (next_kind (shown o))) ≡ [] → answer_of (judged (shown o) limit w) kind offset ≡ None
 shut_done None token limit v w mid kind offset et x lt read st ver none =
     done_close _ v kind offset (judged_at None limit w 403 st ∙ ap (shut_act None) ver)
 shut_done (Some s) token limit v w mid kind offset et x lt read st ver none =
@@ -149,19 +153,19 @@ shut_done (Some s) token limit v w mid kind offset et x lt read st ver none =
     done_close _ v kind offset (judged_at (Some (state_of s)) limit w 403 st ∙ ap (shut_act (Some (state_of s))) ver ∙ cond-true _ _ _ (and_from (s.pin == v) (length s.present == 0) (eq-eqb s.pin v (sym e)) (eq-eqb (length s.present) 0 nought)))
 
 -- the pin of the call lies below where the stage is pinned
-pin_below : (first : Option StageState) (o : Option Stage) (start a : HubState) → Grew start a → StageFitsIf o a → PinLaw first start (option_map state_of o) → 0 < length a.published → first_pin first start < length a.published
+pin_below : (first : Option StageState) (o : Option Stage) (start a : HubState) → Grew start a → StageFitsIf o a → PinLaw first start (shown o) → 0 < length a.published → first_pin first start < length a.published
 pin_below None None start a g x law pos = omega (arith, g.longer, pos)
 pin_below None (Some s) start a g x law pos = omega (arith, law, x.standing)
 pin_below (Some f) None start a g x law pos = absurd law
 pin_below (Some f) (Some s) start a g x law pos = omega (arith, law, x.standing)
 
-pin_above : (first : Option StageState) (o : Option Stage) (start : HubState) (p : ℕ) → PinLaw first start (option_map state_of o) → pin_of (option_map state_of o) ≡ Some p → first_pin first start ≤ p
+pin_above : (first : Option StageState) (o : Option Stage) (start : HubState) (p : ℕ) → PinLaw first start (shown o) → pin_of (shown o) ≡ Some p → first_pin first start ≤ p
 pin_above None None start p law e = cc
 pin_above None (Some s) start p law e = let f = same_Some _ _ e in omega (arith, law, f)
 pin_above (Some f) None start p law e = absurd law
 pin_above (Some f) (Some s) start p law e = let h = same_Some _ _ e in omega (arith, law, h)
 
-pin_standing : (o : Option Stage) (h : HubState) (p : ℕ) → StageFitsIf o h → pin_of (option_map state_of o) ≡ Some p → p < length h.published
+pin_standing : (o : Option Stage) (h : HubState) (p : ℕ) → StageFitsIf o h → pin_of (shown o) ≡ Some p → p < length h.published
 pin_standing None h p x e = cc
 pin_standing (Some s) h p x e = subst (λ n. n < length h.published) (same_Some _ _ e) x.standing
 
@@ -178,12 +182,12 @@ known_not None by e f = cc
 known_not (Some x) by e f = cc
 
 -- an own reply leads on, or the hub wants memory
-own_done' : (o : Option Stage) (first : Option StageState) (a b : LinkState) (start : HubState) (token : List ℕ) (limit : ℕ) (w : WireReply) (kind : Kind) (offset : ℕ) → HasToken token (option_map state_of o) → StageFitsIf o a.hub → kinds_of (option_map state_of o) < kind_count
-    → IsSaid a b (next_page token limit (option_map state_of o)) w
-    → Grew start a.hub → IsHub a.hub → IsHub b.hub → PinLaw first start (option_map state_of o) → (Rose a.hub_faults b.hub_faults → ⊥) → StandsAt (first_pin first start) token b.hub → IsDoneIf (answer_of (judged (option_map state_of o) limit w) kind offset)
-own_done' o first a b start token limit w kind offset et x lt own g ha hb law quiet at =
+own_done_at : (o : Option Stage) (first : Option StageState) (a b : LinkState) (start : HubState) (token : List ℕ) (limit : ℕ) (w : WireReply) (kind : Kind) (offset : ℕ) → HasToken token (shown o) → StageFitsIf o a.hub → kinds_of (shown o) < kind_count
+    → IsSaid a b (next_page token limit (shown o)) w
+    → Grew start a.hub → IsHub a.hub → IsHub b.hub → PinLaw first start (shown o) → (Rose a.hub_faults b.hub_faults → ⊥) → StandsAt (first_pin first start) token b.hub → IsDoneIf (answer_of (judged (shown o) limit w) kind offset)
+own_done_at o first a b start token limit w kind offset et x lt own g ha hb law quiet at =
     let below = pin_below first o start a.hub g x law (hub_begun a.hub ha) in
-    let stage = option_map state_of o in
+    let stage = shown o in
     let was : grant_of token (newest_in own.mid).grants ≡ Some at.by = was_known token at.by own.mid b.hub own.to own.is_hub hb at.known (omega (arith, at.since, below, (own.from).longer)) in
     elim own.reply as (λ _. IsDoneIf (answer_of (judged stage limit w) kind offset)) [
       | Wants st ↦ subst (λ c. IsDoneIf (answer_of c kind offset)) (sym (judged_at stage limit w 503 st)) tt
@@ -207,17 +211,17 @@ pub own_done : (c : Copy) (stage first : Option StageState) (a b : LinkState) (s
     → Grew start a.hub → IsHub a.hub → IsHub b.hub → PinLaw first start stage → (Rose a.hub_faults b.hub_faults → ⊥) → StandsAt (first_pin first start) token b.hub → IsDoneIf (answer_of (judged stage limit w) kind offset)
 own_done c stage first a b start token limit w kind offset e et x lt own g ha hb law quiet at =
     subst (λ s. IsDoneIf (answer_of (judged s limit w) kind offset)) e
-    (own_done' c.stage first a b start token limit w kind offset (subst (λ s. HasToken token s) (sym e) et) x (subst (λ s. kinds_of s < kind_count) (sym e) lt)
+    (own_done_at c.stage first a b start token limit w kind offset (subst (λ s. HasToken token s) (sym e) et) x (subst (λ s. kinds_of s < kind_count) (sym e) lt)
     (subst (λ s. IsSaid a b (next_page token limit s) w) (sym e) own) g ha hb (subst (λ s. PinLaw first start s) (sym e) law) quiet at)
 
 gone_is : (stage : Option StageState) (o : Option ℕ) (p q : ℕ) → pin_of stage ≡ Some p → o ≡ Some q → gone_act (pin_of stage) o ≡ act.PinGone p q
 gone_is stage o p q e f = ap (λ x. gone_act x o) e ∙ ap (gone_act (Some p)) f
 
 -- the told cause of the answer that an own reply gives
-own_told' : (o : Option Stage) (a b : LinkState) (token : List ℕ) (limit : ℕ) (w : WireReply) (kind : Kind) (offset : ℕ) → HasToken token (option_map state_of o) → StageFitsIf o a.hub → kinds_of (option_map state_of o) < kind_count → IsSaid a b (next_page token limit (option_map state_of o)) w
-    → ToldIf token a b (answer_of (judged (option_map state_of o) limit w) kind offset)
-own_told' o a b token limit w kind offset et x lt own =
-    let stage = option_map state_of o in
+own_told_at : (o : Option Stage) (a b : LinkState) (token : List ℕ) (limit : ℕ) (w : WireReply) (kind : Kind) (offset : ℕ) → HasToken token (shown o) → StageFitsIf o a.hub → kinds_of (shown o) < kind_count → IsSaid a b (next_page token limit (shown o)) w
+    → ToldIf token a b (answer_of (judged (shown o) limit w) kind offset)
+own_told_at o a b token limit w kind offset et x lt own =
+    let stage = shown o in
     elim own.reply as (λ _. ToldIf token a b (answer_of (judged stage limit w) kind offset)) [
       | Wants st ↦ subst (λ c. ToldIf token a b (answer_of c kind offset)) (sym (judged_at stage limit w 503 st)) tt
       | Broke st rose ↦ subst (λ c. ToldIf token a b (answer_of c kind offset)) (sym (judged_at stage limit w 500 st)) rose
@@ -245,7 +249,7 @@ pub own_told : (c : Copy) (stage : Option StageState) (z a b : LinkState) (token
     → IsSaid a b (next_page token limit stage) w → ToldIf token z b (answer_of (judged stage limit w) kind offset)
 own_told c stage z a b token limit w kind offset m e et x lt own = told_if_more token z a b _ m
     (subst (λ s. ToldIf token a b (answer_of (judged s limit w) kind offset)) e
-    (own_told' c.stage a b token limit w kind offset (subst (λ s. HasToken token s) (sym e) et) x (subst (λ s. kinds_of s < kind_count) (sym e) lt) (subst (λ s. IsSaid a b (next_page token limit s) w) (sym e) own)))
+    (own_told_at c.stage a b token limit w kind offset (subst (λ s. HasToken token s) (sym e) et) x (subst (λ s. kinds_of s < kind_count) (sym e) lt) (subst (λ s. IsSaid a b (next_page token limit s) w) (sym e) own)))
 
 pub broken_told : (token : List ℕ) (z b : LinkState) (r : Option SyncAnswer) → IsBroken r → ToldIf token z b r
 broken_told token z b r x = ⊎_elim (λ (e : r ≡ Some answer.KeeperFault). subst (λ x. ToldIf token z b x) (sym e) tt) (λ (e : r ≡ Some answer.NoMemory). subst (λ x. ToldIf token z b x) (sym e) tt) x

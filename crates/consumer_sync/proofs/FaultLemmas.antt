@@ -1,5 +1,5 @@
 -- What is left of a stage where the keeper failed.
-use Rattle.std.proofs.Common.{◌≡◌, ◌⊎◌, inl, inr, ℕ, ◌+◌, true, false, List, Option, None, Some, Err, cond, refl, sym}
+use Rattle.std.proofs.Common.{◌≡◌, ◌⊎◌, inl, inr, ℕ, true, false, List, Option, None, Some, Err, cond, refl, sym}
 use Rattle.std.proofs.Common.{ap, subst, ⊎_elim}
 use Rattle.std.specs.Prelude.{bytes_eq, is_some}
 use Rattle.consumer_sync.proofs.CauseLemmas.{answer_cause}
@@ -9,7 +9,7 @@ use Rattle.consumer_sync.specs.Faulted.{FaultLaw, SaysGone}
 use Rattle.consumer_sync.specs.Filling.{Ends, last_asked}
 use Rattle.consumer_sync.specs.Judging.{judged}
 use Rattle.consumer_sync.specs.Staging.{IsGone, answer_of}
-use Rattle.consumer_sync.specs.Starting.{Aborts, SwapsIn, unentered, without_other}
+use Rattle.consumer_sync.specs.Starting.{Aborts, SwapsIn, run_begun, unentered}
 use Rattle.exchange_link.specs.Beginning.{Enters}
 use Rattle.exchange_link.specs.declared.beginning.NoRun.{NoRun}
 use Rattle.exchange_link.specs.declared.beginning.NoRun.TheVariants as no_run
@@ -19,10 +19,10 @@ use Rattle.keeper_memory.specs.copy.Changes.{copy_after}
 use Rattle.keeper_memory.specs.copy.Copies.{Copy, Stage}
 use Rattle.keeper_memory.specs.copy.Lists.{kind_count}
 use Rattle.keeper_memory.specs.copy.States.{stage_of}
-use Rattle.keeper_memory.specs.declared.copy.change.CopyChange.TheVariants.{Run, Swap}
+use Rattle.keeper_memory.specs.declared.copy.change.CopyChange.TheVariants.{Swap}
 use Rattle.keeper_memory.specs.declared.copy.state.StageState.{StageState}
 use Rattle.exchange_link.specs.Causes.{IsOwnReply, kept_of}
-use Rattle.exchange_link.specs.Places.{kind_at, kinds_of, staged_of}
+use Rattle.exchange_link.specs.Places.{next_kind, staged_of}
 use Rattle.exchange_link.specs.Synchronised.{IsSwapped, StageOn, own_stage}
 use Rattle.exchange_link.specs.declared.answer.SyncAnswer.{SyncAnswer}
 use Rattle.exchange_link.specs.declared.answer.SyncAnswer.TheVariants as answer
@@ -30,20 +30,14 @@ use Rattle.http_wire.specs.declared.reply_reading.WireReply.{WireReply}
 
 gone_is : (a : Act) → IsGone a → (pin : ℕ) × (oldest : ℕ) × (a ≡ act.PinGone pin oldest)
 gone_is (act.PinGone pin oldest) is = (pin, oldest, refl)
-gone_is (act.Take pin rows total done) is = absurd is
-gone_is (act.Close pin) is = absurd is
-gone_is act.UnknownToken is = absurd is
-gone_is (act.TooLarge total) is = absurd is
-gone_is act.BadReply is = absurd is
-gone_is act.HubFault is = absurd is
-gone_is act.HubNoMemory is = absurd is
+gone_is other is = absurd is
 
 -- an act that lets the stage go comes of such a reply alone
 pub says_gone : (stage : Option StageState) (limit : ℕ) (w : WireReply) (kept : List ℕ) (run n : ℕ) → IsOwnReply kept run n w → IsGone (judged stage limit w) → SaysGone kept
 says_gone stage limit w kept run n own is =
     let (pin, oldest, same) = gone_is (judged stage limit w) is in
     let asked = last_asked stage limit (kept_of kept run n) in
-    let gives = ap (λ a. answer_of a (kind_at (kinds_of stage)) (staged_of stage)) same in
+    let gives = ap (λ a. answer_of a (next_kind stage) (staged_of stage)) same in
     let (r, from, status, old, _) = answer_cause asked w (Some (answer.PinGone pin oldest)) (Unit {0}) (Unit {0}) own (sym gives) in
     (r, from.text, status, ap (λ o. is_some o) old)
 
@@ -62,10 +56,10 @@ enter_faults token kept no_run.LastRun b a is x = absurd (cc is)
 enter_faults token kept no_run.KeeperFault b a is x = abort_faults token kept b a (enter_fails token b a x)
 enter_faults token kept no_run.NoMemory b a is x = absurd (cc is)
 
-pub fill_faults : (token kept : List ℕ) (b d a : Copy) → d ≡ without_other token (copy_after (Run (b.run + 1)) b) → StageOn token d.stage a.stage ⊎ SaysGone kept → FaultLaw token kept b a
+pub fill_faults : (token kept : List ℕ) (b d a : Copy) → d ≡ run_begun token b → StageOn token d.stage a.stage ⊎ SaysGone kept → FaultLaw token kept b a
 fill_faults token kept b d a ed x = ⊎_elim (λ on. inr (inl (subst (λ (c : Copy). StageOn token c.stage a.stage) ed on))) (λ gone. inr (inr (inr gone))) x
 
-pub swap_faults : (token kept : List ℕ) (b d c a : Copy) (st : StageState) (e : SyncAnswer) → d ≡ without_other token (copy_after (Run (b.run + 1)) b) → Ends token None d c → stage_of c ≡ Some st → st.kinds_done ≡ kind_count
+pub swap_faults : (token kept : List ℕ) (b d c a : Copy) (st : StageState) (e : SyncAnswer) → d ≡ run_begun token b → Ends token None d c → stage_of c ≡ Some st → st.kinds_done ≡ kind_count
     → e ≡ answer.KeeperFault → SwapsIn e st.pin c a → FaultLaw token kept b a
 swap_faults token kept b d c a st e ed ends state all is x =
     ⊎_elim

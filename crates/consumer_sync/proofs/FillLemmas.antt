@@ -30,7 +30,7 @@ use Rattle.version_core.specs.HubStates.{HubState}
 use Rattle.version_core.specs.Version.{row_limit}
 use Rattle.consumer_sync.specs.Filling.{Ends, Fills, StageEnds, HasToken, IsSmall, PinLaw, weight}
 use Rattle.consumer_sync.specs.Judging.{opened, paged}
-use Rattle.consumer_sync.specs.Staging.{IsGone, IsBroken, IsNotGone, MayEnd, Performs, Taking, open_copy, taken}
+use Rattle.consumer_sync.specs.Staging.{IsBroken, IsGone, IsNotGone, MayEnd, Performs, Taking, after_page, open_copy, taken}
 use Rattle.consumer_sync.specs.Staging.Adds.{Stays, Opened, Takes}
 use Rattle.consumer_sync.specs.Staging.Performs.{Kept, Grown, Cleared}
 use Rattle.consumer_sync.specs.declared.judging.Act.{Act}
@@ -47,7 +47,7 @@ falls s limit rows total done false pos lt few count e f =
     omega arith
 
 pub weight_falls : (stage : Option StageState) (limit : ℕ) (token : List ℕ) (k : Taking) → 0 < limit → kinds_of stage < kind_count → IsPage stage limit k
-    → weight (Some (paged (opened stage k.pin token) k.rows k.total k.done)) < weight stage
+    → weight (Some (after_page stage k token)) < weight stage
 weight_falls None limit token k pos lt p = falls (opened None k.pin token) limit k.rows k.total k.done k.done pos lt p.few p.count p.done refl
 weight_falls (Some s) limit token k pos lt p = falls s limit k.rows k.total k.done k.done pos lt p.few p.count p.done refl
 
@@ -55,7 +55,7 @@ kinds_more : (s : StageState) (rows : List Record) (total : ℕ) (d : Bool) → 
 kinds_more s rows total true lt = omega arith
 kinds_more s rows total false lt = omega arith
 
-pub kinds_on : (stage : Option StageState) (token : List ℕ) (k : Taking) → kinds_of stage < kind_count → kinds_of (Some (paged (opened stage k.pin token) k.rows k.total k.done)) ≤ kind_count
+pub kinds_on : (stage : Option StageState) (token : List ℕ) (k : Taking) → kinds_of stage < kind_count → kinds_of (Some (after_page stage k token)) ≤ kind_count
 kinds_on None token k lt = kinds_more (opened None k.pin token) k.rows k.total k.done lt
 kinds_on (Some s) token k lt = kinds_more s k.rows k.total k.done lt
 
@@ -72,7 +72,7 @@ pin_low stage w k from low = ⊎_elim
 
 -- they stay small with each page
 pub small_on : (stage : Option StageState) (limit : ℕ) (token : List ℕ) (w : WireReply) (k : Taking) → IsPage stage limit k → IsListed stage w k ⊎ IsShut stage w k → IfSome w.version (λ v. v ≤ LAST) → IsSmall stage
-    → IsSmall (Some (paged (opened stage k.pin token) k.rows k.total k.done))
+    → IsSmall (Some (after_page stage k token))
 small_on None limit token w k p from low small = small_paged (opened None k.pin token) limit k.rows k.total k.done p.few p.count (omega arith, pin_low None w k from low)
 small_on (Some s) limit token w k p from low small = small_paged s limit k.rows k.total k.done p.few p.count small
 
@@ -97,7 +97,7 @@ small_own token None small = tt
 small_own token (Some s) small = elim (bytes_eq s.token token) as (λ b. IsSmall (if b then Some s else None)) [ true ↦ small | false ↦ tt ]
 
 -- the pin's law goes on
-pub pin_on : (first stage : Option StageState) (a b : HubState) (token : List ℕ) (k : Taking) → PinLaw first a stage → Grew a b → PinIs stage b k.pin → PinLaw first a (Some (paged (opened stage k.pin token) k.rows k.total k.done))
+pub pin_on : (first stage : Option StageState) (a b : HubState) (token : List ℕ) (k : Taking) → PinLaw first a stage → Grew a b → PinIs stage b k.pin → PinLaw first a (Some (after_page stage k token))
 pin_on None None a b token k law g p = let e = pin-paged (opened None k.pin token) k.rows k.total k.done in omega (arith, e, p, g.longer)
 pin_on None (Some s) a b token k law g p = let e = pin-paged s k.rows k.total k.done in omega (arith, e, law)
 pin_on (Some f) (Some s) a b token k law g p = pin-paged s k.rows k.total k.done ∙ law
@@ -208,7 +208,7 @@ token-paged s rows total true = refl
 token-paged s rows total false = refl
 
 -- the stage stays under its token
-pub token_on : (stage : Option StageState) (token : List ℕ) (k : Taking) → HasToken token stage → HasToken token (Some (paged (opened stage k.pin token) k.rows k.total k.done))
+pub token_on : (stage : Option StageState) (token : List ℕ) (k : Taking) → HasToken token stage → HasToken token (Some (after_page stage k token))
 token_on None token k e = token-paged (opened None k.pin token) k.rows k.total k.done
 token_on (Some s) token k e = token-paged s k.rows k.total k.done ∙ e
 

@@ -38,7 +38,7 @@ use Rattle.exchange_link.specs.declared.beginning.NoRun.TheVariants as no_run
 use Rattle.consumer_sync.specs.Filling.{CauseIf, Ends, HasToken, IsEnd, IsEndIf, LastAsked, PinLaw, StageEnds}
 use Rattle.exchange_link.specs.Requests.{Asks, IsReady}
 use Rattle.consumer_sync.specs.Requests.{IsUnmarked}
-use Rattle.consumer_sync.specs.Starting.{Aborts, Drops, StartCause, SwapsIn, unentered, without_other}
+use Rattle.consumer_sync.specs.Starting.{Aborts, Drops, StartCause, SwapsIn, run_begun, unentered, without_other}
 
 -- a beginning that failed
 fail_fits : (token : List ℕ) (b a : Copy) (h : HubState) → Aborts token b a → CopyFits b h → CopyFits a h
@@ -135,11 +135,11 @@ own_held token o None h x = x
 own_held token o (Some s) h x = own_held_if (bytes_eq s.token token) o s h x
 
 -- the copy with which the loop begins
-pub begun_is : (token : List ℕ) (b m a : Copy) (s : CopyState) (o : Option StageState) → Enters (Ok s) b m → Drops token (Ok o) m a → a ≡ without_other token (copy_after (Run (b.run + 1)) b)
+pub begun_is : (token : List ℕ) (b m a : Copy) (s : CopyState) (o : Option StageState) → Enters (Ok s) b m → Drops token (Ok o) m a → a ≡ run_begun token b
 begun_is token b m a s o x y = y ∙ ap (without_other token) x.1
 
 -- what the loop is given
-pub entry : (token : List ℕ) (run : ℕ) (b a : Copy) (t : LinkState) → a ≡ without_other token (copy_after (Run (b.run + 1)) b) → run ≡ b.run + 1 → StageAgrees b t → CopyFits a t.hub × IsReady run 0 t.sent
+pub entry : (token : List ℕ) (run : ℕ) (b a : Copy) (t : LinkState) → a ≡ run_begun token b → run ≡ b.run + 1 → StageAgrees b t → CopyFits a t.hub × IsReady run 0 t.sent
 entry token run b a t e er h = (
   subst (λ (d : Copy). CopyFits d t.hub) (sym e) (record { stage = own_agrees token b.stage t.hub h.fits.stage; held = own_held token b.held b.stage t.hub h.fits.held }),
   ready_from b.run run t.sent er h.differ h.below,
@@ -163,21 +163,21 @@ fill_told token answer.KeeperFault b a t u c x = inl x
 fill_told token e b a t u c x = x
 
 -- the loop ended with an answer: over any link
-pub fill_leaves : (token : List ℕ) (e : SyncAnswer) (b d a : Copy) → d ≡ without_other token (copy_after (Run (b.run + 1)) b) → IsEnd e → Ends token (Some e) d a → Leaves token e b a
+pub fill_leaves : (token : List ℕ) (e : SyncAnswer) (b d a : Copy) → d ≡ run_begun token b → IsEnd e → Ends token (Some e) d a → Leaves token e b a
 fill_leaves token e b d a ed c x =
-    let y : Ends token (Some e) (without_other token (copy_after (Run (b.run + 1)) b)) a = subst (λ (d : Copy). Ends token (Some e) d a) ed x in
+    let y : Ends token (Some e) (run_begun token b) a = subst (λ (d : Copy). Ends token (Some e) d a) ed x in
     record { run = inr y.run; entries = y.entries; last_number = y.last_number; held = fill_held e b a c y.held; stage = fill_stage token e b.stage a.stage c y.stage }
 
-agree_after : (token : List ℕ) (run n : ℕ) (r : Option SyncAnswer) (b a : Copy) (t u : LinkState) → Ends token r (without_other token (copy_after (Run (b.run + 1)) b)) a → run ≡ b.run + 1 → Asks run 0 n IsUnmarked t u → StageAgrees b t → CopyFits a u.hub → StageAgrees a u
+agree_after : (token : List ℕ) (run n : ℕ) (r : Option SyncAnswer) (b a : Copy) (t u : LinkState) → Ends token r (run_begun token b) a → run ≡ b.run + 1 → Asks run 0 n IsUnmarked t u → StageAgrees b t → CopyFits a u.hub → StageAgrees a u
 agree_after token run n r b a t u y er asks h s =
     let ready = asks.ready (ready_from b.run run t.sent er h.differ h.below) in
     record { differ = ready.differ; below = subst (λ x. NoneAbove x u.sent) (er ∙ sym y.run) (below_from run n u.sent ready.spent); fits = s }
 
 -- and over one that tells
-pub fill_sync : (token : List ℕ) (run n : ℕ) (e : SyncAnswer) (b d a : Copy) (t u : LinkState) → d ≡ without_other token (copy_after (Run (b.run + 1)) b) → IsEnd e → Ends token (Some e) d a → run ≡ b.run + 1
+pub fill_sync : (token : List ℕ) (run n : ℕ) (e : SyncAnswer) (b d a : Copy) (t u : LinkState) → d ≡ run_begun token b → IsEnd e → Ends token (Some e) d a → run ≡ b.run + 1
     → Asks run 0 n IsUnmarked t u → StageAgrees b t → CopyFits a u.hub → Synchronised token e b t a u
 fill_sync token run n e b d a t u ed c x er asks h s =
-    let y : Ends token (Some e) (without_other token (copy_after (Run (b.run + 1)) b)) a = subst (λ (d : Copy). Ends token (Some e) d a) ed x in
+    let y : Ends token (Some e) (run_begun token b) a = subst (λ (d : Copy). Ends token (Some e) d a) ed x in
     record { leaves = fill_leaves token e b d a ed c x; agree = agree_after token run n (Some e) b a t u y er asks h s; held = fill_told token e b a t u c y.held }
 
 pin_if : (b : Bool) (f : Stage) (h : HubState) (s : StageState) → PinLaw (if b then Some (state_of f) else None) h (Some s) → IsPinOf (if b then Some f else None) h s.pin
@@ -214,7 +214,7 @@ complete_at token b c s t u x all et p = record {
 
 -- what is known when all kinds are staged
 pub record Ready (token : List ℕ) (run n : ℕ) (b c : Copy) (st : StageState) (t u : LinkState) : Type 0 where
-  pub ends : Ends token None (without_other token (copy_after (Run (b.run + 1)) b)) c
+  pub ends : Ends token None (run_begun token b) c
   pub state : stage_of c ≡ Some st
   pub all : st.kinds_done ≡ kind_count
   pub run_is : run ≡ b.run + 1
@@ -310,12 +310,12 @@ drop_done answer.NoMemory K k quiet = tt
 drop_done e K k quiet = absurd k.1
 
 -- how the kinds end, from the copy with which they begin
-ends_begun : (token : List ℕ) (b d c : Copy) → d ≡ without_other token (copy_after (Run (b.run + 1)) b)
-    → Ends token None d c → Ends token None (without_other token (copy_after (Run (b.run + 1)) b)) c
+ends_begun : (token : List ℕ) (b d c : Copy) → d ≡ run_begun token b
+    → Ends token None d c → Ends token None (run_begun token b) c
 ends_begun token b d c is ends = subst (λ (d : Copy). Ends token None d c) is ends
 
 -- the last step over any link
-pub swap_leaves : (token : List ℕ) (b d c a : Copy) (st : StageState) (e : SyncAnswer) → d ≡ without_other token (copy_after (Run (b.run + 1)) b) → Ends token None d c → stage_of c ≡ Some st → st.kinds_done ≡ kind_count → SwapsIn e st.pin c a → Leaves token e b a
+pub swap_leaves : (token : List ℕ) (b d c a : Copy) (st : StageState) (e : SyncAnswer) → d ≡ run_begun token b → Ends token None d c → stage_of c ≡ Some st → st.kinds_done ≡ kind_count → SwapsIn e st.pin c a → Leaves token e b a
 swap_leaves token b d c a st (answer.Complete v) ed x0 state all x =
     let y = ends_begun token b d c ed x0 in
     let s = stage_some c.stage st state in
@@ -396,17 +396,13 @@ finish_by P result pin x a b d = ⊎_elim
     (λ (e : result ≡ answer.Complete pin). subst P (sym e) a)
     (λ y. ⊎_elim (λ (e : result ≡ answer.KeeperFault). subst P (sym e) (b e)) (λ (e : result ≡ answer.NoMemory). subst P (sym e) d) y) x
 
+run_swapped : (c : Copy) (o : Option Stage) → (swapped c o).run ≡ c.run
+run_swapped c None = refl
+run_swapped c (Some s) = refl
+
 pub swap_run : (e : SyncAnswer) (pin : ℕ) (c a : Copy) → SwapsIn e pin c a → a.run ≡ c.run
 swap_run (answer.Complete v) pin c a x = ap (λ (d : Copy). d.run) x.1 ∙ run_swapped c c.stage
-  where
-    run_swapped : (c : Copy) (o : Option Stage) → (swapped c o).run ≡ c.run
-    run_swapped c None = refl
-    run_swapped c (Some s) = refl
 swap_run answer.KeeperFault pin c a x = ⊎_elim (λ (h : a ≡ c). ap (λ (d : Copy). d.run) h) (λ (h : a ≡ copy_after Swap c). ap (λ (d : Copy). d.run) h ∙ run_swapped c c.stage) x
-  where
-    run_swapped : (c : Copy) (o : Option Stage) → (swapped c o).run ≡ c.run
-    run_swapped c None = refl
-    run_swapped c (Some s) = refl
 swap_run answer.NoMemory pin c a x = ap (λ (d : Copy). d.run) x
 swap_run e pin c a x = absurd x
 

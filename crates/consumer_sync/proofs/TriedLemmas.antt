@@ -6,8 +6,9 @@ use Rattle.consumer_sync.specs.declared.judging.Act.{Act}
 use Rattle.consumer_sync.specs.declared.judging.Act.TheVariants as act
 use Rattle.exchange_link.proofs.AskedLemmas.{sends_trans, sends_weaker}
 use Rattle.exchange_link.specs.Asked.{AreTries, IsPageUnder, IsTry, SendsOn, TriedFor}
+use Rattle.exchange_link.specs.Between.{Call, call_with}
 use Rattle.exchange_link.specs.Pages.{page_request}
-use Rattle.exchange_link.specs.Places.{kind_at, kinds_of, next_page, pin_of, staged_of}
+use Rattle.exchange_link.specs.Places.{next_kind, next_page, pin_of, staged_of}
 use Rattle.exchange_link.specs.declared.answer.SyncAnswer.{SyncAnswer}
 use Rattle.exchange_link.specs.declared.answer.SyncAnswer.TheVariants as answer
 use Rattle.exchange_link.specs.declared.beginning.NoRun.{NoRun}
@@ -31,42 +32,42 @@ abbrev page_at : List ℕ → ℕ → Option ℕ → Kind → ℕ → Echo → R
 page_at token limit pin kind offset n = page_request (record { token = token; kind = kind; limit = limit; offset = offset; pin = pin }) n
 
 -- all its tries
-pub tried_page : (token : List ℕ) (limit run from count tries : ℕ) (stage : Option StageState) (kind : Kind) (offset : ℕ) (wants : Type 0) (y z : List Request) → kind ≡ kind_at (kinds_of stage) → offset ≡ staged_of stage → count ≡ from + tries → (wants → ⊥)
-    → SendsOn (IsTry (page_request (next_page token limit stage))) run from count wants y z → TriedFor (answer.Interrupted kind offset) token limit run count tries z
+pub tried_page : (token : List ℕ) (limit run from count tries : ℕ) (stage : Option StageState) (kind : Kind) (offset : ℕ) (wants : Type 0) (y z : List Request) → kind ≡ next_kind stage → offset ≡ staged_of stage → count ≡ from + tries → (wants → ⊥)
+    → SendsOn (IsTry (page_request (next_page token limit stage))) run from count wants y z → TriedFor (answer.Interrupted kind offset) (call_with token limit tries) run count z
 tried_page token limit run from count tries stage kind offset wants y z ek eo e f s =
-    let tries_at : AreTries (page_at token limit (pin_of stage) (kind_at (kinds_of stage)) (staged_of stage)) run count tries z = (y, from, sym e, sends_weaker (IsTry (page_request (next_page token limit stage))) (IsTry (page_request (next_page token limit stage))) run from count wants ⊥ y z (λ n q h. h) f s) in (
+    let tries_at : AreTries (page_at token limit (pin_of stage) (next_kind stage) (staged_of stage)) run count tries z = (y, from, sym e, sends_weaker (IsTry (page_request (next_page token limit stage))) (IsTry (page_request (next_page token limit stage))) run from count wants ⊥ y z (λ n q h. h) f s) in (
       pin_of stage,
       subst (λ (k : Kind). AreTries (page_at token limit (pin_of stage) k offset) run count tries z) (sym ek)
-          (subst (λ (o : ℕ). AreTries (page_at token limit (pin_of stage) (kind_at (kinds_of stage)) o) run count tries z) (sym eo) tries_at),
+          (subst (λ (o : ℕ). AreTries (page_at token limit (pin_of stage) (next_kind stage) o) run count tries z) (sym eo) tries_at),
     )
 
-untried : (a : Act) (kind : Kind) (offset : ℕ) (token : List ℕ) (limit run count tries : ℕ) (sent : List Request) → TriedIf (answer_of a kind offset) token limit run count tries sent
-untried (act.Take pin rows total done) kind offset token limit run count tries sent = tt
-untried (act.Close pin) kind offset token limit run count tries sent = tt
-untried (act.PinGone pin oldest) kind offset token limit run count tries sent = tt
-untried act.UnknownToken kind offset token limit run count tries sent = tt
-untried (act.TooLarge total) kind offset token limit run count tries sent = tt
-untried act.BadReply kind offset token limit run count tries sent = tt
-untried act.HubFault kind offset token limit run count tries sent = tt
-untried act.HubNoMemory kind offset token limit run count tries sent = tt
+untried : (a : Act) (kind : Kind) (offset : ℕ) (call : Call) (run count : ℕ) (sent : List Request) → TriedIf (answer_of a kind offset) call run count sent
+untried (act.Take pin rows total done) kind offset call run count sent = tt
+untried (act.Close pin) kind offset call run count sent = tt
+untried (act.PinGone pin oldest) kind offset call run count sent = tt
+untried act.UnknownToken kind offset call run count sent = tt
+untried (act.TooLarge total) kind offset call run count sent = tt
+untried act.BadReply kind offset call run count sent = tt
+untried act.HubFault kind offset call run count sent = tt
+untried act.HubNoMemory kind offset call run count sent = tt
 
 -- an own reply is no interruption
-pub tried_own : (stage : Option StageState) (result : Option SyncAnswer) (a : Act) (token : List ℕ) (limit run count tries : ℕ) (sent : List Request) → IsBroken result ⊎ (result ≡ answer_of a (kind_at (kinds_of stage)) (staged_of stage))
-    → TriedIf result token limit run count tries sent
-tried_own stage result a token limit run count tries sent x = ⊎_elim
+pub tried_own : (stage : Option StageState) (result : Option SyncAnswer) (a : Act) (call : Call) (run count : ℕ) (sent : List Request) → IsBroken result ⊎ (result ≡ answer_of a (next_kind stage) (staged_of stage))
+    → TriedIf result call run count sent
+tried_own stage result a call run count sent x = ⊎_elim
     (λ (b : IsBroken result). ⊎_elim
-    (λ (e : result ≡ Some answer.KeeperFault). subst (λ (r : Option SyncAnswer). TriedIf r token limit run count tries sent) (sym e) tt)
-    (λ (e : result ≡ Some answer.NoMemory). subst (λ (r : Option SyncAnswer). TriedIf r token limit run count tries sent) (sym e) tt) b)
-    (λ (e : result ≡ answer_of a (kind_at (kinds_of stage)) (staged_of stage)). subst (λ (r : Option SyncAnswer). TriedIf r token limit run count tries sent) (sym e) (untried a (kind_at (kinds_of stage)) (staged_of stage) token limit run count tries sent)) x
+    (λ (e : result ≡ Some answer.KeeperFault). subst (λ (r : Option SyncAnswer). TriedIf r call run count sent) (sym e) tt)
+    (λ (e : result ≡ Some answer.NoMemory). subst (λ (r : Option SyncAnswer). TriedIf r call run count sent) (sym e) tt) b)
+    (λ (e : result ≡ answer_of a (next_kind stage) (staged_of stage)). subst (λ (r : Option SyncAnswer). TriedIf r call run count sent) (sym e) (untried a (next_kind stage) (staged_of stage) call run count sent)) x
 
 -- nor is a beginning that fails
-pub tried_start : (K : Type 0) (e : SyncAnswer) (token : List ℕ) (limit run count tries : ℕ) (sent : List Request) → StartCause K e → TriedFor e token limit run count tries sent
-tried_start K answer.LastRun token limit run count tries sent k = tt
-tried_start K answer.KeeperFault token limit run count tries sent k = tt
-tried_start K answer.NoMemory token limit run count tries sent k = tt
-tried_start K e token limit run count tries sent k = absurd k
+pub tried_start : (K : Type 0) (e : SyncAnswer) (call : Call) (run count : ℕ) (sent : List Request) → StartCause K e → TriedFor e call run count sent
+tried_start K answer.LastRun call run count sent k = tt
+tried_start K answer.KeeperFault call run count sent k = tt
+tried_start K answer.NoMemory call run count sent k = tt
+tried_start K e call run count sent k = absurd k
 
-pub tried_entered : (e : NoRun) (token : List ℕ) (limit run count tries : ℕ) (sent : List Request) → TriedFor (unentered e) token limit run count tries sent
-tried_entered no_run.LastRun token limit run count tries sent = tt
-tried_entered no_run.KeeperFault token limit run count tries sent = tt
-tried_entered no_run.NoMemory token limit run count tries sent = tt
+pub tried_entered : (e : NoRun) (call : Call) (run count : ℕ) (sent : List Request) → TriedFor (unentered e) call run count sent
+tried_entered no_run.LastRun call run count sent = tt
+tried_entered no_run.KeeperFault call run count sent = tt
+tried_entered no_run.NoMemory call run count sent = tt

@@ -6,6 +6,7 @@ use Rattle.keeper_memory.specs.declared.copy.state.StageState.{StageState}
 use Rattle.keeper_memory.specs.declared.copy.state.TheConstants.{LAST}
 use Rattle.exchange_link.specs.Agreement.{CopyFits}
 use Rattle.exchange_link.specs.Asked.{TriedFor}
+use Rattle.exchange_link.specs.Between.{Call}
 use Rattle.exchange_link.specs.Bounds.{HasPin, IsCallPin, work}
 use Rattle.exchange_link.specs.Causes.{AnswersTo, AsksOn, CauseOf, IsAside, IsPageStatus, KeptOf, ToldCause}
 use Rattle.exchange_link.specs.Completeness.{IsDone}
@@ -135,5 +136,5 @@ IsEndIf None = Unit {0}
 IsEndIf (Some a) = IsEnd a
 
 -- after `Interrupted` the newest requests are the tries of the one for that place of that kind
-abbrev pub TriedIf : Option SyncAnswer → List ℕ → ℕ → ℕ → ℕ → ℕ → List Request → Type 0
-TriedIf result token limit run count tries sent = IfSome result (λ a. TriedFor a token limit run count tries sent)
+abbrev pub TriedIf : Option SyncAnswer → Call → ℕ → ℕ → List Request → Type 0
+TriedIf result call run count sent = IfSome result (λ a. TriedFor a call run count sent)

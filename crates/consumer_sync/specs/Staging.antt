@@ -13,6 +13,7 @@ use Rattle.roster_base.specs.declared.keeper.KeeperError.{KeeperError}
 use Rattle.roster_base.specs.declared.keeper.KeeperError.TheVariants as fault
 use Rattle.roster_types.specs.Records.{Record}
 use Rattle.roster_values.specs.declared.kind.Kind.{Kind}
+use Rattle.consumer_sync.specs.Judging.{opened, paged}
 use Rattle.consumer_sync.specs.declared.judging.Act.{Act}
 use Rattle.consumer_sync.specs.declared.judging.Act.TheVariants as act
 
@@ -27,6 +28,10 @@ pub record Taking : Type 0 where
   pub rows : List Record
   pub total : ℕ
   pub done : Bool
+
+-- the stage after a page
+abbrev pub after_page : Option StageState → Taking → List ℕ → StageState
+after_page stage k token = paged (opened stage k.pin token) k.rows k.total k.done
 
 -- the page that a reply gives; a kind that isn't opened gives the empty one
 abbrev pub taking : Act → Option Taking

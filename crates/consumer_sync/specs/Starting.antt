@@ -2,7 +2,7 @@
 use Rattle.std.specs.Prelude.{◌≡◌, ◌⊎◌, ℕ, ◌+◌, List, Option, None, Result, Ok, Err}
 use Rattle.keeper_memory.specs.copy.Changes.{copy_after}
 use Rattle.keeper_memory.specs.copy.Copies.{Copy}
-use Rattle.keeper_memory.specs.declared.copy.change.CopyChange.TheVariants.{Drop, Swap}
+use Rattle.keeper_memory.specs.declared.copy.change.CopyChange.TheVariants.{Drop, Run, Swap}
 use Rattle.keeper_memory.specs.declared.copy.state.StageState.{StageState}
 use Rattle.exchange_link.specs.Synchronised.{own_stage}
 use Rattle.exchange_link.specs.declared.answer.SyncAnswer.{SyncAnswer}
@@ -19,6 +19,10 @@ unentered no_run.NoMemory = answer.NoMemory
 -- the copy without a stage under another token
 abbrev pub without_other : List ℕ → Copy → Copy
 without_other token c = record c { stage = own_stage token c.stage }
+
+-- the copy with which the kinds begin: under the next run, without a stage under another token
+abbrev pub run_begun : List ℕ → Copy → Copy
+run_begun token before = without_other token (copy_after (Run (before.run + 1)) before)
 
 -- letting a stage under another token go; after an error it may be gone
 abbrev pub Drops : List ℕ → Result (Option StageState) SyncAnswer → Copy → Copy → Type 0

@@ -3,18 +3,17 @@
 ghost use Rattle.std.specs.Prelude.{◌≡◌, ◌≢◌, ◌⊎◌, ℕ, ◌+◌, ◌<◌, ◌≤◌, Option, None, Some};
 ghost use Rattle.keeper_memory.specs.copy.Copies.{Copy, largest_limit};
 ghost use Rattle.keeper_memory.specs.copy.Lists.{kind_count};
-ghost use Rattle.keeper_memory.specs.copy.States.{stage_of};
 ghost use Rattle.keeper_memory.specs.declared.copy.state.StageState.{StageState as State};
 ghost use Rattle.exchange_link.specs.Agreement.{CopyFits};
 ghost use Rattle.exchange_link.specs.Asked.{IsPageUnder, SendsOn};
-ghost use Rattle.exchange_link.specs.Between.{link_between};
+ghost use Rattle.exchange_link.specs.Between.{call_with, link_between};
 ghost use Rattle.exchange_link.specs.Bounds.{Bounded};
 ghost use Rattle.exchange_link.specs.Calls.{CanTry, IsRunNumber};
 ghost use Rattle.exchange_link.specs.Causes.{IsLast, IsMore, IsOwnReply, MissedAll, kept_of};
 ghost use Rattle.exchange_link.specs.Completeness.{StandsAt, first_pin};
 ghost use Rattle.exchange_link.specs.Exchanges.{LinkState};
 ghost use Rattle.exchange_link.specs.Pairs.{AtEach, CopyFrom};
-ghost use Rattle.exchange_link.specs.Places.{kinds_of, pin_of};
+ghost use Rattle.exchange_link.specs.Places.{IsStaged, kinds_of, pin_of};
 ghost use Rattle.http_wire.specs.declared.reply_reading.WireReply.{WireReply as Reply};
 ghost use Rattle.roster_base.specs.Faults.{Rose};
 ghost use Rattle.consumer_sync.specs.Faulted.{SaysGone};
@@ -44,13 +43,13 @@ pub fn fill<C: CopyKeeper, L: Link>(
     stage: &mut Option<StageState>,
     by: Asker<'_>,
 ) -> Option<SyncAnswer>
-    requires holds { (c : Copy) → C.stands_for copy.old c → stage_of c ≡ stage.old }
+    requires holds { IsStaged (C.stands_for copy.old) stage.old }
     requires token { HasToken by.token.now stage.old }
     requires few { kinds_of stage.old ≤ kind_count }
     requires run { IsRunNumber by.run }
     requires limit { (0 < by.limit) × (by.limit ≤ largest_limit) }
     requires tries { CanTry by.tries }
-    ensures holds { result ≡ None → (c : Copy) → C.stands_for copy.new c → stage_of c ≡ stage.new }
+    ensures holds { result ≡ None → IsStaged (C.stands_for copy.new) stage.new }
     ensures done { result ≡ None → kinds_of stage.new ≡ kind_count }
     ensures copy { CopyFrom (C.stands_for copy.old) (C.stands_for copy.new) (Ends by.entry.token.now result) }
     ensures faulted { result ≡ Some SyncAnswer.KeeperFault → (after : Copy) → C.stands_for copy.new after → (before : Copy) × C.stands_for copy.old before
@@ -80,11 +79,11 @@ pub fn fill<C: CopyKeeper, L: Link>(
         (Rose (C.fault_count copy.old) (C.fault_count copy.new)) result
         × ((w : Reply) → IsOwnReply (L.kept link.new) by.entry.run n w → ExactIf (pin_of asked) w result)
         × (1 ≤ n → result ≢ Some SyncAnswer.NoMemory → (t : LinkState) → L.tells link.new t → IsLast (request_of asked by.entry.run n by.entry.token.now by.entry.limit) t.sent)
-        × (AsksOnIf result → (1 ≤ n) × ((c : Copy) → C.stands_for copy.new c → stage_of c ≡ asked)) }
+        × (AsksOnIf result → (1 ≤ n) × IsStaged (C.stands_for copy.new) asked) }
     ensures asks { (count : ℕ) × IsMore (L.asked link.old) count (L.asked link.new)
         × ((after : LinkState) → L.tells link.new after → (before : LinkState) × L.tells link.old before
         × SendsOn (IsPageUnder by.entry.token.now by.entry.limit) by.entry.run 0 count (result ≡ Some SyncAnswer.NoMemory) before.sent after.sent
-        × TriedIf result by.entry.token.now by.entry.limit by.entry.run count by.entry.tries after.sent) }
+        × TriedIf result (call_with by.entry.token.now by.entry.limit by.entry.tries) by.entry.run count after.sent) }
 {
     let mut count: u64 = 0;
     'rounds: while kinds_done(stage) < KINDS {

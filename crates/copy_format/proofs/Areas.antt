@@ -9,6 +9,7 @@ use Rattle.keeper_memory.specs.copy.Copies.{Stage}
 use Rattle.keeper_memory.specs.copy.States.{state_of}
 use Rattle.hub_format.proofs.Acts.{puts_act}
 use Rattle.hub_format.proofs.EntryMaps.{alike_map, filled, retained}
+use Rattle.hub_format.specs.Pieces.{labels_end}
 use Rattle.hub_format.specs.Edits.{put_at, puts}
 use Rattle.hub_format.specs.Format.{Entry, where_label}
 use Rattle.item_maps.specs.Edits.{after}
@@ -18,6 +19,7 @@ use Rattle.roster_values.specs.Kinds.{place_of_kind}
 use Rattle.roster_values.specs.declared.kind.Kind.{Kind}
 use Rattle.roster_values.specs.declared.kind.Kind.TheVariants.{Orgs}
 use Rattle.std.specs.Prelude.{Option}
+use Rattle.copy_format.specs.Areas.{format_area, outbox_area, stage_area, state_area, token_area}
 use Rattle.copy_format.specs.Bodies.{stage_body}
 use Rattle.copy_format.specs.Edits.{clear_side}
 use Rattle.copy_format.specs.Format.{other_side, row_area, stage_entries, token_entries}
@@ -87,15 +89,15 @@ stage_cleared old = retained (λ label. not (is_between [] (0 ∷ []) label)) (s
 
 -- what the clears of a side's rows do
 pub record ClearsOf (side : ℕ) : Type 0 where
-  pub format : (m : Items) → after (clear_side side) m 0 ≡ m 0
-  pub state : (m : Items) → after (clear_side side) m 1 ≡ m 1
-  pub stage : (m : Items) → after (clear_side side) m 2 ≡ m 2
-  pub entries : (m : Items) → after (clear_side side) m 3 ≡ m 3
-  pub token : (m : Items) → after (clear_side side) m 4 ≡ m 4
-  pub gone : (m : Items) (kind : Kind) → after (clear_side side) m (row_area side kind) ≡ retain_keys (m (row_area side kind)) (λ label. not (is_between [] (255 ∷ []) label))
+  pub format : (m : Items) → after (clear_side side) m format_area ≡ m format_area
+  pub state : (m : Items) → after (clear_side side) m state_area ≡ m state_area
+  pub stage : (m : Items) → after (clear_side side) m stage_area ≡ m stage_area
+  pub entries : (m : Items) → after (clear_side side) m outbox_area ≡ m outbox_area
+  pub token : (m : Items) → after (clear_side side) m token_area ≡ m token_area
+  pub gone : (m : Items) (kind : Kind) → after (clear_side side) m (row_area side kind) ≡ retain_keys (m (row_area side kind)) (λ label. not (is_between [] labels_end label))
   pub kept : (m : Items) (kind : Kind) → after (clear_side side) m (row_area (other_side side) kind) ≡ m (row_area (other_side side) kind)
 
-gone_0 : (m : Items) (kind : Kind) → after (clear_side 0) m (row_area 0 kind) ≡ retain_keys (m (row_area 0 kind)) (λ label. not (is_between [] (255 ∷ []) label))
+gone_0 : (m : Items) (kind : Kind) → after (clear_side 0) m (row_area 0 kind) ≡ retain_keys (m (row_area 0 kind)) (λ label. not (is_between [] labels_end label))
 gone_0 m Orgs = refl
 gone_0 m _ = refl
 
@@ -103,7 +105,7 @@ kept_0 : (m : Items) (kind : Kind) → after (clear_side 0) m (row_area 1 kind) 
 kept_0 m Orgs = refl
 kept_0 m _ = refl
 
-gone_1 : (m : Items) (kind : Kind) → after (clear_side 1) m (row_area 1 kind) ≡ retain_keys (m (row_area 1 kind)) (λ label. not (is_between [] (255 ∷ []) label))
+gone_1 : (m : Items) (kind : Kind) → after (clear_side 1) m (row_area 1 kind) ≡ retain_keys (m (row_area 1 kind)) (λ label. not (is_between [] labels_end label))
 gone_1 m Orgs = refl
 gone_1 m _ = refl
 

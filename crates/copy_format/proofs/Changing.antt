@@ -26,8 +26,8 @@ use Rattle.hub_format.proofs.Acts.{after-append}
 use Rattle.hub_format.proofs.EntryMaps.{Alike, Differ, alike_map, filled, found, turned}
 use Rattle.hub_format.proofs.Orders.{same_number}
 use Rattle.hub_format.specs.Edits.{put_at, puts}
-use Rattle.hub_format.specs.Format.{format_entry}
-use Rattle.hub_format.specs.Pieces.{number}
+use Rattle.hub_format.specs.Format.{first_format, format_entry, written_format}
+use Rattle.hub_format.specs.Pieces.{labels_end, number}
 use Rattle.item_maps.proofs.ItemLemmas.{tied_same}
 use Rattle.item_maps.specs.Edits.{after, after_edit}
 use Rattle.item_maps.specs.Items.{Items, bytes_cmp, is_between, no_items}
@@ -39,6 +39,7 @@ use Rattle.roster_values.specs.declared.kind.Kind.{Kind}
 use Rattle.version_core.proofs.PutLemmas.{all_append}
 use Rattle.version_core.proofs.RoomLemmas.{map_push}
 use Rattle.version_core.specs.declared.mark.Write.{Write}
+use Rattle.copy_format.specs.Areas.{format_area, outbox_area, stage_area, state_area, token_area}
 use Rattle.copy_format.specs.Bodies.{out_body, stage_body, state_body}
 use Rattle.copy_format.specs.Edits.{FitsChange, clear_stage, edits, first_edits, settled_edits, turn_edits}
 use Rattle.copy_format.specs.Format.{AreItemsOf, Fit, FitRows, FitsHeld, FitsOut, FitsRow, FitsSettled, FitsStage, Keep}
@@ -121,13 +122,13 @@ settled_alike settled n (x ∷ xs) entry small rise is q = elim (is_none x.settl
 -- what a change leads to
 record Leads (side : ℕ) (change : CopyChange) (c : Copy) (items : Items) : Type 0 where
   pub to : ℕ
-  pub stored : AreItemsOf 2 to (copy_after change c) (after (edits side c change) items)
+  pub stored : AreItemsOf written_format to (copy_after change c) (after (edits side c change) items)
   pub fit : Fit (copy_after change c)
 
-state_put : (side to : ℕ) (c d : Copy) (items : Items) → AreItemsOf 2 side c items → insert (items 1) [] (state_body d.run (option_map (λ h. h.version) d.held) to d.last_number) ≡ from_entries (state_entry to d ∷ [])
+state_put : (side to : ℕ) (c d : Copy) (items : Items) → AreItemsOf written_format side c items → insert (items state_area) [] (state_body d.run (option_map (λ h. h.version) d.held) to d.last_number) ≡ from_entries (state_entry to d ∷ [])
 state_put side to c d items stored = ap (λ m. insert m [] (state_entry to d).1) stored.state ∙ one_new [] (state_entry to d).1 (state_entry side c).1
 
-module _ (side : ℕ) (c : Copy) (items : Items) (stored : AreItemsOf 2 side c items) (is : IsCopy c) (fit : Fit c) where
+module _ (side : ℕ) (c : Copy) (items : Items) (stored : AreItemsOf written_format side c items) (is : IsCopy c) (fit : Fit c) where
   leads_run : (run : ℕ) → Leads side (Run run) c items
   leads_run run = record {
     to = side;
@@ -138,8 +139,8 @@ module _ (side : ℕ) (c : Copy) (items : Items) (stored : AreItemsOf 2 side c i
       stage = stored.stage;
       entries = stored.entries;
       token = stored.token;
-      held = λ kind. put_elsewhere 1 (state_entry side (record c { run = run })) items (row_area side kind) (row_not_low side kind 1 (omega arith)) ∙ stored.held kind;
-      staged = λ kind. put_elsewhere 1 (state_entry side (record c { run = run })) items (row_area (other_side side) kind) (row_not_low (other_side side) kind 1 (omega arith)) ∙ stored.staged kind;
+      held = λ kind. put_elsewhere state_area (state_entry side (record c { run = run })) items (row_area side kind) (row_not_low side kind state_area (omega arith)) ∙ stored.held kind;
+      staged = λ kind. put_elsewhere state_area (state_entry side (record c { run = run })) items (row_area (other_side side) kind) (row_not_low (other_side side) kind state_area (omega arith)) ∙ stored.staged kind;
     };
     fit = record { held = fit.held; stage = fit.stage; entries = fit.entries };
   }
@@ -154,9 +155,9 @@ module _ (side : ℕ) (c : Copy) (items : Items) (stored : AreItemsOf 2 side c i
       stage = ap (λ m. insert m [] (stage_body (state_of (begun pin token)))) stored.stage ∙ stage_put c.stage (begun pin token);
       entries = stored.entries;
       token = stored.token;
-      held = λ kind. puts_elsewhere 2 (stage_entries (Some (begun pin token))) items (row_area side kind) (row_not_low side kind 2 (omega arith)) ∙ stored.held kind;
+      held = λ kind. puts_elsewhere stage_area (stage_entries (Some (begun pin token))) items (row_area side kind) (row_not_low side kind stage_area (omega arith)) ∙ stored.held kind;
       staged = λ kind.
-          puts_elsewhere 2 (stage_entries (Some (begun pin token))) items (row_area (other_side side) kind) (row_not_low (other_side side) kind 2 (omega arith)) ∙ stored.staged kind
+          puts_elsewhere stage_area (stage_entries (Some (begun pin token))) items (row_area (other_side side) kind) (row_not_low (other_side side) kind stage_area (omega arith)) ∙ stored.staged kind
           ∙ ap (λ rows. from_entries (rows_under rows)) (ap (λ o. option_map_or (λ (s : Stage). get_or (s.done ++ s.present ∷ []) (place_of_kind kind) []) o []) can.0 ∙ sym (empty_last [] (place_of_kind kind)));
     };
     fit = record { held = fit.held; stage = record { token = fits; done = tt; present = tt; staged = omega arith; total = tt }; entries = fit.entries };
@@ -164,16 +165,16 @@ module _ (side : ℕ) (c : Copy) (items : Items) (stored : AreItemsOf 2 side c i
 
   -- the stage's own item goes
   abbrev bare : Items
-  bare = after_edit (Clear 2 [] (0 ∷ [])) items
+  bare = after_edit (Clear stage_area [] (0 ∷ [])) items
 
   bare_row : (s : ℕ) (kind : Kind) → bare (row_area s kind) ≡ items (row_area s kind)
-  bare_row s kind = cond-false (row_area s kind == 2) _ _ (row_not_low s kind 2 (omega arith))
+  bare_row s kind = cond-false (row_area s kind == stage_area) _ _ (row_not_low s kind stage_area (omega arith))
 
   -- and with it its rows
   gone : (kind : Kind) → after (clear_stage (other_side side)) items (row_area (other_side side) kind) ≡ from_entries []
   gone kind =
       (clears (other_side side) (omega arith)).gone bare kind
-      ∙ ap (λ m. retain_keys m (λ label. not (is_between [] (255 ∷ []) label))) (bare_row (other_side side) kind ∙ stored.staged kind)
+      ∙ ap (λ m. retain_keys m (λ label. not (is_between [] labels_end label))) (bare_row (other_side side) kind ∙ stored.staged kind)
       ∙ rows_cleared (staged_list c kind) (staged_fit c.stage kind fit.stage)
 
   kept_held : (kind : Kind) → after (clear_stage (other_side side)) items (row_area side kind) ≡ from_entries (rows_under (held_list c kind))
@@ -202,7 +203,7 @@ module _ (side : ℕ) (c : Copy) (items : Items) (stored : AreItemsOf 2 side c i
       let entry : OutEntry = record { number = n; write = write; settled = None } in
       let next = copy_after (Enter n write) c in
       let next_is = changed_is (Enter n write) c can is in
-      let first = after (put_at 3 (out_entry entry) ∷ []) items in
+      let first = after (put_at outbox_area (out_entry entry) ∷ []) items in
       let apart = differ (map out_entry (c.entries ++ entry ∷ [])) (outs_sorted (c.entries ++ entry ∷ []) (small_numbers next next_is) next_is.entries.rise) in
       let pushed = map_push out_entry c.entries entry in
       record {
@@ -214,10 +215,10 @@ module _ (side : ℕ) (c : Copy) (items : Items) (stored : AreItemsOf 2 side c i
           stage = stored.stage;
           entries = ap (filled (out_entry entry ∷ [])) stored.entries ∙ filled_behind (out_entry entry ∷ []) (map out_entry c.entries) (subst Differ pushed apart) ∙ ap from_entries (sym pushed);
           token = stored.token;
-          held = λ kind. put_elsewhere 1 (state_entry side next) first (row_area side kind) (row_not_low side kind 1 (omega arith)) ∙ put_elsewhere 3 (out_entry entry) items (row_area side kind) (row_not_low side kind 3 (omega arith)) ∙ stored.held kind;
+          held = λ kind. put_elsewhere state_area (state_entry side next) first (row_area side kind) (row_not_low side kind state_area (omega arith)) ∙ put_elsewhere outbox_area (out_entry entry) items (row_area side kind) (row_not_low side kind outbox_area (omega arith)) ∙ stored.held kind;
           staged = λ kind.
-              put_elsewhere 1 (state_entry side next) first (row_area (other_side side) kind) (row_not_low (other_side side) kind 1 (omega arith))
-              ∙ put_elsewhere 3 (out_entry entry) items (row_area (other_side side) kind) (row_not_low (other_side side) kind 3 (omega arith)) ∙ stored.staged kind;
+              put_elsewhere state_area (state_entry side next) first (row_area (other_side side) kind) (row_not_low (other_side side) kind state_area (omega arith))
+              ∙ put_elsewhere outbox_area (out_entry entry) items (row_area (other_side side) kind) (row_not_low (other_side side) kind outbox_area (omega arith)) ∙ stored.staged kind;
         };
         fit = record { held = fit.held; stage = fit.stage; entries = all_outs c.entries entry fit.entries (record { id = fits; settled = tt }) };
       }
@@ -231,15 +232,15 @@ module _ (side : ℕ) (c : Copy) (items : Items) (stored : AreItemsOf 2 side c i
       let put = out_entry (record entry { settled = Some settled }) in
       record {
         to = side;
-        stored = subst (λ es. AreItemsOf 2 side (copy_after (Settle n status version) c) (after es items)) (sym goes) (record {
+        stored = subst (λ es. AreItemsOf written_format side (copy_after (Settle n status version) c) (after es items)) (sym goes) (record {
           low = stored.low;
           format = stored.format;
           state = stored.state;
           stage = stored.stage;
           entries = ap (λ m. insert m put.0 put.1) stored.entries ∙ alike_map (put ∷ map out_entry c.entries) (map out_entry (settled_first settled c.entries)) (settled_alike settled 0 c.entries entry (small_numbers c is) is.entries.rise first);
           token = stored.token;
-          held = λ kind. put_elsewhere 3 put items (row_area side kind) (row_not_low side kind 3 (omega arith)) ∙ stored.held kind;
-          staged = λ kind. put_elsewhere 3 put items (row_area (other_side side) kind) (row_not_low (other_side side) kind 3 (omega arith)) ∙ stored.staged kind;
+          held = λ kind. put_elsewhere outbox_area put items (row_area side kind) (row_not_low side kind outbox_area (omega arith)) ∙ stored.held kind;
+          staged = λ kind. put_elsewhere outbox_area put items (row_area (other_side side) kind) (row_not_low (other_side side) kind outbox_area (omega arith)) ∙ stored.staged kind;
         });
         fit = record { held = fit.held; stage = fit.stage; entries = fit_settled settled c.entries fits fit.entries };
       }
@@ -247,7 +248,7 @@ module _ (side : ℕ) (c : Copy) (items : Items) (stored : AreItemsOf 2 side c i
 -- ---- where there is a stage
 
 -- a page's rows stand behind those that are there
-module _ (side : ℕ) (c : Copy) (items : Items) (stored : AreItemsOf 2 side c items) (is : IsCopy c) (fit : Fit c) (s : Stage) (has : c.stage ≡ Some s) where
+module _ (side : ℕ) (c : Copy) (items : Items) (stored : AreItemsOf written_format side c items) (is : IsCopy c) (fit : Fit c) (s : Stage) (has : c.stage ≡ Some s) where
   stage_is : IsStage s
   stage_is = subst (λ o. IfSome o IsStage) has is.stage
 
@@ -265,19 +266,19 @@ module _ (side : ℕ) (c : Copy) (items : Items) (stored : AreItemsOf 2 side c i
       let none : s.present ≡ [] = (stage_is.whole all).0 in
       let to = other_side side in
       let put = state_entry to (swapped c (Some s)) in
-      let named = after (put_at 1 put ∷ []) items in
-      let first = after (put_at 4 ([], s.token) ∷ []) named in
-      let bare = after_edit (Clear 2 [] (0 ∷ [])) first in
+      let named = after (put_at state_area put ∷ []) items in
+      let first = after (put_at token_area ([], s.token) ∷ []) named in
+      let bare = after_edit (Clear stage_area [] (0 ∷ [])) first in
       let does = clears side stored.low in
       let lists : (kind : Kind) → get_or (s.done ++ s.present ∷ []) (place_of_kind kind) [] ≡ get_or s.done (place_of_kind kind) [] =
       λ kind. ap (λ rows. get_or (s.done ++ rows ∷ []) (place_of_kind kind) []) none ∙ empty_last s.done (place_of_kind kind) in
       let row : (t : ℕ) (kind : Kind) → bare (row_area t kind) ≡ items (row_area t kind) =
-      λ t kind. cond-false (row_area t kind == 2) _ _ (row_not_low t kind 2 (omega arith)) ∙ put_elsewhere 4 ([], s.token) named (row_area t kind) (row_not_low t kind 4 (omega arith))
-      ∙ put_elsewhere 1 put items (row_area t kind) (row_not_low t kind 1 (omega arith)) in
+      λ t kind. cond-false (row_area t kind == stage_area) _ _ (row_not_low t kind stage_area (omega arith)) ∙ put_elsewhere token_area ([], s.token) named (row_area t kind) (row_not_low t kind token_area (omega arith))
+      ∙ put_elsewhere state_area put items (row_area t kind) (row_not_low t kind state_area (omega arith)) in
       let held_fits = held_fit c.held in
       record {
         to = to;
-        stored = subst (λ d. AreItemsOf 2 to d (after (put_at 1 (state_entry to d) ∷ puts 4 (token_entries (held_token d)) ++ clear_stage side) items)) (sym whole) (record {
+        stored = subst (λ d. AreItemsOf written_format to d (after (put_at state_area (state_entry to d) ∷ puts token_area (token_entries (held_token d)) ++ clear_stage side) items)) (sym whole) (record {
           low = omega arith;
           format = does.format bare ∙ stored.format;
           state = does.state bare ∙ state_put side to c (swapped c (Some s)) items stored;
@@ -286,8 +287,8 @@ module _ (side : ℕ) (c : Copy) (items : Items) (stored : AreItemsOf 2 side c i
           token = does.token bare ∙ ap (λ m. insert m [] s.token) stored.token ∙ token_put (held_token c) s.token;
           held = λ kind. does.kept bare kind ∙ row to kind ∙ staged_here kind ∙ ap (λ rows. from_entries (rows_under rows)) (lists kind);
           staged = λ kind.
-              ap (λ t. after (put_at 1 put ∷ put_at 4 ([], s.token) ∷ clear_stage side) items (row_area t kind)) (twice side stored.low)
-              ∙ does.gone bare kind ∙ ap (λ m. retain_keys m (λ label. not (is_between [] (255 ∷ []) label))) (row side kind ∙ stored.held kind) ∙ rows_cleared (held_list c kind) (held_fits kind fit.held);
+              ap (λ t. after (put_at state_area put ∷ put_at token_area ([], s.token) ∷ clear_stage side) items (row_area t kind)) (twice side stored.low)
+              ∙ does.gone bare kind ∙ ap (λ m. retain_keys m (λ label. not (is_between [] labels_end label))) (row side kind ∙ stored.held kind) ∙ rows_cleared (held_list c kind) (held_fits kind fit.held);
         });
         fit = subst Fit (sym whole) (record { held = stage_fit.done; stage = tt; entries = fit.entries });
       }
@@ -329,10 +330,10 @@ module _ (side : ℕ) (c : Copy) (items : Items) (stored : AreItemsOf 2 side c i
         ap (filled (rows_under rows)) (staged_here kind ∙ here) ∙ filled_behind (rows_under rows) (rows_under s.present) (subst Differ both (differ (rows_under (s.present ++ rows)) up)) ∙ ap from_entries (sym both)
 
     abbrev staged_now : Items
-    staged_now = after (puts 2 (stage_entries (Some later))) items
+    staged_now = after (puts stage_area (stage_entries (Some later))) items
 
     now_row : (t : ℕ) (k : Kind) → staged_now (row_area t k) ≡ items (row_area t k)
-    now_row t k = puts_elsewhere 2 (stage_entries (Some later)) items (row_area t k) (row_not_low t k 2 (omega arith))
+    now_row t k = puts_elsewhere stage_area (stage_entries (Some later)) items (row_area t k) (row_not_low t k stage_area (omega arith))
 
     abbrev all_now : Items
     all_now = after (puts (row_area (other_side side) kind) (rows_under rows)) staged_now
@@ -357,14 +358,14 @@ module _ (side : ℕ) (c : Copy) (items : Items) (stored : AreItemsOf 2 side c i
         let whole : copy_after (Page kind rows total done) c ≡ record c { stage = Some later } = ap (λ o. record c { stage = option_map (λ s. stage_after s rows total done) o }) has in
         record {
           to = side;
-          stored = subst (λ (d : Copy). AreItemsOf 2 side d (after (puts 2 (stage_entries d.stage) ++ puts (row_area (other_side side) kind) (rows_under rows)) items)) (sym whole)
-              (subst (AreItemsOf 2 side (record c { stage = Some later })) (sym (after-append (puts 2 (stage_entries (Some later))) (puts (row_area (other_side side) kind) (rows_under rows)) items)) (record {
+          stored = subst (λ (d : Copy). AreItemsOf written_format side d (after (puts stage_area (stage_entries d.stage) ++ puts (row_area (other_side side) kind) (rows_under rows)) items)) (sym whole)
+              (subst (AreItemsOf written_format side (record c { stage = Some later })) (sym (after-append (puts stage_area (stage_entries (Some later))) (puts (row_area (other_side side) kind) (rows_under rows)) items)) (record {
                 low = stored.low;
-                format = low_now 0 (omega arith) ∙ stored.format;
-                state = low_now 1 (omega arith) ∙ stored.state;
-                stage = low_now 2 (omega arith) ∙ ap (λ m. insert m [] (stage_body (state_of later))) stored.stage ∙ stage_put c.stage later;
-                entries = low_now 3 (omega arith) ∙ stored.entries;
-                token = low_now 4 (omega arith) ∙ stored.token;
+                format = low_now format_area (omega arith) ∙ stored.format;
+                state = low_now state_area (omega arith) ∙ stored.state;
+                stage = low_now stage_area (omega arith) ∙ ap (λ m. insert m [] (stage_body (state_of later))) stored.stage ∙ stage_put c.stage later;
+                entries = low_now outbox_area (omega arith) ∙ stored.entries;
+                token = low_now token_area (omega arith) ∙ stored.token;
                 held = λ k. puts_elsewhere (row_area (other_side side) kind) (rows_under rows) staged_now (row_area side k) (sides_apart k kind side stored.low) ∙ now_row side k ∙ stored.held k;
                 staged = λ k. rows_there k ∙ ap (λ xs. from_entries (rows_under xs)) (sym (lists_later done (place_of_kind k)));
               }));
@@ -373,7 +374,7 @@ module _ (side : ℕ) (c : Copy) (items : Items) (stored : AreItemsOf 2 side c i
 
 -- ---- each change
 
-module _ (side : ℕ) (c : Copy) (items : Items) (stored : AreItemsOf 2 side c items) (is : IsCopy c) (fit : Fit c) where
+module _ (side : ℕ) (c : Copy) (items : Items) (stored : AreItemsOf written_format side c items) (is : IsCopy c) (fit : Fit c) where
   by_swap : (o : Option Stage) → c.stage ≡ o → AllDone (option_map state_of o) → Leads side Swap c items
   by_swap None has can = absurd can
   by_swap (Some s) has can = leads_swap side c items stored is fit s has can
@@ -408,8 +409,8 @@ first_kept = record {
   where
     new_row : (side : ℕ) (kind : Kind) → after first_edits no_items (row_area side kind) ≡ from_entries []
     new_row side kind =
-        put_elsewhere 1 (state_entry 0 empty_copy) (after (put_at 0 (format_entry 2) ∷ []) no_items) (row_area side kind) (row_not_low side kind 1 (omega arith))
-        ∙ put_elsewhere 0 (format_entry 2) no_items (row_area side kind) (row_not_low side kind 0 (omega arith))
+        put_elsewhere state_area (state_entry 0 empty_copy) (after (put_at format_area (format_entry written_format) ∷ []) no_items) (row_area side kind) (row_not_low side kind state_area (omega arith))
+        ∙ put_elsewhere format_area (format_entry written_format) no_items (row_area side kind) (row_not_low side kind format_area (omega arith))
 
 -- a store of format 1
 pub turned_kept : (items : Items) (c : Copy) → KeepOne items c → Keep (after turn_edits items) c
@@ -417,13 +418,13 @@ turned_kept items c old = record {
   side = old.side;
   stored = record {
     low = old.stored.low;
-    format = ap (λ m. insert m [] (number 2)) old.stored.format ∙ one_new [] (number 2) (number 1);
+    format = ap (λ m. insert m [] (number written_format)) old.stored.format ∙ one_new [] (number written_format) (number first_format);
     state = old.stored.state;
     stage = old.stored.stage;
     entries = old.stored.entries;
     token = old.stored.token;
-    held = λ kind. put_elsewhere 0 (format_entry 2) items (row_area old.side kind) (row_not_low old.side kind 0 (omega arith)) ∙ old.stored.held kind;
-    staged = λ kind. put_elsewhere 0 (format_entry 2) items (row_area (other_side old.side) kind) (row_not_low (other_side old.side) kind 0 (omega arith)) ∙ old.stored.staged kind;
+    held = λ kind. put_elsewhere format_area (format_entry written_format) items (row_area old.side kind) (row_not_low old.side kind format_area (omega arith)) ∙ old.stored.held kind;
+    staged = λ kind. put_elsewhere format_area (format_entry written_format) items (row_area (other_side old.side) kind) (row_not_low (other_side old.side) kind format_area (omega arith)) ∙ old.stored.staged kind;
   };
   is = old.is;
   fit = old.fit;

@@ -22,12 +22,13 @@ use Rattle.keeper_memory.specs.declared.copy.state.TheConstants.{LAST}
 use Rattle.hub_format.proofs.EntryMaps.{where_all}
 use Rattle.hub_format.proofs.Listing.{listed_where}
 use Rattle.hub_format.proofs.Orders.{greater_is, less_is, number_order}
-use Rattle.hub_format.specs.Format.{Entry, format_entry, where_label}
-use Rattle.hub_format.specs.Pieces.{IsSized, number}
+use Rattle.hub_format.specs.Format.{Entry, format_entry, where_label, written_format}
+use Rattle.hub_format.specs.Pieces.{IsSized, labels_end, number}
 use Rattle.item_maps.specs.Items.{Items, bytes_cmp, is_between, listed}
 use Rattle.roster_types.specs.Records.{Record}
 use Rattle.roster_values.specs.declared.kind.Kind.{Kind}
 use Rattle.version_core.proofs.OrderLemmas.{passed, passes}
+use Rattle.copy_format.specs.Areas.{format_area, outbox_area, stage_area, state_area, token_area}
 use Rattle.copy_format.specs.Format.{AreItemsOf, Fit, FitRows, FitsOut, FitsSmall, FitsStage, IsOut, IsRowOf, out_entry}
 use Rattle.copy_format.specs.Format.{row_area, rows_under, stage_entries, state_entry, token_entries}
 use Rattle.copy_format.proofs.Changing.{found_above, held_fit, small_numbers}
@@ -64,11 +65,11 @@ pub small_fits : (s : Stage) → s.pin ≤ 1000000000000000 → FitsStage s → 
 small_fits s le fit = record { pin = omega (arith, le); token = fit.token; staged = fit.staged; total = fit.total; last = last_fits None s.present tt fit.present }
 
 -- the number of the format
-pub format_told : (form : ℕ) (items : Items) → items 0 ≡ from_entries (format_entry form ∷ []) → listed 0 [] (0 ∷ []) items ≡ format_entry form ∷ []
+pub format_told : (form : ℕ) (items : Items) → items format_area ≡ from_entries (format_entry form ∷ []) → listed format_area [] (0 ∷ []) items ≡ format_entry form ∷ []
 format_told form items is = listed_from 0 [] (0 ∷ []) items (format_entry form ∷ []) (format_entry form ∷ []) is refl refl
 
-module _ (side : ℕ) (c : Copy) (items : Items) (stored : AreItemsOf 2 side c items) (is : IsCopy c) (fit : Fit c) where
-  pub state_told : listed 1 [] (0 ∷ []) items ≡ state_entry side c ∷ []
+module _ (side : ℕ) (c : Copy) (items : Items) (stored : AreItemsOf written_format side c items) (is : IsCopy c) (fit : Fit c) where
+  pub state_told : listed state_area [] (0 ∷ []) items ≡ state_entry side c ∷ []
   state_told = listed_from 1 [] (0 ∷ []) items (state_entry side c ∷ []) (state_entry side c ∷ []) stored.state refl refl
 
   stage_listed : (o : Option Stage) → where_label (is_between [] (0 ∷ [])) (stage_entries o) ≡ stage_entries o
@@ -79,7 +80,7 @@ module _ (side : ℕ) (c : Copy) (items : Items) (stored : AreItemsOf 2 side c i
   stage_sorted None = refl
   stage_sorted (Some s) = refl
 
-  pub stage_told : listed 2 [] (0 ∷ []) items ≡ stage_entries c.stage
+  pub stage_told : listed stage_area [] (0 ∷ []) items ≡ stage_entries c.stage
   stage_told = listed_from 2 [] (0 ∷ []) items (stage_entries c.stage) (stage_entries c.stage) stored.stage (stage_listed c.stage) (stage_sorted c.stage)
 
   token_listed : (o : Option (List ℕ)) → where_label (is_between [] (0 ∷ [])) (token_entries o) ≡ token_entries o
@@ -90,14 +91,14 @@ module _ (side : ℕ) (c : Copy) (items : Items) (stored : AreItemsOf 2 side c i
   token_sorted None = refl
   token_sorted (Some token) = refl
 
-  pub token_told : listed 4 [] (0 ∷ []) items ≡ token_entries (held_token c)
+  pub token_told : listed token_area [] (0 ∷ []) items ≡ token_entries (held_token c)
   token_told = listed_from 4 [] (0 ∷ []) items (token_entries (held_token c)) (token_entries (held_token c)) stored.token (token_listed (held_token c)) (token_sorted (held_token c))
 
-  pub held_told : (kind : Kind) → listed (row_area side kind) [] (255 ∷ []) items ≡ rows_under (held_list c kind)
+  pub held_told : (kind : Kind) → listed (row_area side kind) [] labels_end items ≡ rows_under (held_list c kind)
   held_told kind =
       let rows = held_list c kind in
-      listed_from (row_area side kind) [] (255 ∷ []) items (rows_under rows) (rows_under rows) (stored.held kind)
-      (where_all (is_between [] (255 ∷ [])) (rows_under rows) (rows_low rows (held_fit c.held kind fit.held))) (rows_sorted rows (held_list_is c kind is).ascend)
+      listed_from (row_area side kind) [] labels_end items (rows_under rows) (rows_under rows) (stored.held kind)
+      (where_all (is_between [] labels_end) (rows_under rows) (rows_low rows (held_fit c.held kind fit.held))) (rows_sorted rows (held_list_is c kind is).ascend)
 
   pub held_rows : (kind : Kind) → AllByRecursion (IsRowOf kind) (held_list c kind)
   held_rows kind = rows_of_kind kind (held_list c kind) (held_list_is c kind is).kinds (held_fit c.held kind fit.held)
@@ -106,7 +107,7 @@ module _ (side : ℕ) (c : Copy) (items : Items) (stored : AreItemsOf 2 side c i
   all_sorted = outs_sorted c.entries (small_numbers c is) is.entries.rise
 
   -- the entries of a range
-  pub outs_told : (from to : List ℕ) → listed 3 from to items ≡ where_label (is_between from to) (map out_entry c.entries)
+  pub outs_told : (from to : List ℕ) → listed outbox_area from to items ≡ where_label (is_between from to) (map out_entry c.entries)
   outs_told from to = listed_from 3 from to items (map out_entry c.entries) (where_label (is_between from to) (map out_entry c.entries)) stored.entries refl (where_sorted (is_between from to) (map out_entry c.entries) all_sorted)
 
 -- ---- the first entry above a number
@@ -152,8 +153,8 @@ first_where after last (x ∷ xs) fits le all =
     go true rest = refl
     go false rest = rest
 
-pub entry_told : (side : ℕ) (c : Copy) (items : Items) → AreItemsOf 2 side c items → IsCopy c → Fit c → (after : ℕ) → after + 1 < 2 ^ 64
-    → slice_get (listed 3 (number (after + 1)) (number (LAST + 1)) items) 0 ≡ option_map out_entry (entry_after after c.entries)
+pub entry_told : (side : ℕ) (c : Copy) (items : Items) → AreItemsOf written_format side c items → IsCopy c → Fit c → (after : ℕ) → after + 1 < 2 ^ 64
+    → slice_get (listed outbox_area (number (after + 1)) (number (LAST + 1)) items) 0 ≡ option_map out_entry (entry_after after c.entries)
 entry_told side c items stored is fit after fits =
     ap (λ es. slice_get es 0) (outs_told side c items stored is fit (number (after + 1)) (number (LAST + 1))) ∙ first_where after c.last_number c.entries fits is.last is.entries.below
 

@@ -8,6 +8,7 @@ use Rattle.std.specs.Str.{IsUtf8, all_scalars, encode_utf8_all}
 use Rattle.std.specs.Ordering.{is_lt, ordering_then}
 use Rattle.std.proofs.Math.Utf8.{scalar, scalar_cases}
 use Rattle.std.proofs.lemmas.Bool.{and_parts}
+use Rattle.hub_format.specs.Pieces.{end_byte, labels_end}
 use Rattle.hub_format.proofs.EntryMaps.{retained, where_none}
 use Rattle.hub_format.proofs.Orders.{less_is}
 use Rattle.item_maps.specs.Items.{bytes_cmp, is_between}
@@ -19,13 +20,13 @@ record Begins (bytes : List ℕ) : Type 0 where
   byte : ℕ
   rest : List ℕ
   is : bytes ≡ byte ∷ rest
-  low : byte < 255
+  low : byte < end_byte
 
 either : (b : Bool) (xs ys : List ℕ) → (b ≡ true → Begins xs) → (b ≡ false → Begins ys) → Begins (cond b xs ys)
 either true xs ys f g = f refl
 either false xs ys f g = g refl
 
-one : (byte : ℕ) (rest : List ℕ) → byte < 255 → Begins (byte ∷ rest)
+one : (byte : ℕ) (rest : List ℕ) → byte < end_byte → Begins (byte ∷ rest)
 one byte rest low = record { byte = byte; rest = rest; is = refl; low = low }
 
 holds : {b : Bool} → b ≡ true → T b
@@ -48,7 +49,7 @@ character_fits c is = elim (scalar_cases c is) [
 same_byte : (a b : ℕ) (xs ys : List ℕ) → a ∷ xs ≡ b ∷ ys → a ≡ b
 same_byte a b xs ys same = cc
 
-first_low : (cs : List ℕ) (byte : ℕ) (rest : List ℕ) → all_scalars cs ≡ true → encode_utf8_all cs ≡ byte ∷ rest → byte < 255
+first_low : (cs : List ℕ) (byte : ℕ) (rest : List ℕ) → all_scalars cs ≡ true → encode_utf8_all cs ≡ byte ∷ rest → byte < end_byte
 first_low [] byte rest are is = absurd cc
 first_low (c ∷ cs) byte rest are is =
     let first = begins c (character_fits c (and_parts (scalar c) (all_scalars cs) are).0) in
@@ -57,18 +58,18 @@ first_low (c ∷ cs) byte rest are is =
     omega (arith, same, low)
 
 -- each text stands below the byte 255
-pub text_low : (text : List ℕ) → IsUtf8 text → is_between [] (255 ∷ []) text ≡ true
+pub text_low : (text : List ℕ) → IsUtf8 text → is_between [] labels_end text ≡ true
 text_low [] is = refl
-text_low (byte ∷ rest) is = ap (λ o. is_lt (ordering_then o (bytes_cmp rest []))) (less_is byte 255 (first_low is.0 byte rest is.1.0 is.1.1))
+text_low (byte ∷ rest) is = ap (λ o. is_lt (ordering_then o (bytes_cmp rest []))) (less_is byte end_byte (first_low is.0 byte rest is.1.0 is.1.1))
 
-pub rows_low : (rows : List Record) → FitRows rows → AllByRecursion (λ e. is_between [] (255 ∷ []) e.0 ≡ true) (rows_under rows)
+pub rows_low : (rows : List Record) → FitRows rows → AllByRecursion (λ e. is_between [] labels_end e.0 ≡ true) (rows_under rows)
 rows_low [] fit = tt
 rows_low (row ∷ rows) fit = (text_low row.id fit.0.id, rows_low rows fit.1)
 
-rows_go : (rows : List Record) → FitRows rows → AllByRecursion (λ e. not (is_between [] (255 ∷ []) e.0) ≡ false) (rows_under rows)
+rows_go : (rows : List Record) → FitRows rows → AllByRecursion (λ e. not (is_between [] labels_end e.0) ≡ false) (rows_under rows)
 rows_go [] fit = tt
 rows_go (row ∷ rows) fit = (ap not (text_low row.id fit.0.id), rows_go rows fit.1)
 
 -- so they all go
-pub rows_cleared : (rows : List Record) → FitRows rows → retain_keys (from_entries {R = bytes_cmp} (rows_under rows)) (λ label. not (is_between [] (255 ∷ []) label)) ≡ from_entries []
-rows_cleared rows fit = retained (λ label. not (is_between [] (255 ∷ []) label)) (rows_under rows) ∙ ap from_entries (where_none (λ label. not (is_between [] (255 ∷ []) label)) (rows_under rows) (rows_go rows fit))
+pub rows_cleared : (rows : List Record) → FitRows rows → retain_keys (from_entries {R = bytes_cmp} (rows_under rows)) (λ label. not (is_between [] labels_end label)) ≡ from_entries []
+rows_cleared rows fit = retained (λ label. not (is_between [] labels_end label)) (rows_under rows) ∙ ap from_entries (where_none (λ label. not (is_between [] labels_end label)) (rows_under rows) (rows_go rows fit))

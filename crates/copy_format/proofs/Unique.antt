@@ -13,7 +13,7 @@ use Rattle.keeper_memory.specs.copy.Lists.{IsList, kind_count}
 use Rattle.keeper_memory.specs.copy.States.{state_of}
 use Rattle.keeper_memory.specs.declared.copy.state.StageState.{StageState}
 use Rattle.hub_format.proofs.Listing.{listed_sorted}
-use Rattle.hub_format.specs.Format.{Entry}
+use Rattle.hub_format.specs.Format.{Entry, written_format}
 use Rattle.item_maps.specs.Items.{Items, bytes_cmp}
 use Rattle.roster_types.specs.Records.{Record}
 use Rattle.roster_values.proofs.KindLaws.{kind_there}
@@ -95,7 +95,7 @@ same_stage (Some a) (Some b) is_o is_p fit_o fit_p told rows =
     ] in
     λ i. Some (record { pin = (small i).pin; token = (small i).token; done = done i; present = present i; total = (small i).total })
 
-module _ (s t : ℕ) (c d : Copy) (m : Items) (c_items : AreItemsOf 2 s c m) (d_items : AreItemsOf 2 t d m) (is_c : IsCopy c) (is_d : IsCopy d) (fit_c : Fit c) (fit_d : Fit d) where
+module _ (s t : ℕ) (c d : Copy) (m : Items) (c_items : AreItemsOf written_format s c m) (d_items : AreItemsOf written_format t d m) (is_c : IsCopy c) (is_d : IsCopy d) (fit_c : Fit c) (fit_d : Fit d) where
   states : (c.run ≡ d.run) × (option_map (λ h. h.version) c.held ≡ option_map (λ h. h.version) d.held) × (s ≡ t) × (c.last_number ≡ d.last_number)
   states =
       let run_c = is_c.run in

@@ -10,7 +10,7 @@ use Rattle.keeper_memory.specs.copy.States.{state_of}
 use Rattle.keeper_memory.specs.declared.copy.entry.OutEntry.{OutEntry}
 use Rattle.keeper_memory.specs.declared.copy.entry.Settled.{Settled}
 use Rattle.keeper_memory.specs.declared.copy.state.StageState.{StageState}
-use Rattle.hub_format.specs.Format.{Entry, format_entry}
+use Rattle.hub_format.specs.Format.{Entry, first_format, format_entry, written_format}
 use Rattle.hub_format.specs.Pieces.{IsSized, number}
 use Rattle.item_maps.specs.Items.{Items}
 use Rattle.roster_types.specs.Records.{Record}
@@ -126,14 +126,14 @@ pub record IsRowOf (kind : Kind) (row : Record) : Type 0 where
 -- items that keep a copy, in format 2
 pub record Keep (items : Items) (c : Copy) : Type 0 where
   pub side : ℕ
-  pub stored : AreItemsOf 2 side c items
+  pub stored : AreItemsOf written_format side c items
   pub is : IsCopy c
   pub fit : Fit c
 
 -- items that keep a copy in format 1, which knew no token
 pub record KeepOne (items : Items) (c : Copy) : Type 0 where
   pub side : ℕ
-  pub stored : AreItemsOf 1 side c items
+  pub stored : AreItemsOf first_format side c items
   pub none : held_token c ≡ None
   pub is : IsCopy c
   pub fit : Fit c

@@ -28,7 +28,7 @@ use Rattle.roster_values.specs.declared.mode.Mode.{Mode}
 use Rattle.roster_values.specs.declared.mode.Mode.TheVariants.{Bulk, Delta}
 use Rattle.roster_values.specs.declared.value.Value.{Value}
 use Rattle.roster_values.specs.Fit.{fits}
-use Rattle.roster_values.specs.Table.{Info, info_in, is_required_in, table}
+use Rattle.roster_values.specs.Table.{Info, common_fields, info_in, is_required_in, table}
 use Rattle.roster_values.specs.Values.{value_of}
 use Rattle.roster_types.proofs.Sums.{fields-values}
 use Rattle.csv_sets.specs.declared.keys.MetadataKey.{MetadataKey}
@@ -44,21 +44,21 @@ use Rattle.csv_sets.proofs.TextBack.{AllFilled, lines_read, lines_utf8, no_mark}
 -- a value is required only where there is one, in both modes
 abbrev AllGiven : ℕ → List (Option Value) → Type 0
 AllGiven n [] = Unit {0}
-AllGiven n (v ∷ vs) = (v ≡ None → 3 ≤ n) × AllGiven (n + 1) vs
+AllGiven n (v ∷ vs) = (v ≡ None → common_fields ≤ n) × AllGiven (n + 1) vs
 
-past_common : (n : ℕ) (vs : List (Option Value)) → 3 ≤ n → AllGiven n vs
+past_common : (n : ℕ) (vs : List (Option Value)) → common_fields ≤ n → AllGiven n vs
 past_common n [] h = tt
 past_common n (v ∷ vs) h = (λ e. h, past_common (n + 1) vs (omega (arith, h)))
 
 given_values : (r : Record) → AllGiven 0 (all_values r)
-given_values r = (λ e. cc e, (λ e. cc e, (λ e. cc e, past_common 3 r.values (omega arith))))
+given_values r = (λ e. cc e, (λ e. cc e, (λ e. cc e, past_common common_fields r.values (omega arith))))
 
-not_asked : (mode : Mode) (required : Bool) (place : ℕ) → not required ≡ true → 3 ≤ place → is_required_in mode place required ≡ false
+not_asked : (mode : Mode) (required : Bool) (place : ℕ) → not required ≡ true → common_fields ≤ place → is_required_in mode place required ≡ false
 not_asked mode true place h k = cc h
 not_asked Bulk false place h k = refl
 not_asked Delta false place h k = grind (arith, nat_tests)
 
-cell_back : (mode : Mode) (place : ℕ) (i : Info) (v : Option Value) → fits i v ≡ true → (v ≡ None → 3 ≤ place) → value_of (info_in mode place i) (field_cell v) ≡ Ok v
+cell_back : (mode : Mode) (place : ℕ) (i : Info) (v : Option Value) → fits i v ≡ true → (v ≡ None → common_fields ≤ place) → value_of (info_in mode place i) (field_cell v) ≡ Ok v
 unfolding value_of trimmed
 cell_back mode place i (Some v) h given = cell_reads (info_in mode place i) v h
 cell_back mode place i None h given = rw (not_asked mode i.required place h (given refl)) refl

@@ -2,7 +2,7 @@
 use Rattle.std.proofs.Common.{◌≡◌, ◌≤◌, ◌<◌, ◌+◌, ◌⊎◌, inl, inr, ℕ, zero, suc, List, [], ◌∷◌, ◌++◌, length, get_or}
 use Rattle.std.proofs.Common.{take, drop, Bool, true, false, Option, Some, None, refl, sym, ◌∙◌, arith, append_assoc}
 use Rattle.std.proofs.Common.{IsUtf8}
-use Rattle.std.specs.Prelude.{encode_utf8, if◌then◌else◌, ◌==◌, ◌||◌, ◌&&◌}
+use Rattle.std.specs.Prelude.{◌≢◌, encode_utf8, if◌then◌else◌, ◌==◌, ◌||◌, ◌&&◌}
 use Rattle.std.proofs.lemmas.Bool.{and_parts, eqb-true}
 use Rattle.std.proofs.lemmas.Grind.{common_steps}
 use Rattle.std.proofs.lemmas.List.{append-nil}
@@ -48,20 +48,24 @@ record Good (q : State × Action) (c : ℕ) : Type 0 where
 low : (c n : ℕ) → (c == n) ≡ true → n < 128 → c < 128
 low c n e h = grind (arith, common_steps)
 
+-- a step at a byte that is this one of ASCII
+ends_at : {q : State × Action} (c n : ℕ) → (c == n) ≡ true → n < 128 → plain q.0 ≡ true → Good q c
+ends_at c n e h stays = record { joins = inr (low c n e h); stays = stays }
+
 in_field_good : (c : ℕ) → Good (in_field default_config c) c
 in_field_good c = by (c == 44) (c == 13) (c == 10) refl refl refl
   where
     by : (x y z : Bool) → (c == 44) ≡ x → (c == 13) ≡ y → (c == 10) ≡ z → Good (in_field default_config c) c
-    by true y z ex ey ez = rw ex (record { joins = inr (low c 44 ex (omega arith)); stays = refl })
-    by false true z ex ey ez = rw (ex, ey) (record { joins = inr (low c 13 ey (omega arith)); stays = refl })
-    by false false true ex ey ez = rw (ex, ey, ez) (record { joins = inr (low c 10 ez (omega arith)); stays = refl })
+    by true y z ex ey ez = rw ex (ends_at c 44 ex (omega arith) refl)
+    by false true z ex ey ez = rw (ex, ey) (ends_at c 13 ey (omega arith) refl)
+    by false false true ex ey ez = rw (ex, ey, ez) (ends_at c 10 ez (omega arith) refl)
     by false false false ex ey ez = rw (ex, ey, ez) (record { joins = inl refl; stays = refl })
 
 start_field_good : (c : ℕ) → Good (start_field default_config c) c
 start_field_good c = by (c == 34) refl
   where
     by : (x : Bool) → (c == 34) ≡ x → Good (start_field default_config c) c
-    by true ex = rw ex (record { joins = inr (low c 34 ex (omega arith)); stays = refl })
+    by true ex = rw ex (ends_at c 34 ex (omega arith) refl)
     by false ex = rw ex (in_field_good c)
 
 good_if : (b : Bool) (x y : State × Action) (c : ℕ) → (b ≡ true → Good x c) → (b ≡ false → Good y c) → Good (if b then x else y) c
@@ -86,7 +90,7 @@ step_good st.InField c h = in_field_good c
 step_good st.InQuoted c h = by (c == 34) refl
   where
     by : (x : Bool) → (c == 34) ≡ x → Good (step default_config st.InQuoted c) c
-    by true ex = rw ex (record { joins = inr (low c 34 ex (omega arith)); stays = refl })
+    by true ex = rw ex (ends_at c 34 ex (omega arith) refl)
     by false ex = rw ex (record { joins = inl refl; stays = refl })
 step_good st.AfterQuote c h = by (c == 34) refl
   where
@@ -96,7 +100,7 @@ step_good st.AfterQuote c h = by (c == 34) refl
 step_good st.InEscape c h = record { joins = inl refl; stays = refl }
 step_good st.InComment c h = cc h
 step_good st.AfterCr c h =
-    good_if (c == 10) _ _ c (λ x. record { joins = inr (low c 10 x (omega arith)); stays = refl }) (λ _. start_record_good c)
+    good_if (c == 10) _ _ c (λ x. ends_at c 10 x (omega arith) refl) (λ _. start_record_good c)
 
 -- what a record of text is
 record IsText (q : Read) : Type 0 where
@@ -104,49 +108,61 @@ record IsText (q : Read) : Type 0 where
   pub rest : IsUtf8 q.2
   pub stays : plain q.1 ≡ true
 
-ascii : (q : State × Action) (a : Action) (c : ℕ) → q.1 ≡ a → (act.Copy ≡ a → ⊥) → Good q c → c < 128
-ascii q a c e other g = elim g.joins [ inl same ↦ absurd (other (sym same ∙ e)) | inr small ↦ small ]
+ascii : (q : State × Action) (action : Action) (c : ℕ) → q.1 ≡ action → act.Copy ≢ action → Good q c → c < 128
+ascii q action c is other good = elim good.joins [ inl same ↦ absurd (other (sym same ∙ is)) | inr small ↦ small ]
 
-one_step : (s : State) (f : List (List ℕ)) (p : List ℕ) (c : ℕ) (rest : List ℕ) (q : Read) (a : Action) → (step default_config s c).1 ≡ a → Good (step default_config s c) c
-    → AllText f → IsUtf8 (p ++ c ∷ rest) → next_record default_config s f p (c ∷ rest) ≡ Some q
-    → ((f2 : List (List ℕ)) (p2 : List ℕ) → AllText f2 → IsUtf8 (p2 ++ rest) → next_record default_config (step default_config s c).0 f2 p2 rest ≡ Some q → IsText q)
-    → IsText q
-unfolding next_record
-one_step s f p c rest q act.Copy a g t u e more = more f (p ++ c ∷ []) t (rw append_assoc u) (rw a at e)
-one_step s f p c rest q act.Skip a g t u e more =
-    let parts = cut_at_ascii p rest c (ascii _ act.Skip c a (λ o. cc o) g) u in
-    more f p t (IsUtf8-append p rest parts.0 parts.1) (rw a at e)
-one_step s f p c rest q act.EndField a g t u e more =
-    let parts = cut_at_ascii p rest c (ascii _ act.EndField c a (λ o. cc o) g) u in
-    more (f ++ p ∷ []) [] (text-more f p t parts.0) parts.1 (rw a at e)
-one_step s f p c rest q act.EndRecord a g t u e more =
-    let parts = cut_at_ascii p rest c (ascii _ act.EndRecord c a (λ o. cc o) g) u in
-    let is : (f ++ p ∷ [], (step default_config s c).0, rest) ≡ q = cc (rw a at e) in
-    rw (← is) (record { cells = text-more f p t parts.0; rest = parts.1; stays = g.stays })
+module _ (q : Read) where
+  -- what is read on from a state is text, where the fields so far, and the started field with the bytes that are left, are
+  abbrev ReadsText : State → List (List ℕ) → List ℕ → List ℕ → Type 0
+  ReadsText state fields started left =
+      AllText fields → IsUtf8 (started ++ left) → next_record default_config state fields started left ≡ Some q → IsText q
 
-at_end : (s : State) (f : List (List ℕ)) (p : List ℕ) (q : Read) (b : Bool) → ends_at_end s ≡ b → AllText f → IsUtf8 p → next_record default_config s f p [] ≡ Some q → IsText q
-unfolding next_record
-at_end s f p q true a t u e =
-    let is : (f ++ p ∷ [], st.StartRecord, []) ≡ q = cc (rw a at e) in
-    rw (← is) (record { cells = text-more f p t u; rest = IsUtf8-nil; stays = refl })
-at_end s f p q false a t u e = cc (rw a at e)
+  module _ (state : State) (c : ℕ) (rest : List ℕ) (good : Good (step default_config state c) c) where
+    abbrev next : State × Action
+    next = step default_config state c
 
-text_next : (s : State) (f : List (List ℕ)) (p xs : List ℕ) (q : Read) → plain s ≡ true → AllText f → IsUtf8 (p ++ xs) → next_record default_config s f p xs ≡ Some q → IsText q
-text_next s f p [] q h t u e = at_end s f p q (ends_at_end s) refl t (rw (append-nil p) at u) e
-text_next s f p (c ∷ rest) q h t u e =
-    let g = step_good s c h in
-    one_step s f p c rest q (step default_config s c).1 refl g t u e
-    (λ f2 p2 t2 u2 e2. text_next (step default_config s c).0 f2 p2 rest q g.stays t2 u2 e2)
+    -- the texts before and behind a byte that isn't copied
+    cut : (started : List ℕ) (action : Action) → next.1 ≡ action → act.Copy ≢ action → IsUtf8 (started ++ c ∷ rest) → IsUtf8 started × IsUtf8 rest
+    cut started action is other utf8 = cut_at_ascii started rest c (ascii next action c is other good) utf8
 
-rows_next : (n : ℕ) (o : Option Read) (s : State) (xs : List ℕ) → ((q : Read) → o ≡ Some q → IsText q)
+    one_step : (fields : List (List ℕ)) (started : List ℕ) (action : Action) → next.1 ≡ action → ((fields' : List (List ℕ)) (started' : List ℕ) → ReadsText next.0 fields' started' rest)
+        → ReadsText state fields started (c ∷ rest)
+    unfolding next_record
+    one_step fields started act.Copy is more text utf8 read = more fields (started ++ c ∷ []) text (rw append_assoc utf8) (rw is at read)
+    one_step fields started act.Skip is more text utf8 read =
+        let parts = cut started act.Skip is (λ o. cc o) utf8 in
+        more fields started text (IsUtf8-append started rest parts.0 parts.1) (rw is at read)
+    one_step fields started act.EndField is more text utf8 read =
+        let parts = cut started act.EndField is (λ o. cc o) utf8 in
+        more (fields ++ started ∷ []) [] (text-more fields started text parts.0) parts.1 (rw is at read)
+    one_step fields started act.EndRecord is more text utf8 read =
+        let parts = cut started act.EndRecord is (λ o. cc o) utf8 in
+        let same : (fields ++ started ∷ [], next.0, rest) ≡ q = cc (rw is at read) in
+        rw (← same) (record { cells = text-more fields started text parts.0; rest = parts.1; stays = good.stays })
+
+  at_end : (state : State) (fields : List (List ℕ)) (started : List ℕ) (ends : Bool) → ends_at_end state ≡ ends → ReadsText state fields started []
+  unfolding next_record
+  at_end state fields started true is text utf8 read =
+      let same : (fields ++ started ∷ [], st.StartRecord, []) ≡ q = cc (rw is at read) in
+      rw (← same) (record { cells = text-more fields started text (rw (append-nil started) at utf8); rest = IsUtf8-nil; stays = refl })
+  at_end state fields started false is text utf8 read = cc (rw is at read)
+
+  text_next : (state : State) (fields : List (List ℕ)) (started left : List ℕ) → plain state ≡ true → ReadsText state fields started left
+  text_next state fields started [] stays text utf8 read = at_end state fields started (ends_at_end state) refl text utf8 read
+  text_next state fields started (c ∷ rest) stays text utf8 read =
+      let good = step_good state c stays in
+      one_step state c rest good fields started (step default_config state c).1 refl
+      (λ fields' started' text' utf8' read'. text_next (step default_config state c).0 fields' started' rest good.stays text' utf8' read') text utf8 read
+
+rows_next : (n : ℕ) (o : Option Read) → ((q : Read) → o ≡ Some q → IsText q)
     → ((s2 : State) (ys : List ℕ) → plain s2 ≡ true → IsUtf8 ys → AllRowsText (records_from default_config n s2 ys)) → AllRowsText (records_next (records_from default_config n) o)
-rows_next n None s xs h more = tt
-rows_next n (Some q) s xs h more = let t = h q refl in (t.cells, more q.1 q.2 t.stays t.rest)
+rows_next n None h more = tt
+rows_next n (Some q) h more = let t = h q refl in (t.cells, more q.1 q.2 t.stays t.rest)
 
 rows_text : (n : ℕ) (s : State) (xs : List ℕ) → plain s ≡ true → IsUtf8 xs → AllRowsText (records_from default_config n s xs)
 unfolding records_from AllText
 rows_text zero s xs h u = tt
-rows_text (suc n) s xs h u = rows_next n (next_record default_config s [] [] xs) s xs (λ q e. text_next s [] [] xs q h tt u e) (rows_text n)
+rows_text (suc n) s xs h u = rows_next n (next_record default_config s [] [] xs) (λ q e. text_next q s [] [] xs h tt u e) (rows_text n)
 
 mark : (a b c : ℕ) (rest : List ℕ) → is_bom a b c ≡ true → a ∷ b ∷ c ∷ rest ≡ encode_utf8 0xFEFF ++ rest
 unfolding lib.Utf8.encode

@@ -38,9 +38,13 @@ module _ (kind : Kind) (limit offset : ℕ) (befores afters : List Record) where
   abbrev pub whole : List DeltaEntry
   whole = delta_of kind (filter (is_of_kind kind) befores) (filter (is_of_kind kind) afters)
 
+  -- that of what differs between the rows
+  abbrev pub ListsBetween : ℕ → List DeltaEntry → List (List ℕ) → Type 0
+  ListsBetween = Lists kind (filter (is_of_kind kind) befores) (filter (is_of_kind kind) afters) limit offset whole
+
   pub list_start : (ids : List (List ℕ)) (found : List DeltaEntry) → Ascends row_key befores → Ascends row_key afters → Ascends (key_in kind) ids
       → Cover kind (filter (is_of_kind kind) befores) (filter (is_of_kind kind) afters) ids → found ≡ []
-      → Lists kind (filter (is_of_kind kind) befores) (filter (is_of_kind kind) afters) limit offset whole 0 found ids
+      → ListsBetween 0 found ids
   list_start ids found up up' rise cover none =
       let old = filter (is_of_kind kind) befores in
       let new = filter (is_of_kind kind) afters in
@@ -51,10 +55,10 @@ module _ (kind : Kind) (limit offset : ℕ) (befores afters : List Record) where
       })
 
   pub list_on : (count : ℕ) (found : List DeltaEntry) (left : List (List ℕ)) (id : List ℕ) (rest : List (List ℕ)) (count' : ℕ) (found' : List DeltaEntry) → Ascends row_key befores → Ascends row_key afters
-      → Lists kind (filter (is_of_kind kind) befores) (filter (is_of_kind kind) afters) limit offset whole count found left → left ≡ id ∷ rest
+      → ListsBetween count found left → left ≡ id ∷ rest
       → let o = difference (look_up row_key (key_in kind id) befores) (look_up row_key (key_in kind id) afters) in
       count' ≡ count_on count o → found' ≡ with_option limit offset count o found
-      → Lists kind (filter (is_of_kind kind) befores) (filter (is_of_kind kind) afters) limit offset whole count' found' rest
+      → ListsBetween count' found' rest
   list_on count found left id rest count' found' up up' lists here counts finds =
       let old = filter (is_of_kind kind) befores in
       let new = filter (is_of_kind kind) afters in
@@ -67,7 +71,7 @@ module _ (kind : Kind) (limit offset : ℕ) (befores afters : List Record) where
       })
 
   -- where none is left, what is found is the part
-  pub list_end : (count : ℕ) (found : List DeltaEntry) (left : List (List ℕ)) → Lists kind (filter (is_of_kind kind) befores) (filter (is_of_kind kind) afters) limit offset whole count found left → left ≡ []
+  pub list_end : (count : ℕ) (found : List DeltaEntry) (left : List (List ℕ)) → ListsBetween count found left → left ≡ []
       → let found_part : DeltaPart = record { rows = rows_put found; gone = ids_gone found; total = count } in found_part ≡ part_of_delta limit offset whole
   list_end count found left lists none =
       let old = filter (is_of_kind kind) befores in

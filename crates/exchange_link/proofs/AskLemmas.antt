@@ -22,7 +22,7 @@ use Rattle.version_core.specs.HubStates.{HubState}
 use Rattle.exchange_link.specs.Owning.{Answers, Broke, Gives, IsLateRead, IsOwnRead, Tries, Wants}
 use Rattle.roster_base.specs.Faults.{Rose}
 use Rattle.status_info.specs.Causes.{status_of}
-use Rattle.exchange_link.specs.Requests.{Adds, AllSpent, Asks, IfOwn, IsReady, Moved}
+use Rattle.exchange_link.specs.Requests.{Adds, AllSpent, Asks, IfOwn, IsReady, Moved, number}
 use Rattle.exchange_link.specs.Causes.{IsLast, ToldCause}
 use Rattle.exchange_link.specs.declared.answer.SyncAnswer.{SyncAnswer}
 use Rattle.exchange_link.specs.declared.answer.SyncAnswer.TheVariants as answer
@@ -95,9 +95,7 @@ IfText result text = IfOwn result (λ w. IsReplyText text w)
 own_by : (result : Outcome) (before after : LinkState) (q : Request) (rose : Type 0) (text : List ℕ) → IsOwn before after q text ⊎ (rose × IsLate before.sent text) → IfText result text
     → IfOwn result (λ w. IsOwnRead before after q w ⊎ IsLateRead before.sent w)
 own_by (outcome.Own w) before after q rose text x is = read_of before after q rose text w x is
-own_by outcome.NoReply before after q rose text x is = tt
-own_by outcome.Missed before after q rose text x is = tt
-own_by outcome.NoMemory before after q rose text x is = tt
+own_by other before after q rose text x is = tt
 
 -- an exchange that answered
 pub tries_ok : (q : Request) (result : Outcome) (rose : Type 0) (text : List ℕ) (before after : LinkState) → Exchanged q (Ok tt) rose text before after → IfText result text → Tries q result before after
@@ -126,13 +124,13 @@ pub spent_more : (run a b : ℕ) (sent : List Request) → a ≤ b → AllSpent 
 spent_more run a b [] le h = tt
 spent_more run a b (q ∷ qs) le h = (λ n e. ⊎_elim (λ (below : n.run < run). inl below) (λ (same : (n.run ≡ run) × (n.count ≤ a)). inr (same.0, omega (arith, same.1, le))) (h.0 n e), spent_more run a b qs le h.1)
 
-pub ready_more : (run n m : ℕ) (q : Request) (before after : List Request) → after ≡ q ∷ before → q.echo ≡ Some (record { run = run; count = m }) → n < m → IsReady run n before → IsReady run m after
+pub ready_more : (run n m : ℕ) (q : Request) (before after : List Request) → after ≡ q ∷ before → q.echo ≡ Some (number run m) → n < m → IsReady run n before → IsReady run m after
 ready_more run n m q before after e eq lt h = subst (λ s. IsReady run m s) (sym e) (record {
   differ = (λ k ek. not_sent run n k before (ap (λ (x : Echo). x.run) (is k ek)) (omega (arith, lt, ap (λ (x : Echo). x.count) (is k ek))) h.spent, h.differ);
   spent = (λ k ek. inr (ap (λ (x : Echo). x.run) (is k ek), omega (arith, ap (λ (x : Echo). x.count) (is k ek))), spent_more run n m before (omega (arith, lt)) h.spent);
 })
   where
-    is : (k : Echo) → q.echo ≡ Some k → k ≡ record { run = run; count = m }
+    is : (k : Echo) → q.echo ≡ Some k → k ≡ number run m
     is k ek = same_Some _ _ (sym ek ∙ eq)
 
 ready_kept : (run n m : ℕ) (before after : List Request) → after ≡ before → n ≤ m → IsReady run n before → IsReady run m after
@@ -156,55 +154,54 @@ adds_next may q result b c m y = ⊎_elim
 pub asks_refl : (run n : ℕ) (may : Request → Type 0) (t : LinkState) → Asks run n n may t t
 asks_refl run n may t = record { moved = moved_refl t; ready = λ r. r; adds = adds_refl may t.sent }
 
-pub asks_trans : (run from mid to : ℕ) (may : Request → Type 0) (a b c : LinkState) → Asks run from mid may a b → Asks run mid to may b c → Asks run from to may a c
-asks_trans run from mid to may a b c x y = record { moved = moved_on x.moved y.moved; ready = λ r. y.ready (x.ready r); adds = adds_trans may a.sent b.sent c.sent x.adds y.adds }
+pub asks_trans : {run from mid to : ℕ} {may : Request → Type 0} {a b c : LinkState} → Asks run from mid may a b → Asks run mid to may b c → Asks run from to may a c
+asks_trans {run} {from} {mid} {to} {may} {a} {b} {c} first second =
+    record { moved = moved_on first.moved second.moved; ready = λ ready. second.ready (first.ready ready); adds = adds_trans may a.sent b.sent c.sent first.adds second.adds }
 
 -- of these requests, so of those
 pub asks_weaker : (run from to : ℕ) (may other : Request → Type 0) (a b : LinkState) → ((q : Request) → may q → other q) → Asks run from to may a b → Asks run from to other a b
 asks_weaker run from to may other a b f x = let y = x.adds in record { moved = x.moved; ready = x.ready; adds = (y.0, y.1, All-weaker may other f y.0 y.2) }
 
-pub asks_on : (run from n m : ℕ) (may : Request → Type 0) (q : Request) (result : Outcome) (a b c : LinkState) → q.echo ≡ Some (record { run = run; count = m }) → n < m → may q
-    → Asks run from n may a b → Tries q result b c → Asks run from m may a c
-asks_on run from n m may q result a b c eq lt is x y = record {
-  moved = record { grew = grew_on x.moved.grew y.grew; counts = omega (arith, x.moved.counts, y.counts) };
-  ready = λ r. ⊎_elim (λ (e : c.sent ≡ q ∷ b.sent). ready_more run n m q b.sent c.sent e eq lt (x.ready r)) (λ e. ready_kept run n m b.sent c.sent (e.1) (omega (arith, lt)) (x.ready r)) y.sent;
-  adds = adds_trans may a.sent b.sent c.sent x.adds (adds_next may q result b c is y);
-}
-
 gives_more : {h left : HubState} {q : Request} {r : Reply} {a b : Type 0} → (a → b) → Gives h left q a r → Gives h left q b r
 gives_more f g = elim g [ Wants s ↦ Wants s | Broke s x ↦ Broke s (f x) | Answers at s ↦ Answers at s ]
 
-own_step : (run from n m : ℕ) (may : Request → Type 0) (q : Request) (a b c : LinkState) (w : WireReply) → q.echo ≡ Some (record { run = run; count = m }) → n < m
-    → Asks run from n may a b → IsReady run from a.sent → w.echo ≡ Some (record { run = run; count = m }) → IsOwnRead b c q w ⊎ IsLateRead b.sent w → IsOwnRead a c q w
-own_step run from n m may q a b c w eq lt x ready echo y = ⊎_elim
-    (λ (own : IsOwnRead b c q w). record {
-      reply = own.reply;
-      seen = own.seen;
-      says = own.says;
-      mid = own.mid;
-      left = own.left;
-      is_hub = own.is_hub;
-      from = grew_on x.moved.grew own.from;
-      step = own.step;
-      to = own.to;
-      gives = gives_more (λ rose. omega (arith, rose, x.moved.counts)) own.gives;
-    })
-    (λ (late : IsLateRead b.sent w). absurd (not_sent run n (record { run = run; count = m }) b.sent refl lt (x.ready ready).spent
-    (subst (λ k. SentAs k b.sent) (same_Some _ _ (sym late.echo ∙ echo)) late.was_sent)))
-    y
+-- one exchange more of a run: a request under the number `to`, behind those up to `so_far`
+module _ {run from so_far to : ℕ} {may : Request → Type 0} {before mid : LinkState} (request : Request) (after : LinkState)
+    (under : request.echo ≡ Some (number run to)) (more : so_far < to) (asked : Asks run from so_far may before mid) where
+  pub asks_on : (result : Outcome) → may request → Tries request result mid after → Asks run from to may before after
+  asks_on result is tried = record {
+    moved = record { grew = grew_on asked.moved.grew tried.grew; counts = omega (arith, asked.moved.counts, tried.counts) };
+    ready = λ ready. ⊎_elim
+        (λ (sent : after.sent ≡ request ∷ mid.sent). ready_more run so_far to request mid.sent after.sent sent under more (asked.ready ready))
+        (λ none. ready_kept run so_far to mid.sent after.sent (none.1) (omega (arith, more)) (asked.ready ready)) tried.sent;
+    adds = adds_trans may before.sent mid.sent after.sent asked.adds (adds_next may request result mid after is tried);
+  }
 
-pub own_on : (run from n m : ℕ) (may : Request → Type 0) (q : Request) (result : Outcome) (a b c : LinkState) → q.echo ≡ Some (record { run = run; count = m }) → n < m
-    → Asks run from n may a b → Tries q result b c → IsReady run from a.sent → IfOwn result (λ w. w.echo ≡ Some (record { run = run; count = m })) → IfOwn result (λ w. IsOwnRead a c q w)
-own_on run from n m may q (outcome.Own w) a b c eq lt x y ready echo = own_step run from n m may q a b c w eq lt x ready echo y.own
-own_on run from n m may q outcome.NoReply a b c eq lt x y ready echo = tt
-own_on run from n m may q outcome.Missed a b c eq lt x y ready echo = tt
-own_on run from n m may q outcome.NoMemory a b c eq lt x y ready echo = tt
+  own_step : (reply : WireReply) → IsReady run from before.sent → reply.echo ≡ Some (number run to) → IsOwnRead mid after request reply ⊎ IsLateRead mid.sent reply → IsOwnRead before after request reply
+  own_step reply ready echo read = ⊎_elim
+      (λ (own : IsOwnRead mid after request reply). record {
+        reply = own.reply;
+        seen = own.seen;
+        says = own.says;
+        mid = own.mid;
+        left = own.left;
+        is_hub = own.is_hub;
+        from = grew_on asked.moved.grew own.from;
+        step = own.step;
+        to = own.to;
+        gives = gives_more (λ rose. omega (arith, rose, asked.moved.counts)) own.gives;
+      })
+      (λ (late : IsLateRead mid.sent reply). absurd (not_sent run so_far (number run to) mid.sent refl more (asked.ready ready).spent
+      (subst (λ k. SentAs k mid.sent) (same_Some _ _ (sym late.echo ∙ echo)) late.was_sent)))
+      read
+
+  pub own_on : (result : Outcome) → Tries request result mid after → IsReady run from before.sent → IfOwn result (λ reply. reply.echo ≡ Some (number run to)) → IfOwn result (λ reply. IsOwnRead before after request reply)
+  own_on (outcome.Own reply) tried ready echo = own_step reply ready echo tried.own
+  own_on other tried ready echo = tt
 
 pub own_map : (result : Outcome) (P Q : WireReply → Type 0) → ((w : WireReply) → P w → Q w) → IfOwn result P → IfOwn result Q
 own_map (outcome.Own w) P Q f x = f w x
-own_map outcome.NoReply P Q f x = tt
-own_map outcome.Missed P Q f x = tt
-own_map outcome.NoMemory P Q f x = tt
+own_map other P Q f x = tt
 
 -- the request stands at the head of what was sent
 pub sent_last : (q : Request) (result : Outcome) (before after : LinkState) → Tries q result before after → result ≢ outcome.NoMemory → IsLast q after.sent

@@ -31,15 +31,9 @@ pub read_request : (held : Held) (text rest : List ℕ) (request : Request) → 
 read_request held text rest request fresh read q is = one_request text request q rest is (subst (λ (h : Held). At h text rest (Ok request)) fresh read)
 
 failed : (e : WireFault) (text rest : List ℕ) → IsSentText text → e ≢ fault.NoMemory → SourceCause {T = Request} 0 0 (Err e) → At none_held text rest (Err e) → ⊥
-failed fault.End text rest sent other cause read = some_request text sent (read.1 refl refl)
-failed fault.Cut text rest sent other cause read = some_request text sent (read.1 refl refl)
-failed fault.Head text rest sent other cause read = some_request text sent (read.1 refl refl)
-failed fault.HeadTooLong text rest sent other cause read = some_request text sent (read.1 refl refl)
-failed fault.Length text rest sent other cause read = some_request text sent (read.1 refl refl)
-failed fault.BodyTooLong text rest sent other cause read = some_request text sent (read.1 refl refl)
-failed fault.Chunked text rest sent other cause read = some_request text sent (read.1 refl refl)
 failed fault.Source text rest sent other cause read = let rose = cause.1 in absurd (omega (arith, rose))
 failed fault.NoMemory text rest sent other cause read = other refl
+failed each text rest sent other cause read = some_request text sent (read.1 refl refl)
 
 -- and fails at memory alone
 pub never_fails : (e : WireFault) (held : Held) (text rest : List ℕ) → held ≡ none_held → IsSentText text → e ≢ fault.NoMemory → SourceCause {T = Request} 0 0 (Err e) → At held text rest (Err e) → ⊥

@@ -18,15 +18,8 @@ use Rattle.status_info.specs.declared.reply.Reply.{Reply}
 
 -- a fault but want of memory says that the bytes are no reply
 pub refused : (e : WireFault) (bytes : List ℕ) → e ≢ fault.NoMemory → Refuses e bytes → IsNoReply bytes
-refused fault.End bytes n x = x.0
-refused fault.Head bytes n x = x.0
-refused fault.Source bytes n x = x.0
 refused fault.NoMemory bytes n x = absurd (n refl)
-refused fault.Cut bytes n x = x.0
-refused fault.HeadTooLong bytes n x = x.0
-refused fault.Length bytes n x = x.0
-refused fault.BodyTooLong bytes n x = x.0
-refused fault.Chunked bytes n x = x.0
+refused other bytes n x = x.0
 
 -- what was written of a reply reads as it is seen
 pub text_read : (text : List ℕ) (r : Reply) → text ≡ reply_text r → CanRead r → IsReplyText text (seen_of r)

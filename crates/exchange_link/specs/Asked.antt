@@ -43,10 +43,16 @@ abbrev pub IsPageUnder : List ℕ → ℕ → Echo → Request → Type 0
 IsPageUnder token limit n q = (page : Page) × (page.token ≡ token) × (page.limit ≡ limit) × (q ≡ page_request page n)
 
 -- after `Interrupted` the newest requests are the tries of the one for that place of that kind
-abbrev pub TriedFor : SyncAnswer → List ℕ → ℕ → ℕ → ℕ → ℕ → List Request → Type 0
-TriedFor (answer.Interrupted kind offset) token limit run count tries sent =
-    (pin : Option ℕ) × AreTries (page_request (record { token = token; kind = kind; limit = limit; offset = offset; pin = pin })) run count tries sent
-TriedFor a token limit run count tries sent = ⊤
+abbrev pub TriedFor : SyncAnswer → Call → ℕ → ℕ → List Request → Type 0
+TriedFor (answer.Interrupted kind offset) call run count sent =
+    (pin : Option ℕ) × AreTries (page_request (record {
+      token = call.token;
+      kind = kind;
+      limit = call.limit;
+      offset = offset;
+      pin = pin;
+    })) run count call.tries sent
+TriedFor a call run count sent = ⊤
 
 -- all requests of the call are for pages of this token and limit, numbered from 1 on under its run
 pub record AsksPages (call : Call) (copies : CopyRun) (link : LinkRun) (a : SyncAnswer) (before after : List Request) : Type 0 where
@@ -55,7 +61,7 @@ pub record AsksPages (call : Call) (copies : CopyRun) (link : LinkRun) (a : Sync
   pub runs : 1 ≤ count → (c : Copy) → copies.stands c → c.run ≡ run
   pub counts : IsMore link.asked_before count link.asked_now
   pub pages : SendsOn (IsPageUnder call.token call.limit) run 0 count (a ≡ answer.NoMemory) before after
-  pub tried : TriedFor a call.token call.limit run count call.tries after
+  pub tried : TriedFor a call run count after
 
 -- ---- sending the entries
 

@@ -20,10 +20,9 @@ use Rattle.exchange_link.specs.declared.answer.SyncAnswer.TheVariants as answer
 use Rattle.exchange_link.specs.Between.{Call, CopyRun, LinkRun}
 use Rattle.exchange_link.specs.Exchanges.{LinkState}
 use Rattle.exchange_link.specs.Sayings.{knows}
-use Rattle.exchange_link.specs.Places.{kind_at, kinds_of, last_of, next_page, pin_of, staged_of, total_of}
+use Rattle.exchange_link.specs.Places.{IsStaged, last_of, next_kind, next_page, pin_of, staged_of, total_of}
 use Rattle.exchange_link.specs.Pages.{page_request}
 use Rattle.keeper_memory.specs.copy.Copies.{Copy}
-use Rattle.keeper_memory.specs.copy.States.{stage_of}
 use Rattle.status_info.specs.declared.request.Request.{Request}
 
 -- a count rose at each of so many exchanges, or stands at the end of its type
@@ -65,10 +64,10 @@ pub data IsBad (stage : Option StageState) (limit : ℕ) (w : WireReply) : Type 
   ShutBehindRows : w.status ≡ 403 → 0 < staged_of stage → IsBad stage limit w
   NoTotal : w.status ≡ 200 → w.total ≡ None → IsBad stage limit w
   OtherTotal : (total before : ℕ) → w.status ≡ 200 → w.total ≡ Some total → total_of stage ≡ Some before → before ≢ total → IsBad stage limit w
-  OtherCount : (total : ℕ) (rows : List Record) → w.status ≡ 200 → w.total ≡ Some total → rows_of (kind_at (kinds_of stage)) w.body ≡ Ok rows
+  OtherCount : (total : ℕ) (rows : List Record) → w.status ≡ 200 → w.total ≡ Some total → rows_of (next_kind stage) w.body ≡ Ok rows
       → length rows ≢ min limit (total - staged_of stage) → IsBad stage limit w
-  Unreadable : w.status ≡ 200 → IsErr (rows_of (kind_at (kinds_of stage)) w.body) → IsBad stage limit w
-  OutOfOrder : (rows : List Record) → w.status ≡ 200 → rows_of (kind_at (kinds_of stage)) w.body ≡ Ok rows → ascends (last_of stage) rows ≡ false → IsBad stage limit w
+  Unreadable : w.status ≡ 200 → IsErr (rows_of (next_kind stage) w.body) → IsBad stage limit w
+  OutOfOrder : (rows : List Record) → w.status ≡ 200 → rows_of (next_kind stage) w.body ≡ Ok rows → ascends (last_of stage) rows ≡ false → IsBad stage limit w
   Unpinned : w.status ≡ 404 → ((pin_of stage ≡ None) ⊎ (w.oldest ≡ None)) → IsBad stage limit w
   OtherStatus : w.status ≢ 200 → w.status ≢ 401 → w.status ≢ 403 → w.status ≢ 404 → w.status ≢ 500 → w.status ≢ 503 → IsBad stage limit w
 
@@ -78,13 +77,13 @@ pub data IsBad (stage : Option StageState) (limit : ℕ) (w : WireReply) : Type 
 abbrev pub CauseOf : Option StageState → ℕ → KeptOf → Type 0 → Type 0 → SyncAnswer → Type 0
 CauseOf stage limit own missed broke (answer.Complete v) = Unit {0}
 CauseOf stage limit own missed broke answer.LastRun = Unit {0}
-CauseOf stage limit own missed broke (answer.Interrupted kind offset) = missed × (kind ≡ kind_at (kinds_of stage)) × (offset ≡ staged_of stage)
+CauseOf stage limit own missed broke (answer.Interrupted kind offset) = missed × (kind ≡ next_kind stage) × (offset ≡ staged_of stage)
 CauseOf stage limit own missed broke answer.KeeperFault = broke
 CauseOf stage limit own missed broke answer.NoMemory = Unit {0}
 CauseOf stage limit own missed broke (answer.PinGone pin oldest) = (w : WireReply) × IsKept own w × (w.status ≡ 404) × (w.oldest ≡ Some oldest) × (pin_of stage ≡ Some pin)
 CauseOf stage limit own missed broke answer.UnknownToken = (w : WireReply) × IsKept own w × (w.status ≡ 401)
-CauseOf stage limit own missed broke (answer.TooLarge kind total) = (w : WireReply) × IsKept own w × (w.status ≡ 200) × (w.total ≡ Some total) × (row_limit < total) × (kind ≡ kind_at (kinds_of stage))
-CauseOf stage limit own missed broke (answer.BadReply kind offset) = (IsNoReply own.kept ⊎ ((w : WireReply) × IsKept own w × IsBad stage limit w)) × (kind ≡ kind_at (kinds_of stage)) × (offset ≡ staged_of stage)
+CauseOf stage limit own missed broke (answer.TooLarge kind total) = (w : WireReply) × IsKept own w × (w.status ≡ 200) × (w.total ≡ Some total) × (row_limit < total) × (kind ≡ next_kind stage)
+CauseOf stage limit own missed broke (answer.BadReply kind offset) = (IsNoReply own.kept ⊎ ((w : WireReply) × IsKept own w × IsBad stage limit w)) × (kind ≡ next_kind stage) × (offset ≡ staged_of stage)
 CauseOf stage limit own missed broke answer.HubFault = (w : WireReply) × IsKept own w × (w.status ≡ 500)
 CauseOf stage limit own missed broke answer.HubNoMemory = (w : WireReply) × IsKept own w × (w.status ≡ 503)
 
@@ -124,9 +123,13 @@ AsksOn answer.LastRun = ⊥
 AsksOn answer.NoMemory = ⊥
 AsksOn a = Unit {0}
 
+-- so many tries in a row were missed, of so many exchanges, and each was told as a fault of the link
+abbrev pub MissedTries : ℕ → ℕ → ℕ → ℕ → ℕ → Type 0
+MissedTries tries missed count before now = (tries ≤ missed) × (tries ≤ count) × RoseBy tries before now
+
 -- each try of a call's last request was missed
 abbrev pub MissedAll : ℕ → LinkRun → ℕ → Type 0
-MissedAll tries link n = (tries ≤ link.missed) × (tries ≤ n) × RoseBy tries link.faults_before link.faults_now
+MissedAll tries link n = MissedTries tries link.missed n link.faults_before link.faults_now
 
 -- the cause of an answer: the run, the number of exchanges of the call, and where the stage stood when the last request
 -- was sent
@@ -141,7 +144,7 @@ pub record Caused (call : Call) (copies : CopyRun) (link : LinkRun) (a : SyncAns
   pub exact : (w : WireReply) → IsOwnReply link.kept run count w → IsAside a ⊎ AnswersTo (pin_of asked) w a
   pub last : 1 ≤ count → a ≢ answer.NoMemory → (t : LinkState) → link.tells t
       → IsLast (page_request (next_page call.token call.limit asked) (record { run = run; count = count })) t.sent
-  pub on : AsksOn a → (1 ≤ count) × ((c : Copy) → copies.stands c → stage_of c ≡ asked)
+  pub on : AsksOn a → (1 ≤ count) × IsStaged copies.stands asked
 
 -- `LastRun` comes exactly where the run number is the last one, and changes nothing
 pub record LastLaw (a : SyncAnswer) (before after : Copy) : Type 0 where

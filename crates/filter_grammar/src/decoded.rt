@@ -5,6 +5,7 @@ ghost use Rattle.std.specs.Str.{is_utf8};
 ghost use Rattle.filter_grammar.specs.Decoded.{decoded_left};
 ghost use Rattle.filter_grammar.specs.Escapes.{begins_with_code};
 ghost use Rattle.form_urlencoded.specs.Form as form;
+ghost use Rattle.percent_encoding.specs.Percent.{percent_sign};
 
 /// What is left of a name or a value of a form, once `+` is a space and escapes are decoded.
 #[derive(Clone, Copy)]
@@ -115,7 +116,7 @@ fn first_byte(raw: &[u8]) -> Option<(u8, &[u8])>
 // The byte that `%` and the digits in front stand for, and what follows the digits.
 fn after_percent(raw: &[u8]) -> Option<(u8, &[u8])>
     ensures { MatchOption result (begins_with_code raw.now ≡ false)
-        (λ x. form.decode (37 ∷ raw.now) ≡ x.0 ∷ form.decode x.1.now) }
+        (λ x. form.decode (percent_sign ∷ raw.now) ≡ x.0 ∷ form.decode x.1.now) }
 {
     let [high, low, rest @ ..] = raw else {
         return None;

@@ -53,7 +53,5 @@ repeats_held marks caller (Some number) held found (judgement.Refused failed) al
 
 -- and a write that no mark tells of repeats nothing
 pub repeats_none : (marks : List MarkRow) (made : Judgement) → IsNewlyMade made → RepeatsOneOf marks made
-repeats_none marks (judgement.New change) new = tt
-repeats_none marks judgement.Same new = tt
 repeats_none marks (judgement.Repeat kept) new = absurd new
-repeats_none marks (judgement.Refused failed) new = tt
+repeats_none marks other new = tt

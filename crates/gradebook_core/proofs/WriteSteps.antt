@@ -49,11 +49,9 @@ marks_are marks (Some mark) = refl
 -- what is kept of a judgement doesn't turn on the version that a repeat tells
 pub same_commit : (newest : BaseVersion) (caller : List ℕ) (mark : Option ℕ) (write : Write) (made : Judgement)
     → commit_of newest caller mark write made (written_by newest mark write made).version ≡ commit_of newest caller mark write made (number_after newest made)
-same_commit newest caller mark write (judgement.New change) = refl
-same_commit newest caller mark write judgement.Same = refl
 same_commit newest caller None write (judgement.Repeat kept) = refl
 same_commit newest caller (Some number) write (judgement.Repeat kept) = refl
-same_commit newest caller mark write (judgement.Refused number) = refl
+same_commit newest caller mark write other = refl
 
 -- ---- where it leads
 
@@ -74,9 +72,7 @@ module _ (state : HubState) (is : IsHubState state) (kept : KeptState) (part : I
       let here = some_version state is in
       let last = number in
       omega arith
-  number_is judgement.Same leads = number
-  number_is (judgement.Repeat held) leads = number
-  number_is (judgement.Refused n) leads = number
+  number_is other leads = number
 
   module _ (mark : Option ℕ) (write : Write) where
     -- what is told is what the verdict says
@@ -124,16 +120,12 @@ module _ (kept : KeptState) (is : IsKept kept) (by : GrantRow) (mark : Option �
       let on = subst (MayLead newest) same leads in
       let next = judged_led newest (newest_is kept.keep kept.versions is.versions) at by write (after newest change) (held_mark (as_state kept) by.caller mark) verdict in
       subst (CanLead kept.versions) one (record { follows = may_follow kept.keep kept.versions is.versions (after newest change) next; changes = on.changes })
-  may_lead judgement.Same same = λ other e. cc
-  may_lead (judgement.Repeat held) same = λ other e. cc
-  may_lead (judgement.Refused n) same = λ other e. cc
+  may_lead rest same = λ other e. cc
 
   -- the newest version after the commit
   last : (m : Judgement) (marked : Option MarkRow) → (newest_kept (with_commit kept (record { change = change_in m; mark = marked })).versions).number ≡ number_after (newest_kept kept.versions) m
   last (judgement.New change) marked = ap (λ (v : BaseVersion). v.number) (kept_lemmas.newest_after kept.keep kept.versions (after (newest_kept kept.versions) change))
-  last judgement.Same marked = refl
-  last (judgement.Repeat held) marked = refl
-  last (judgement.Refused n) marked = refl
+  last other marked = refl
 
   may_mark : (number : ℕ) (n o : Option ℕ) → mark ≡ n → outcome_of write (verdict_of (newest_kept kept.versions) made) ≡ o → ForSome (kept_mark by.caller n write number o) (CanMark number kept.marks)
   may_mark number None o named kept_so = λ row e. cc

@@ -26,41 +26,55 @@ use version_core::marks::Marks;
 use version_core::row_change::RowChange;
 use version_core::table::Table;
 
+/// Who asks for a write, under which mark, and when.
+#[derive(Clone, Copy)]
+pub struct Asking<'a> {
+    pub by: &'a GrantRow,
+    pub mark: Option<u64>,
+    pub at: Moment,
+}
+
 // What becomes of a row that is put.
 fn put_judged(
     alloc: Global,
     table: &Table,
-    by: &GrantRow,
+    asking: &Asking<'_>,
     write: &Write,
-    at: Moment,
     row: Row,
 ) -> Result<Judgement, NoMemory>
-    ensures verdict { IfOk result (λ made. spec.BodyJudged (newest_of table.now) by.now write.now at (Ok row) (verdict_of (newest_of table.now) made)) }
+    ensures verdict { IfOk result (λ made. spec.BodyJudged (newest_of table.now) asking.now.by.now write.now asking.now.at
+        (Ok row) (verdict_of (newest_of table.now) made)) }
     ensures order { IfOk result IsNewlyMade }
 {
     let view = table.newest_rows();
     let stored = view.change(write.kind, &write.id);
-    if let Some(check) = put_refusal(&view, by, write, stored, &row) {
+    if let Some(check) = put_refusal(&view, asking.by, write, stored, &row) {
         drop(row);
         return Ok(Judgement::Refused(check));
     }
-    let owner = Owner::Caller(by.caller.copy(alloc)?);
-    put_makes(alloc, table, at, RowChange { row, owner }, stored)
+    let owner = Owner::Caller(asking.by.caller.copy(alloc)?);
+    put_makes(alloc, table, asking.at, RowChange { row, owner }, stored)
 }
 
 // What becomes of a PUT that no mark tells of.
 fn body_judged(
     alloc: Global,
     table: &Table,
-    by: &GrantRow,
+    asking: &Asking<'_>,
     write: &Write,
-    at: Moment,
 ) -> Result<Judgement, NoMemory>
-    ensures verdict { IfOk result (λ made. spec.BodyJudged (newest_of table.now) by.now write.now at (put_of write.now.kind write.now.id at write.now.body) (verdict_of (newest_of table.now) made)) }
+    ensures verdict { IfOk result (λ made. spec.BodyJudged (newest_of table.now) asking.now.by.now write.now asking.now.at
+        (put_of write.now.kind write.now.id asking.now.at write.now.body) (verdict_of (newest_of table.now) made)) }
     ensures order { IfOk result IsNewlyMade }
 {
-    match read_put(alloc, write.kind, &write.id, at, write.body.as_slice()) {
-        Ok(row) => put_judged(alloc, table, by, write, at, row),
+    match read_put(
+        alloc,
+        write.kind,
+        &write.id,
+        asking.at,
+        write.body.as_slice(),
+    ) {
+        Ok(row) => put_judged(alloc, table, asking, write, row),
         Err(Refusal::Fault(_)) => Ok(Judgement::Refused(Check::BadBody)),
         Err(Refusal::NoMemory) => Err(NoMemory),
     }
@@ -70,36 +84,36 @@ fn body_judged(
 fn delete_judged(
     alloc: Global,
     table: &Table,
-    by: &GrantRow,
+    asking: &Asking<'_>,
     write: &Write,
-    at: Moment,
 ) -> Result<Judgement, NoMemory>
-    ensures verdict { IfOk result (λ made. verdict_of (newest_of table.now) made ≡ spec.delete_judged (newest_of table.now) write.now at (delete_refusal (newest_of table.now) by.now write.now)) }
+    ensures verdict { IfOk result (λ made. verdict_of (newest_of table.now) made ≡ spec.delete_judged
+        (newest_of table.now) write.now asking.now.at (delete_refusal (newest_of table.now) asking.now.by.now write.now)) }
     ensures order { IfOk result IsNewlyMade }
 {
     let view = table.newest_rows();
     let stored = view.change(write.kind, &write.id);
-    if let Some(check) = delete_refusal(&view, by, write, stored) {
+    if let Some(check) = delete_refusal(&view, asking.by, write, stored) {
         return Ok(Judgement::Refused(check));
     }
-    delete_makes(alloc, table, at, stored)
+    delete_makes(alloc, table, asking.at, stored)
 }
 
 // What becomes of a write that no mark tells of.
 fn new_judged(
     alloc: Global,
     table: &Table,
-    by: &GrantRow,
+    asking: &Asking<'_>,
     write: &Write,
-    at: Moment,
 ) -> Result<Judgement, NoMemory>
-    ensures verdict { IfOk result (λ made. spec.NewJudged write.now.delete (newest_of table.now) by.now write.now at (verdict_of (newest_of table.now) made)) }
+    ensures verdict { IfOk result (λ made. spec.NewJudged write.now.delete (newest_of table.now) asking.now.by.now write.now
+        asking.now.at (verdict_of (newest_of table.now) made)) }
     ensures order { IfOk result IsNewlyMade }
 {
     if write.delete {
-        return delete_judged(alloc, table, by, write, at);
+        return delete_judged(alloc, table, asking, write);
     }
-    body_judged(alloc, table, by, write, at)
+    body_judged(alloc, table, asking, write)
 }
 
 // What is kept under the caller's mark of this number, if anything is.
@@ -107,14 +121,6 @@ fn held_mark<'a>(marks: &'a Marks, caller: &Name, mark: Option<u64>) -> Option<&
     ensures { option_copied result ≡ option_and_then (λ number. mark_at (caller.now, number) marks.now.marks) mark }
 {
     marks.get(caller, mark?)
-}
-
-/// Who asks for a write, under which mark, and when.
-#[derive(Clone, Copy)]
-pub struct Asking<'a> {
-    pub by: &'a GrantRow,
-    pub mark: Option<u64>,
-    pub at: Moment,
 }
 
 /// What becomes of the write of a caller with a grant, under a mark if it has one, by the newest version of the table
@@ -132,10 +138,10 @@ pub fn judge(
     ensures leads { IfOk result (MayLead (newest_of table.now)) }
     ensures repeats { IfOk result (RepeatsOneOf marks.now.marks) }
 {
-    // Read for what it keeps.
+    // Read for its clause `version`, by which the rows are those of a version.
     let _ = table.newest_rows();
     match held_mark(marks, &asking.by.caller, asking.mark) {
         Some(held) => Ok(repeated(held, write)),
-        None => new_judged(alloc, table, asking.by, write, asking.at),
+        None => new_judged(alloc, table, asking, write),
     }
 }

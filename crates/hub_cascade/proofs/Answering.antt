@@ -23,11 +23,9 @@ use Rattle.version_core.specs.declared.change.BaseVersion.{BaseVersion}
 -- ---- of a copy that wasn't read
 
 pub copy_makes : (asks : BaseVersion → Outcome → Type 0) (copies : Copy → Type 0) (before now : ℕ) (e : CascadeError) (state : KeptState) → ReadsHeld copies before now (Err e) → MakesCascade asks (Err e) state state
-copy_makes asks copies before now error.CopyKeeper state reads = refl
-copy_makes asks copies before now error.NoMemory state reads = refl
-copy_makes asks copies before now error.NothingHeld state reads = refl
 copy_makes asks copies before now error.HubKeeper state reads = absurd reads
 copy_makes asks copies before now (error.Refused fault) state reads = absurd reads
+copy_makes asks copies before now other state reads = refl
 
 pub copy_tells : (copies : Copy → Type 0) (before now : ℕ) (e : CascadeError) → ReadsHeld copies before now (Err e) → TellsHeld copies (Err e)
 copy_tells copies before now error.CopyKeeper reads = tt
@@ -37,11 +35,9 @@ copy_tells copies before now error.HubKeeper reads = absurd reads
 copy_tells copies before now (error.Refused fault) reads = absurd reads
 
 pub copy_leaves : (copies : Copy → Type 0) (before now : ℕ) (e : CascadeError) (commit_open : Bool) → ReadsHeld copies before now (Err e) → LeavesOpen (Err e) commit_open
-copy_leaves copies before now error.CopyKeeper commit_open reads = tt
-copy_leaves copies before now error.NoMemory commit_open reads = tt
-copy_leaves copies before now error.NothingHeld commit_open reads = tt
 copy_leaves copies before now error.HubKeeper commit_open reads = absurd reads
 copy_leaves copies before now (error.Refused fault) commit_open reads = absurd reads
+copy_leaves copies before now other commit_open reads = tt
 
 pub copy_counts : (copies : Copy → Type 0) (before now : ℕ) (e : CascadeError) → ReadsHeld copies before now (Err e) → CountsCopy before now (Err e)
 copy_counts copies before now error.CopyKeeper reads = reads
@@ -51,11 +47,9 @@ copy_counts copies before now error.HubKeeper reads = absurd reads
 copy_counts copies before now (error.Refused fault) reads = absurd reads
 
 pub copy_alone : (copies : Copy → Type 0) (before now : ℕ) (e : CascadeError) (count : ℕ) → ReadsHeld copies before now (Err e) → CountsHub count count (Err e)
-copy_alone copies before now error.CopyKeeper count reads = refl
-copy_alone copies before now error.NoMemory count reads = refl
-copy_alone copies before now error.NothingHeld count reads = refl
 copy_alone copies before now error.HubKeeper count reads = absurd reads
 copy_alone copies before now (error.Refused fault) count reads = absurd reads
+copy_alone copies before now other count reads = refl
 
 pub keeper_reads : (copies : Copy → Type 0) (before now : ℕ) (e : KeeperError) → CountsError before now e → ReadsHeld copies before now (Err (error_of_copy e))
 keeper_reads copies before now keeper.Failed counts = counts

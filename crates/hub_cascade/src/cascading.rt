@@ -5,9 +5,9 @@ ghost use Rattle.hub_cascade.specs.Answers.{CountsCopy, CountsHub, LeavesOpen, M
 ghost use Rattle.hub_cascade.specs.Cascading.{active_rows, current_rows};
 ghost use Rattle.hub_cascade.specs.Held.{CascadesHeld, held_rows};
 ghost use Rattle.hub_cascade.specs.Steps.{MakesListed};
-ghost use Rattle.hub_core.specs.Standing.{IsStanding, KeeperFits};
+ghost use Rattle.hub_core.specs.Standing.{KeeperFits, StandsFrom};
 ghost use Rattle.hub_core.specs.Steps.{CountsFault, LeavesOpen as LeavesHubOpen};
-ghost use Rattle.keeper_memory.specs.Kept.{KeptState, newest_kept};
+ghost use Rattle.keeper_memory.specs.Kept.{newest_kept};
 ghost use Rattle.keeper_memory.specs.copy.Copies.{Copy};
 
 use crate::change::held_change;
@@ -29,7 +29,7 @@ fn publish_held<H: HubKeeper>(
 ) -> Result<Published, HubError>
     requires { KeeperFits (H.stands_for keeper.old) hub.old }
     ensures fits { KeeperFits (H.stands_for keeper.new) hub.new }
-    ensures told { (after : KeptState) → IsStanding hub.new after → (before : KeptState) × IsStanding hub.old before × (H.stands_for keeper.new after → H.stands_for keeper.old before) × MakesListed set at result before after }
+    ensures told { StandsFrom (H.stands_for keeper.old) (H.stands_for keeper.new) hub.old hub.new (MakesListed set at result) }
     ensures keeps { hub.new.keeps ≡ hub.old.keeps }
     ensures settled { LeavesHubOpen result hub.new.commit_open }
     ensures cause { CountsFault (H.fault_count keeper.old) (H.fault_count keeper.new) result }
@@ -75,7 +75,7 @@ pub fn cascade<H: HubKeeper, C: CopyKeeper>(
 ) -> Result<Published, CascadeError>
     requires { KeeperFits (H.stands_for keeper.old) hub.old }
     ensures fits { KeeperFits (H.stands_for keeper.new) hub.new }
-    ensures told { (after : KeptState) → IsStanding hub.new after → (before : KeptState) × IsStanding hub.old before × (H.stands_for keeper.new after → H.stands_for keeper.old before) × MakesCascade (CascadesHeld (C.stands_for copy.new) feed.now at) result before after }
+    ensures told { StandsFrom (H.stands_for keeper.old) (H.stands_for keeper.new) hub.old hub.new (MakesCascade (CascadesHeld (C.stands_for copy.new) feed.now at) result) }
     ensures held { TellsHeld (C.stands_for copy.new) result }
     ensures served { IfOk result (λ _. (c : Copy) → C.stands_for copy.new c → current_rows feed.now (newest_kept hub.new.kept.versions).rows ≡ active_rows (held_rows c)) }
     ensures same { (c : Copy) → C.stands_for copy.new c → C.stands_for copy.old c }

@@ -1,2 +1,4 @@
+pub mod Answering
 pub mod Below
-pub mod Ending
+mod Ending
+pub mod Wanting

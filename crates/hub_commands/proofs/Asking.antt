@@ -28,7 +28,7 @@ use Rattle.outside_ports.specs.Files.{Stored}
 use Rattle.outside_ports.specs.Written.{AppendsPart}
 use Rattle.roster_base.specs.Faults.{Rose}
 use Rattle.hub_commands.proofs.Leading.{leads-nowhere, leads-on, leads-standing}
-use Rattle.hub_commands.proofs.Publishing.{Says, rose}
+use Rattle.hub_commands.proofs.Publishing.{Says, rose, says_folder, says_hub, says_quiet}
 use Rattle.hub_commands.specs.Answers.{IsPrinted, end_text}
 use Rattle.hub_commands.specs.AskAnswers.{AsksBytes, IsAskAnswer, IsBytesOf, IsToldOf, ReadsBytes, StopsAsking}
 use Rattle.hub_commands.specs.AskAnswers.{StreamEnds, ask_end, bytes_in, closed_end}
@@ -37,11 +37,12 @@ use Rattle.hub_commands.specs.Runs.{LeadsFrom, Writes}
 use Rattle.hub_commands.specs.Steps.{end_of_error}
 use Rattle.hub_commands.specs.declared.answer.Answer.{Answer}
 use Rattle.hub_commands.specs.declared.answer.End.{End}
-use Rattle.hub_commands.specs.declared.answer.End.TheVariants.{BadRow, BadWord, CopyFailed, DeltaSynced, Done}
-use Rattle.hub_commands.specs.declared.answer.End.TheVariants.{ExportTooLarge, FileNotUtf8, FileTooLarge, FolderFailed}
-use Rattle.hub_commands.specs.declared.answer.End.TheVariants.{GrantsRefused, HubFailed, MissingFile, NoMemory}
-use Rattle.hub_commands.specs.declared.answer.End.TheVariants.{NotEntered, NothingHeld, NotPublished, Refused}
-use Rattle.hub_commands.specs.declared.answer.End.TheVariants.{RequestRefused, ScriptRefused, Sent, Synced}
+use Rattle.hub_commands.specs.declared.answer.End.TheVariants.{Done}
+use Rattle.hub_commands.specs.declared.answer.End.TheVariants.{FileTooLarge, FolderFailed}
+use Rattle.hub_commands.specs.declared.answer.End.TheVariants.{HubFailed, MissingFile, NoMemory}
+use Rattle.hub_commands.specs.declared.answer.End.TheVariants.{Refused}
+use Rattle.hub_commands.specs.declared.answer.End.TheVariants.{RequestRefused}
+use Rattle.hub_words.specs.Statuses.{output_failed_status}
 
 -- ---- how the bytes end
 
@@ -53,24 +54,7 @@ ends-wants bytes xs done (RequestRefused number AfterClose) (n, (rest, some, are
     ([], rest, [], requests_stand bytes rest (requests_of xs) are, inl refl, text ∙ sym (append-nil (replies_text xs)))
 ends-wants bytes xs done (RequestRefused number (Unreadable e)) (n, (kept, left, are, stay, told, cause, text)) other =
     (kept, left, fault_text e, requests_stand bytes (kept ++ left) (requests_of xs) are, inr (e, cause, refl), text)
-ends-wants bytes xs done (BadWord place) is other = absurd is
-ends-wants bytes xs done FolderFailed is other = absurd is
-ends-wants bytes xs done HubFailed is other = absurd is
-ends-wants bytes xs done (Refused f) is other = absurd is
-ends-wants bytes xs done (MissingFile name) is other = absurd is
-ends-wants bytes xs done (FileTooLarge name) is other = absurd is
-ends-wants bytes xs done (GrantsRefused f) is other = absurd is
-ends-wants bytes xs done (NotPublished f) is other = absurd is
-ends-wants bytes xs done (Synced a) is other = absurd is
-ends-wants bytes xs done (DeltaSynced a) is other = absurd is
-ends-wants bytes xs done (NotEntered a) is other = absurd is
-ends-wants bytes xs done (Sent a) is other = absurd is
-ends-wants bytes xs done (FileNotUtf8 a) is other = absurd is
-ends-wants bytes xs done (BadRow a) is other = absurd is
-ends-wants bytes xs done (ScriptRefused n) is other = absurd is
-ends-wants bytes xs done CopyFailed is other = absurd is
-ends-wants bytes xs done NothingHeld is other = absurd is
-ends-wants bytes xs done (ExportTooLarge k n) is other = absurd is
+ends-wants bytes xs done end is other = absurd is
 
 is_some : (b : ℕ) (bytes : List ℕ) → (length (b ∷ bytes) == 0) ≡ false
 is_some b bytes = ne_eqb (length (b ∷ bytes)) 0 (λ e. absurd (omega (arith, e)))
@@ -203,7 +187,7 @@ module _ (bytes left : List ℕ) (written written' : Option (List ℕ)) (sink si
     -- the end is printed behind what was written, or the sink failed
     pub asked : (o : Option End) → o ≡ ask_end result (length left) → (status : ℕ) (written'' : Option (List ℕ)) (sink'' : ℕ)
         → ((end : End) → o ≡ Some end → Writes status written' written'' sink' sink'' (IsPrinted (record { done = []; end = end })))
-        → (o ≡ None → (status ≡ 1) × (written'' ≡ written') × (sink'' ≡ sink'))
+        → (o ≡ None → (status ≡ output_failed_status) × (written'' ≡ written') × (sink'' ≡ sink'))
         → Writes status written written'' sink sink'' (λ a. LeadsFrom stands stands' (Asks a))
     asked (Some end) is status written'' sink'' prints none =
         let t = told_of serves.exchanges result serves.ends end (sym is) in
@@ -244,55 +228,21 @@ module _ (o : Outside) (file : List ℕ) where
 
   file-says : (end : End) → IsBytesOf o.files file (Err end) → Says o end
   file-says end (read, told, is) = elim (refused_as file read end is) [
-    | inl missing ↦ subst (Says o) (sym missing) (record { words = λ e. cc e; folder = λ e. cc e; keeper = λ e. cc e; copy = λ e. cc e })
-    | inr large ↦ subst (Says o) (sym large) (record { words = λ e. cc e; folder = λ e. cc e; keeper = λ e. cc e; copy = λ e. cc e })
+    | inl missing ↦ subst (Says o) (sym missing) (says_quiet o _ refl)
+    | inr large ↦ subst (Says o) (sym large) (says_quiet o _ refl)
   ]
 
   stops-says : (end : End) → StopsAsking o file end → Says o end
-  stops-says FolderFailed stops = record { words = λ e. cc e; folder = λ e. stops; keeper = λ e. cc e; copy = λ e. cc e }
-  stops-says HubFailed stops = record { words = λ e. cc e; folder = λ e. cc e; keeper = λ e. stops; copy = λ e. cc e }
-  stops-says NoMemory stops = record { words = λ e. cc e; folder = λ e. cc e; keeper = λ e. cc e; copy = λ e. cc e }
-  stops-says Done stops = file-says Done stops.0
-  stops-says (BadWord place) stops = file-says (BadWord place) stops.0
-  stops-says (Refused f) stops = file-says (Refused f) stops.0
-  stops-says (MissingFile name) stops = file-says (MissingFile name) stops.0
-  stops-says (FileTooLarge name) stops = file-says (FileTooLarge name) stops.0
-  stops-says (GrantsRefused f) stops = file-says (GrantsRefused f) stops.0
-  stops-says (RequestRefused n f) stops = file-says (RequestRefused n f) stops.0
-  stops-says (ScriptRefused n) stops = file-says (ScriptRefused n) stops.0
-  stops-says (NotPublished f) stops = file-says (NotPublished f) stops.0
-  stops-says (Synced a) stops = file-says (Synced a) stops.0
-  stops-says (DeltaSynced a) stops = file-says (DeltaSynced a) stops.0
-  stops-says (NotEntered a) stops = file-says (NotEntered a) stops.0
-  stops-says (Sent a) stops = file-says (Sent a) stops.0
-  stops-says (FileNotUtf8 a) stops = file-says (FileNotUtf8 a) stops.0
-  stops-says (BadRow a) stops = file-says (BadRow a) stops.0
-  stops-says CopyFailed stops = file-says CopyFailed stops.0
-  stops-says NothingHeld stops = file-says NothingHeld stops.0
-  stops-says (ExportTooLarge k n) stops = file-says (ExportTooLarge k n) stops.0
+  stops-says FolderFailed stops = says_folder o stops
+  stops-says HubFailed stops = says_hub o stops
+  stops-says NoMemory stops = says_quiet o _ refl
+  stops-says end stops = file-says end stops.0
 
   ends-says : (bytes : List ℕ) (xs : List Exchange) (done : List ℕ) (end : End) → StreamEnds bytes xs done end → Says o end
-  ends-says bytes xs done Done is = record { words = λ e. cc e; folder = λ e. cc e; keeper = λ e. cc e; copy = λ e. cc e }
-  ends-says bytes xs done NoMemory is = record { words = λ e. cc e; folder = λ e. cc e; keeper = λ e. cc e; copy = λ e. cc e }
-  ends-says bytes xs done (RequestRefused n f) is = record { words = λ e. cc e; folder = λ e. cc e; keeper = λ e. cc e; copy = λ e. cc e }
-  ends-says bytes xs done (ScriptRefused n) is = absurd is
-  ends-says bytes xs done FolderFailed is = absurd is
-  ends-says bytes xs done HubFailed is = absurd is
-  ends-says bytes xs done (BadWord place) is = absurd is
-  ends-says bytes xs done (Refused f) is = absurd is
-  ends-says bytes xs done (MissingFile name) is = absurd is
-  ends-says bytes xs done (FileTooLarge name) is = absurd is
-  ends-says bytes xs done (GrantsRefused f) is = absurd is
-  ends-says bytes xs done (NotPublished f) is = absurd is
-  ends-says bytes xs done (Synced a) is = absurd is
-  ends-says bytes xs done (DeltaSynced a) is = absurd is
-  ends-says bytes xs done (NotEntered a) is = absurd is
-  ends-says bytes xs done (Sent a) is = absurd is
-  ends-says bytes xs done (FileNotUtf8 a) is = absurd is
-  ends-says bytes xs done (BadRow a) is = absurd is
-  ends-says bytes xs done CopyFailed is = absurd is
-  ends-says bytes xs done NothingHeld is = absurd is
-  ends-says bytes xs done (ExportTooLarge k n) is = absurd is
+  ends-says bytes xs done Done is = says_quiet o _ refl
+  ends-says bytes xs done NoMemory is = says_quiet o _ refl
+  ends-says bytes xs done (RequestRefused n f) is = says_quiet o _ refl
+  ends-says bytes xs done end is = absurd is
 
   pub ask-says : (done : List ℕ) (end : End) (before after : KeptState) → IsAskAnswer o file done end before after → Says o end
   ask-says done end kept after (inl (none, same, stops)) = stops-says end stops
@@ -325,24 +275,7 @@ module _ (files : Option (List Stored)) (moment : Option ℤ) (folder : Faults) 
   read_stops keeper FolderFailed risen = risen
   read_stops keeper NoMemory wants = tt
   read_stops keeper HubFailed ((read, told, is), stood) = elim (refused_as file read HubFailed is) [ inl e ↦ absurd (cc e) | inr e ↦ absurd (cc e) ]
-  read_stops keeper Done is = (is.0, record { folder = is.1; keeper = refl })
-  read_stops keeper (BadWord place) is = (is.0, record { folder = is.1; keeper = refl })
-  read_stops keeper (Refused f) is = (is.0, record { folder = is.1; keeper = refl })
-  read_stops keeper (MissingFile name) is = (is.0, record { folder = is.1; keeper = refl })
-  read_stops keeper (FileTooLarge name) is = (is.0, record { folder = is.1; keeper = refl })
-  read_stops keeper (GrantsRefused f) is = (is.0, record { folder = is.1; keeper = refl })
-  read_stops keeper (RequestRefused n f) is = (is.0, record { folder = is.1; keeper = refl })
-  read_stops keeper (ScriptRefused n) is = (is.0, record { folder = is.1; keeper = refl })
-  read_stops keeper (NotPublished f) is = (is.0, record { folder = is.1; keeper = refl })
-  read_stops keeper (Synced a) is = (is.0, record { folder = is.1; keeper = refl })
-  read_stops keeper (DeltaSynced a) is = (is.0, record { folder = is.1; keeper = refl })
-  read_stops keeper (NotEntered a) is = (is.0, record { folder = is.1; keeper = refl })
-  read_stops keeper (Sent a) is = (is.0, record { folder = is.1; keeper = refl })
-  read_stops keeper (FileNotUtf8 a) is = (is.0, record { folder = is.1; keeper = refl })
-  read_stops keeper (BadRow a) is = (is.0, record { folder = is.1; keeper = refl })
-  read_stops keeper CopyFailed is = (is.0, record { folder = is.1; keeper = refl })
-  read_stops keeper NothingHeld is = (is.0, record { folder = is.1; keeper = refl })
-  read_stops keeper (ExportTooLarge k n) is = (is.0, record { folder = is.1; keeper = refl })
+  read_stops keeper end is = (is.0, record { folder = is.1; keeper = refl })
 
   -- an end before which nothing was done, and of which a line is printed
   stopped_as : (o : Outside) (end : End) (a : Answer) (kept : KeptState) → StopsAsking o file end → IsPrinted (record { done = []; end = end }) a → IsAskAnswer o file a.done a.end kept kept

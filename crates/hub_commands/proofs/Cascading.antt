@@ -1,5 +1,5 @@
 -- What a copy holds, cascaded into a hub.
-use Rattle.std.proofs.Common.{◌≡◌, ◌≢◌, ◌⊎◌, ℕ, ℤ, List, [], Option, Result, Ok, Err, false, refl, sym, subst, inl, inr}
+use Rattle.std.proofs.Common.{◌≡◌, ◌≢◌, ◌⊎◌, ℕ, ℤ, List, [], Option, Result, Ok, Err, true, false, refl, sym, subst, inl, inr}
 use Rattle.exchange_link.specs.Between.{CopyRun}
 use Rattle.hub_cascade.specs.Answers.{CountsCopy, CountsHub, MakesCascade, TellsHeld}
 use Rattle.hub_cascade.specs.Held.{CascadesHeld}
@@ -9,7 +9,7 @@ use Rattle.hub_core.specs.declared.hub_error.HubError.{HubError}
 use Rattle.hub_core.specs.declared.hub_error.HubError.TheVariants as hub_error
 use Rattle.hub_core.specs.declared.published.Published.{Published}
 use Rattle.hub_core.specs.declared.published.Published.TheVariants.{New}
-use Rattle.hub_core.specs.Standing.{HeldHub, IsStanding, KeeperFits}
+use Rattle.hub_core.specs.Standing.{HeldHub, KeeperFits, StandsFrom}
 use Rattle.hub_core.specs.Steps.{CountsFault, RefusesNothing}
 use Rattle.keeper_memory.specs.Kept.{IsKept, KeptState}
 use Rattle.rest_provider.specs.Moments.{IsMomentOf}
@@ -22,22 +22,30 @@ use Rattle.hub_commands.specs.CascadeAnswers.{CascadesCopy, IsCascadeAnswer, Tel
 use Rattle.hub_commands.specs.ConsumerAnswers.{CopyStays}
 use Rattle.hub_commands.specs.declared.answer.Answer.{Answer}
 use Rattle.hub_commands.specs.declared.answer.End.{End}
-use Rattle.hub_commands.specs.declared.answer.End.TheVariants.{BadRow, BadWord, CopyFailed, DeltaSynced, Done}
-use Rattle.hub_commands.specs.declared.answer.End.TheVariants.{ExportTooLarge, FileNotUtf8, FileTooLarge, FolderFailed}
-use Rattle.hub_commands.specs.declared.answer.End.TheVariants.{GrantsRefused, HubFailed, MissingFile, NoMemory}
-use Rattle.hub_commands.specs.declared.answer.End.TheVariants.{NotEntered, NothingHeld, NotPublished, Refused}
-use Rattle.hub_commands.specs.declared.answer.End.TheVariants.{RequestRefused, ScriptRefused, Sent, Synced}
+use Rattle.hub_commands.specs.declared.answer.End.TheVariants.{CopyFailed, Done}
+use Rattle.hub_commands.specs.declared.answer.End.TheVariants.{HubFailed, NoMemory}
+use Rattle.hub_commands.specs.declared.answer.End.TheVariants.{NothingHeld, NotPublished, Refused}
 use Rattle.hub_commands.specs.Outside.{Faults, HaveRisen, faults_of}
 use Rattle.hub_commands.specs.PublishAnswers.{IsTold}
 use Rattle.hub_commands.specs.Runs.{LeadsFrom}
 use Rattle.hub_commands.specs.Steps.{end_of_error}
+use Rattle.hub_words.specs.Statuses.{bad_words_status, copy_failed_status, folder_failed_status, hub_failed_status}
+use Rattle.hub_words.proofs.Quiet.{is_quiet, unlike}
 
 -- what the status of an end says
 pub record CascadeSays (faults : Faults) (copies : CopyRun) (end : End) : Type 0 where
-  pub words : status_of end ≢ 2
-  pub folder : status_of end ≢ 3
-  pub keeper : status_of end ≡ 5 → HaveRisen faults
-  pub copy_says : status_of end ≡ 6 → Rose copies.faults_before copies.faults_now
+  pub words : status_of end ≢ bad_words_status
+  pub folder : status_of end ≢ folder_failed_status
+  pub keeper : status_of end ≡ hub_failed_status → HaveRisen faults
+  pub copy_says : status_of end ≡ copy_failed_status → Rose copies.faults_before copies.faults_now
+
+pub quiet_cascade : (faults : Faults) (copies : CopyRun) (end : End) → is_quiet (status_of end) ≡ true → CascadeSays faults copies end
+quiet_cascade faults copies end quiet = record {
+  words = unlike (status_of end) bad_words_status quiet refl;
+  folder = unlike (status_of end) folder_failed_status quiet refl;
+  keeper = λ e. absurd (unlike (status_of end) hub_failed_status quiet refl e);
+  copy_says = λ e. absurd (unlike (status_of end) copy_failed_status quiet refl e);
+}
 
 module _ (feed : List ℕ) (moment : Option ℤ) (faults : Faults) (copies : CopyRun) where
   abbrev pub Tells : List ℕ → End → KeptState → KeptState → Type 0
@@ -76,7 +84,7 @@ module _ (feed : List ℕ) (moment : Option ℤ) (faults : Faults) (copies : Cop
 
     -- a copy cascaded into a hub that was opened
     pub cascaded : CopyStays copies → (old new : KeptState → Type 0) (first hub : HeldHub) (made : Result Published CascadeError) (answer : Answer) → IsKept first.kept → first.commit_open ≡ false → KeeperFits new hub
-        → ((after : KeptState) → IsStanding hub after → (before : KeptState) × IsStanding first before × (new after → old before) × Makes made before after)
+        → StandsFrom old new first hub (Makes made)
         → TellsHeld copies.stands made → CountsHub faults.before faults.now made → CountsCopy copies.faults_before copies.faults_now made → IsTold feed (or_ended made) answer
         → LeadsFrom old new (IsCascadeAnswer (cascade_run feed moment faults copies) answer)
     cascaded stays old new first hub made answer is shut fits led held hub_counts copy_counts told =
@@ -102,21 +110,7 @@ module _ (feed : List ℕ) (moment : Option ℤ) (faults : Faults) (copies : Cop
   tells-wants done (NotPublished fault) before after (none, (held, stood, made)) other = (none, inl (refused-stays fault before after made))
   tells-wants done NothingHeld before after (none, (held, stood, same)) other = (none, inl same)
   tells-wants done NoMemory before after is other = is
-  tells-wants done (BadWord place) before after is other = absurd is.1
-  tells-wants done FolderFailed before after is other = absurd is.1
-  tells-wants done (Refused f) before after is other = absurd is.1
-  tells-wants done (MissingFile name) before after is other = absurd is.1
-  tells-wants done (FileTooLarge name) before after is other = absurd is.1
-  tells-wants done (GrantsRefused f) before after is other = absurd is.1
-  tells-wants done (RequestRefused n f) before after is other = absurd is.1
-  tells-wants done (ScriptRefused n) before after is other = absurd is.1
-  tells-wants done (Synced a) before after is other = absurd is.1
-  tells-wants done (DeltaSynced a) before after is other = absurd is.1
-  tells-wants done (NotEntered a) before after is other = absurd is.1
-  tells-wants done (Sent a) before after is other = absurd is.1
-  tells-wants done (FileNotUtf8 a) before after is other = absurd is.1
-  tells-wants done (BadRow a) before after is other = absurd is.1
-  tells-wants done (ExportTooLarge k n) before after is other = absurd is.1
+  tells-wants done end before after is other = absurd is.1
 
   -- memory may run out for the line of an end
   pub cascade-wants : (answer : Answer) (before after : KeptState) → IsCascadeAnswer (cascade_run feed moment faults copies) answer before after → answer.end ≢ Done
@@ -126,27 +120,13 @@ module _ (feed : List ℕ) (moment : Option ℤ) (faults : Faults) (copies : Cop
   -- ---- what a status says
 
   pub tells-says : (done : List ℕ) (end : End) (before after : KeptState) → Tells done end before after → CascadeSays faults copies end
-  tells-says done Done before after is = record { words = λ e. cc e; folder = λ e. cc e; keeper = λ e. cc e; copy_says = λ e. cc e }
+  tells-says done Done before after is = quiet_cascade faults copies _ refl
   tells-says done HubFailed before after (none, (risen, made)) = record { words = λ e. cc e; folder = λ e. cc e; keeper = λ e. risen; copy_says = λ e. cc e }
   tells-says done CopyFailed before after (none, (risen, same)) = record { words = λ e. cc e; folder = λ e. cc e; keeper = λ e. cc e; copy_says = λ e. risen }
-  tells-says done (NotPublished fault) before after is = record { words = λ e. cc e; folder = λ e. cc e; keeper = λ e. cc e; copy_says = λ e. cc e }
-  tells-says done NothingHeld before after is = record { words = λ e. cc e; folder = λ e. cc e; keeper = λ e. cc e; copy_says = λ e. cc e }
-  tells-says done NoMemory before after is = record { words = λ e. cc e; folder = λ e. cc e; keeper = λ e. cc e; copy_says = λ e. cc e }
-  tells-says done (BadWord place) before after is = absurd is.1
-  tells-says done FolderFailed before after is = absurd is.1
-  tells-says done (Refused f) before after is = absurd is.1
-  tells-says done (MissingFile name) before after is = absurd is.1
-  tells-says done (FileTooLarge name) before after is = absurd is.1
-  tells-says done (GrantsRefused f) before after is = absurd is.1
-  tells-says done (RequestRefused n f) before after is = absurd is.1
-  tells-says done (ScriptRefused n) before after is = absurd is.1
-  tells-says done (Synced a) before after is = absurd is.1
-  tells-says done (DeltaSynced a) before after is = absurd is.1
-  tells-says done (NotEntered a) before after is = absurd is.1
-  tells-says done (Sent a) before after is = absurd is.1
-  tells-says done (FileNotUtf8 a) before after is = absurd is.1
-  tells-says done (BadRow a) before after is = absurd is.1
-  tells-says done (ExportTooLarge k n) before after is = absurd is.1
+  tells-says done (NotPublished fault) before after is = quiet_cascade faults copies _ refl
+  tells-says done NothingHeld before after is = quiet_cascade faults copies _ refl
+  tells-says done NoMemory before after is = quiet_cascade faults copies _ refl
+  tells-says done end before after is = absurd is.1
 
   -- what the status of an end says
   pub cascade-says : (answer : Answer) (before after : KeptState) → IsCascadeAnswer (cascade_run feed moment faults copies) answer before after → CascadeSays faults copies answer.end

@@ -1,6 +1,6 @@
 -- A copy brought up to date with another hub, and cascaded into one.
 use Rattle.std.proofs.Common.{◌≡◌, ◌≢◌, ◌⊎◌, ◌+◌, ◌≤◌, ℕ, ℤ, List, [], Option, Result, Ok, Err, false, true, refl, sym}
-use Rattle.std.proofs.Common.{ap, subst, ◌∙◌, inl, inr, arith}
+use Rattle.std.proofs.Common.{ap, subst, inl, inr, arith}
 use Rattle.std.specs.Prelude.{min, ◌-◌, ◌^◌, ⊤}
 use Rattle.exchange_link.specs.Between.{CopyRun, LinkRun, copy_between, link_between}
 use Rattle.consumer_commands.proofs.Below.DeltaDoneLemmas.{cause_fails}
@@ -24,7 +24,7 @@ use Rattle.hub_cascade.specs.declared.error.CascadeError.TheVariants as error
 use Rattle.hub_core.specs.declared.hub_error.HubError.{HubError}
 use Rattle.hub_core.specs.declared.hub_error.HubError.TheVariants as hub_error
 use Rattle.hub_core.specs.declared.published.Published.{Published}
-use Rattle.hub_core.specs.Standing.{HeldHub, IsStanding, KeeperFits}
+use Rattle.hub_core.specs.Standing.{HeldHub, KeeperFits, StandsFrom}
 use Rattle.hub_core.specs.Steps.{CountsFault, RefusesNothing}
 use Rattle.hub_follow.specs.Causes.{KeeperView, LinkView, MissedBy, MissedTold}
 use Rattle.hub_follow.specs.Ends.{IfCascaded, lacks_base, synced}
@@ -37,10 +37,9 @@ use Rattle.keeper_memory.specs.Kept.{IsKept, KeptState}
 use Rattle.keeper_memory.specs.copy.Copies.{Copy}
 use Rattle.rest_provider.specs.Moments.{IsMomentOf}
 use Rattle.roster_base.specs.Faults.{Rose}
-use Rattle.hub_commands.proofs.Cascading.{CascadeSays, tells-says, tells-wants, tells_made}
+use Rattle.hub_commands.proofs.Cascading.{CascadeSays, quiet_cascade, tells-says, tells-wants, tells_made}
 use Rattle.hub_commands.proofs.Leading.{leads-nowhere, leads-on, leads-standing}
 use Rattle.hub_commands.proofs.Publishing.{rose}
-use Rattle.hub_commands.specs.Answers.{status_of}
 use Rattle.hub_commands.specs.CascadeAnswers.{TellsCascade, cascade_run, end_of_cascade, or_ended}
 use Rattle.hub_commands.specs.FollowAnswers.{IsCaughtUp, IsFollowAnswer, IsUnbased, MissCause, MissTold, TellsEnd}
 use Rattle.hub_commands.specs.FollowAnswers.{TellsFollow, TellsVersion}
@@ -169,7 +168,7 @@ module _ (task : Task) (feed : List ℕ) (moment : Option ℤ) (faults : Faults)
 
     -- another hub followed into one that was opened
     pub followed : (old new : KeptState → Type 0) (first hub : HeldHub) (r : FollowAnswer) (answer : Answer) → IsKept first.kept → first.commit_open ≡ false → KeeperFits new hub
-        → ((after : KeptState) → IsStanding hub after → (before : KeptState) × IsStanding first before × (new after → old before) × IfCascaded r (λ made. Makes made before after) (after ≡ before))
+        → StandsFrom old new first hub (λ before after. IfCascaded r (λ made. Makes made before after) (after ≡ before))
         → IfCascaded r (TellsHeld copies.stands) ⊤ → IfCascaded r (CountsHub faults.before faults.now) ⊤ → IfCascaded r CountsFrom ⊤ → IfCascaded r (λ made. ⊤) (HaveStood faults)
         → IsCaughtUp task (synced r) copies link → TellsEnd feed r answer → LeadsFrom old new (IsFollowAnswer task (cascade_run feed moment faults copies) link answer)
     followed old new first hub r answer is shut fits led held hub_counts counts stood caught told =
@@ -194,24 +193,12 @@ module _ (task : Task) (feed : List ℕ) (moment : Option ℤ) (faults : Faults)
 
   -- ---- what a status says
 
-  says_only : (end : End) (n : ℕ) → status_of end ≡ n → n ≢ 2 → n ≢ 3 → n ≢ 5 → n ≢ 6 → CascadeSays faults copies end
-  says_only end n is a b d f = record { words = λ e. a (sym is ∙ e); folder = λ e. b (sym is ∙ e); keeper = λ e. absurd (d (sym is ∙ e)); copy_says = λ e. absurd (f (sym is ∙ e)) }
-
   says_memory : (end : End) → end ≡ NoMemory → CascadeSays faults copies end
-  says_memory end is = says_only end 17 (ap status_of is) (λ e. cc e) (λ e. cc e) (λ e. cc e) (λ e. cc e)
+  says_memory end is = subst (CascadeSays faults copies) (sym is) (quiet_cascade faults copies NoMemory refl)
 
   sync-says : (a : SyncAnswer) → (a ≡ sync.KeeperFault → Rose copies.faults_before copies.faults_now) → CascadeSays faults copies (Synced a)
-  sync-says (sync.Complete version) broke = says_only _ 0 refl (λ e. cc e) (λ e. cc e) (λ e. cc e) (λ e. cc e)
-  sync-says (sync.Interrupted kind offset) broke = says_only _ 7 refl (λ e. cc e) (λ e. cc e) (λ e. cc e) (λ e. cc e)
-  sync-says (sync.PinGone pin oldest) broke = says_only _ 8 refl (λ e. cc e) (λ e. cc e) (λ e. cc e) (λ e. cc e)
-  sync-says sync.UnknownToken broke = says_only _ 9 refl (λ e. cc e) (λ e. cc e) (λ e. cc e) (λ e. cc e)
-  sync-says (sync.BadReply kind offset) broke = says_only _ 12 refl (λ e. cc e) (λ e. cc e) (λ e. cc e) (λ e. cc e)
-  sync-says (sync.TooLarge kind total) broke = says_only _ 13 refl (λ e. cc e) (λ e. cc e) (λ e. cc e) (λ e. cc e)
-  sync-says sync.HubFault broke = says_only _ 14 refl (λ e. cc e) (λ e. cc e) (λ e. cc e) (λ e. cc e)
-  sync-says sync.HubNoMemory broke = says_only _ 15 refl (λ e. cc e) (λ e. cc e) (λ e. cc e) (λ e. cc e)
-  sync-says sync.LastRun broke = says_only _ 16 refl (λ e. cc e) (λ e. cc e) (λ e. cc e) (λ e. cc e)
-  sync-says sync.NoMemory broke = says_only _ 17 refl (λ e. cc e) (λ e. cc e) (λ e. cc e) (λ e. cc e)
   sync-says sync.KeeperFault broke = record { words = λ e. cc e; folder = λ e. cc e; keeper = λ e. cc e; copy_says = λ e. broke refl }
+  sync-says other broke = quiet_cascade faults copies _ refl
 
   -- an end with the status of another says what that does
   ended-says : (a : SyncAnswer) → CascadeSays faults copies (Synced a) → CascadeSays faults copies (DeltaSynced (delta.Ended a))
@@ -219,8 +206,8 @@ module _ (task : Task) (feed : List ℕ) (moment : Option ℤ) (faults : Faults)
 
   delta-says : (a : DeltaAnswer) → (a ≡ delta.Ended sync.KeeperFault → Rose copies.faults_before copies.faults_now) → CascadeSays faults copies (DeltaSynced a)
   delta-says (delta.Ended a) broke = ended-says a (sync-says a (λ e. broke (ap delta.Ended e)))
-  delta-says delta.NoBase broke = says_only _ 19 refl (λ e. cc e) (λ e. cc e) (λ e. cc e) (λ e. cc e)
-  delta-says (delta.BaseGone held oldest) broke = says_only _ 20 refl (λ e. cc e) (λ e. cc e) (λ e. cc e) (λ e. cc e)
+  delta-says delta.NoBase broke = quiet_cascade faults copies _ refl
+  delta-says (delta.BaseGone held oldest) broke = quiet_cascade faults copies _ refl
 
   -- a fault of the copy's keeper that ended the synchronisation was counted
   sync_broke : (a : SyncAnswer) → MissCause task copies link (Err (missed.Sync a)) → a ≡ sync.KeeperFault → Rose copies.faults_before copies.faults_now

@@ -11,7 +11,7 @@ use Rattle.hub_core.specs.declared.hub_error.HubError.{HubError}
 use Rattle.hub_core.specs.declared.hub_error.HubError.TheVariants as error
 use Rattle.hub_core.specs.declared.published.Published.{Published}
 use Rattle.hub_core.specs.declared.published.Published.TheVariants.{New}
-use Rattle.hub_core.specs.Standing.{HeldHub, IsStanding, KeeperFits}
+use Rattle.hub_core.specs.Standing.{HeldHub, KeeperFits, StandsFrom}
 use Rattle.hub_core.specs.Steps.{CountsFault, MakesNext, RefusesNothing}
 use Rattle.keeper_memory.specs.Kept.{IsKept, KeptState}
 use Rattle.outside_ports.specs.declared.failed.IoError.{IoError}
@@ -19,7 +19,7 @@ use Rattle.outside_ports.specs.declared.folder.FileRead.{FileRead}
 use Rattle.outside_ports.specs.declared.folder.FileRead.TheVariants.{Absent, Bytes, TooLong}
 use Rattle.outside_ports.specs.Files.{ReadsFile, Stored}
 use Rattle.hub_commands.proofs.Leading.{leads-nowhere, leads-on, leads-standing}
-use Rattle.hub_commands.proofs.Publishing.{Says, rose}
+use Rattle.hub_commands.proofs.Publishing.{Says, rose, says_folder, says_hub, says_quiet}
 use Rattle.rest_provider.specs.Moments.{IsMomentOf}
 use Rattle.hub_commands.specs.declared.answer.Answer.{Answer}
 use Rattle.hub_commands.specs.declared.answer.End.{End}
@@ -27,7 +27,7 @@ use Rattle.hub_commands.specs.declared.answer.End.TheVariants.{BadRow, BadWord, 
 use Rattle.hub_commands.specs.declared.answer.End.TheVariants.{ExportTooLarge, FileNotUtf8, FileTooLarge, FolderFailed}
 use Rattle.hub_commands.specs.declared.answer.End.TheVariants.{GrantsRefused, HubFailed, MissingFile, NoMemory}
 use Rattle.hub_commands.specs.declared.answer.End.TheVariants.{NotEntered, NothingHeld, NotPublished, Refused}
-use Rattle.hub_commands.specs.declared.answer.End.TheVariants.{RequestRefused, ScriptRefused, Sent, Synced}
+use Rattle.hub_commands.specs.declared.answer.End.TheVariants.{Sent, Synced}
 use Rattle.hub_commands.specs.GrantAnswers.{GivesGrants, GrantsFile, IsGrantAnswer, IsGrantsOf, ReadsGrants, SetsGrants}
 use Rattle.hub_commands.specs.GrantAnswers.{StopsGrant, grants_in, or_refused}
 use Rattle.hub_commands.specs.Outside.{Faults, HaveStood, Outside, faults_of, outside_of}
@@ -60,25 +60,7 @@ module _ (files : Option (List Stored)) (before now : ℕ) (name : List ℕ) (re
   reads_grants (Ok entries) gives = ((read, told, gives), same)
   reads_grants (Err NoMemory) gives = tt
   reads_grants (Err FolderFailed) gives = absurd (refused_file name read FolderFailed gives)
-  reads_grants (Err (MissingFile n)) gives = ((read, told, gives), same)
-  reads_grants (Err (FileTooLarge n)) gives = ((read, told, gives), same)
-  reads_grants (Err (GrantsRefused f)) gives = ((read, told, gives), same)
-  reads_grants (Err (RequestRefused n f)) gives = ((read, told, gives), same)
-  reads_grants (Err (ScriptRefused n)) gives = ((read, told, gives), same)
-  reads_grants (Err Done) gives = ((read, told, gives), same)
-  reads_grants (Err (BadWord place)) gives = ((read, told, gives), same)
-  reads_grants (Err (Refused f)) gives = ((read, told, gives), same)
-  reads_grants (Err (NotPublished f)) gives = ((read, told, gives), same)
-  reads_grants (Err HubFailed) gives = ((read, told, gives), same)
-  reads_grants (Err (Synced a)) gives = ((read, told, gives), same)
-  reads_grants (Err (DeltaSynced a)) gives = ((read, told, gives), same)
-  reads_grants (Err (NotEntered a)) gives = ((read, told, gives), same)
-  reads_grants (Err (Sent a)) gives = ((read, told, gives), same)
-  reads_grants (Err (FileNotUtf8 a)) gives = ((read, told, gives), same)
-  reads_grants (Err (BadRow a)) gives = ((read, told, gives), same)
-  reads_grants (Err CopyFailed) gives = ((read, told, gives), same)
-  reads_grants (Err NothingHeld) gives = ((read, told, gives), same)
-  reads_grants (Err (ExportTooLarge k n)) gives = ((read, told, gives), same)
+  reads_grants (Err end) gives = ((read, told, gives), same)
 
 -- ---- what the hub makes of it
 
@@ -88,27 +70,11 @@ module _ (files : Option (List Stored)) (moment : Option ℤ) (folder keeper : F
 
   -- an end that the file brings, before the hub is asked
   pub end_of_grants : (end : End) (kept : KeptState) → ReadsGrants files folder file (Err end) → HaveStood keeper → StopsGrant outside file end kept kept
-  end_of_grants Done kept is quiet = (is.0, record { folder = is.1; keeper = quiet }, refl)
-  end_of_grants (BadWord place) kept is quiet = (is.0, record { folder = is.1; keeper = quiet }, refl)
   end_of_grants FolderFailed kept risen quiet = (risen, refl)
   end_of_grants HubFailed kept is quiet = absurd (refused_file file is.0.0 HubFailed is.0.2)
-  end_of_grants (Refused f) kept is quiet = (is.0, record { folder = is.1; keeper = quiet }, refl)
-  end_of_grants (MissingFile name) kept is quiet = (is.0, record { folder = is.1; keeper = quiet }, refl)
-  end_of_grants (FileTooLarge name) kept is quiet = (is.0, record { folder = is.1; keeper = quiet }, refl)
-  end_of_grants (GrantsRefused f) kept is quiet = (is.0, record { folder = is.1; keeper = quiet }, refl)
-  end_of_grants (RequestRefused n f) kept is quiet = (is.0, record { folder = is.1; keeper = quiet }, refl)
-  end_of_grants (ScriptRefused n) kept is quiet = (is.0, record { folder = is.1; keeper = quiet }, refl)
   end_of_grants (NotPublished f) kept is quiet = absurd (refused_file file is.0.0 (NotPublished f) is.0.2)
-  end_of_grants (Synced a) kept is quiet = (is.0, record { folder = is.1; keeper = quiet }, refl)
-  end_of_grants (DeltaSynced a) kept is quiet = (is.0, record { folder = is.1; keeper = quiet }, refl)
-  end_of_grants (NotEntered a) kept is quiet = (is.0, record { folder = is.1; keeper = quiet }, refl)
-  end_of_grants (Sent a) kept is quiet = (is.0, record { folder = is.1; keeper = quiet }, refl)
-  end_of_grants (FileNotUtf8 a) kept is quiet = (is.0, record { folder = is.1; keeper = quiet }, refl)
-  end_of_grants (BadRow a) kept is quiet = (is.0, record { folder = is.1; keeper = quiet }, refl)
-  end_of_grants CopyFailed kept is quiet = (is.0, record { folder = is.1; keeper = quiet }, refl)
-  end_of_grants NothingHeld kept is quiet = (is.0, record { folder = is.1; keeper = quiet }, refl)
-  end_of_grants (ExportTooLarge k n) kept is quiet = (is.0, record { folder = is.1; keeper = quiet }, refl)
   end_of_grants NoMemory kept is quiet = inl refl
+  end_of_grants end kept is quiet = (is.0, record { folder = is.1; keeper = quiet }, refl)
 
   module _ (entries : List GrantEntry) (at : ℤ) (is : IsGrantsOf files file (Ok entries)) (stood : HaveStood folder) (m : IsMomentOf moment at) where
     abbrev Makes : Result Published HubError → KeptState → KeptState → Type 0
@@ -129,26 +95,7 @@ module _ (files : Option (List Stored)) (moment : Option ℤ) (folder keeper : F
 module _ (o : Outside) (file : List ℕ) where
   stopped : (end : End) (before after : KeptState) → StopsGrant o file end before after → IsGrantAnswer o file [] end before after
   stopped Done before after stops = absurd (refused_file file stops.0.0 Done stops.0.2)
-  stopped (BadWord place) before after stops = (refl, stops)
-  stopped FolderFailed before after stops = (refl, stops)
-  stopped HubFailed before after stops = (refl, stops)
-  stopped (Refused f) before after stops = (refl, stops)
-  stopped (MissingFile name) before after stops = (refl, stops)
-  stopped (FileTooLarge name) before after stops = (refl, stops)
-  stopped (GrantsRefused f) before after stops = (refl, stops)
-  stopped (RequestRefused n f) before after stops = (refl, stops)
-  stopped (ScriptRefused n) before after stops = (refl, stops)
-  stopped (NotPublished f) before after stops = (refl, stops)
-  stopped (Synced a) before after stops = (refl, stops)
-  stopped (DeltaSynced a) before after stops = (refl, stops)
-  stopped (NotEntered a) before after stops = (refl, stops)
-  stopped (Sent a) before after stops = (refl, stops)
-  stopped (FileNotUtf8 a) before after stops = (refl, stops)
-  stopped (BadRow a) before after stops = (refl, stops)
-  stopped CopyFailed before after stops = (refl, stops)
-  stopped NothingHeld before after stops = (refl, stops)
-  stopped (ExportTooLarge k n) before after stops = (refl, stops)
-  stopped NoMemory before after stops = (refl, stops)
+  stopped end before after stops = (refl, stops)
 
   -- what is told of what the hub made is the answer
   answered : (result : Result Published End) (answer : Answer) (before after : KeptState) → IsTold (codes "grants") result answer → GrantsFile o file result before after → IsGrantAnswer o file answer.done answer.end before after
@@ -158,7 +105,7 @@ module _ (o : Outside) (file : List ℕ) where
 
   -- a file set in a hub that was opened
   pub granted : (old new : KeptState → Type 0) (first hub : HeldHub) (result : Result Published End) (answer : Answer) → IsKept first.kept → first.commit_open ≡ false → KeeperFits new hub
-      → ((after : KeptState) → IsStanding hub after → (before : KeptState) × IsStanding first before × (new after → old before) × GrantsFile o file result before after) → IsTold (codes "grants") result answer
+      → StandsFrom old new first hub (GrantsFile o file result) → IsTold (codes "grants") result answer
       → LeadsFrom old new (IsGrantAnswer o file answer.done answer.end)
   granted old new first hub result answer is shut fits led told =
       leads-standing old new first hub (IsGrantAnswer o file answer.done answer.end) is shut fits (λ after standing.
@@ -173,40 +120,17 @@ module _ (o : Outside) (file : List ℕ) where
   -- memory may run out for the line of an end
   pub grant-wants : (done : List ℕ) (end : End) (before after : KeptState) → IsGrantAnswer o file done end before after → end ≢ Done → IsGrantAnswer o file done NoMemory before after
   grant-wants done Done before after is other = absurd (other refl)
-  grant-wants done (BadWord place) before after is other = (is.0, inl is.1.2)
   grant-wants done FolderFailed before after is other = (is.0, inl is.1.1)
   grant-wants done HubFailed before after is other = (is.0, made_or_not before after is.1.1)
-  grant-wants done (Refused f) before after is other = (is.0, inl is.1.2)
-  grant-wants done (MissingFile name) before after is other = (is.0, inl is.1.2)
-  grant-wants done (FileTooLarge name) before after is other = (is.0, inl is.1.2)
-  grant-wants done (GrantsRefused f) before after is other = (is.0, inl is.1.2)
-  grant-wants done (RequestRefused n f) before after is other = (is.0, inl is.1.2)
-  grant-wants done (ScriptRefused n) before after is other = (is.0, inl is.1.2)
   grant-wants done (NotPublished f) before after is other = (is.0, inl is.1.0.4.1)
-  grant-wants done (Synced a) before after is other = (is.0, inl is.1.2)
-  grant-wants done (DeltaSynced a) before after is other = (is.0, inl is.1.2)
-  grant-wants done (NotEntered a) before after is other = (is.0, inl is.1.2)
-  grant-wants done (Sent a) before after is other = (is.0, inl is.1.2)
-  grant-wants done (FileNotUtf8 a) before after is other = (is.0, inl is.1.2)
-  grant-wants done (BadRow a) before after is other = (is.0, inl is.1.2)
-  grant-wants done CopyFailed before after is other = (is.0, inl is.1.2)
-  grant-wants done NothingHeld before after is other = (is.0, inl is.1.2)
-  grant-wants done (ExportTooLarge k n) before after is other = (is.0, inl is.1.2)
   grant-wants done NoMemory before after is other = is
+  grant-wants done end before after is other = (is.0, inl is.1.2)
 
   -- what the status of an end says
   pub grant-says : (done : List ℕ) (end : End) (before after : KeptState) → IsGrantAnswer o file done end before after → Says o end
-  grant-says done Done before after is = record { words = λ e. cc e; folder = λ e. cc e; keeper = λ e. cc e; copy = λ e. cc e }
   grant-says done (BadWord place) before after is = absurd (refused_file file is.1.0.0 (BadWord place) is.1.0.2)
-  grant-says done FolderFailed before after is = record { words = λ e. cc e; folder = λ e. is.1.0; keeper = λ e. cc e; copy = λ e. cc e }
-  grant-says done HubFailed before after is = record { words = λ e. cc e; folder = λ e. cc e; keeper = λ e. is.1.0; copy = λ e. cc e }
-  grant-says done (Refused f) before after is = record { words = λ e. cc e; folder = λ e. cc e; keeper = λ e. cc e; copy = λ e. cc e }
-  grant-says done (MissingFile name) before after is = record { words = λ e. cc e; folder = λ e. cc e; keeper = λ e. cc e; copy = λ e. cc e }
-  grant-says done (FileTooLarge name) before after is = record { words = λ e. cc e; folder = λ e. cc e; keeper = λ e. cc e; copy = λ e. cc e }
-  grant-says done (GrantsRefused f) before after is = record { words = λ e. cc e; folder = λ e. cc e; keeper = λ e. cc e; copy = λ e. cc e }
-  grant-says done (RequestRefused n f) before after is = record { words = λ e. cc e; folder = λ e. cc e; keeper = λ e. cc e; copy = λ e. cc e }
-  grant-says done (ScriptRefused n) before after is = record { words = λ e. cc e; folder = λ e. cc e; keeper = λ e. cc e; copy = λ e. cc e }
-  grant-says done (NotPublished f) before after is = record { words = λ e. cc e; folder = λ e. cc e; keeper = λ e. cc e; copy = λ e. cc e }
+  grant-says done FolderFailed before after is = says_folder o is.1.0
+  grant-says done HubFailed before after is = says_hub o is.1.0
   grant-says done (Synced a) before after is = absurd (refused_file file is.1.0.0 (Synced a) is.1.0.2)
   grant-says done (DeltaSynced a) before after is = absurd (refused_file file is.1.0.0 (DeltaSynced a) is.1.0.2)
   grant-says done (NotEntered a) before after is = absurd (refused_file file is.1.0.0 (NotEntered a) is.1.0.2)
@@ -216,7 +140,7 @@ module _ (o : Outside) (file : List ℕ) where
   grant-says done CopyFailed before after is = absurd (refused_file file is.1.0.0 CopyFailed is.1.0.2)
   grant-says done NothingHeld before after is = absurd (refused_file file is.1.0.0 NothingHeld is.1.0.2)
   grant-says done (ExportTooLarge k n) before after is = absurd (refused_file file is.1.0.0 (ExportTooLarge k n) is.1.0.2)
-  grant-says done NoMemory before after is = record { words = λ e. cc e; folder = λ e. cc e; keeper = λ e. cc e; copy = λ e. cc e }
+  grant-says done end before after is = says_quiet o _ refl
 
 -- ---- the whole command
 

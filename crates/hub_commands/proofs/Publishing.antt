@@ -1,5 +1,5 @@
 -- Runs of `publish`, set by set.
-use Rattle.std.proofs.Common.{◌≡◌, ◌≢◌, ◌⊎◌, ℕ, ℤ, List, [], ◌∷◌, ◌++◌, Option, Result, Ok, Err, false, refl, sym, ap}
+use Rattle.std.proofs.Common.{◌≡◌, ◌≢◌, ◌⊎◌, ℕ, ℤ, List, [], ◌∷◌, ◌++◌, Option, Result, Ok, Err, false, refl, sym, ap, true}
 use Rattle.std.proofs.Common.{subst, ◌∙◌, append_assoc, inl, inr, arith}
 use Rattle.std.proofs.lemmas.List.{append-nil}
 use Rattle.std.specs.Prelude.{min, ◌+◌, ◌-◌, ◌^◌}
@@ -12,7 +12,7 @@ use Rattle.hub_core.specs.declared.hub_error.HubError.{HubError}
 use Rattle.hub_core.specs.declared.hub_error.HubError.TheVariants as error
 use Rattle.hub_core.specs.declared.published.Published.{Published}
 use Rattle.hub_core.specs.declared.published.Published.TheVariants.{New}
-use Rattle.hub_core.specs.Standing.{HeldHub, IsStanding, KeeperFits}
+use Rattle.hub_core.specs.Standing.{HeldHub, IsStanding, KeeperFits, StandsFrom}
 use Rattle.hub_core.specs.Steps.{CountsFault, MakesNext, RefusesNothing}
 use Rattle.keeper_memory.specs.Kept.{IsKept, KeptState}
 use Rattle.outside_ports.specs.Files.{Stored}
@@ -26,13 +26,14 @@ use Rattle.hub_commands.specs.Runs.{IsPublishAnswer, LeadsFrom}
 use Rattle.hub_commands.specs.Steps.{PublishesFeed, ReadsSet, end_of, end_of_error}
 use Rattle.hub_commands.specs.declared.answer.Answer.{Answer}
 use Rattle.hub_commands.specs.declared.answer.End.{End}
-use Rattle.hub_commands.specs.declared.answer.End.TheVariants.{BadRow, BadWord, CopyFailed, DeltaSynced, Done}
-use Rattle.hub_commands.specs.declared.answer.End.TheVariants.{ExportTooLarge, FileNotUtf8, FileTooLarge, FolderFailed}
-use Rattle.hub_commands.specs.declared.answer.End.TheVariants.{GrantsRefused, HubFailed, MissingFile, NoMemory}
-use Rattle.hub_commands.specs.declared.answer.End.TheVariants.{NotEntered, NothingHeld, NotPublished, Refused}
-use Rattle.hub_commands.specs.declared.answer.End.TheVariants.{RequestRefused, ScriptRefused, Sent, Synced}
+use Rattle.hub_commands.specs.declared.answer.End.TheVariants.{Done}
+use Rattle.hub_commands.specs.declared.answer.End.TheVariants.{FolderFailed}
+use Rattle.hub_commands.specs.declared.answer.End.TheVariants.{HubFailed, NoMemory}
+use Rattle.hub_commands.specs.declared.answer.End.TheVariants.{NotPublished, Refused}
 use Rattle.hub_words.specs.declared.task.Feed.{Feed}
 use Rattle.hub_commands.proofs.Leading.{leads-nowhere, leads-on, leads-standing}
+use Rattle.hub_words.specs.Statuses.{bad_words_status, copy_failed_status, folder_failed_status, hub_failed_status}
+use Rattle.hub_words.proofs.Quiet.{is_quiet, unlike}
 
 -- a failure that is counted makes the count rise
 pub rose : (before now : ℕ) → now ≡ min (before + 1) (2 ^ 64 - 1) → HaveRisen (faults_of before now)
@@ -47,27 +48,12 @@ module _ (o : Outside) where
 
   -- memory may run out for the line of an end
   stop-wants : (feed : Feed) (end : End) (before after : KeptState) → StopsAt o feed end before after → StopsAt o feed NoMemory before after
-  stop-wants feed Done before after stops = absurd stops
-  stop-wants feed (BadWord place) before after stops = absurd stops
   stop-wants feed FolderFailed before after stops = inl stops.1
   stop-wants feed HubFailed before after stops = made_or_not feed before after stops.1
   stop-wants feed (Refused f) before after stops = inl stops.2
   stop-wants feed (NotPublished f) before after stops = inl stops.0.4.1
   stop-wants feed NoMemory before after stops = stops
-  stop-wants feed (MissingFile name) before after stops = absurd stops
-  stop-wants feed (FileTooLarge name) before after stops = absurd stops
-  stop-wants feed (GrantsRefused f) before after stops = absurd stops
-  stop-wants feed (RequestRefused n f) before after stops = absurd stops
-  stop-wants feed (ScriptRefused n) before after stops = absurd stops
-  stop-wants feed (Synced a) before after stops = absurd stops
-  stop-wants feed (DeltaSynced a) before after stops = absurd stops
-  stop-wants feed (NotEntered a) before after stops = absurd stops
-  stop-wants feed (Sent a) before after stops = absurd stops
-  stop-wants feed (FileNotUtf8 a) before after stops = absurd stops
-  stop-wants feed (BadRow a) before after stops = absurd stops
-  stop-wants feed CopyFailed before after stops = absurd stops
-  stop-wants feed NothingHeld before after stops = absurd stops
-  stop-wants feed (ExportTooLarge k n) before after stops = absurd stops
+  stop-wants feed end before after stops = absurd stops
 
   pub run-wants : (feeds : List Feed) (done : List ℕ) (end : End) (before after : KeptState) → IsRunOf o feeds done end before after → IsRunOf o feeds done NoMemory before after
   run-wants [] done end before after run = (run.0, run.1, inr refl)
@@ -81,37 +67,36 @@ module _ (o : Outside) where
 
   -- what the status of an end says
   pub record Says (end : End) : Type 0 where
-    pub words : status_of end ≢ 2
-    pub folder : status_of end ≡ 3 → HaveRisen o.folder
-    pub keeper : status_of end ≡ 5 → HaveRisen o.keeper
-    pub copy : status_of end ≢ 6
+    pub words : status_of end ≢ bad_words_status
+    pub folder : status_of end ≡ folder_failed_status → HaveRisen o.folder
+    pub keeper : status_of end ≡ hub_failed_status → HaveRisen o.keeper
+    pub copy : status_of end ≢ copy_failed_status
+
+  pub says_quiet : (end : End) → is_quiet (status_of end) ≡ true → Says end
+  says_quiet end quiet = record {
+    words = unlike (status_of end) bad_words_status quiet refl;
+    folder = λ e. absurd (unlike (status_of end) folder_failed_status quiet refl e);
+    keeper = λ e. absurd (unlike (status_of end) hub_failed_status quiet refl e);
+    copy = unlike (status_of end) copy_failed_status quiet refl;
+  }
+
+  pub says_folder : HaveRisen o.folder → Says FolderFailed
+  says_folder risen = record { words = λ e. cc e; folder = λ e. risen; keeper = λ e. cc e; copy = λ e. cc e }
+
+  pub says_hub : HaveRisen o.keeper → Says HubFailed
+  says_hub risen = record { words = λ e. cc e; folder = λ e. cc e; keeper = λ e. risen; copy = λ e. cc e }
 
   stop-says : (feed : Feed) (end : End) (before after : KeptState) → StopsAt o feed end before after → Says end
-  stop-says feed Done before after stops = absurd stops
-  stop-says feed (BadWord place) before after stops = absurd stops
-  stop-says feed FolderFailed before after stops = record { words = λ e. cc e; folder = λ e. stops.0; keeper = λ e. cc e; copy = λ e. cc e }
-  stop-says feed HubFailed before after stops = record { words = λ e. cc e; folder = λ e. cc e; keeper = λ e. stops.0; copy = λ e. cc e }
-  stop-says feed (Refused f) before after stops = record { words = λ e. cc e; folder = λ e. cc e; keeper = λ e. cc e; copy = λ e. cc e }
-  stop-says feed (NotPublished f) before after stops = record { words = λ e. cc e; folder = λ e. cc e; keeper = λ e. cc e; copy = λ e. cc e }
-  stop-says feed (MissingFile name) before after stops = absurd stops
-  stop-says feed (FileTooLarge name) before after stops = absurd stops
-  stop-says feed (GrantsRefused f) before after stops = absurd stops
-  stop-says feed (RequestRefused n f) before after stops = absurd stops
-  stop-says feed (ScriptRefused n) before after stops = absurd stops
-  stop-says feed (Synced a) before after stops = absurd stops
-  stop-says feed (DeltaSynced a) before after stops = absurd stops
-  stop-says feed (NotEntered a) before after stops = absurd stops
-  stop-says feed (Sent a) before after stops = absurd stops
-  stop-says feed (FileNotUtf8 a) before after stops = absurd stops
-  stop-says feed (BadRow a) before after stops = absurd stops
-  stop-says feed CopyFailed before after stops = absurd stops
-  stop-says feed NothingHeld before after stops = absurd stops
-  stop-says feed (ExportTooLarge k n) before after stops = absurd stops
-  stop-says feed NoMemory before after stops = record { words = λ e. cc e; folder = λ e. cc e; keeper = λ e. cc e; copy = λ e. cc e }
+  stop-says feed FolderFailed before after stops = says_folder stops.0
+  stop-says feed HubFailed before after stops = says_hub stops.0
+  stop-says feed (Refused f) before after stops = says_quiet _ refl
+  stop-says feed (NotPublished f) before after stops = says_quiet _ refl
+  stop-says feed NoMemory before after stops = says_quiet _ refl
+  stop-says feed end before after stops = absurd stops
 
   quiet-says : (end : End) → ((end ≡ Done) × NothingFailed o) ⊎ (end ≡ NoMemory) → Says end
-  quiet-says end (inl is) = subst Says (sym is.0) (record { words = λ e. cc e; folder = λ e. cc e; keeper = λ e. cc e; copy = λ e. cc e })
-  quiet-says end (inr is) = subst Says (sym is) (record { words = λ e. cc e; folder = λ e. cc e; keeper = λ e. cc e; copy = λ e. cc e })
+  quiet-says end (inl is) = subst Says (sym is.0) (says_quiet Done refl)
+  quiet-says end (inr is) = subst Says (sym is) (says_quiet NoMemory refl)
 
   pub run-says : (feeds : List Feed) (done : List ℕ) (end : End) (before after : KeptState) → IsRunOf o feeds done end before after → Says end
   run-says [] done end before after run = quiet-says end run.2
@@ -146,73 +131,6 @@ module _ (told : Option (List Stored)) (moment : Option ℤ) (folder keeper : �
   Ended folder_now keeper_now stands hub done end =
       (more : List ℕ) × (done ≡ start ++ more) × ((after : KeptState) → IsStanding hub after → Comes folder_now keeper_now stands more end after after)
 
-  module _ (files : Option (List Stored)) (folder_now keeper_now : ℕ) (stands : KeptState → Type 0) (hub : HeldHub) (done : List ℕ) where
-    abbrev LeftHere : List Feed → Type 0
-    LeftHere left = Left files folder_now keeper_now stands hub left done
-
-    -- what the next step leads to stood before it for something
-    module _ (folder_next keeper_next : ℕ) (next : KeptState → Type 0) (hub_next : HeldHub) where
-      abbrev pub Told : Feed → Result Published End → Type 0
-      Told feed result = (after : KeptState) → IsStanding hub_next after → (before : KeptState) × IsStanding hub before × (next after → stands before)
-          × PublishesFeed (outside_of files moment (faults_of folder_now folder_next) (faults_of keeper_now keeper_next)) feed result before after
-
-      ends : (left : List Feed) → LeftHere left → (end : End)
-          → ((after : KeptState) → IsStanding hub_next after → (before : KeptState) × IsStanding hub before × (next after → stands before) × IsRunOf (since folder_next keeper_next) left [] end before after)
-          → Ended folder_next keeper_next next hub_next done end
-      ends left l end run = (
-        l.all,
-        l.written,
-        λ after standing.
-            let r = run after standing in
-            let whole = l.leads folder_next keeper_next [] end r.0 after r.1 r.3 in
-            (whole.0, whole.1, (λ s. whole.2 (r.2 s)), subst (λ t. IsRunOf (since folder_next keeper_next) feeds t end whole.0 after) (append-nil l.all) whole.3),
-      )
-
-    -- all sets are published
-    pub left-none : (left : List Feed) → LeftHere left → left ≡ [] → Ended folder_now keeper_now stands hub done Done
-    left-none left l none = ends folder_now keeper_now stands hub left l Done (λ after standing. (after, standing, (λ s. s), subst (λ (fs : List Feed). IsRunOf (since folder_now keeper_now) fs [] Done after after) (sym none) (refl, refl, inl (refl, record { folder = l.folder_stands; keeper = l.keeper_stands }))))
-
-    module _ (folder_next keeper_next : ℕ) (next : KeptState → Type 0) (hub_next : HeldHub) (feed : Feed) (left : List Feed) where
-      abbrev Step : Result Published End → Type 0
-      Step result = Told folder_next keeper_next next hub_next feed result
-
-      -- a set isn't published
-      pub left-stops : LeftHere (feed ∷ left) → (end : End) → Step (Err end) → Ended folder_next keeper_next next hub_next done end
-      left-stops l end step = ends folder_next keeper_next next hub_next (feed ∷ left) l end (λ after standing.
-          let s = step after standing in
-          (s.0, s.1, s.2, inl (refl, subst (λ fs. Stops fs folder keeper s.0 after) l.files_stay (subst (λ n. Stops files n keeper s.0 after) l.folder_stands (subst (λ n. Stops files folder_now n s.0 after) l.keeper_stands s.3)))))
-        where
-          Stops : Option (List Stored) → ℕ → ℕ → KeptState → KeptState → Type 0
-          Stops fs f k before after = StopsAt (outside_of fs moment (faults_of f folder_next) (faults_of k keeper_next)) feed end before after
-
-      module _ (l : LeftHere (feed ∷ left)) (answer : Published) (step : Step (Ok answer)) where
-        published : (folder_last keeper_last : ℕ) (before after : KeptState) → PublishesSet (outside_of files moment (faults_of folder_now folder_next) (faults_of keeper_now keeper_next)) feed (Ok answer) before after
-            → PublishesSet (since folder_last keeper_last) feed (Ok answer) before after
-        published folder_last keeper_last before after = subst (λ fs. PublishesSet (outside_of fs moment (faults_of folder folder_last) (faults_of keeper keeper_last)) feed (Ok answer) before after) l.files_stay
-
-        -- memory runs out for the line of a set that is published
-        pub left-wants : Ended folder_next keeper_next next hub_next done NoMemory
-        left-wants = ends folder_next keeper_next next hub_next (feed ∷ left) l NoMemory (λ after standing.
-            let s = step after standing in
-            (s.0, s.1, s.2, inl (refl, inr (answer, published folder_next keeper_next s.0 after s.3.0))))
-
-        -- a set is published and told
-        pub left-next : (files_next : Option (List Stored)) (done_next : List ℕ) → files_next ≡ files → done_next ≡ done ++ told_text feed.name answer → Left files_next folder_next keeper_next next hub_next left done_next
-        left-next files_next done_next same is =
-            let line = told_text feed.name answer in
-            let nothing = (step hub_next.kept (inl refl)).3.1 in
-            record {
-              files_stay = same ∙ l.files_stay;
-              folder_stands = nothing.folder ∙ l.folder_stands;
-              keeper_stands = nothing.keeper ∙ l.keeper_stands;
-              all = l.all ++ line;
-              written = is ∙ ap (λ (t : List ℕ). t ++ line) l.written ∙ append_assoc start l.all line;
-              leads = λ folder_last keeper_last more end between after standing run.
-                  let s = step between standing in
-                  let whole = l.leads folder_last keeper_last (line ++ more) end s.0 after s.1 (inr (between, answer, more, published folder_last keeper_last s.0 between s.3.0, refl, run)) in
-                  (whole.0, whole.1, (λ t. whole.2 (s.2 t)), subst (λ t. IsRunOf (since folder_last keeper_last) feeds t end whole.0 after) (sym (append_assoc l.all line more)) whole.3);
-            }
-
   -- nothing is published yet
   pub left-start : Left told folder keeper stood first feeds start
   left-start = record {
@@ -223,6 +141,110 @@ module _ (told : Option (List Stored)) (moment : Option ℤ) (folder keeper : �
     written = sym (append-nil start);
     leads = λ folder_last keeper_last more end between after standing run. (between, standing, (λ s. s), run);
   }
+
+-- what a step leads to stood before it for something
+abbrev pub StepsBack : Outside → (KeptState → Type 0) → (KeptState → Type 0) → HeldHub → HeldHub → Feed
+    → Result Published End → Type 0
+StepsBack outside stands next hub hub_next feed result =
+    StandsFrom stands next hub hub_next (PublishesFeed outside feed result)
+
+-- what is left, from any start
+module _ {told : Option (List Stored)} {moment : Option ℤ} {folder keeper : ℕ} {stood : KeptState → Type 0}
+    {first : HeldHub} {feeds : List Feed} {start : List ℕ} {files : Option (List Stored)} {folder_now keeper_now : ℕ}
+    {stands : KeptState → Type 0} {hub : HeldHub} {done : List ℕ} where
+  module _ (folder_next keeper_next : ℕ) (next : KeptState → Type 0) (hub_next : HeldHub) where
+    ends : (left : List Feed)
+        → Left told moment folder keeper stood first feeds start files folder_now keeper_now stands hub left done
+        → (end : End)
+        → StandsFrom stands next hub hub_next (IsRunOf (since told moment folder keeper stood first feeds start folder_next keeper_next) left [] end)
+        → Ended told moment folder keeper stood first feeds start folder_next keeper_next next hub_next done end
+    ends left l end run = (
+      l.all,
+      l.written,
+      λ after standing.
+          let r = run after standing in
+          let whole = l.leads folder_next keeper_next [] end r.0 after r.1 r.3 in
+          let run_of : List ℕ → Type 0 =
+          λ t. IsRunOf (since told moment folder keeper stood first feeds start folder_next keeper_next) feeds t end whole.0
+          after in
+          (whole.0, whole.1, (λ s. whole.2 (r.2 s)), subst run_of (append-nil l.all) whole.3),
+    )
+
+  -- all sets are published
+  pub left-none : (left : List Feed)
+      → Left told moment folder keeper stood first feeds start files folder_now keeper_now stands hub left done → left ≡ []
+      → Ended told moment folder keeper stood first feeds start folder_now keeper_now stands hub done Done
+  left-none left l none = ends folder_now keeper_now stands hub left l Done (λ after standing. (
+    after,
+    standing,
+    (λ s. s),
+    subst
+        (λ (fs : List Feed). IsRunOf (since told moment folder keeper stood first feeds start folder_now keeper_now) fs [] Done
+        after after) (sym none) (refl, refl, inl (refl, record { folder = l.folder_stands; keeper = l.keeper_stands })),
+  ))
+
+  module _ (folder_next keeper_next : ℕ) {next : KeptState → Type 0} {hub_next : HeldHub} {feed : Feed}
+      {left : List Feed} where
+    -- a set isn't published
+    pub left-stops : Left told moment folder keeper stood first feeds start files folder_now keeper_now stands hub
+        (feed ∷ left) done → (end : End)
+        → StepsBack (outside_of files moment (faults_of folder_now folder_next) (faults_of keeper_now keeper_next))
+        stands next hub hub_next feed (Err end)
+        → Ended told moment folder keeper stood first feeds start folder_next keeper_next next hub_next done end
+    left-stops l end step = ends folder_next keeper_next next hub_next (feed ∷ left) l end (λ after standing.
+        let s = step after standing in
+        let stops = subst (λ n. Stops files folder_now n s.0 after) l.keeper_stands s.3 in
+        let stops_so = subst (λ n. Stops files n keeper s.0 after) l.folder_stands stops in
+        (s.0, s.1, s.2, inl (refl, subst (λ fs. Stops fs folder keeper s.0 after) l.files_stay stops_so)))
+      where
+        Stops : Option (List Stored) → ℕ → ℕ → KeptState → KeptState → Type 0
+        Stops fs f k before after =
+            StopsAt (outside_of fs moment (faults_of f folder_next) (faults_of k keeper_next)) feed end before after
+
+    module _
+        (l : Left told moment folder keeper stood first feeds start files folder_now keeper_now stands hub
+        (feed ∷ left) done) (answer : Published)
+        (step : StepsBack (outside_of files moment (faults_of folder_now folder_next) (faults_of keeper_now keeper_next))
+        stands next hub hub_next feed (Ok answer)) where
+      published : (folder_last keeper_last : ℕ) (before after : KeptState)
+          → PublishesSet (outside_of files moment (faults_of folder_now folder_next) (faults_of keeper_now keeper_next))
+          feed (Ok answer) before after
+          → PublishesSet (since told moment folder keeper stood first feeds start folder_last keeper_last) feed (Ok answer)
+          before after
+      published folder_last keeper_last before after = subst
+          (λ fs. PublishesSet (outside_of fs moment (faults_of folder folder_last) (faults_of keeper keeper_last)) feed
+          (Ok answer) before after) l.files_stay
+
+      -- memory runs out for the line of a set that is published
+      pub left-wants : Ended told moment folder keeper stood first feeds start folder_next keeper_next next hub_next
+          done NoMemory
+      left-wants = ends folder_next keeper_next next hub_next (feed ∷ left) l NoMemory (λ after standing.
+          let s = step after standing in
+          (s.0, s.1, s.2, inl (refl, inr (answer, published folder_next keeper_next s.0 after s.3.0))))
+
+      -- a set is published and told
+      pub left-next : (files_next : Option (List Stored)) (done_next : List ℕ) → files_next ≡ files
+          → done_next ≡ done ++ told_text feed.name answer
+          → Left told moment folder keeper stood first feeds start files_next folder_next keeper_next next hub_next left
+          done_next
+      left-next files_next done_next same is =
+          let line = told_text feed.name answer in
+          let nothing = (step hub_next.kept (inl refl)).3.1 in
+          record {
+            files_stay = same ∙ l.files_stay;
+            folder_stands = nothing.folder ∙ l.folder_stands;
+            keeper_stands = nothing.keeper ∙ l.keeper_stands;
+            all = l.all ++ line;
+            written = is ∙ ap (λ (t : List ℕ). t ++ line) l.written ∙ append_assoc start l.all line;
+            leads = λ folder_last keeper_last more end between after standing run.
+                let s = step between standing in
+                let whole = l.leads folder_last keeper_last (line ++ more) end s.0 after s.1
+                (inr (between, answer, more, published folder_last keeper_last s.0 between s.3.0, refl, run)) in
+                let run_of : List ℕ → Type 0 =
+                λ t. IsRunOf (since told moment folder keeper stood first feeds start folder_last keeper_last) feeds t end
+                whole.0 after in
+                (whole.0, whole.1, (λ t. whole.2 (s.2 t)), subst run_of (sym (append_assoc l.all line more)) whole.3);
+          }
 
 -- ---- the whole command
 
@@ -257,15 +279,8 @@ module _ (files : Option (List Stored)) (moment : Option ℤ) (folder folder_now
 -- ---- the steps of one feed
 
 other_fault : (f : SetFault) → f ≢ Folder → end_of f ≡ Refused f
-other_fault (fault.Manifest m) other = refl
-other_fault (fault.MissingFile file) other = refl
-other_fault (fault.UnexpectedFile file) other = refl
-other_fault (fault.Column file column why) other = refl
-other_fault (fault.Row file number field why) other = refl
-other_fault (fault.RepeatedId file number) other = refl
-other_fault (fault.TooLarge file) other = refl
-other_fault (fault.NotUtf8 file) other = refl
 other_fault fault.Folder other = absurd (other refl)
+other_fault fault other = refl
 
 -- a fault of a set brings its end
 pub fault_end : (files : Option (List Stored)) (before now : ℕ) (feed : Feed) (f : SetFault) → FaultOf files before now f (set_of feed.dir feed.name) → ReadsSet files (faults_of before now) feed (Err (end_of f))
@@ -275,27 +290,10 @@ fault_end files before now feed f (inr (other, same, meant)) = rw (other_fault f
 module _ (files : Option (List Stored)) (moment : Option ℤ) (folder keeper : Faults) (feed : Feed) where
   -- an end that the set of a feed brings, before the hub is asked
   pub end_of_set : (end : End) (kept : KeptState) → ReadsSet files folder feed (Err end) → HaveStood keeper → StopsAt (outside_of files moment folder keeper) feed end kept kept
-  end_of_set Done kept empty quiet = absurd empty
-  end_of_set (BadWord place) kept empty quiet = absurd empty
   end_of_set FolderFailed kept rose quiet = (rose, refl)
-  end_of_set HubFailed kept empty quiet = absurd empty
   end_of_set (Refused f) kept is quiet = (is.0, record { folder = is.1; keeper = quiet }, refl)
-  end_of_set (NotPublished f) kept empty quiet = absurd empty
-  end_of_set (MissingFile name) kept empty quiet = absurd empty
-  end_of_set (FileTooLarge name) kept empty quiet = absurd empty
-  end_of_set (GrantsRefused f) kept empty quiet = absurd empty
-  end_of_set (RequestRefused n f) kept empty quiet = absurd empty
-  end_of_set (ScriptRefused n) kept empty quiet = absurd empty
-  end_of_set (Synced a) kept empty quiet = absurd empty
-  end_of_set (DeltaSynced a) kept empty quiet = absurd empty
-  end_of_set (NotEntered a) kept empty quiet = absurd empty
-  end_of_set (Sent a) kept empty quiet = absurd empty
-  end_of_set (FileNotUtf8 a) kept empty quiet = absurd empty
-  end_of_set (BadRow a) kept empty quiet = absurd empty
-  end_of_set CopyFailed kept empty quiet = absurd empty
-  end_of_set NothingHeld kept empty quiet = absurd empty
-  end_of_set (ExportTooLarge k n) kept empty quiet = absurd empty
   end_of_set NoMemory kept is quiet = inl refl
+  end_of_set end kept empty quiet = absurd empty
 
   module _ (set : SetRecord) (at : ℤ) (is : IsSetOf files feed (Ok set)) (stood : HaveStood folder) (m : IsMomentOf moment at) where
     abbrev Makes : Result Published HubError → KeptState → KeptState → Type 0

@@ -1,8 +1,8 @@
 //! The command `grant`.
 
 ghost use Rattle.std.specs.Prelude.{◌≡◌, ℕ, List, false};
-ghost use Rattle.hub_core.specs.Standing.{IsStanding, KeeperFits};
-ghost use Rattle.keeper_memory.specs.Kept.{IsKept, KeptState};
+ghost use Rattle.hub_core.specs.Standing.{KeeperFits, StandsFrom};
+ghost use Rattle.keeper_memory.specs.Kept.{IsKept};
 ghost use Rattle.hub_commands.specs.GrantAnswers.{GivesGrants, GrantsFile, IsGrantAnswer, ReadsGrants};
 ghost use Rattle.hub_commands.specs.Outside.{faults_between, outside_between};
 ghost use Rattle.hub_commands.specs.Runs.{LeadsBetween};
@@ -84,9 +84,9 @@ fn set_grants<F: Folder, H: HubKeeper, K: Clock>(
 ) -> Result<Published, End>
     requires { KeeperFits (H.stands_for keeper.old) hub.old }
     ensures fits { KeeperFits (H.stands_for keeper.new) hub.new }
-    ensures told { (after : KeptState) → IsStanding hub.new after → (before : KeptState) × IsStanding hub.old before × (H.stands_for keeper.new after → H.stands_for keeper.old before)
-        × GrantsFile
-        (outside_between F.files F.faults folder.old folder.new (K.moment clock.now) (faults_between H.fault_count keeper.old keeper.new)) file.now result before after }
+    ensures told { StandsFrom (H.stands_for keeper.old) (H.stands_for keeper.new) hub.old hub.new
+        (GrantsFile
+        (outside_between F.files F.faults folder.old folder.new (K.moment clock.now) (faults_between H.fault_count keeper.old keeper.new)) file.now result) }
 {
     let list = grants_of(alloc, file, folder)?;
     let answer = hub.set_grants(alloc, keeper, &list, moment_of(clock));

@@ -1,8 +1,8 @@
 //! The command `publish`.
 
 ghost use Rattle.std.specs.Prelude.{◌≡◌, ◌++◌, ℕ, List, IfOk, Ok, OnErr, OnOk, false, string_bytes};
-ghost use Rattle.hub_core.specs.Standing.{IsStanding, KeeperFits};
-ghost use Rattle.keeper_memory.specs.Kept.{IsKept, KeptState};
+ghost use Rattle.hub_core.specs.Standing.{KeeperFits, StandsFrom};
+ghost use Rattle.keeper_memory.specs.Kept.{IsKept};
 ghost use Rattle.hub_commands.specs.Outside.{faults_between, outside_between};
 ghost use Rattle.hub_commands.specs.PublishAnswers.{IsRunOf, IsTold, told_text};
 ghost use Rattle.hub_commands.specs.Runs.{IsPublishAnswer, LeadsBetween};
@@ -113,9 +113,9 @@ fn publish_feed<F: Folder, H: HubKeeper, K: Clock>(
 ) -> Result<Published, End>
     requires { KeeperFits (H.stands_for keeper.old) hub.old }
     ensures fits { KeeperFits (H.stands_for keeper.new) hub.new }
-    ensures told { (after : KeptState) → IsStanding hub.new after → (before : KeptState) × IsStanding hub.old before × (H.stands_for keeper.new after → H.stands_for keeper.old before)
-        × PublishesFeed
-        (outside_between F.files F.faults folder.old folder.new (K.moment clock.now) (faults_between H.fault_count keeper.old keeper.new)) feed.now result before after }
+    ensures told { StandsFrom (H.stands_for keeper.old) (H.stands_for keeper.new) hub.old hub.new
+        (PublishesFeed
+        (outside_between F.files F.faults folder.old folder.new (K.moment clock.now) (faults_between H.fault_count keeper.old keeper.new)) feed.now result) }
     ensures files { F.files folder.new ≡ F.files folder.old }
 {
     let set = set_of(alloc, feed, folder)?;
@@ -138,9 +138,9 @@ fn publish_feeds<F: Folder, H: HubKeeper, K: Clock>(
     requires { KeeperFits (H.stands_for keeper.old) hub.old }
     ensures fits { KeeperFits (H.stands_for keeper.new) hub.new }
     ensures run { (more : List ℕ) × (string_bytes done.new ≡ string_bytes done.old ++ more)
-        × ((after : KeptState) → IsStanding hub.new after → (before : KeptState) × IsStanding hub.old before × (H.stands_for keeper.new after → H.stands_for keeper.old before)
-        × IsRunOf
-        (outside_between F.files F.faults folder.old folder.new (K.moment clock.now) (faults_between H.fault_count keeper.old keeper.new)) feeds.now more result before after) }
+        × StandsFrom (H.stands_for keeper.old) (H.stands_for keeper.new) hub.old hub.new
+        (IsRunOf
+        (outside_between F.files F.faults folder.old folder.new (K.moment clock.now) (faults_between H.fault_count keeper.old keeper.new)) feeds.now more result) }
 {
     let alloc = *done.allocator();
     for feed in feeds {

@@ -27,3 +27,9 @@ IsStanding hub kept = (kept ≡ hub.kept) ⊎ IsWithLast hub kept
 -- a keeper fits a hub where each state that it stands for may stand
 abbrev pub KeeperFits : (KeptState → Type 0) → HeldHub → Type 0
 KeeperFits stands_for hub = (kept : KeptState) → stands_for kept → IsStanding hub kept
+
+-- each state that may stand now comes of one that may have stood before, which leads to it, and for which the keeper
+-- stood if it stands for the other
+abbrev pub StandsFrom : (KeptState → Type 0) → (KeptState → Type 0) → HeldHub → HeldHub → (KeptState → KeptState → Type 0) → Type 0
+StandsFrom stood stands before now leads =
+    (after : KeptState) → IsStanding now after → (kept : KeptState) × IsStanding before kept × (stands after → stood kept) × leads kept after

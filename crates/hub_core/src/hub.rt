@@ -10,7 +10,7 @@ ghost use Rattle.keeper_memory.specs.Commits.{CanCommit, CanLead};
 ghost use Rattle.keeper_memory.specs.Kept.{IsKept, KeptState, newest_kept};
 ghost use Rattle.hub_core.specs.Hub.{MayBeMade};
 ghost use Rattle.hub_core.specs.Made.{Adopts, made_last};
-ghost use Rattle.hub_core.specs.Standing.{IsStanding, KeeperFits};
+ghost use Rattle.hub_core.specs.Standing.{IsStanding, KeeperFits, StandsFrom};
 ghost use Rattle.hub_core.specs.Steps.{CountsFault, Installs, LeavesOpen, MakesNext, RefusesNothing};
 ghost use Rattle.hub_core.specs.Works.{Did, DidReload, Handed, Works, copy_kept};
 ghost use Rattle.hub_core.specs.declared.hub_error.HubError.TheVariants as error;
@@ -308,7 +308,7 @@ impl Hub {
     ) -> Result<Published, HubError>
         requires { KeeperFits (H.stands_for keeper.old) self.old }
         ensures fits { KeeperFits (H.stands_for keeper.new) self.new }
-        ensures told { (after : KeptState) → IsStanding self.new after → (before : KeptState) × IsStanding self.old before × (H.stands_for keeper.new after → H.stands_for keeper.old before) × MakesNext (λ version. Applies version set at) result before after }
+        ensures told { StandsFrom (H.stands_for keeper.old) (H.stands_for keeper.new) self.old self.new (MakesNext (λ version. Applies version set at) result) }
         // Of a hub with no commit left open, what it made is the last commit, if anything.
         ensures did { self.old.commit_open ≡ false → Did (MakesNext (λ version. Applies version set at)) (Err error.Keeper) result self.old self.new (H.fault_count keeper.old) (H.fault_count keeper.new) }
         ensures reloads { DidReload (MakesNext (λ version. Applies version set at)) (λ fault. Err fault) result self.old self.new (H.fault_count keeper.old) (H.fault_count keeper.new) }
@@ -335,7 +335,7 @@ impl Hub {
     ) -> Result<Published, HubError>
         requires { KeeperFits (H.stands_for keeper.old) self.old }
         ensures fits { KeeperFits (H.stands_for keeper.new) self.new }
-        ensures told { (after : KeptState) → IsStanding self.new after → (before : KeptState) × IsStanding self.old before × (H.stands_for keeper.new after → H.stands_for keeper.old before) × MakesNext (λ version. GrantsMake version list.now at) result before after }
+        ensures told { StandsFrom (H.stands_for keeper.old) (H.stands_for keeper.new) self.old self.new (MakesNext (λ version. GrantsMake version list.now at) result) }
         // Of a hub with no commit left open, what it made is the last commit, if anything.
         ensures did { self.old.commit_open ≡ false → Did (MakesNext (λ version. GrantsMake version list.now at)) (Err error.Keeper) result self.old self.new (H.fault_count keeper.old) (H.fault_count keeper.new) }
         ensures reloads { DidReload (MakesNext (λ version. GrantsMake version list.now at)) (λ fault. Err fault) result self.old self.new (H.fault_count keeper.old) (H.fault_count keeper.new) }

@@ -10,7 +10,7 @@ ghost use Rattle.exchange_link.specs.Pairs.{AtEach, AtSome, CopyFrom};
 ghost use Rattle.hub_cascade.specs.Answers.{CountsCopy, CountsHub, LeavesOpen, MakesCascade, TellsHeld};
 ghost use Rattle.hub_cascade.specs.Cascading.{active_rows, current_rows};
 ghost use Rattle.hub_cascade.specs.Held.{CascadesHeld, held_rows};
-ghost use Rattle.hub_core.specs.Standing.{IsStanding, KeeperFits};
+ghost use Rattle.hub_core.specs.Standing.{IsStanding, KeeperFits, StandsFrom};
 ghost use Rattle.hub_follow.specs.Catching.{BeginsFromHeld, CatchesUp, CatchesUpTold, MayCatchUp, rows_seen};
 ghost use Rattle.hub_follow.specs.Causes.{MissedBy, MissedTold, keeper_view, link_view};
 ghost use Rattle.hub_follow.specs.Ends.{IfCascaded, IfDone, IsFollowed, IsMiss, sync_of, synced};
@@ -45,8 +45,8 @@ pub fn follow<H: HubKeeper, C: CopyKeeper, L: Link>(
     // The hub: after a synchronisation that wasn't complete it is as before, and else what a cascade of the copy makes
     // of it.
     ensures fits { KeeperFits (H.stands_for keeper.new) hub.new }
-    ensures told { (after : KeptState) → IsStanding hub.new after → (before : KeptState) × IsStanding hub.old before × (H.stands_for keeper.new after → H.stands_for keeper.old before)
-        × IfCascaded result (λ made. MakesCascade (CascadesHeld (C.stands_for copy.new) task.entry.feed.now task.entry.at) made before after) (after ≡ before) }
+    ensures told { StandsFrom (H.stands_for keeper.old) (H.stands_for keeper.new) hub.old hub.new
+        (λ before after. IfCascaded result (λ made. MakesCascade (CascadesHeld (C.stands_for copy.new) task.entry.feed.now task.entry.at) made before after) (after ≡ before)) }
     ensures unmoved { IfCascaded result (λ made. ⊤) ((hub.new ≡ hub.old) × (keeper.new ≡ keeper.old)) }
     ensures held { IfCascaded result (TellsHeld (C.stands_for copy.new)) ⊤ }
     ensures settled { IfCascaded result (λ made. LeavesOpen made hub.new.commit_open) ⊤ }

@@ -16,6 +16,7 @@ use Rattle.version_core.specs.declared.change.Change.{Change}
 use Rattle.version_core.specs.declared.grant_row.GrantRow.{GrantRow}
 use Rattle.version_core.specs.declared.mark.MarkRow.{MarkRow}
 use Rattle.version_core.specs.declared.row_change.RowChange.{RowChange}
+use Rattle.hub_format.specs.Areas.{grants_area}
 use Rattle.hub_format.specs.Edits.{moved}
 use Rattle.hub_format.specs.Format.{Entry, grants_under, of_changes, own_grants, rows_under, some_grants, where_label}
 use Rattle.hub_format.specs.Pieces.{caller_label, key_label, number}
@@ -95,9 +96,9 @@ abbrev pub moved_in : ℕ → List GrantRow → Option (List GrantRow) → Map �
 moved_in version grants None m = filled (grants_under version grants) m
 moved_in version grants (Some others) m = m
 
-pub moved_act : (version : ℕ) (grants : List GrantRow) (others : Option (List GrantRow)) → Act (moved version grants others) (λ area m. if area == 5 then moved_in version grants others m else m)
-moved_act version grants None = puts_act 5 (grants_under version grants)
-moved_act version grants (Some others) = record { on = λ m area. same (area == 5) (m area) }
+pub moved_act : (version : ℕ) (grants : List GrantRow) (others : Option (List GrantRow)) → Act (moved version grants others) (λ area m. if area == grants_area then moved_in version grants others m else m)
+moved_act version grants None = puts_act grants_area (grants_under version grants)
+moved_act version grants (Some others) = record { on = λ m area. same (area == grants_area) (m area) }
   where
     same : (b : Bool) (m : Map) → m ≡ (if b then m else m)
     same true m = refl

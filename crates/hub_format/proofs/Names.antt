@@ -3,12 +3,12 @@ use Rattle.std.proofs.Common.{◌≡◌, ◌<◌, ◌==◌, ℕ, zero, suc, Bool
 use Rattle.std.proofs.Common.{arith}
 use Rattle.std.specs.Prelude.{nat_le, nat_lt, ◌&&◌}
 use Rattle.std.specs.Int.{is_in_range}
-use Rattle.std.specs.List.{AllByRecursion, list_all}
+use Rattle.std.specs.List.{list_all}
 use Rattle.std.proofs.lemmas.Bool.{and_parts, cases_lt}
 use Rattle.std.proofs.lemmas.Bool.Decides.{nat_tests}
 use Rattle.roster_texts.specs.Signs.{dot, hyphen, underscore}
 use Rattle.roster_texts.specs.Texts.{is_name, is_name_byte}
-use Rattle.hub_format.specs.Pieces.{HasNoZero}
+use Rattle.hub_format.specs.Pieces.{HasNoZero, StaysBelowEnd, end_byte}
 
 positive : (b : ℕ) → is_name_byte b ≡ true → 0 < b
 positive zero good = absurd cc
@@ -36,8 +36,8 @@ no_range lo hi b lt = let above : nat_le b hi ≡ false = grind (arith, nat_test
 no_same : (n b : ℕ) → n < b → (b == n) ≡ false
 no_same n b lt = grind (arith, nat_tests)
 
-small : (b : ℕ) → is_name_byte b ≡ true → b < 255
-small b good = elim (cases_lt b 255) [
+small : (b : ℕ) → is_name_byte b ≡ true → b < end_byte
+small b good = elim (cases_lt b end_byte) [
   | inl lt ↦ lt
   | inr ge ↦ absurd (
       let none : is_name_byte b ≡ false =
@@ -46,13 +46,13 @@ small b good = elim (cases_lt b 255) [
       )
 ]
 
-all_small : (bytes : List ℕ) → list_all is_name_byte bytes ≡ true → AllByRecursion (λ b. b < 255) bytes
+all_small : (bytes : List ℕ) → list_all is_name_byte bytes ≡ true → StaysBelowEnd bytes
 all_small [] good = tt
 all_small (b ∷ bytes) good =
     let parts = and_parts (is_name_byte b) (list_all is_name_byte bytes) good in
     (small b parts.0, all_small bytes parts.1)
 
-pub name_is_below : (name : List ℕ) → is_name name ≡ true → AllByRecursion (λ b. b < 255) name
+pub name_is_below : (name : List ℕ) → is_name name ≡ true → StaysBelowEnd name
 name_is_below name good =
     let some = and_parts (nat_lt 0 (length name)) (nat_le (length name) 64 && list_all is_name_byte name) good in
     let bytes = and_parts (nat_le (length name) 64) (list_all is_name_byte name) some.1 in

@@ -22,10 +22,11 @@ use Rattle.version_core.specs.declared.hub_tables.HubTables.{HubTables}
 use Rattle.version_core.specs.declared.mark.MarkRow.{MarkRow}
 use Rattle.version_core.proofs.TableLemmas.{base_meets}
 use Rattle.version_core.proofs.VersionLemmas.{AllByRecursion-push}
-use Rattle.hub_format.specs.Format.{Entry, Fit, FitsChange, FitsGrant, FitsMark, format_entry, grants_under, items_of}
+use Rattle.hub_format.specs.Areas.{base_rows_area, change_rows_area, format_area, grants_area, marks_area, state_area, versions_area}
+use Rattle.hub_format.specs.Format.{Entry, Fit, FitsChange, FitsGrant, FitsMark, first_format, format_entry, grants_under, items_of}
 use Rattle.hub_format.specs.Format.{listed_of, mark_entry, of_changes, own_grants, own_rows, own_version, rows_under}
 use Rattle.hub_format.specs.Format.{some_grants, state_entry, where_label}
-use Rattle.hub_format.specs.Pieces.{HasNoZero, mark_label, number}
+use Rattle.hub_format.specs.Pieces.{HasNoZero, StaysBelowEnd, end_byte, labels_end, mark_label, number}
 use Rattle.hub_format.proofs.Encodes.{rise_of}
 use Rattle.hub_format.proofs.Endings.{grants_rise, marks_rise}
 use Rattle.hub_format.proofs.EntryMaps.{where-append, where_all, where_none}
@@ -95,9 +96,9 @@ module _ (own : Change → List Entry) (is_of : (change : Change) → AllByRecur
 
 -- a change is told by what is listed behind its version
 pub record IsToldBy (m : Items) (change : Change) : Type 0 where
-  pub version : listed_of 3 change.version m ≡ own_version change
-  pub rows : listed_of 4 change.version m ≡ own_rows change
-  pub grants : listed_of 5 change.version m ≡ own_grants change
+  pub version : listed_of versions_area change.version m ≡ own_version change
+  pub rows : listed_of change_rows_area change.version m ≡ own_rows change
+  pub grants : listed_of grants_area change.version m ≡ own_grants change
 
 pub small_from : (base : BaseVersion) (changes : List Change) → AllByRecursion IsVersion (versions_from base changes) → AreSmall changes
 small_from base [] are = tt
@@ -138,7 +139,7 @@ module _ (t : HubTables) (are : AreTables t) (fit : Fit t) where
       ∙ ap (λ es. es ++ behind_version t.base.number base_grants) (none_there own_grants (λ change. own_are_of change.version change.grants) t.base.number (omega (arith, le)) t.changes (later_others t.base.number t.base.number t.changes (omega arith) are.lead small))
       ∙ where_all (is_between (number t.base.number) (number (t.base.number + 1))) base_grants (all_of own_grants (λ change. own_are_of change.version change.grants) t.base.number (omega (arith, le)) base_grants (grants_are_of t.base.number t.base.grants))
 
-  pub base_grants_told : listed_of 5 t.base.number (items_of t) ≡ base_grants
+  pub base_grants_told : listed_of grants_area t.base.number (items_of t) ≡ base_grants
   base_grants_told =
       listed_where (is_between (number t.base.number) (number (t.base.number + 1))) (of_changes own_grants t.changes ++ base_grants) base_grants base_alone
       (grants_rise t.base.number t.base.grants (callers_of t.base.grants fit.grants) (base_meets IsVersion t.base t.changes are.versions).grants.rise)
@@ -179,7 +180,7 @@ module _ (t : HubTables) (are : AreTables t) (fit : Fit t) where
       (there own_version (λ change. (([], refl), tt))) (there own_rows (λ change. rows_are_of change.version change.rows)) (there own_grants (λ change. own_are_of change.version change.grants))
 
   -- behind the number after the newest stands nothing
-  pub none_told : listed_of 3 (newest_from t.base.number t.changes + 1) (items_of t) ≡ []
+  pub none_told : listed_of versions_area (newest_from t.base.number t.changes + 1) (items_of t) ≡ []
   none_told =
       let newest = newest_from t.base.number t.changes in
       let le = small_newest t.base.number t.changes base_small small in
@@ -187,36 +188,36 @@ module _ (t : HubTables) (are : AreTables t) (fit : Fit t) where
       (none_there own_version (λ change. (([], refl), tt)) (newest + 1) (omega (arith, le)) t.changes (earlier_others (newest + 1) newest t.changes (omega arith) le (all_up_to t.base.number t.changes are.lead).1)) refl
 
 -- the format and the state stand alone in their areas
-pub format_told : (t : HubTables) → listed 0 [] (0 ∷ []) (items_of t) ≡ format_entry 1 ∷ []
-format_told t = listed_where (is_between [] (0 ∷ [])) (format_entry 1 ∷ []) (format_entry 1 ∷ []) refl refl
+pub format_told : (t : HubTables) → listed format_area [] (0 ∷ []) (items_of t) ≡ format_entry first_format ∷ []
+format_told t = listed_where (is_between [] (0 ∷ [])) (format_entry first_format ∷ []) (format_entry first_format ∷ []) refl refl
 
-pub state_told : (t : HubTables) → listed 1 [] (0 ∷ []) (items_of t) ≡ state_entry t.keep t.base ∷ []
+pub state_told : (t : HubTables) → listed state_area [] (0 ∷ []) (items_of t) ≡ state_entry t.keep t.base ∷ []
 state_told t = listed_where (is_between [] (0 ∷ [])) (state_entry t.keep t.base ∷ []) (state_entry t.keep t.base ∷ []) refl refl
 
 -- the rows of the base lie below 255, where no kind has its place
-pub row_below : (kind : Kind) (id : List ℕ) → is_between [] (255 ∷ []) (place_of_kind kind ∷ id) ≡ true
+pub row_below : (kind : Kind) (id : List ℕ) → is_between [] labels_end (place_of_kind kind ∷ id) ≡ true
 row_below Orgs id = refl
 row_below _ id = refl
 
-rows_below : (rows : List RowChange) → AllByRecursion (λ e. is_between [] (255 ∷ []) e.0 ≡ true) (rows_under [] rows)
+rows_below : (rows : List RowChange) → AllByRecursion (λ e. is_between [] labels_end e.0 ≡ true) (rows_under [] rows)
 rows_below [] = tt
 rows_below (row ∷ rows) = (row_below row.row.kind row.row.id, rows_below rows)
 
-pub base_rows_told : (t : HubTables) → AreTables t → listed 2 [] (255 ∷ []) (items_of t) ≡ rows_under [] t.base.rows
+pub base_rows_told : (t : HubTables) → AreTables t → listed base_rows_area [] labels_end (items_of t) ≡ rows_under [] t.base.rows
 base_rows_told t are =
-    listed_where (is_between [] (255 ∷ [])) (rows_under [] t.base.rows) (rows_under [] t.base.rows) (where_all (is_between [] (255 ∷ [])) (rows_under [] t.base.rows) (rows_below t.base.rows))
+    listed_where (is_between [] labels_end) (rows_under [] t.base.rows) (rows_under [] t.base.rows) (where_all (is_between [] labels_end) (rows_under [] t.base.rows) (rows_below t.base.rows))
     (rows_rise [] t.base.rows (base_meets IsVersion t.base t.changes are.versions).rows)
 
 -- the marks lie below 255, where no caller begins
-mark_below : (caller : List ℕ) (n : ℕ) → AllByRecursion (λ b. b < 255) caller → is_between [] (255 ∷ []) (mark_label (caller, n)) ≡ true
+mark_below : (caller : List ℕ) (n : ℕ) → StaysBelowEnd caller → is_between [] labels_end (mark_label (caller, n)) ≡ true
 mark_below [] n below = refl
-mark_below (b ∷ caller) n below = rw (less_is b 255 below.0) refl
+mark_below (b ∷ caller) n below = rw (less_is b end_byte below.0) refl
 
-marks_below : (marks : List MarkRow) → AllByRecursion FitsMark marks → AllByRecursion (λ e. is_between [] (255 ∷ []) e.0 ≡ true) (map mark_entry marks)
+marks_below : (marks : List MarkRow) → AllByRecursion FitsMark marks → AllByRecursion (λ e. is_between [] labels_end e.0 ≡ true) (map mark_entry marks)
 marks_below [] fits = tt
 marks_below (mark ∷ marks) fits = (mark_below mark.caller mark.number fits.0.below, marks_below marks fits.1)
 
-pub marks_told : (t : HubTables) → AreTables t → Fit t → listed 6 [] (255 ∷ []) (items_of t) ≡ map mark_entry t.marks
+pub marks_told : (t : HubTables) → AreTables t → Fit t → listed marks_area [] labels_end (items_of t) ≡ map mark_entry t.marks
 marks_told t are fit =
-    listed_where (is_between [] (255 ∷ [])) (map mark_entry t.marks) (map mark_entry t.marks) (where_all (is_between [] (255 ∷ [])) (map mark_entry t.marks) (marks_below t.marks fit.marks))
+    listed_where (is_between [] labels_end) (map mark_entry t.marks) (map mark_entry t.marks) (where_all (is_between [] labels_end) (map mark_entry t.marks) (marks_below t.marks fit.marks))
     (marks_rise t.marks fit.marks are.marks.rise)

@@ -22,6 +22,7 @@ use Rattle.version_core.specs.declared.hub_tables.HubTables.{HubTables}
 use Rattle.version_core.specs.declared.mark.MarkRow.{MarkRow}
 use Rattle.version_core.specs.declared.row_change.RowChange.{RowChange}
 use Rattle.version_core.proofs.TableLemmas.{base_meets}
+use Rattle.hub_format.specs.Areas.{base_rows_area, change_rows_area, grants_area, marks_area, state_area, versions_area}
 use Rattle.hub_format.specs.Format.{Entry, Fit, FitsChange, FitsGrant, FitsMark, Keep, grant_entry, grants_under}
 use Rattle.hub_format.specs.Format.{items_of, listed_of, mark_entry, own_grants, own_rows, own_version, row_entry}
 use Rattle.hub_format.specs.Format.{rows_under, some_grants, state_entry, version_entry}
@@ -115,30 +116,30 @@ same_some version (Some xs) (Some ys) flags fits_x fits_y same = ap Some (same_g
 -- changes of one version that one map of items tells
 same_change : (m : Items) (x y : Change) → x.version ≡ y.version → IsToldBy m x → IsToldBy m y → FitsChange x → FitsChange y → x ≡ y
 same_change m x y numbers told_x told_y fits_x fits_y =
-    let versions : own_version x ≡ own_version y = sym told_x.version ∙ ap (λ v. listed_of 3 v m) numbers ∙ told_y.version in
+    let versions : own_version x ≡ own_version y = sym told_x.version ∙ ap (λ v. listed_of versions_area v m) numbers ∙ told_y.version in
     let entry : version_entry x ≡ version_entry y = cc in
     let bodies : change_body x ≡ change_body y = ap (λ (e : Entry). e.1) entry in
     let moments = moment_back x.moment y.moment (has_grants x.grants ∷ []) (has_grants y.grants ∷ []) fits_x.moment fits_y.moment bodies in
     let flags : has_grants x.grants ≡ has_grants y.grants = let rest = moments.1 in cc in
-    let rows_there : own_rows x ≡ rows_under (number x.version) y.rows = sym told_x.rows ∙ ap (λ v. listed_of 4 v m) numbers ∙ told_y.rows ∙ ap (λ v. rows_under (number v) y.rows) (sym numbers) in
+    let rows_there : own_rows x ≡ rows_under (number x.version) y.rows = sym told_x.rows ∙ ap (λ v. listed_of change_rows_area v m) numbers ∙ told_y.rows ∙ ap (λ v. rows_under (number v) y.rows) (sym numbers) in
     let rows = same_rows (number x.version) x.rows y.rows fits_x.rows fits_y.rows rows_there in
-    let grants_there : own_grants x ≡ some_grants x.version y.grants = sym told_x.grants ∙ ap (λ v. listed_of 5 v m) numbers ∙ told_y.grants ∙ ap (λ v. some_grants v y.grants) (sym numbers) in
+    let grants_there : own_grants x ≡ some_grants x.version y.grants = sym told_x.grants ∙ ap (λ v. listed_of grants_area v m) numbers ∙ told_y.grants ∙ ap (λ v. some_grants v y.grants) (sym numbers) in
     let grants = same_some x.version x.grants y.grants flags fits_x.grants fits_y.grants grants_there in
     λ i. record { version = numbers i; moment = moments.0 i; rows = rows i; grants = grants i }
 
 -- no change stands where the map has none
-not_more : (m : Items) (n : ℕ) (change : Change) → listed_of 3 (n + 1) m ≡ [] → change.version ≡ n + 1 → IsToldBy m change → ⊥
-not_more m n change none next told = let same : [] ≡ own_version change = sym none ∙ ap (λ v. listed_of 3 v m) (sym next) ∙ told.version in cc
+not_more : (m : Items) (n : ℕ) (change : Change) → listed_of versions_area (n + 1) m ≡ [] → change.version ≡ n + 1 → IsToldBy m change → ⊥
+not_more m n change none next told = let same : [] ≡ own_version change = sym none ∙ ap (λ v. listed_of versions_area v m) (sym next) ∙ told.version in cc
 
 same_changes : (m : Items) (n : ℕ) (xs ys : List Change) → LeadOn n xs → LeadOn n ys → AllByRecursion (IsToldBy m) xs → AllByRecursion (IsToldBy m) ys → AllByRecursion FitsChange xs → AllByRecursion FitsChange ys
-    → listed_of 3 (newest_from n xs + 1) m ≡ [] → listed_of 3 (newest_from n ys + 1) m ≡ [] → xs ≡ ys
+    → listed_of versions_area (newest_from n xs + 1) m ≡ [] → listed_of versions_area (newest_from n ys + 1) m ≡ [] → xs ≡ ys
 same_changes m n [] [] lead_x lead_y told_x told_y fits_x fits_y end_x end_y = refl
 same_changes m n [] (y ∷ ys) lead_x lead_y told_x told_y fits_x fits_y end_x end_y = absurd (not_more m n y end_x lead_y.0 told_y.0)
 same_changes m n (x ∷ xs) [] lead_x lead_y told_x told_y fits_x fits_y end_x end_y = absurd (not_more m n x end_y lead_x.0 told_x.0)
 same_changes m n (x ∷ xs) (y ∷ ys) lead_x lead_y told_x told_y fits_x fits_y end_x end_y =
     let numbers = lead_x.0 ∙ sym lead_y.0 in
     let first = same_change m x y numbers told_x.0 told_y.0 fits_x.0 fits_y.0 in
-    let rest = same_changes m x.version xs ys lead_x.1 (subst (λ v. LeadOn v ys) (sym numbers) lead_y.1) told_x.1 told_y.1 fits_x.1 fits_y.1 end_x (subst (λ v. listed_of 3 (newest_from v ys + 1) m ≡ []) (sym numbers) end_y) in
+    let rest = same_changes m x.version xs ys lead_x.1 (subst (λ v. LeadOn v ys) (sym numbers) lead_y.1) told_x.1 told_y.1 fits_x.1 fits_y.1 end_x (subst (λ v. listed_of versions_area (newest_from v ys + 1) m ≡ []) (sym numbers) end_y) in
     λ i. first i ∷ rest i
 
 pub number_fits : (u : HubTables) → AreTables u → u.base.number < 2 ^ 64
@@ -148,7 +149,7 @@ module _ (s t : HubTables) (are_s : AreTables s) (are_t : AreTables t) (fit_s : 
   state_entries : state_entry s.keep s.base ≡ state_entry t.keep t.base
   state_entries =
       let both : state_entry s.keep s.base ∷ [] ≡ state_entry t.keep t.base ∷ [] =
-      sym (listed_sorted (state_entry s.keep s.base ∷ []) refl) ∙ ap (λ (m : Items). entries (m 1)) same ∙ listed_sorted (state_entry t.keep t.base ∷ []) refl in
+      sym (listed_sorted (state_entry s.keep s.base ∷ []) refl) ∙ ap (λ (m : Items). entries (m state_area)) same ∙ listed_sorted (state_entry t.keep t.base ∷ []) refl in
       cc
 
   states : (s.keep ≡ t.keep) × (s.base.number ≡ t.base.number) × (s.base.moment ≡ t.base.moment)
@@ -157,27 +158,27 @@ module _ (s t : HubTables) (are_s : AreTables s) (are_t : AreTables t) (fit_s : 
   base_rows : s.base.rows ≡ t.base.rows
   base_rows =
       same_rows [] s.base.rows t.base.rows fit_s.rows fit_t.rows
-      (sym (listed_sorted (rows_under [] s.base.rows) (rows_rise [] s.base.rows (base_meets IsVersion s.base s.changes are_s.versions).rows)) ∙ ap (λ (m : Items). entries (m 2)) same
+      (sym (listed_sorted (rows_under [] s.base.rows) (rows_rise [] s.base.rows (base_meets IsVersion s.base s.changes are_s.versions).rows)) ∙ ap (λ (m : Items). entries (m base_rows_area)) same
       ∙ listed_sorted (rows_under [] t.base.rows) (rows_rise [] t.base.rows (base_meets IsVersion t.base t.changes are_t.versions).rows))
 
   base_grants : s.base.grants ≡ t.base.grants
   base_grants =
       let numbers = states.1 in
       same_grants s.base.number s.base.grants t.base.grants fit_s.grants fit_t.grants
-      (sym (base_grants_told s are_s fit_s) ∙ ap (listed_of 5 s.base.number) same ∙ ap (λ v. listed_of 5 v (items_of t)) numbers ∙ base_grants_told t are_t fit_t ∙ ap (λ v. grants_under v t.base.grants) (sym numbers))
+      (sym (base_grants_told s are_s fit_s) ∙ ap (listed_of grants_area s.base.number) same ∙ ap (λ v. listed_of grants_area v (items_of t)) numbers ∙ base_grants_told t are_t fit_t ∙ ap (λ v. grants_under v t.base.grants) (sym numbers))
 
   all_changes : s.changes ≡ t.changes
   all_changes =
       let numbers = states.1 in
       same_changes (items_of t) s.base.number s.changes t.changes are_s.lead (subst (λ v. LeadOn v t.changes) (sym numbers) are_t.lead)
       (subst (λ (m : Items). AllByRecursion (IsToldBy m) s.changes) same (changes_told s are_s fit_s)) (changes_told t are_t fit_t) fit_s.changes fit_t.changes
-      (subst (λ (m : Items). listed_of 3 (newest_from s.base.number s.changes + 1) m ≡ []) same (none_told s are_s fit_s))
-      (subst (λ v. listed_of 3 (newest_from v t.changes + 1) (items_of t) ≡ []) (sym numbers) (none_told t are_t fit_t))
+      (subst (λ (m : Items). listed_of versions_area (newest_from s.base.number s.changes + 1) m ≡ []) same (none_told s are_s fit_s))
+      (subst (λ v. listed_of versions_area (newest_from v t.changes + 1) (items_of t) ≡ []) (sym numbers) (none_told t are_t fit_t))
 
   all_marks : s.marks ≡ t.marks
   all_marks =
       same_list mark_entry FitsMark same_mark_row s.marks t.marks fit_s.marks fit_t.marks
-      (sym (listed_sorted (map mark_entry s.marks) (marks_rise s.marks fit_s.marks are_s.marks.rise)) ∙ ap (λ (m : Items). entries (m 6)) same ∙ listed_sorted (map mark_entry t.marks) (marks_rise t.marks fit_t.marks are_t.marks.rise))
+      (sym (listed_sorted (map mark_entry s.marks) (marks_rise s.marks fit_s.marks are_s.marks.rise)) ∙ ap (λ (m : Items). entries (m marks_area)) same ∙ listed_sorted (map mark_entry t.marks) (marks_rise t.marks fit_t.marks are_t.marks.rise))
 
   pub same_tables : s ≡ t
   same_tables = λ i. record {

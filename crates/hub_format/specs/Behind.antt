@@ -3,10 +3,10 @@ use Rattle.std.specs.Prelude.{drop}
 use Rattle.item_maps.specs.declared.item.Item.{Item}
 use Rattle.version_core.specs.declared.grant_row.GrantRow.{GrantRow}
 use Rattle.hub_format.specs.Format.{Entry}
-use Rattle.hub_format.specs.Pieces.{caller_label, grant_body}
+use Rattle.hub_format.specs.Pieces.{caller_label, grant_body, number_size}
 
 abbrev pub entry_behind : Item → Entry
-entry_behind item = (drop 8 item.label, item.body)
+entry_behind item = (drop number_size item.label, item.body)
 
 -- what stands there for a grant
 abbrev pub own_entry : GrantRow → Entry

@@ -4,11 +4,11 @@ use Rattle.item_maps.specs.declared.item.Edit.{Edit}
 use Rattle.hub_format.specs.Areas.{grants_area}
 use Rattle.hub_format.specs.Edits.{puts}
 use Rattle.hub_format.specs.Format.{Entry}
-use Rattle.hub_format.specs.Pieces.{number}
+use Rattle.hub_format.specs.Pieces.{number, number_size}
 
 -- behind another prefix, in place of a version's number
 abbrev pub moved_to : List ℕ → Entry → Entry
-moved_to prefix entry = (prefix ++ drop 8 entry.0, entry.1)
+moved_to prefix entry = (prefix ++ drop number_size entry.0, entry.1)
 
 abbrev pub all_moved : List ℕ → List Entry → List Entry
 all_moved prefix entries = map (moved_to prefix) entries

@@ -21,6 +21,10 @@ use Rattle.version_core.specs.declared.row_change.RowChange.{RowChange}
 abbrev pub number : ℕ → List ℕ
 number n = to_be_bytes w64 n
 
+-- how many bytes a number has
+abbrev pub number_size : ℕ
+number_size = 8
+
 -- a moment in two's complement
 abbrev pub moment : ℤ → List ℕ
 moment ms = number (cast_unsigned w64 ms)

@@ -5,10 +5,11 @@ ghost use Rattle.item_maps.specs.Edits.{entry_of};
 ghost use Rattle.hub_format.specs.Areas.{area_number};
 ghost use Rattle.hub_format.specs.Edits.{put_at, puts};
 ghost use Rattle.hub_format.specs.Moves.{all_moved, grants_moved, moved_to};
+ghost use Rattle.hub_format.specs.Pieces.{number_size};
 
 use crate::area::HubArea;
 use crate::edits::number_bytes;
-use crate::reading::behind;
+use crate::reading::{NUMBER_SIZE, behind};
 use item_maps::{Edit, Item};
 use roster_base::{Bytes, NoMemory};
 use std::alloc::Global;
@@ -18,7 +19,7 @@ fn put_moved(alloc: Global, area: HubArea, prefix: &[u8], item: &Item) -> Result
     ensures { IfOk result (λ edit. edit ≡ put_at (area_number area) (moved_to prefix.now (entry_of item.now))) }
 {
     let mut label = Vec::from_slice(alloc, prefix)?;
-    label.extend_from_slice(behind(item.label.as_slice(), 8))?;
+    label.extend_from_slice(behind(item.label.as_slice(), NUMBER_SIZE))?;
     let body = Vec::from_slice(alloc, item.body.as_slice())?;
     Ok(Edit::Put {
         area: area.number(),
@@ -65,10 +66,10 @@ pub fn push_grants(
 /// body has no such parts.
 pub fn change_parts(body: &[u8]) -> Option<(&[u8], u8)>
     ensures parts { IfSome result (λ p. body.now ≡ p.0.now ++ p.1 ∷ []) }
-    ensures eight { IfSome result (λ p. length p.0.now ≡ 8) }
+    ensures eight { IfSome result (λ p. length p.0.now ≡ number_size) }
 {
     let (flag, at) = body.split_last()?;
-    if at.len() == 8 {
+    if at.len() == NUMBER_SIZE {
         Some((at, *flag))
     } else {
         None

@@ -27,7 +27,7 @@ pub use read_marks::{marks_of, write_of};
 pub use read_rows::{key_of, row_of_body, rows_of, with_id};
 pub use read_state::{StoredState, state_of, version_of};
 pub use reading::{
-    Format, behind, format_of, label_parts, number_at, only_body, only_number, sized_at,
-    state_parts,
+    Format, NUMBER_SIZE, behind, format_of, label_parts, number_at, only_body, only_number,
+    sized_at, state_parts,
 };
 pub use writing::{change_body, put_version, row_body};

@@ -8,7 +8,7 @@ ghost use Rattle.hub_format.specs.Format.{FitsGrant, grant_entry, grants_under};
 ghost use Rattle.hub_format.specs.Pieces.{AreSized, IsSized, all_sized, caller_label, grant_body, schools_bytes, sized};
 ghost use Rattle.hub_format.specs.Behind.{entry_behind, own_entry};
 
-use crate::reading::{behind, id_of, name_of, number_at, only_number, sized_at};
+use crate::reading::{NUMBER_SIZE, behind, id_of, name_of, number_at, only_number, sized_at};
 use grant_scopes::{Grant, SchoolList, Schools, Scopes};
 use item_maps::Item;
 use roster_base::{Items, NoMemory};
@@ -140,7 +140,7 @@ fn grant_of(alloc: Global, item: &Item) -> Result<Option<GrantRow>, NoMemory>
         → IfOk result (λ o. IfSome o (λ found. found ≡ row)) }
     ensures whole { IfOk result (λ o. IfSome o (λ found. entry_behind item.now ≡ own_entry found)) }
 {
-    let Some(caller) = caller_in(behind(item.label.as_slice(), 8)) else {
+    let Some(caller) = caller_in(behind(item.label.as_slice(), NUMBER_SIZE)) else {
         return Ok(None);
     };
     let Some(caller) = name_of(alloc, caller)? else {

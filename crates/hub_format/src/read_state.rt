@@ -7,9 +7,9 @@ ghost use Rattle.item_maps.specs.Edits.{entry_of};
 ghost use Rattle.version_core.specs.declared.change.BaseVersion.{BaseVersion};
 ghost use Rattle.version_core.specs.declared.change.Change.{Change};
 ghost use Rattle.hub_format.specs.Format.{Entry, own_version, state_entry};
-ghost use Rattle.hub_format.specs.Pieces.{has_grants, moment, number};
+ghost use Rattle.hub_format.specs.Pieces.{has_grants, moment, number, number_size};
 
-use crate::reading::{number_at, only_number, state_parts};
+use crate::reading::{NUMBER_SIZE, number_at, only_number, state_parts};
 use item_maps::Item;
 use roster_texts::Moment;
 
@@ -79,10 +79,10 @@ pub fn version_of(items: &[Item]) -> Option<(Moment, u8)>
     ensures found { (change : Change) → FitsSigned w64 change.moment → map entry_of items.now ≡ own_version change
         → IfSome result (λ v. (v.0 ≡ change.moment) × (v.1 ≡ has_grants change.grants)) }
     ensures whole { IfSome result
-        (λ v. (label : List ℕ) × (length label ≡ 8) × (map entry_of items.now ≡ (label, moment v.0 ++ v.1 ∷ []) ∷ [])) }
+        (λ v. (label : List ℕ) × (length label ≡ number_size) × (map entry_of items.now ≡ (label, moment v.0 ++ v.1 ∷ []) ∷ [])) }
     ensures flag { IfSome result (λ v. v.1 ≤ 1) }
 {
-    let (at, rest) = number_at(labelled_body(items, 8)?)?;
+    let (at, rest) = number_at(labelled_body(items, NUMBER_SIZE)?)?;
     let flag = only_flag(rest)?;
     Some((moment_of(at)?, flag))
 }

@@ -4,7 +4,7 @@ ghost use Rattle.std.specs.Prelude.{◌≡◌, ◌≢◌, ◌↔◌, ◌++◌, �
 ghost use Rattle.item_maps.specs.Edits.{entry_of};
 ghost use Rattle.hub_format.specs.declared.reading.Format.TheVariants as format;
 ghost use Rattle.roster_values.specs.Kinds.{place_of_kind};
-ghost use Rattle.hub_format.specs.Format.{Entry, format_entry};
+ghost use Rattle.hub_format.specs.Format.{Entry, first_format, format_entry, written_format};
 ghost use Rattle.hub_format.specs.Pieces.{IsSized, number, sized};
 
 use item_maps::Item;
@@ -13,6 +13,9 @@ use roster_texts::{Id, Name};
 use roster_values::Kind;
 use std::alloc::Global;
 use std::str;
+
+/// How many bytes a number has.
+pub const NUMBER_SIZE: usize = 8;
 
 // The number of these bytes.
 fn number_of(bytes: [u8; 8]) -> u64
@@ -164,8 +167,8 @@ fn format_in(body: &[u8]) -> Format
 /// The format, from its items.
 pub fn format_of(items: &[Item]) -> Format
     ensures none { map entry_of items.now ≡ [] → result ≡ format.New }
-    ensures one { map entry_of items.now ≡ format_entry 1 ∷ [] → result ≡ format.One }
-    ensures two { map entry_of items.now ≡ format_entry 2 ∷ [] → result ≡ format.Two }
+    ensures one { map entry_of items.now ≡ format_entry first_format ∷ [] → result ≡ format.One }
+    ensures two { map entry_of items.now ≡ format_entry written_format ∷ [] → result ≡ format.Two }
     ensures other { (entry : Entry) → map entry_of items.now ≡ entry ∷ [] → entry.1 ≢ number 1 → entry.1 ≢ number 2
         → result ≡ format.Other }
 {

@@ -30,6 +30,7 @@ use Rattle.row_deltas.specs.declared.entry.DeltaEntry.TheVariants.{Put, Gone}
 use Rattle.version_core.specs.Changes.{rows_of}
 use Rattle.version_core.specs.Version.{IsVersion}
 use Rattle.version_core.specs.declared.change.BaseVersion.{BaseVersion}
+use Rattle.filter_grammar.specs.Queries.{greatest_limit}
 
 -- the row or the id of an entry is no longer than a row may be
 abbrev IsShort : DeltaEntry → Type 0
@@ -82,7 +83,7 @@ module _ (schools : Schools) (kind : Kind) where
     delta_is path query version ids modest low =
         let page = slice query.limit query.offset entries in
         let all = recursion_from_All IsShort page (All-take IsShort query.limit (drop query.offset entries) (All-drop IsShort query.offset entries (All-from_recursion IsShort entries short))) in
-        let size : length page ≤ 1000 = omega (arith, length-take query.limit (drop query.offset entries), modest.limit) in
+        let size : length page ≤ greatest_limit = omega (arith, length-take query.limit (drop query.offset entries), modest.limit) in
         let body = delta-short kind (rows_put page) (ids_gone page) (All-from_recursion IsRow (rows_put page) (short_rows page all))
         (All-from_recursion (λ id. text_length id ≤ longest) (ids_gone page) (short_ids page all)) (omega (arith, size, parted page)) in
         record {

@@ -30,19 +30,11 @@ module _ {A F : Type 0} (s : Service A F) where
       → AllServed s.given s.connections (acceptors_in jobs) (acceptors_of ends) × AllMean s.files (feeds_in jobs) (folders_in jobs)
   all_done [] [] did is = (tt, tt)
   all_done (job.Feed j ∷ jobs) (job_end.Feed f ending.Done ∷ ends) did is = let rest = all_done jobs ends did.1 is in (rest.0, (did.0, rest.1))
-  all_done (job.Feed j ∷ jobs) (job_end.Feed f ending.FolderFailed ∷ ends) did is = cc
-  all_done (job.Feed j ∷ jobs) (job_end.Feed f ending.Refused ∷ ends) did is = cc
-  all_done (job.Feed j ∷ jobs) (job_end.Feed f ending.KeeperFailed ∷ ends) did is = cc
-  all_done (job.Feed j ∷ jobs) (job_end.Feed f ending.AcceptorFailed ∷ ends) did is = cc
-  all_done (job.Feed j ∷ jobs) (job_end.Feed f ending.NoMemory ∷ ends) did is = cc
+  all_done (job.Feed j ∷ jobs) (job_end.Feed f other ∷ ends) did is = cc
   all_done (job.Feed j ∷ jobs) (job_end.Acceptor a e ∷ ends) did is = absurd did.0
   all_done (job.Acceptor j ∷ jobs) (job_end.Feed f e ∷ ends) did is = absurd did.0
   all_done (job.Acceptor j ∷ jobs) (job_end.Acceptor a ending.Done ∷ ends) did is = let rest = all_done jobs ends did.1 is in ((did.0, rest.0), rest.1)
-  all_done (job.Acceptor j ∷ jobs) (job_end.Acceptor a ending.FolderFailed ∷ ends) did is = cc
-  all_done (job.Acceptor j ∷ jobs) (job_end.Acceptor a ending.Refused ∷ ends) did is = cc
-  all_done (job.Acceptor j ∷ jobs) (job_end.Acceptor a ending.KeeperFailed ∷ ends) did is = cc
-  all_done (job.Acceptor j ∷ jobs) (job_end.Acceptor a ending.AcceptorFailed ∷ ends) did is = cc
-  all_done (job.Acceptor j ∷ jobs) (job_end.Acceptor a ending.NoMemory ∷ ends) did is = cc
+  all_done (job.Acceptor j ∷ jobs) (job_end.Acceptor a other ∷ ends) did is = cc
   all_done [] (end ∷ ends) did is = absurd did
   all_done (j ∷ jobs) [] did is = absurd did
 
@@ -50,56 +42,38 @@ module _ {A F : Type 0} (s : Service A F) where
   folder_failed [] [] did is = cc
   folder_failed (job.Feed j ∷ jobs) (job_end.Feed f ending.Done ∷ ends) did is = inr (folder_failed jobs ends did.1 is)
   folder_failed (job.Feed j ∷ jobs) (job_end.Feed f ending.FolderFailed ∷ ends) did is = inl did.0
-  folder_failed (job.Feed j ∷ jobs) (job_end.Feed f ending.Refused ∷ ends) did is = cc
-  folder_failed (job.Feed j ∷ jobs) (job_end.Feed f ending.KeeperFailed ∷ ends) did is = cc
-  folder_failed (job.Feed j ∷ jobs) (job_end.Feed f ending.AcceptorFailed ∷ ends) did is = cc
-  folder_failed (job.Feed j ∷ jobs) (job_end.Feed f ending.NoMemory ∷ ends) did is = cc
+  folder_failed (job.Feed j ∷ jobs) (job_end.Feed f other ∷ ends) did is = cc
   folder_failed (job.Feed j ∷ jobs) (job_end.Acceptor a e ∷ ends) did is = absurd did.0
   folder_failed (job.Acceptor j ∷ jobs) (job_end.Feed f e ∷ ends) did is = absurd did.0
   folder_failed (job.Acceptor j ∷ jobs) (job_end.Acceptor a ending.Done ∷ ends) did is = folder_failed jobs ends did.1 is
   folder_failed (job.Acceptor j ∷ jobs) (job_end.Acceptor a ending.FolderFailed ∷ ends) did is = absurd did.0
-  folder_failed (job.Acceptor j ∷ jobs) (job_end.Acceptor a ending.Refused ∷ ends) did is = cc
-  folder_failed (job.Acceptor j ∷ jobs) (job_end.Acceptor a ending.KeeperFailed ∷ ends) did is = cc
-  folder_failed (job.Acceptor j ∷ jobs) (job_end.Acceptor a ending.AcceptorFailed ∷ ends) did is = cc
-  folder_failed (job.Acceptor j ∷ jobs) (job_end.Acceptor a ending.NoMemory ∷ ends) did is = cc
+  folder_failed (job.Acceptor j ∷ jobs) (job_end.Acceptor a other ∷ ends) did is = cc
   folder_failed [] (end ∷ ends) did is = absurd did
   folder_failed (j ∷ jobs) [] did is = absurd did
 
   acceptor_failed : (jobs : List (Job A F)) (ends : List (JobEnd A F)) → Did jobs ends → ending_of_all ends ≡ ending.AcceptorFailed → SomeRose s.acceptor_faults (acceptors_in jobs) (acceptors_of ends)
   acceptor_failed [] [] did is = cc
   acceptor_failed (job.Feed j ∷ jobs) (job_end.Feed f ending.Done ∷ ends) did is = acceptor_failed jobs ends did.1 is
-  acceptor_failed (job.Feed j ∷ jobs) (job_end.Feed f ending.FolderFailed ∷ ends) did is = cc
-  acceptor_failed (job.Feed j ∷ jobs) (job_end.Feed f ending.Refused ∷ ends) did is = cc
-  acceptor_failed (job.Feed j ∷ jobs) (job_end.Feed f ending.KeeperFailed ∷ ends) did is = cc
   acceptor_failed (job.Feed j ∷ jobs) (job_end.Feed f ending.AcceptorFailed ∷ ends) did is = absurd did.0
-  acceptor_failed (job.Feed j ∷ jobs) (job_end.Feed f ending.NoMemory ∷ ends) did is = cc
+  acceptor_failed (job.Feed j ∷ jobs) (job_end.Feed f other ∷ ends) did is = cc
   acceptor_failed (job.Feed j ∷ jobs) (job_end.Acceptor a e ∷ ends) did is = absurd did.0
   acceptor_failed (job.Acceptor j ∷ jobs) (job_end.Feed f e ∷ ends) did is = absurd did.0
   acceptor_failed (job.Acceptor j ∷ jobs) (job_end.Acceptor a ending.Done ∷ ends) did is = inr (acceptor_failed jobs ends did.1 is)
-  acceptor_failed (job.Acceptor j ∷ jobs) (job_end.Acceptor a ending.FolderFailed ∷ ends) did is = cc
-  acceptor_failed (job.Acceptor j ∷ jobs) (job_end.Acceptor a ending.Refused ∷ ends) did is = cc
-  acceptor_failed (job.Acceptor j ∷ jobs) (job_end.Acceptor a ending.KeeperFailed ∷ ends) did is = cc
   acceptor_failed (job.Acceptor j ∷ jobs) (job_end.Acceptor a ending.AcceptorFailed ∷ ends) did is = inl did.0
-  acceptor_failed (job.Acceptor j ∷ jobs) (job_end.Acceptor a ending.NoMemory ∷ ends) did is = cc
+  acceptor_failed (job.Acceptor j ∷ jobs) (job_end.Acceptor a other ∷ ends) did is = cc
   acceptor_failed [] (end ∷ ends) did is = absurd did
   acceptor_failed (j ∷ jobs) [] did is = absurd did
 
   refused : (jobs : List (Job A F)) (ends : List (JobEnd A F)) → Did jobs ends → ending_of_all ends ≡ ending.Refused → SomeRefused s.files s.opening (feeds_in jobs) (folders_in jobs)
   refused [] [] did is = cc
   refused (job.Feed j ∷ jobs) (job_end.Feed f ending.Done ∷ ends) did is = inr (refused jobs ends did.1 is)
-  refused (job.Feed j ∷ jobs) (job_end.Feed f ending.FolderFailed ∷ ends) did is = cc
   refused (job.Feed j ∷ jobs) (job_end.Feed f ending.Refused ∷ ends) did is = inl did.0
-  refused (job.Feed j ∷ jobs) (job_end.Feed f ending.KeeperFailed ∷ ends) did is = cc
-  refused (job.Feed j ∷ jobs) (job_end.Feed f ending.AcceptorFailed ∷ ends) did is = cc
-  refused (job.Feed j ∷ jobs) (job_end.Feed f ending.NoMemory ∷ ends) did is = cc
+  refused (job.Feed j ∷ jobs) (job_end.Feed f other ∷ ends) did is = cc
   refused (job.Feed j ∷ jobs) (job_end.Acceptor a e ∷ ends) did is = absurd did.0
   refused (job.Acceptor j ∷ jobs) (job_end.Feed f e ∷ ends) did is = absurd did.0
   refused (job.Acceptor j ∷ jobs) (job_end.Acceptor a ending.Done ∷ ends) did is = refused jobs ends did.1 is
-  refused (job.Acceptor j ∷ jobs) (job_end.Acceptor a ending.FolderFailed ∷ ends) did is = cc
   refused (job.Acceptor j ∷ jobs) (job_end.Acceptor a ending.Refused ∷ ends) did is = absurd did.0
-  refused (job.Acceptor j ∷ jobs) (job_end.Acceptor a ending.KeeperFailed ∷ ends) did is = cc
-  refused (job.Acceptor j ∷ jobs) (job_end.Acceptor a ending.AcceptorFailed ∷ ends) did is = cc
-  refused (job.Acceptor j ∷ jobs) (job_end.Acceptor a ending.NoMemory ∷ ends) did is = cc
+  refused (job.Acceptor j ∷ jobs) (job_end.Acceptor a other ∷ ends) did is = cc
   refused [] (end ∷ ends) did is = absurd did
   refused (j ∷ jobs) [] did is = absurd did
 

@@ -19,15 +19,8 @@ use Rattle.roster_types.specs.Sets.{SetRecord}
 use Rattle.version_changes.specs.declared.sets.publish_fault.PublishFault.{PublishFault}
 
 other_fault : (f : SetFault) → f ≢ fault.Folder → ending_of_fault f ≡ ending.Refused
-other_fault (fault.Manifest m) other = refl
-other_fault (fault.MissingFile file) other = refl
-other_fault (fault.UnexpectedFile file) other = refl
-other_fault (fault.Column file column why) other = refl
-other_fault (fault.Row file number field why) other = refl
-other_fault (fault.RepeatedId file number) other = refl
-other_fault (fault.TooLarge file) other = refl
-other_fault (fault.NotUtf8 file) other = refl
 other_fault fault.Folder other = absurd (other refl)
+other_fault fault other = refl
 
 module _ (opening : KeptState) (files : Option (List Stored)) (before now : ℕ) (feed : Feed) where
   faulty : (f : SetFault) → FaultOf files before now f (set_of feed.dir feed.name) → Feeds opening files before now feed (ending_of_fault f)

@@ -53,6 +53,10 @@ pushed log put log' e done none is m =
     by true m h = (ap history m ∙ (history_whole (history put) ∙ h), λ published. m ∙ ap none_waits h)
     by false m h = (ap history m ∙ h, λ published. absurd (cc (published)))
 
+-- what is pushed, said of what is due
+pub pushed_as : {due same : Option Entry} (log log' : Published) (done : Bool) → due ≡ same → Pushed due log log' done → Pushed same log log' done
+pushed_as log log' done is push = subst (λ (d : Option Entry). Pushed d log log' done) is push
+
 -- ---- what a hub has made, or left open
 
 pub due_open : (hub : HeldHub) → hub.commit_open ≡ true → entry_due hub ≡ Some Fault
@@ -205,7 +209,7 @@ module _ (o : KeptState) (base : ℕ) (first : KeptState → Type 0) (log : Publ
 
     pub added_stands : Outcome hub after count count' → Pushed (entry_due after) log log' done → Standing o base first log' (handed_out after) stands count'
     added_stands (inl nothing) push =
-        let same = (subst (λ (d : Option Entry). Pushed d log log' done) nothing.due push).0 in
+        let same = (pushed_as log log' done nothing.due push).0 in
         record {
           replays = kept_out after ∙ (nothing.kept ∙ (is.replays ∙ ap (λ (l : Published). state_after o (history l)) (sym same)));
           legal = subst (λ (l : Published). IsLegal o (history l)) (sym same) is.legal;
@@ -217,7 +221,7 @@ module _ (o : KeptState) (base : ℕ) (first : KeptState → Type 0) (log : Publ
           keeps = keeps_out after ∙ (nothing.keeps ∙ is.keeps);
         }
     added_stands (inr (inl made)) push =
-        let h = (subst (λ (d : Option Entry). Pushed d log log' done) made.due push).0 in
+        let h = (pushed_as log log' done made.due push).0 in
         record {
           replays = kept_out after ∙ (made.kept ∙ (ap (λ (k : KeptState). with_commit k made.commit) is.replays ∙ (sym (one_more o (history log) (Commit made.commit)) ∙ ap (state_after o) (sym h))));
           legal = subst (IsLegal o) (sym h) (legal_more o (history log) (Commit made.commit) is.legal (subst (λ (k : KeptState). CanCommit k made.commit) is.replays made.can));
@@ -229,7 +233,7 @@ module _ (o : KeptState) (base : ℕ) (first : KeptState → Type 0) (log : Publ
           keeps = keeps_out after ∙ (made.keeps ∙ is.keeps);
         }
     added_stands (inr (inr fault)) push =
-        let h = (subst (λ (d : Option Entry). Pushed d log log' done) fault.due push).0 in
+        let h = (pushed_as log log' done fault.due push).0 in
         record {
           replays = kept_out after ∙ (fault.kept ∙ (is.replays ∙ (sym (one_more o (history log) Fault) ∙ ap (state_after o) (sym h))));
           legal = subst (IsLegal o) (sym h) (legal_more o (history log) Fault is.legal tt);
@@ -263,10 +267,10 @@ module _ {A : Type 0} (asks : A → KeptState → KeptState → Type 0) (failed 
   -- what was published is answered
   pub owned_told : (answer : A) (done : Bool) → Did asks failed answer hub after count count' → Outcome hub after count count' → Pushed (entry_due after) log log' done → done ≡ true → Owned asks failed busy o h log' count count' answer
   owned_told answer done (inl did) (inl nothing) push all =
-      let same = (subst (λ (d : Option Entry). Pushed d log log' done) nothing.due push).0 in
+      let same = (pushed_as log log' done nothing.due push).0 in
       ([], inl (same ∙ (log_whole log none ∙ ap none_waits (sym (append-nil h))), inl refl, asked_none answer nothing.kept did.asked))
   owned_told answer done (inl did) (inr (inl made)) push all =
-      let p = subst (λ (d : Option Entry). Pushed d log log' done) made.due push in
+      let p = pushed_as log log' done made.due push in
       (Commit made.commit ∷ [], inl (p.1 all, inr (made.commit, refl), asked_commit answer made.commit made.kept did.asked))
   owned_told answer done (inl did) (inr (inr fault)) push all = absurd (closed did.made)
     where
@@ -276,26 +280,26 @@ module _ {A : Type 0} (asks : A → KeptState → KeptState → Type 0) (failed 
   owned_told answer done (inr fell) (inl nothing) push all = absurd (let a = ap (λ (k : HeldHub). k.commit_open) fell.left.is in let b = nothing.closed in cc)
   owned_told answer done (inr fell) (inr (inl made)) push all = absurd (let a = ap (λ (k : HeldHub). k.commit_open) fell.left.is in let b = made.closed in cc)
   owned_told answer done (inr fell) (inr (inr fault)) push all =
-      let p = subst (λ (d : Option Entry). Pushed d log log' done) fault.due push in
+      let p = pushed_as log log' done fault.due push in
       (Fault ∷ [], inr (inl (p.1 all, refl, rose_so fell.rose, fell.told)))
 
   -- where memory ran out to publish, the history grew by no more
   pub owned_busy : (answer told : A) (done : Bool) → told ≡ busy → Did asks failed answer hub after count count' → Outcome hub after count count' → Pushed (entry_due after) log log' done → Owned asks failed busy o h log' count count' told
   owned_busy answer told done is (inl did) (inl nothing) push =
-      let same = (subst (λ (d : Option Entry). Pushed d log log' done) nothing.due push).0 in
+      let same = (pushed_as log log' done nothing.due push).0 in
       ([], inr (inr (ap history same ∙ sym (append-nil h), inl (inl refl, inl refl), is)))
   owned_busy answer told done is (inl did) (inr (inl made)) push =
-      let p = subst (λ (d : Option Entry). Pushed d log log' done) made.due push in
+      let p = pushed_as log log' done made.due push in
       (Commit made.commit ∷ [], inr (inr (p.0, inl (inr (made.commit, refl), inr (answer, asked_commit answer made.commit made.kept did.asked)), is)))
   owned_busy answer told done is (inl did) (inr (inr fault)) push =
-      let p = subst (λ (d : Option Entry). Pushed d log log' done) fault.due push in
+      let p = pushed_as log log' done fault.due push in
       (Fault ∷ [], inr (inr (p.0, inr (refl, rose_so fault.rose), is)))
   owned_busy answer told done is (inr fell) (inl nothing) push =
-      let same = (subst (λ (d : Option Entry). Pushed d log log' done) nothing.due push).0 in
+      let same = (pushed_as log log' done nothing.due push).0 in
       ([], inr (inr (ap history same ∙ sym (append-nil h), inl (inl refl, inl refl), is)))
   owned_busy answer told done is (inr fell) (inr (inl made)) push = absurd (let a = ap (λ (k : HeldHub). k.commit_open) fell.left.is in let b = made.closed in cc)
   owned_busy answer told done is (inr fell) (inr (inr fault)) push =
-      let p = subst (λ (d : Option Entry). Pushed d log log' done) fault.due push in
+      let p = pushed_as log log' done fault.due push in
       (Fault ∷ [], inr (inr (p.0, inr (refl, rose_so fault.rose), is)))
 
 -- a commit that is due is the last one

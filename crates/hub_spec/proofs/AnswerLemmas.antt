@@ -22,7 +22,7 @@ use Rattle.status_info.specs.declared.reply.Reply.{Reply}
 use Rattle.status_info.specs.declared.request.MarkField.{MarkField}
 use Rattle.status_info.specs.declared.request.MarkField.TheVariants as mark
 use Rattle.status_info.specs.declared.request.Verb.{Verb}
-use Rattle.status_info.specs.declared.request.Verb.TheVariants.{Delete, Get, Head, Other, Put}
+use Rattle.status_info.specs.declared.request.Verb.TheVariants.{Delete, Put}
 use Rattle.version_core.specs.HubStates.{HubState, newest_number}
 use Rattle.version_core.specs.Marks.{mark_at}
 use Rattle.version_core.specs.Outcomes.{mark_taken_outcome}
@@ -70,18 +70,14 @@ module _ (wanted : Wanted) (marked : Marked) where
 -- ---- its answer
 
 allowed : (path : Path) (verb : Verb) → is_write verb ≡ true → takes_writes path ≡ true → allows path verb ≡ true
-allowed path Get w t = cc
 allowed path Put w t = t
 allowed path Delete w t = t
-allowed path Head w t = cc
-allowed path Other w t = cc
+allowed path other w t = cc
 
 needed : (verb : Verb) (write : Write) → is_write verb ≡ true → write.delete ≡ is_delete verb → access_of verb ≡ access_to write
-needed Get write w e = cc
 needed Put write w e = ap (λ b. cond b (access_of Delete) (access_of Put)) (sym e)
 needed Delete write w e = ap (λ b. cond b (access_of Delete) (access_of Put)) (sym e)
-needed Head write w e = cc
-needed Other write w e = cc
+needed other write w e = cc
 
 good_mark : (field : MarkField) (number : ℕ) → mark_number field ≡ Some number → is_good_mark field ≡ true
 good_mark mark.Nothing number e = refl

@@ -9,7 +9,7 @@ use Rattle.hub_spec.specs.rules.Growth.{GrowsBy, Grew, IsMarkOf, IsNewMark, IsRu
 use Rattle.hub_spec.specs.rules.Marked.{same_write}
 use Rattle.hub_spec.specs.rules.Runs.{Acts, ActedOrNot, Answer, Command, Does, Fails, Publish, Reopen, Runs, SetGrants}
 use Rattle.hub_spec.specs.rules.Runs.{Step, Steps, Take, Wants, WantsMemory, end_of, state_with}
-use Rattle.hub_spec.specs.rules.Verdicts.{Judged, Judges, Leads, Refused, Repeat, Same, Verdict, held_mark, newest_in}
+use Rattle.hub_spec.specs.rules.Verdicts.{Judged, Judges, Leads, Refused, Repeat, Verdict, held_mark, newest_in}
 use Rattle.hub_spec.specs.rules.Verdicts.{repeated}
 use Rattle.hub_spec.specs.rules.Wanted.{Wanted, allows, is_write, mark_number}
 use Rattle.hub_spec.specs.rules.Written.{kept_mark, newest_after, outcome_of, published_after, state_after, with_kept}
@@ -98,15 +98,11 @@ module _ (state : HubState) (by : GrantRow) (number : Option ℕ) (write : Write
     where
       longer_after : (verdict : Verdict) → length state.published ≤ length (published_after state.published verdict)
       longer_after (Leads version) = omega (arith, length-append state.published (version ∷ []))
-      longer_after Same = omega arith
-      longer_after (Repeat kept) = omega arith
-      longer_after (Refused n) = omega arith
+      longer_after other = omega arith
 
       same_after : (verdict : Verdict) (n : ℕ) → n < length state.published → get_or (published_after state.published verdict) n empty_version ≡ get_or state.published n empty_version
       same_after (Leads version) n within = get_or-append state.published (version ∷ []) _ n within
-      same_after Same n within = refl
-      same_after (Repeat kept) n within = refl
-      same_after (Refused m) n within = refl
+      same_after other n within = refl
 
       kept_after : (number outcome : Option ℕ) → ((n o : ℕ) → number ≡ Some n → outcome ≡ Some o → mark_at (by.caller, n) state.marks ≡ None) → (caller : List ℕ) (n : ℕ) (mark : MarkRow) → mark_at (caller, n) state.marks ≡ Some mark → mark_at (caller, n) (with_kept (kept_mark by.caller number write (newest_after state verdict) outcome) state.marks) ≡ Some mark
       kept_after None outcome free caller n mark held = held

@@ -17,7 +17,7 @@ use Rattle.hub_spec.specs.views.Lists.{id_at}
 use Rattle.roster_base.specs.Moments.{IsMoment}
 use Rattle.roster_texts.specs.Texts.{is_id}
 use Rattle.status_info.specs.declared.request.Verb.{Verb}
-use Rattle.status_info.specs.declared.request.Verb.TheVariants.{Delete, Get, Head, Other, Put}
+use Rattle.status_info.specs.declared.request.Verb.TheVariants.{Put}
 use Rattle.hub_spec.specs.rules.Answers.{Answered, Answers, Entered, Written, write_of, write_result}
 use Rattle.hub_spec.specs.rules.Checks.{Entry, entry_of}
 use Rattle.hub_spec.specs.rules.Marked.{same_write}
@@ -190,9 +190,7 @@ module _ (state : HubState) (granted : IsGranted state) (by : GrantRow) (number 
           let led = judged_led (newest_in state) (newest_is state granted.state) at by write next (held_mark state by.caller number) judged_so in
           let marks = subst (λ v. AreMarks newest (with_kept (kept_mark by.caller number write newest (outcome_of write v)) state.marks)) is (marks_kept newest (let e = more in omega arith)) in
           next_granted state granted next led _ (subst (λ n. AreMarks n (with_kept (kept_mark by.caller number write newest (outcome_of write (Leads next))) state.marks)) more marks)
-      by_verdict Same is = marked_granted state granted _ (subst (λ v. AreMarks (newest_number state) (with_kept (kept_mark by.caller number write (newest_number state) (outcome_of write v)) state.marks)) is plain)
-      by_verdict (Repeat k) is = marked_granted state granted _ (subst (λ v. AreMarks (newest_number state) (with_kept (kept_mark by.caller number write (newest_number state) (outcome_of write v)) state.marks)) is plain)
-      by_verdict (Refused n) is = marked_granted state granted _ (subst (λ v. AreMarks (newest_number state) (with_kept (kept_mark by.caller number write (newest_number state) (outcome_of write v)) state.marks)) is plain)
+      by_verdict other is = marked_granted state granted _ (subst (λ v. AreMarks (newest_number state) (with_kept (kept_mark by.caller number write (newest_number state) (outcome_of write v)) state.marks)) is plain)
 
 -- ---- and where they hold rows
 
@@ -203,9 +201,7 @@ module _ (state : HubState) (hub : IsHub state) (by : GrantRow) (number : Option
       let judged_so = subst (λ v. Judged (held_mark state by.caller number) (newest_in state) by write at v) is judged in
       AllByRecursion-push HoldsRows state.published next hub.rows
       (judged_holds (newest_in state) (newest_holds state.published hub.rows) by write at moment next good (held_mark state by.caller number) judged_so)
-  verdict_rows Same is = hub.rows
-  verdict_rows (Repeat k) is = hub.rows
-  verdict_rows (Refused n) is = hub.rows
+  verdict_rows other is = hub.rows
 
   verdict_keeps : IsHub (state_after state by.caller number write verdict)
   unfolding state_after
@@ -219,10 +215,7 @@ same_hub before after hub same = subst IsHub (sym same) hub
 -- a request that puts a row goes to a good id
 put_id : (path : Path) (verb : Verb) → IsPath path → allows path verb ≡ true → is_write verb ≡ true → is_delete verb ≡ false → is_id (id_at path 0) ≡ true
 put_id path Put is may writes puts = path_id path is may
-put_id path Delete is may writes puts = cc
-put_id path Get is may writes puts = cc
-put_id path Head is may writes puts = cc
-put_id path Other is may writes puts = cc
+put_id path other is may writes puts = cc
 
 module _ (before : HubState) (hub : IsHub before) (wanted : Wanted) (at : ℤ) (can : IsCommand (Take wanted at)) (reply : Reply) (after : HubState) where
   written_keeps : (entry : Entry) → (is_delete wanted.verb ≡ false → is_id (id_at entry.path 0) ≡ true) → (r : Result Bool Reply) → Written before wanted entry (write_of wanted entry.path) at r reply after → IsHub after
@@ -271,10 +264,8 @@ module _ (before : HubState) (hub : IsHub before) where
   acted_keep command is after (inr does) = does_keep command is does.0 after does.1
 
   wants_keep : (command : Command) → IsCommand command → (after : HubState) → Wants command before after → IsHub after
-  wants_keep (Publish set at) is after wants = same_hub before after hub wants
-  wants_keep (SetGrants entries at) is after wants = same_hub before after hub wants
   wants_keep (Take wanted at) is after wants = acted_keep (Take wanted at) is after wants
-  wants_keep Reopen is after wants = same_hub before after hub wants
+  wants_keep other is after wants = same_hub before after hub wants
 
   -- a step of a state that a hub can have leads to one
   pub step_keeps : (command : Command) → IsCommand command → (answer : Answer) (after : HubState) (failed : ℕ) → Steps command before answer after failed → IsHub after

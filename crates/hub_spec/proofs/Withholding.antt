@@ -244,9 +244,7 @@ module _ (wanted : Wanted) (write : Write) where
       let longer = length-append state.published (version ∷ []) in
       let more : length (state.published ++ version ∷ []) - 1 ≡ (length state.published - 1) + 1 = omega arith in
       ap (λ n. told wanted (mark_number wanted.mark) n (done_of write)) more
-  replies_by state is Same = refl
-  replies_by state is (Repeat kept) = refl
-  replies_by state is (Refused number) = refl
+  replies_by state is other = refl
 
   bare_reply : (n : ℕ) (verdict : Verdict) → reply_by n verdict ≡ reply_by n (bare verdict)
   bare_reply n (Leads version) = refl

@@ -1,3 +1,4 @@
 mod FeedWords
 mod OptionWords
+pub mod Quiet
 mod SplitWords

@@ -13,6 +13,7 @@ use Rattle.hub_format.specs.Pieces.{number}
 use Rattle.hub_format.proofs.TableListings.{IsToldBy, changes_told, newest_from, none_told}
 use Rattle.keeper_sqlite.proofs.HubKeepingLemmas.{listed_alike}
 use Rattle.keeper_sqlite.specs.hub.Rows.{HasChanges}
+use Rattle.hub_format.specs.Areas.{grants_area, versions_area}
 
 version_at : (n : ℕ) (changes : List Change) (k : ℕ) (d : Change) → LeadOn n changes → k < length changes → (get_or changes k d).version ≡ n + 1 + k
 version_at n [] k d lead lt = absurd (omega arith)
@@ -38,19 +39,19 @@ pub record IsStored (tell : Items → Change → Type 0) (m : Items) (t : HubTab
   pub more : take (k + 1) t.changes ≡ take k t.changes ++ change ∷ []
   pub fits : FitsChange change
   pub number : version ≡ change.version
-  pub own : listed_of 3 version m ≡ own_version change
+  pub own : listed_of versions_area version m ≡ own_version change
   pub rows : tell m change
-  pub grants : listed_of 5 version m ≡ own_grants change
+  pub grants : listed_of grants_area version m ≡ own_grants change
 
 module _ (stand : Items → Type 0) (tell : Items → Change → Type 0) (t : HubTables) (has : HasChanges stand tell t) where
   abbrev m : Items
   m = has.tables.items
 
-  alike : (version : ℕ) → listed_of 3 version m ≡ listed_of 3 version (items_of t)
-  alike version = listed_alike 3 (number version) (number (version + 1)) m (items_of t) has.tables.versions
+  alike : (version : ℕ) → listed_of versions_area version m ≡ listed_of versions_area version (items_of t)
+  alike version = listed_alike versions_area (number version) (number (version + 1)) m (items_of t) has.tables.versions
 
-  grants_alike : (version : ℕ) → listed_of 5 version m ≡ listed_of 5 version (items_of t)
-  grants_alike version = listed_alike 5 (number version) (number (version + 1)) m (items_of t) has.tables.grants
+  grants_alike : (version : ℕ) → listed_of grants_area version m ≡ listed_of grants_area version (items_of t)
+  grants_alike version = listed_alike grants_area (number version) (number (version + 1)) m (items_of t) has.tables.grants
 
   stored_at : (k version : ℕ) → version ≡ t.base.number + 1 + k → k < length t.changes → IsStored tell m t k version
   stored_at k version is lt =
@@ -62,20 +63,20 @@ module _ (stand : Items → Type 0) (tell : Items → Change → Type 0) (t : Hu
         more = take_more t.changes k no_change lt;
         fits = all_at FitsChange t.changes k no_change has.tables.fit.changes lt;
         number = same;
-        own = alike version ∙ ap (λ v. listed_of 3 v (items_of t)) same ∙ told.version;
+        own = alike version ∙ ap (λ v. listed_of versions_area v (items_of t)) same ∙ told.version;
         rows = all_at (tell m) t.changes k no_change has.rows lt;
-        grants = grants_alike version ∙ ap (λ v. listed_of 5 v (items_of t)) same ∙ told.grants;
+        grants = grants_alike version ∙ ap (λ v. listed_of grants_area v (items_of t)) same ∙ told.grants;
       }
 
   -- and none behind the last
-  none_at : (k version : ℕ) → version ≡ t.base.number + 1 + k → k ≡ length t.changes → listed_of 3 version m ≡ []
+  none_at : (k version : ℕ) → version ≡ t.base.number + 1 + k → k ≡ length t.changes → listed_of versions_area version m ≡ []
   none_at k version is last =
       let newest = newest_is t.base.number t.changes has.tables.are.lead in
       let same : version ≡ newest_from t.base.number t.changes + 1 = omega (arith, newest, is, last) in
-      alike version ∙ ap (λ v. listed_of 3 v (items_of t)) same ∙ none_told t has.tables.are has.tables.fit
+      alike version ∙ ap (λ v. listed_of versions_area v (items_of t)) same ∙ none_told t has.tables.are has.tables.fit
 
   pub found_more : (base k : ℕ) (found new : List Change) (change : Change) → base ≡ t.base.number → (found ≡ take k t.changes) × (k ≤ length t.changes) → new ≡ found ++ change ∷ []
-      → ((here : IsStored tell m t k (base + 1 + k)) → Some change ≡ Some here.change) → (listed_of 3 (base + 1 + k) m ≡ [] → Some change ≡ None) → (new ≡ take (k + 1) t.changes) × (k + 1 ≤ length t.changes)
+      → ((here : IsStored tell m t k (base + 1 + k)) → Some change ≡ Some here.change) → (listed_of versions_area (base + 1 + k) m ≡ [] → Some change ≡ None) → (new ≡ take (k + 1) t.changes) × (k + 1 ≤ length t.changes)
   found_more base k found new change bases so_far is some none =
       let le = so_far.1 in
       elim (cases_lt k (length t.changes)) [

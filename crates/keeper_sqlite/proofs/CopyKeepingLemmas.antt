@@ -12,16 +12,17 @@ use Rattle.keeper_memory.specs.copy.Copies.{Copy}
 use Rattle.keeper_memory.specs.copy.HeldCopy.{empty_copy}
 use Rattle.keeper_memory.specs.declared.copy.change.CopyChange.{CopyChange}
 use Rattle.hub_format.proofs.Orders.{same_number}
-use Rattle.hub_format.specs.Format.{Entry, format_entry}
+use Rattle.hub_format.specs.Format.{Entry, first_format, format_entry, written_format}
 use Rattle.copy_format.proofs.Changing.{Keep-change, first_kept, turned_kept}
 use Rattle.copy_format.proofs.Unique.{kept_once}
 use Rattle.copy_format.proofs.CopyListings.{format_told}
 use Rattle.copy_format.specs.Edits.{first_edits, turn_edits}
 use Rattle.copy_format.specs.Format.{Keep, KeepOne}
-use Rattle.keeper_sqlite.proofs.HubKeepingLemmas.{none}
+use Rattle.keeper_sqlite.proofs.HubKeepingLemmas.{keeps_on, none}
 use Rattle.keeper_sqlite.proofs.TellingLemmas.{Came}
 use Rattle.keeper_sqlite.specs.hub.Keeping.{Keeps, Stay}
 use Rattle.keeper_sqlite.specs.copy.Keeping.{AreEditsOf, HasCopy, KeepEither, KeepOrNew}
+use Rattle.copy_format.specs.Areas.{format_area}
 
 pub copy_of : (stand : Items → Type 0) (c : Copy) (this : Keeps Keep stand c) → HasCopy stand this.kept.side c
 copy_of stand c this = record { items = this.items; stands = this.stands; stored = this.kept.stored; is = this.kept.is; fit = this.kept.fit }
@@ -35,6 +36,17 @@ keeps_or_new stand c this = record { items = this.items; stands = this.stands; k
 pub keeps_either : (stand : Items → Type 0) (c : Copy) → Keeps Keep stand c → Keeps KeepEither stand c
 keeps_either stand c this = record { items = this.items; stands = this.stands; kept = inl this.kept }
 
+-- what a store that was made ready keeps, a read of it keeps
+module _ (ready new : Items → Type 0) (c : Copy) (this : Keeps Keep ready c) (stays : Stay ready new) where
+  pub read_ready : Keeps Keep new c
+  read_ready = keeps_on Keep ready new c this (stays this.items this.stands)
+
+  pub read_kept : Keeps KeepOrNew new c
+  read_kept = keeps_or_new new c read_ready
+
+  pub read_whole : Keeps KeepEither new c
+  read_whole = keeps_either new c read_ready
+
 pub some_kept : (items : Items) (c : Copy) → KeepEither items c → KeepOrNew items c
 some_kept items c (inl kept) = inl kept
 some_kept items c (inr old) = inr (inl old)
@@ -43,40 +55,40 @@ pub some_keeps : (stand : Items → Type 0) (c : Copy) → Keeps KeepEither stan
 some_keeps stand c this = record { items = this.items; stands = this.stands; kept = some_kept this.items c this.kept }
 
 -- the number of the format
-second : (items : Items) (c : Copy) → Keep items c → listed 0 [] (0 ∷ []) items ≡ format_entry 2 ∷ []
+second : (items : Items) (c : Copy) → Keep items c → listed format_area [] (0 ∷ []) items ≡ format_entry written_format ∷ []
 second items c keep = format_told 2 items keep.stored.format
 
-first : (items : Items) (c : Copy) → KeepOne items c → listed 0 [] (0 ∷ []) items ≡ format_entry 1 ∷ []
+first : (items : Items) (c : Copy) → KeepOne items c → listed format_area [] (0 ∷ []) items ≡ format_entry first_format ∷ []
 first items c keep = format_told 1 items keep.stored.format
 
 -- where neither format is told, there are no items
-pub is_new : (items : Items) (c : Copy) (told : List Entry) → KeepOrNew items c → told ≡ listed 0 [] (0 ∷ []) items → (told ≡ format_entry 1 ∷ [] → ⊥) → (told ≡ format_entry 2 ∷ [] → ⊥)
+pub is_new : (items : Items) (c : Copy) (told : List Entry) → KeepOrNew items c → told ≡ listed format_area [] (0 ∷ []) items → (told ≡ format_entry first_format ∷ [] → ⊥) → (told ≡ format_entry written_format ∷ [] → ⊥)
     → (items ≡ no_items) × (c ≡ empty_copy)
 is_new items c told (inl kept) is one two = absurd (two (is ∙ second items c kept))
 is_new items c told (inr (inl old)) is one two = absurd (one (is ∙ first items c old))
 is_new items c told (inr (inr new)) is one two = new
 
 -- where format 2 isn't told, but some format, they keep the copy in format 1
-pub is_old : (items : Items) (c : Copy) (told : List Entry) → KeepOrNew items c → told ≡ listed 0 [] (0 ∷ []) items → (told ≡ [] → ⊥) → (told ≡ format_entry 2 ∷ [] → ⊥) → KeepOne items c
+pub is_old : (items : Items) (c : Copy) (told : List Entry) → KeepOrNew items c → told ≡ listed format_area [] (0 ∷ []) items → (told ≡ [] → ⊥) → (told ≡ format_entry written_format ∷ [] → ⊥) → KeepOne items c
 is_old items c told (inl kept) is some two = absurd (two (is ∙ second items c kept))
 is_old items c told (inr (inl old)) is some two = old
 is_old items c told (inr (inr new)) is some two = absurd (some (is ∙ none items new.0))
 
 -- and where format 1 isn't, in format 2
-pub is_kept : (items : Items) (c : Copy) (told : List Entry) → KeepOrNew items c → told ≡ listed 0 [] (0 ∷ []) items → (told ≡ [] → ⊥) → (told ≡ format_entry 1 ∷ [] → ⊥) → Keep items c
+pub is_kept : (items : Items) (c : Copy) (told : List Entry) → KeepOrNew items c → told ≡ listed format_area [] (0 ∷ []) items → (told ≡ [] → ⊥) → (told ≡ format_entry first_format ∷ [] → ⊥) → Keep items c
 is_kept items c told (inl kept) is some one = kept
 is_kept items c told (inr (inl old)) is some one = absurd (one (is ∙ first items c old))
 is_kept items c told (inr (inr new)) is some one = absurd (some (is ∙ none items new.0))
 
 not_two : (items : Items) (c : Copy) → Keep items c → items ≡ no_items → ⊥
-not_two items c kept is = let told : [] ≡ format_entry 2 ∷ [] = sym (none items is) ∙ second items c kept in cc
+not_two items c kept is = let told : [] ≡ format_entry written_format ∷ [] = sym (none items is) ∙ second items c kept in cc
 
 not_one : (items : Items) (c : Copy) → KeepOne items c → items ≡ no_items → ⊥
-not_one items c old is = let told : [] ≡ format_entry 1 ∷ [] = sym (none items is) ∙ first items c old in cc
+not_one items c old is = let told : [] ≡ format_entry first_format ∷ [] = sym (none items is) ∙ first items c old in cc
 
 not_both : (items : Items) (c other : Copy) → Keep items c → KeepOne items other → ⊥
 not_both items c other kept old =
-    let told : format_entry 2 ∷ [] ≡ format_entry 1 ∷ [] = sym (second items c kept) ∙ first items other old in
+    let told : format_entry written_format ∷ [] ≡ format_entry first_format ∷ [] = sym (second items c kept) ∙ first items other old in
     let same = same_number 2 1 (omega arith) (omega arith) (ap (λ (es : List Entry). (get_or es 0 ([], [])).1) told) in
     omega (arith, same)
 

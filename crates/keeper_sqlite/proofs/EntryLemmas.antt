@@ -18,6 +18,7 @@ use Rattle.copy_format.proofs.CopyListings.{all_out, entry_told, unsettled_above
 use Rattle.copy_format.proofs.Changing.{small_numbers}
 use Rattle.copy_format.specs.Format.{IsOut, out_entry}
 use Rattle.keeper_sqlite.specs.copy.Keeping.{HasCopy}
+use Rattle.copy_format.specs.Areas.{outbox_area}
 
 -- an entry above a number
 abbrev pub IsAbove : ℕ → OutEntry → Type 0
@@ -35,7 +36,7 @@ none_found None is = refl
 none_found (Some e) is = absurd cc
 
 module _ (stand : Items → Type 0) (side : ℕ) (c : Copy) (has : HasCopy stand side c) (after : ℕ) (fits : after + 1 < 2 ^ 64) (item : Option Item)
-    (first : option_map entry_of item ≡ slice_get (listed 3 (number (after + 1)) (number (LAST + 1)) has.items) 0) where
+    (first : option_map entry_of item ≡ slice_get (listed outbox_area (number (after + 1)) (number (LAST + 1)) has.items) 0) where
   told : option_map entry_of item ≡ option_map out_entry (entry_after after c.entries)
   told = first ∙ entry_told side c has.items has.stored has.is has.fit after fits
 

@@ -13,7 +13,7 @@ use Rattle.version_core.specs.Table.{LeadOn}
 use Rattle.version_core.specs.Tables.{AreTables}
 use Rattle.version_core.specs.declared.change.Change.{Change}
 use Rattle.version_core.specs.declared.hub_tables.HubTables.{HubTables}
-use Rattle.hub_format.specs.Format.{Entry, Fit, Keep, format_entry, items_of, listed_of, new_tables, where_label}
+use Rattle.hub_format.specs.Format.{Entry, Fit, Keep, first_format, format_entry, items_of, listed_of, new_tables, where_label, written_format}
 use Rattle.hub_format.proofs.Listing.{listed_where}
 use Rattle.hub_format.proofs.Orders.{same_number}
 use Rattle.hub_format.proofs.TableListings.{IsToldBy, base_grants_told, base_rows_told, changes_told, format_told}
@@ -30,6 +30,8 @@ use Rattle.span_format.proofs.Unique.{kept_once}
 use Rattle.keeper_sqlite.specs.declared.hub.rows.StoredRows.TheVariants.{Areas, Spans}
 use Rattle.keeper_sqlite.specs.hub.Keeping.{KeepEither, KeepOrNew, Keeps, Stay}
 use Rattle.keeper_sqlite.specs.hub.Rows.{HasRows, HasSpans, HasTables, TellChange}
+use Rattle.hub_format.specs.Areas.{format_area, grants_area, names_area, spans_area, versions_area}
+use Rattle.hub_format.specs.Pieces.{labels_end}
 
 pub on_each : {T E P : Type 0} (r : Result T E) → P → OnOk r P
 on_each (Ok x) p = p
@@ -124,53 +126,53 @@ rows_in_spans stand t has = record {
   base = (has.base, span_told.base_told has.base t has.are has.spans has.plain, has.spans);
 }
   where
-    each : (changes : List Change) → AllByRecursion (λ change. where_label (came_within change.version change.version) (listed 7 [] (255 ∷ []) (items_in has.base t)) ≡ own_spans change) changes
+    each : (changes : List Change) → AllByRecursion (λ change. where_label (came_within change.version change.version) (listed spans_area [] labels_end (items_in has.base t)) ≡ own_spans change) changes
         → AllByRecursion (TellChange Spans (items_in has.base t)) changes
     each [] told = tt
     each (change ∷ changes) told = (told.0, each changes told.1)
 
 -- ---- the number of the format
 
-pub none_listed : listed 0 [] (0 ∷ []) no_items ≡ []
+pub none_listed : listed format_area [] (0 ∷ []) no_items ≡ []
 none_listed = listed_where (is_between [] (0 ∷ [])) [] [] refl refl
 
-second : (items : Items) (state : KeptState) → KeepSpans items state → listed 0 [] (0 ∷ []) items ≡ format_entry 2 ∷ []
-second items state kept = ap (listed 0 [] (0 ∷ [])) kept.stored ∙ listed_where (is_between [] (0 ∷ [])) (format_entry 2 ∷ []) (format_entry 2 ∷ []) refl refl
+second : (items : Items) (state : KeptState) → KeepSpans items state → listed format_area [] (0 ∷ []) items ≡ format_entry written_format ∷ []
+second items state kept = ap (listed format_area [] (0 ∷ [])) kept.stored ∙ listed_where (is_between [] (0 ∷ [])) (format_entry written_format ∷ []) (format_entry written_format ∷ []) refl refl
 
-first : (items : Items) (state : KeptState) → Keep items state → listed 0 [] (0 ∷ []) items ≡ format_entry 1 ∷ []
-first items state kept = ap (listed 0 [] (0 ∷ [])) kept.stored ∙ format_told kept.tables
+first : (items : Items) (state : KeptState) → Keep items state → listed format_area [] (0 ∷ []) items ≡ format_entry first_format ∷ []
+first items state kept = ap (listed format_area [] (0 ∷ [])) kept.stored ∙ format_told kept.tables
 
-pub none : (items : Items) → items ≡ no_items → listed 0 [] (0 ∷ []) items ≡ []
-none items is = ap (listed 0 [] (0 ∷ [])) is ∙ none_listed
+pub none : (items : Items) → items ≡ no_items → listed format_area [] (0 ∷ []) items ≡ []
+none items is = ap (listed format_area [] (0 ∷ [])) is ∙ none_listed
 
 -- where neither format is told, there are no items
-pub is_new : (keep : ℕ) (items : Items) (state : KeptState) (told : List Entry) → KeepOrNew keep items state → told ≡ listed 0 [] (0 ∷ []) items → (told ≡ format_entry 1 ∷ [] → ⊥) → (told ≡ format_entry 2 ∷ [] → ⊥)
+pub is_new : (keep : ℕ) (items : Items) (state : KeptState) (told : List Entry) → KeepOrNew keep items state → told ≡ listed format_area [] (0 ∷ []) items → (told ≡ format_entry first_format ∷ [] → ⊥) → (told ≡ format_entry written_format ∷ [] → ⊥)
     → (items ≡ no_items) × (state ≡ kept_by (new_tables keep))
 is_new keep items state told (inl kept) is one two = absurd (two (is ∙ second items state kept))
 is_new keep items state told (inr (inl old)) is one two = absurd (one (is ∙ first items state old))
 is_new keep items state told (inr (inr new)) is one two = new
 
 -- where format 2 isn't told, but some format, they keep the state in format 1
-pub is_old : (keep : ℕ) (items : Items) (state : KeptState) (told : List Entry) → KeepOrNew keep items state → told ≡ listed 0 [] (0 ∷ []) items → (told ≡ [] → ⊥) → (told ≡ format_entry 2 ∷ [] → ⊥) → Keep items state
+pub is_old : (keep : ℕ) (items : Items) (state : KeptState) (told : List Entry) → KeepOrNew keep items state → told ≡ listed format_area [] (0 ∷ []) items → (told ≡ [] → ⊥) → (told ≡ format_entry written_format ∷ [] → ⊥) → Keep items state
 is_old keep items state told (inl kept) is some two = absurd (two (is ∙ second items state kept))
 is_old keep items state told (inr (inl old)) is some two = old
 is_old keep items state told (inr (inr new)) is some two = absurd (some (is ∙ none items new.0))
 
 -- and where format 1 isn't, in format 2
-pub is_kept : (keep : ℕ) (items : Items) (state : KeptState) (told : List Entry) → KeepOrNew keep items state → told ≡ listed 0 [] (0 ∷ []) items → (told ≡ [] → ⊥) → (told ≡ format_entry 1 ∷ [] → ⊥) → KeepSpans items state
+pub is_kept : (keep : ℕ) (items : Items) (state : KeptState) (told : List Entry) → KeepOrNew keep items state → told ≡ listed format_area [] (0 ∷ []) items → (told ≡ [] → ⊥) → (told ≡ format_entry first_format ∷ [] → ⊥) → KeepSpans items state
 is_kept keep items state told (inl kept) is some one = kept
 is_kept keep items state told (inr (inl old)) is some one = absurd (one (is ∙ first items state old))
 is_kept keep items state told (inr (inr new)) is some one = absurd (some (is ∙ none items new.0))
 
 not_two : (items : Items) (state : KeptState) → KeepSpans items state → items ≡ no_items → ⊥
-not_two items state kept is = let told : [] ≡ format_entry 2 ∷ [] = sym (none items is) ∙ second items state kept in cc
+not_two items state kept is = let told : [] ≡ format_entry written_format ∷ [] = sym (none items is) ∙ second items state kept in cc
 
 not_one : (items : Items) (state : KeptState) → Keep items state → items ≡ no_items → ⊥
-not_one items state old is = let told : [] ≡ format_entry 1 ∷ [] = sym (none items is) ∙ first items state old in cc
+not_one items state old is = let told : [] ≡ format_entry first_format ∷ [] = sym (none items is) ∙ first items state old in cc
 
 not_both : (items : Items) (state other : KeptState) → KeepSpans items state → Keep items other → ⊥
 not_both items state other kept old =
-    let told : format_entry 2 ∷ [] ≡ format_entry 1 ∷ [] = sym (second items state kept) ∙ first items other old in
+    let told : format_entry written_format ∷ [] ≡ format_entry first_format ∷ [] = sym (second items state kept) ∙ first items other old in
     let same = same_number 2 1 (omega arith) (omega arith) (ap (λ (es : List Entry). (get_or es 0 ([], [])).1) told) in
     omega (arith, same)
 
@@ -225,12 +227,12 @@ can_here stand state commit this can = subst (λ (s : KeptState). CanCommit s co
 
 -- what is listed behind the base's number and the next is of the oldest versions
 pub oldest_told : (base_spans : List Span) (t : HubTables) (are : AreTables t) (fit : Fit t) (base : ℕ) (grants first named : List Item) → base ≡ t.base.number
-    → map entry_of grants ≡ listed_of 5 base (items_in base_spans t) → map entry_of first ≡ listed_of 3 (base + 1) (items_in base_spans t)
-    → map entry_of named ≡ listed_of 8 (base + 1) (items_in base_spans t) → AreOldest t grants first named
+    → map entry_of grants ≡ listed_of grants_area base (items_in base_spans t) → map entry_of first ≡ listed_of versions_area (base + 1) (items_in base_spans t)
+    → map entry_of named ≡ listed_of names_area (base + 1) (items_in base_spans t) → AreOldest t grants first named
 oldest_told base_spans t are fit base grants first named bases is_grants is_first is_named = record {
-  grants = is_grants ∙ ap (λ n. listed_of 5 n (items_of t)) bases ∙ base_grants_told t are fit;
-  version = λ oldest changes is. is_first ∙ ap (λ n. listed_of 3 n (items_of t)) (next oldest changes is) ∙ (first_told oldest changes is).version;
-  names = λ oldest changes is. is_named ∙ ap (λ n. listed_of 8 n (items_in base_spans t)) (next oldest changes is) ∙ oldest_named base_spans t oldest changes are is;
+  grants = is_grants ∙ ap (λ n. listed_of grants_area n (items_of t)) bases ∙ base_grants_told t are fit;
+  version = λ oldest changes is. is_first ∙ ap (λ n. listed_of versions_area n (items_of t)) (next oldest changes is) ∙ (first_told oldest changes is).version;
+  names = λ oldest changes is. is_named ∙ ap (λ n. listed_of names_area n (items_in base_spans t)) (next oldest changes is) ∙ oldest_named base_spans t oldest changes are is;
 }
   where
     next : (oldest : Change) (changes : List Change) → t.changes ≡ oldest ∷ changes → base + 1 ≡ oldest.version

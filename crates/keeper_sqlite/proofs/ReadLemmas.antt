@@ -5,8 +5,8 @@ use Rattle.item_maps.specs.Items.{Items}
 use Rattle.keeper_sqlite.specs.hub.Keeping.{ComeOf, Keeps}
 use Rattle.keeper_sqlite.specs.hub.Telling.{StillKeep, Tells}
 
-module _ {X : Type 0} (keep : Items → X → Type 0) (at_first old new : Items → Type 0) (trusted trusted' : Type 0) (still : StillKeep keep at_first old trusted) where
-  module _ (honest : trusted' → trusted) (kept : (state : X) → Keeps keep old state → trusted' → Keeps keep new state) where
+module _ {X : Type 0} {keep : Items → X → Type 0} {at_first old : Items → Type 0} {trusted : Type 0} (still : StillKeep keep at_first old trusted) where
+  module _ {new : Items → Type 0} {trusted' : Type 0} (honest : trusted' → trusted) (kept : (state : X) → Keeps keep old state → trusted' → Keeps keep new state) where
     pub still_kept : StillKeep keep at_first new trusted'
     still_kept first sure = let before = still first (honest sure) in record { state = before.state; this = kept before.state before.this sure }
 

@@ -16,7 +16,7 @@ use Rattle.version_core.specs.declared.change.Change.{Change}
 use Rattle.version_core.specs.declared.hub_tables.HubTables.{HubTables}
 use Rattle.version_core.specs.declared.row_change.RowChange.{RowChange}
 use Rattle.hub_format.specs.Format.{Entry, where_label}
-use Rattle.hub_format.specs.Pieces.{IsReadBack}
+use Rattle.hub_format.specs.Pieces.{IsReadBack, labels_end}
 use Rattle.hub_format.proofs.EntryMaps.{where-append}
 use Rattle.span_format.specs.Format.{Span, span_entry, spans_from}
 use Rattle.span_format.specs.Reading.{FitsSpan, came, came_within}
@@ -28,6 +28,7 @@ use Rattle.keeper_sqlite.specs.declared.hub.rows.StoredRows.{StoredRows}
 use Rattle.keeper_sqlite.specs.declared.hub.rows.StoredRows.TheVariants.{Spans}
 use Rattle.keeper_sqlite.specs.hub.Keeping.{Stay}
 use Rattle.keeper_sqlite.specs.hub.Rows.{AreLaid, AreMade, HasChanges, TellBase, TellChange, TellLater, laid_at}
+use Rattle.hub_format.specs.Areas.{spans_area}
 
 -- ---- items that are laid out
 
@@ -100,14 +101,14 @@ fit_own n (row ∷ rows) small back = (record { first = small; back = back.0 }, 
 
 -- the rows of the base, by its spans
 pub base_in_spans : (m : Items) (base : BaseVersion) (number : ℕ) (made : List RowChange) → number < 2 ^ 64 → number ≡ base.number → AllByRecursion IsReadBack base.rows → TellBase Spans m base
-    → AreMade number (listed 7 [] (255 ∷ []) m) made → made ≡ base.rows
+    → AreMade number (listed spans_area [] labels_end m) made → made ≡ base.rows
 base_in_spans m base number made small numbers back told are =
     are told.0 (fit_spans base.number told.0 (omega (arith, small, numbers)) told.2.firsts (subst (AllByRecursion IsReadBack) (sym told.2.rows) back))
-    (ap (λ n. where_label (came_within 0 n) (listed 7 [] (255 ∷ []) m)) numbers ∙ told.1)
+    (ap (λ n. where_label (came_within 0 n) (listed spans_area [] labels_end m)) numbers ∙ told.1)
     ∙ told.2.rows
 
 -- what lies under the version of a change behind the base tells its rows
-pub laid_later : (m : Items) (base : ℕ) (laid : BTreeMap ℕ (List Item)) → AreLaid base (listed 7 [] (255 ∷ []) m) laid → (change : Change) → base < change.version → TellChange Spans m change → TellLater (Laid laid) m change
+pub laid_later : (m : Items) (base : ℕ) (laid : BTreeMap ℕ (List Item)) → AreLaid base (listed spans_area [] labels_end m) laid → (change : Change) → base < change.version → TellChange Spans m change → TellLater (Laid laid) m change
 laid_later m base laid are change lt told = are change.version lt ∙ told
 
 -- and those of a change

@@ -85,33 +85,38 @@ adding_start rows school old closed = record {
   apart = λ i j id lt lt' at at'. absurd (omega (arith, lt'));
 }
 
--- one id more is added
-module _ {S : Type 0} (rows : List Record) (school : List ℕ) (old ids new : HashSet (Bor (List ℕ)) S) (turn : ℕ) (current : List ℕ) (put : (q : List ℕ) → has_id new q ≡ cond (bytes_eq current q) true (has_id ids q)) (adding : Adding rows school old ids turn current) where
+-- one id more is put in where the chain has come
+pub record Putting {S : Type 0} (rows : List Record) (school : List ℕ) (old ids new : HashSet (Bor (List ℕ)) S) (turn : ℕ) (current : List ℕ) : Type 0 where
+  pub put : (q : List ℕ) → has_id new q ≡ cond (bytes_eq current q) true (has_id ids q)
+  pub adding : Adding rows school old ids turn current
+
+module _ {S : Type 0} {rows : List Record} {school : List ℕ} {old ids new : HashSet (Bor (List ℕ)) S} {turn : ℕ} {current : List ℕ}
+    (here : Putting rows school old ids new turn current) where
   put_here : has_id new current ≡ true
-  put_here = put current ∙ ap (λ b. cond b true (has_id ids current)) ((bytes_eq-Decides current current).1 refl)
+  put_here = here.put current ∙ ap (λ b. cond b true (has_id ids current)) ((bytes_eq-Decides current current).1 refl)
 
   put_stays : (q : List ℕ) → has_id ids q ≡ true → has_id new q ≡ true
-  put_stays q e = put q ∙ ap (cond (bytes_eq current q) true) e ∙ either_true (bytes_eq current q)
+  put_stays q e = here.put q ∙ ap (cond (bytes_eq current q) true) e ∙ either_true (bytes_eq current q)
 
   put_from : (q : List ℕ) → has_id new q ≡ true → (has_id ids q ≡ true) ⊎ (current ≡ q)
   put_from q e =
       elim (bytes_eq current q) as (λ b. bytes_eq current q ≡ b → cond b true (has_id ids q) ≡ true → (has_id ids q ≡ true) ⊎ (current ≡ q)) [
         | true ↦ λ same _. inr ((bytes_eq-Decides current q).0 same)
         | false ↦ λ _ there. inl there
-      ] refl (sym (put q) ∙ e)
+      ] refl (sym (here.put q) ∙ e)
 
   led_here : (id : List ℕ) → current ≡ id → leads_up rows id turn school ≡ true
-  led_here id same = led_up rows school id turn (adding.follows ∙ ap (λ (x : List ℕ). Some x) same)
+  led_here id same = led_up rows school id turn (here.adding.follows ∙ ap (λ (x : List ℕ). Some x) same)
 
   put_within : (id : List ℕ) → has_id new id ≡ true → (has_id old id || leads_up rows id turn school) ≡ true
   put_within id e = elim (put_from id e) [
-    | inl there ↦ adding.within id there
+    | inl there ↦ here.adding.within id there
     | inr same ↦ or_right _ _ (led_here id same)
   ]
 
   -- the parent of an id that was in before
   known_parent : (id parent : List ℕ) → has_id ids id ≡ true → parent_of rows Orgs id ≡ Some parent → has_id new parent ≡ true
-  known_parent id parent e goes = elim (adding.closed id parent e goes) [
+  known_parent id parent e goes = elim (here.adding.closed id parent e goes) [
     | inl there ↦ put_stays parent there
     | inr here ↦ subst (λ (x : List ℕ). has_id new x ≡ true) (sym here) put_here
   ]
@@ -133,15 +138,15 @@ module _ {S : Type 0} (rows : List Record) (school : List ℕ) (old ids new : Ha
   here_at : (n : ℕ) (id : List ℕ) → turn ≤ n → n < turn + 1 → nth_parent rows Orgs school n ≡ Some id → current ≡ id
   here_at n id le lt at =
       let e : turn ≡ n = omega (arith, le, lt) in
-      let same : Some current ≡ Some id = sym adding.follows ∙ ap (nth_parent rows Orgs school) e ∙ at in
+      let same : Some current ≡ Some id = sym here.adding.follows ∙ ap (nth_parent rows Orgs school) e ∙ at in
       cc
 
   apart_more : has_id ids current ≡ false → (i j : ℕ) (id : List ℕ) → i < j → j < turn + 1 → nth_parent rows Orgs school i ≡ Some id → nth_parent rows Orgs school j ≡ Some id → ⊥
   apart_more fresh i j id lt lt' at at' = elim (cases_lt j turn) [
-    | inl before ↦ adding.apart i j id lt before at at'
+    | inl before ↦ here.adding.apart i j id lt before at at'
     | inr le ↦
         let same = here_at j id le lt' at' in
-        let known = adding.passed i id (omega (arith, lt, lt')) at in
+        let known = here.adding.passed i id (omega (arith, lt, lt')) at in
         let again : has_id ids current ≡ true = subst (λ (x : List ℕ). has_id ids x ≡ true) (sym same) known in
         cc
   ]
@@ -151,14 +156,14 @@ module _ {S : Type 0} (rows : List Record) (school : List ℕ) (old ids new : Ha
   closed_turns all = closed_by (λ parent goes. elim (has_id ids current) as (λ b. has_id ids current ≡ b → has_id new parent ≡ true) [
     | true ↦ λ known. known_parent current parent known goes
     | false ↦ λ fresh.
-        let next : nth_parent rows Orgs school (suc turn) ≡ Some parent = ap (option_and_then (parent_of rows Orgs)) adding.follows ∙ goes in
+        let next : nth_parent rows Orgs school (suc turn) ≡ Some parent = ap (option_and_then (parent_of rows Orgs)) here.adding.follows ∙ goes in
         let few = few_apart rows Orgs school (suc turn) parent next (λ i j id lt lt' at at'. apart_more fresh i j id lt (omega (arith, lt')) at at') in
         absurd (omega (arith, few, all))
   ] refl)
 
   first_in : has_id new school ≡ true
   first_in = elim (cases_lt 0 turn) [
-    | inl some ↦ put_stays school (adding.passed 0 school some refl)
+    | inl some ↦ put_stays school (here.adding.passed 0 school some refl)
     | inr le ↦
         let same = here_at 0 school (omega (arith, le)) (omega arith) refl in
         subst (λ (x : List ℕ). has_id new x ≡ true) same put_here
@@ -169,22 +174,22 @@ module _ {S : Type 0} (rows : List Record) (school : List ℕ) (old ids new : Ha
   added_all turns le closed id =
       let sum : (turns - turn) + turn ≡ turns = omega (arith, le) in
       both_ways _ _ (λ e. or_weaker (has_id old id) (leads_up rows id turn school) (leads_up rows id turns school) (λ up. rw sum at (reached rows id school turn (turns - turn) up)) (put_within id e)) (λ e. elim (or_cases _ _ e) [
-        | inl was ↦ put_stays id (adding.stays id was)
+        | inl was ↦ put_stays id (here.adding.stays id was)
         | inr up ↦ all_above rows school new closed first_in turns id up
       ])
 
   -- one turn more
   pub adding_more : has_id ids current ≡ false → (next : List ℕ) → Some next ≡ parent_of rows Orgs current → Adding rows school old new (turn + 1) next
   adding_more fresh next goes = record {
-    follows = rw add-one (ap (option_and_then (parent_of rows Orgs)) adding.follows ∙ sym goes);
-    stays = λ id e. put_stays id (adding.stays id e);
+    follows = rw add-one (ap (option_and_then (parent_of rows Orgs)) here.adding.follows ∙ sym goes);
+    stays = λ id e. put_stays id (here.adding.stays id e);
     within = λ id e. rw add-one (or_weaker (has_id old id) (leads_up rows id turn school) (leads_up rows id (suc turn) school) (λ up. or_left _ _ up) (put_within id e));
     closed = λ id parent e leads. elim (put_from id e) [
       | inl there ↦ inl (known_parent id parent there leads)
       | inr same ↦ (let again : parent_of rows Orgs current ≡ Some parent = ap (parent_of rows Orgs) same ∙ leads in inr (let one : parent ≡ next = cc in one))
     ];
     passed = λ n id lt at. elim (cases_lt n turn) [
-      | inl before ↦ put_stays id (adding.passed n id before at)
+      | inl before ↦ put_stays id (here.adding.passed n id before at)
       | inr le ↦ subst (λ (x : List ℕ). has_id new x ≡ true) (here_at n id le lt at) put_here
     ];
     apart = apart_more fresh;

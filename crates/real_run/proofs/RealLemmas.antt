@@ -35,9 +35,10 @@ use Rattle.hub_cli.specs.Below.OutboxAnswers.{IsEnterOf, IsSendOf, Sending}
 use Rattle.keeper_memory.specs.copy.Copies.{Copy, IsCopy}
 use Rattle.keeper_memory.specs.copy.HeldCopy.{HeldCopy, empty_copy}
 use Rattle.exchange_link.specs.Asked.{AsksPages, AsksWrites}
-use Rattle.exchange_link.specs.Between.{Call, CopyAndLink, copy_since, copy_with, link_since}
+use Rattle.exchange_link.specs.Between.{Call, CopyAndLink, FromBoth, copy_since, copy_with, link_since}
 use Rattle.exchange_link.specs.Causes.{Caused}
 use Rattle.exchange_link.specs.Exchanges.{LinkState}
+use Rattle.exchange_link.specs.Pairs.{AtEach}
 use Rattle.exchange_link.specs.SendCauses.{SendCaused}
 use Rattle.exchange_link.specs.declared.answer.SyncAnswer.{SyncAnswer}
 use Rattle.exchange_link.specs.declared.send_answer.EnterError.{EnterError}
@@ -66,12 +67,13 @@ use Rattle.hub_cli.specs.Below.Answer.{Answer}
 use Rattle.hub_cli.specs.Below.End.{End}
 use Rattle.hub_cli.specs.Below.End.TheVariants as ends
 use Rattle.hub_words.specs.declared.words.Command.{Command}
-use Rattle.hub_words.specs.declared.words.Command.TheVariants.{Ask, Cascade, Enter, Export, ExportManifest, ExportSince}
-use Rattle.hub_words.specs.declared.words.Command.TheVariants.{Follow, Grant, ListHeld, Make, Outbox, Publish, Rehearse}
+use Rattle.hub_words.specs.declared.words.Command.TheVariants.{Cascade, Enter, Export, ExportManifest, ExportSince}
+use Rattle.hub_words.specs.declared.words.Command.TheVariants.{Follow, ListHeld, Make, Outbox, Rehearse}
 use Rattle.hub_words.specs.declared.words.Command.TheVariants.{Send, Show, Sync, SyncDelta}
 use Rattle.hub_words.specs.declared.words.Parsed.{Parsed}
 use Rattle.real_run.specs.RealRuns.{AnswersFrom, AnswersOver, IsRealAnswer, RealCopy, RealLink, Runs, new_copy_run}
 use Rattle.real_run.specs.RealRuns.{new_hub, real_copy_run, silent_link_run, stored_copy_run}
+use Rattle.hub_words.specs.Statuses.{bad_words_status, no_memory_status, output_failed_status}
 
 -- ---- what a cascade makes, of what is asked more weakly
 
@@ -117,17 +119,7 @@ module _ (stood stands stood_more stands_more : Copy → Type 0) (before now : �
   }
 
   abbrev link_new : LinkRun
-  link_new = record {
-    told = told;
-    tells = tells;
-    asked_before = asked;
-    asked_now = asked_now;
-    missed = missed;
-    kept = kept;
-    faults_before = failed;
-    faults_now = failed_now;
-    same = link_more;
-  }
+  link_new = record link_old { same = link_more }
 
   rests-more : ConsumerRests copy_old link_old → ConsumerRests copy_new link_new
   rests-more is = (c is.0, l is.1)
@@ -139,6 +131,17 @@ module _ (stood stands stood_more stands_more : Copy → Type 0) (before now : �
   -- a copy for which the keeper stood
   stood-before : (leaves : Copy → Type 0) (a : Copy) → stands_more a → ((b : Copy) × stood b × leaves b) → (b : Copy) × stood_more b × leaves b
   stood-before leaves a s (b, is, left) = (b, down a s b is, left)
+
+  -- what holds of both times, where all that stood before meet
+  both-more : (meets : Copy → LinkState → Type 0) (P : Copy → LinkState → Copy → LinkState → Type 0)
+      → (AtEach stood told meets → FromBoth copy_old link_old P)
+      → AtEach stood_more told meets → FromBoth copy_new link_new P
+  both-more meets P is agreed b t s tell =
+      let (x, y, z, w, v) = is (met meets b s agreed) b t (on b s) tell in (x, y, down b s x z, w, v)
+
+  -- what holds of what stands now, where all that stood before meet
+  each-more : (meets Q : Copy → LinkState → Type 0) → (AtEach stood told meets → AtEach stands tells Q) → AtEach stood_more told meets → AtEach stands_more tells Q
+  each-more meets Q is agreed b t s tell = is (met meets b s agreed) b t (on b s) tell
 
   caused-more : (call : Call) (a : SyncAnswer) → Caused call copy_old link_old a → Caused call copy_new link_new a
   caused-more call a is = record {
@@ -187,11 +190,11 @@ module _ (stood stands stood_more stands_more : Copy → Type 0) (before now : �
     later = is.later;
     cause = caused-more _ a is.cause;
     asks = λ t tell. let (x, told, asks) = is.asks t tell in (x, told, asks_pages-more _ a x.sent t.sent asks);
-    told = λ agreed b t s tell. let (x, y, z, w, v) = is.told (met _ b s agreed) b t (on b s) tell in (x, y, down b s x z, w, v);
+    told = both-more _ _ is.told;
     bound = λ agreed b t s tell. let (x, z, n, few, bound) = is.bound (met _ b s agreed) b t (on b s) tell in (x, down b s x z, n, few, bound);
-    cause_told = λ agreed b t s tell. is.cause_told (met _ b s agreed) b t (on b s) tell;
-    complete = λ agreed link copy b t s tell. let (x, y, z, w, v) = is.complete (met _ b s agreed) link copy b t (on b s) tell in (x, y, down b s x z, w, v);
-    marks = λ agreed b t s tell. is.marks (met _ b s agreed) b t (on b s) tell;
+    cause_told = each-more _ _ is.cause_told;
+    complete = λ agreed link copy. both-more _ _ (λ met. is.complete met link copy) agreed;
+    marks = each-more _ _ is.marks;
   }
 
   asks_deltas-more : (call : Call) (a : DeltaAnswer) (before after : List Request)
@@ -249,11 +252,11 @@ module _ (stood stands stood_more stands_more : Copy → Type 0) (before now : �
     later = is.later;
     link_later = is.link_later;
     asks = λ t tell. let (x, told, asks) = is.asks t tell in (x, told, asks_deltas-more _ a x.sent t.sent asks);
-    told = λ agreed b t s tell. let (x, y, z, w, v) = is.told (met _ b s agreed) b t (on b s) tell in (x, y, down b s x z, w, v);
+    told = both-more _ _ is.told;
     bound = λ agreed b t s tell. let (x, y, z, w, n, few, bound) = is.bound (met _ b s agreed) b t (on b s) tell in (x, y, down b s x z, w, n, few, bound);
-    cause_told = λ agreed b t s tell. is.cause_told (met _ b s agreed) b t (on b s) tell;
-    complete = λ agreed link copy b t s tell. let (x, y, z, w, v) = is.complete (met _ b s agreed) link copy b t (on b s) tell in (x, y, down b s x z, w, v);
-    marks = λ agreed b t s tell. is.marks (met _ b s agreed) b t (on b s) tell;
+    cause_told = each-more _ _ is.cause_told;
+    complete = λ agreed link copy. both-more _ _ (λ met. is.complete met link copy) agreed;
+    marks = each-more _ _ is.marks;
   }
 
   enter-more : (write : Write) (r : Result ℕ EnterError) → IsEnterOf write r copy_old → IsEnterOf write r copy_new
@@ -294,8 +297,8 @@ module _ (stood stands stood_more stands_more : Copy → Type 0) (before now : �
     asks = λ b t s tell.
         let (x, y, z, w, v) = is.asks b t (on b s) tell in
         (x, y, down b s x z, w, asks_writes-more task.token task.tries a (copy_with x y) (copy_with b t) v);
-    told = λ agreed b t s tell. let (x, y, z, w, v) = is.told (met _ b s agreed) b t (on b s) tell in (x, y, down b s x z, w, v);
-    complete = λ agreed link copy b t s tell. let (x, y, z, w, v) = is.complete (met _ b s agreed) link copy b t (on b s) tell in (x, y, down b s x z, w, v);
+    told = both-more _ _ is.told;
+    complete = λ agreed link copy. both-more _ _ (λ met. is.complete met link copy) agreed;
   }
 
   stays-more : CopyStays copy_old → CopyStays copy_new
@@ -403,12 +406,12 @@ module _ (stood stands stood_more stands_more : Copy → Type 0) (before now : �
     first = λ some b t s tell.
         let (x, told, begins) = is.first (λ a was. some a (down b s a was)) b t (on b s) tell in
         (x, told, record { more = begins.more; sent = begins.sent; first = first-more task.token task.limit b s begins.more begins.first });
-    told = λ agreed b t s tell. let (x, y, z, w, v) = is.told (met _ b s agreed) b t (on b s) tell in (x, y, down b s x z, w, v);
+    told = both-more _ _ is.told;
     cause_told = λ agreed b t s tell. miss_told-more task r t (is.cause_told (met _ b s agreed) b t (on b s) tell);
     complete = λ agreed link copy b t s tell.
         let (x, y, z, w, v) = is.complete (met _ b s agreed) link copy b t (on b s) tell in
         (x, y, down b s x z, w, λ low quiet may. v low quiet (may-less task.token b s x y t may));
-    marks = λ agreed b t s tell. is.marks (met _ b s agreed) b t (on b s) tell;
+    marks = each-more _ _ is.marks;
   }
 
   tells_follow-more : (feed : List ℕ) (moment : Option ℤ) (keeper : Faults) (r : Result ℕ Missed) (a : Answer) (from to : KeptState)
@@ -427,9 +430,6 @@ module _ (stood stands stood_more stands_more : Copy → Type 0) (before now : �
 
   command-more : (command : Command) (o : Outside) (a : Answer) (from to : KeptState) → IsCommandAnswer command o copy_old link_old a from to → IsCommandAnswer command o copy_new link_new a from to
   command-more (Show kind) o a from to is = (rests-more is.0, is.1, is.2)
-  command-more (Publish feeds) o a from to is = (rests-more is.0, is.1)
-  command-more (Grant file) o a from to is = (rests-more is.0, is.1)
-  command-more (Ask file) o a from to is = (rests-more is.0, is.1)
   command-more (Sync task) o a from to (same, nothing, (none, s, is, how)) = (same, nothing, (none, s, sync-more task s is, how))
   command-more (SyncDelta task) o a from to (same, nothing, (none, d, is, how)) = (same, nothing, (none, d, delta-more task d is, how))
   command-more (Cascade feed) o a from to is = (is.0, l is.1, cascade-more feed o.moment o.keeper a from to is.2)
@@ -444,6 +444,7 @@ module _ (stood stands stood_more stands_more : Copy → Type 0) (before now : �
   command-more (ExportSince kind dir) o a from to is = (is.0, is.1, l is.2, since-more kind dir o a is.3)
   command-more (Rehearse file) o a from to is = (rests-more is.0, is.1, is.2, is.3)
   command-more (Make count) o a from to is = (rests-more is.0, is.1, is.2, is.3)
+  command-more other o a from to is = (rests-more is.0, is.1)
 
   answer-more : (r : Result Parsed ℕ) (o : Outside) (a : Answer) (from to : KeptState) → IsAnswer r o copy_old link_old a from to → IsAnswer r o copy_new link_new a from to
   answer-more (Err place) o a from to is = (rests-more is.0, is.1, is.2)
@@ -462,10 +463,10 @@ leads-on old new leads more f from = record {
 
 -- ---- a link that tells nothing
 
-pub real-silent : (stood stands : Copy → Type 0) (before now : ℕ) (rests : Type 0) (asked asked_now missed : ℕ) (kept : List ℕ) (failed failed_now : ℕ) (same : Type 0) (old new : KeptState → Type 0) (parsed : Result Parsed ℕ) (answer : Answer)
+pub real-silent : {stood stands : Copy → Type 0} {before now : ℕ} {rests : Type 0} {asked asked_now missed : ℕ} {kept : List ℕ} {failed failed_now : ℕ} {same : Type 0} {old new : KeptState → Type 0} {parsed : Result Parsed ℕ} (answer : Answer)
     → AnswersOver old new (copy_run stood stands before now rests) (record { told = λ told. ⊥; tells = λ told. ⊥; asked_before = asked; asked_now = asked_now; missed = missed; kept = kept; faults_before = failed; faults_now = failed_now; same = same }) parsed answer
     → AnswersFrom old new (copy_run stood stands before now rests) parsed answer
-real-silent stood stands before now rests asked asked_now missed kept failed failed_now same old new parsed answer from = record {
+real-silent {stood} {stands} {before} {now} {rests} {asked} {asked_now} {missed} {kept} {failed} {failed_now} {same} {old} {new} {parsed} answer from = record {
   link = record { asked_before = asked; asked_now = asked_now; missed = missed; kept = kept; faults_before = failed; faults_now = failed_now };
   over = record {
     folder = from.folder;
@@ -499,9 +500,9 @@ untold (Some folder) is c some this = this
 untold None is c some this = cc some
 
 -- where the words name a store, the hub stood for some state
-pub real-stored : (stood stands : Copy → Type 0) (before now : ℕ) (rests : Type 0) (old new : KeptState → Type 0) (parsed : Result Parsed ℕ) (answer : Answer)
+pub real-stored : {stood stands : Copy → Type 0} {before now : ℕ} {rests : Type 0} {old new : KeptState → Type 0} {parsed : Result Parsed ℕ} (answer : Answer)
     → IsSome (store_in parsed) → (rests → now ≡ before) → AnswersFrom old new (copy_run stood stands before now rests) parsed answer → IsRealAnswer parsed answer
-real-stored stood stands before now rests old new parsed answer some same from =
+real-stored {stood} {stands} {before} {now} {rests} {old} {new} {parsed} answer some same from =
     let leads = from.over.leads in
     let link = from.link in
     let outside = outside_of None None from.over.folder from.over.keeper in
@@ -541,11 +542,11 @@ new-copy start now link parsed outside answer from to empty plan is =
     Is stood before rests = IsAnswer parsed outside (copy_run stood (λ copy. (copy ≡ now.copy) × IsCopy copy) before now.plan.faults rests) (silent_link_run link) answer from to
 
 -- hub and copy in memory are new
-pub real-new : (start now : KeptState) (first then : HeldCopy) (keep : ℕ) (parsed : Result Parsed ℕ) (answer : Answer)
+pub real-new : {start now : KeptState} {first then : HeldCopy} (keep : ℕ) {parsed : Result Parsed ℕ} (answer : Answer)
     → start ≡ new_hub keep → first.copy ≡ empty_copy → first.plan ≡ planned [] [] [] → keep ≡ keep_in parsed → store_in parsed ≡ None
     → AnswersFrom (λ kept. kept ≡ start) (λ kept. kept ≡ now) (copy_run (λ copy. (copy ≡ first.copy) × IsCopy copy) (λ copy. (copy ≡ then.copy) × IsCopy copy) first.plan.faults then.plan.faults (then ≡ first)) parsed answer
     → IsRealAnswer parsed answer
-real-new start now first then keep parsed answer begins empty plan same none from =
+real-new {start} {now} {first} {then} keep {parsed} answer begins empty plan same none from =
     let told = from.over.leads.told now refl in
     let outside = outside_of None None from.over.folder from.over.keeper in
     record {
@@ -598,35 +599,35 @@ real-wants parsed = record {
 
 -- ---- whole runs
 
-pub runs-wanting : (parsed : Result Parsed ℕ) (status : ℕ) (old new : Option (List ℕ)) (before now : ℕ)
-    → (status ≢ 1 → (status ≡ 17) × Appends old new (text_of out_of_memory) × (now ≡ before)) → (status ≡ 1 → Rose before now × AppendsPart old new (text_of out_of_memory))
+pub runs-wanting : {parsed : Result Parsed ℕ} {status : ℕ} {old new : Option (List ℕ)} {before now : ℕ}
+    → (status ≢ output_failed_status → (status ≡ no_memory_status) × Appends old new (text_of out_of_memory) × (now ≡ before)) → (status ≡ output_failed_status → Rose before now × AppendsPart old new (text_of out_of_memory))
     → Runs (IsRealAnswer parsed) parsed status old new before now
-runs-wanting parsed status old new before now done fault = record {
+runs-wanting {parsed} done fault = record {
   done = λ e. let d = done e in (out_of_memory, real-wants parsed, d.0, d.1);
   part = λ e. (out_of_memory, real-wants parsed, (fault e).1);
   words_are_bad = λ e. let d = done (λ f. omega (arith, e, f)) in absurd (omega (arith, e, d.0));
-  bad_words = λ bad not_one not_seventeen. absurd (not_seventeen (done not_one).0);
+  bad_words = λ bad not_failed not_wanting. absurd (not_wanting (done not_failed).0);
   sink_failed = λ e. (fault e).0;
   sink_stood = λ e. (done e).2;
 }
 
 -- what is written of answers, as a whole run
-pub runs-written : (is more : Answer → Type 0) (parsed : Result Parsed ℕ) (status : ℕ) (old new : Option (List ℕ)) (before now : ℕ)
-    → ((a : Answer) → is a → more a) → ((a : Answer) → is a → status_of a.end ≡ 2 → IsErr parsed) → ((a : Answer) → is a → IsErr parsed → status_of a.end ≢ 17 → status_of a.end ≡ 2)
+pub runs-written : {is more : Answer → Type 0} {parsed : Result Parsed ℕ} {status : ℕ} {old new : Option (List ℕ)} {before now : ℕ}
+    → ((a : Answer) → is a → more a) → ((a : Answer) → is a → status_of a.end ≡ bad_words_status → IsErr parsed) → ((a : Answer) → is a → IsErr parsed → status_of a.end ≢ no_memory_status → status_of a.end ≡ bad_words_status)
     → Writes status old new before now is → Runs more parsed status old new before now
-runs-written is more parsed status old new before now f words bad written = record {
-  done = λ one. let (a, so, same, told) = told_done status old new before now is written one in (a, f a so, same, told);
-  part = λ one. let (a, so, told) = told_part status old new before now is written one in (a, f a so, told);
-  words_are_bad = λ two. let (a, so, same, told) = told_done status old new before now is written (λ one. omega (arith, one, two)) in words a so (sym same ∙ two);
-  bad_words = λ err one memory. let (a, so, same, told) = told_done status old new before now is written one in same ∙ bad a so err (λ e. memory (same ∙ e));
-  sink_failed = (told_count status old new before now is written).0;
-  sink_stood = (told_count status old new before now is written).1;
+runs-written {is} {more} {parsed} {status} {old} {new} f words bad written = record {
+  done = λ not_failed. let (a, so, same, told) = told_done old new written not_failed in (a, f a so, same, told);
+  part = λ failed. let (a, so, told) = told_part old new written failed in (a, f a so, told);
+  words_are_bad = λ is_bad. let (a, so, same, told) = told_done old new written (λ failed. omega (arith, failed, is_bad)) in words a so (sym same ∙ is_bad);
+  bad_words = λ err not_failed not_wanting. let (a, so, same, told) = told_done old new written not_failed in same ∙ bad a so err (λ e. not_wanting (same ∙ e));
+  sink_failed = (told_count old new written).0;
+  sink_stood = (told_count old new written).1;
 }
 
 -- a run whose answers are said otherwise
-pub runs-as : (is more : Answer → Type 0) (parsed : Result Parsed ℕ) (status : ℕ) (old new : Option (List ℕ)) (before now : ℕ) → ((a : Answer) → is a → more a)
+pub runs-as : {is more : Answer → Type 0} {parsed : Result Parsed ℕ} {status : ℕ} {old new : Option (List ℕ)} {before now : ℕ} → ((a : Answer) → is a → more a)
     → Runs is parsed status old new before now → Runs more parsed status old new before now
-runs-as is more parsed status old new before now f r = record {
+runs-as f r = record {
   done = λ e. let (a, so, status, told) = r.done e in (a, f a so, status, told);
   part = λ e. let (a, so, told) = r.part e in (a, f a so, told);
   words_are_bad = r.words_are_bad;

@@ -6,33 +6,35 @@ use Rattle.hub_words.specs.declared.words.ServeWords.{ServeWords}
 use Rattle.outside_ports.specs.Written.{AppendsPart}
 use Rattle.real_run.specs.RealServes.{Serves, serve_text}
 use Rattle.roster_base.specs.Faults.{Rose}
+use Rattle.hub_words.specs.Statuses.{no_memory_status, output_failed_status}
 
--- behind bad words
-pub bad_without_memory : (place : ℕ) (old new : Option (List ℕ)) (before now result : ℕ) → (result ≢ 1 → (result ≡ 17) × Appends old new no_memory × (now ≡ before))
-    → (result ≡ 1 → Rose before now × AppendsPart old new no_memory) → (parsed : Result ServeWords ℕ) → parsed ≡ Err place → Serves parsed result old new before now
-bad_without_memory place old new before now result done failed parsed bad = rw bad record {
-  done = λ other. let d = done other in subst (λ (s : ℕ). Appends old new (serve_text (Err place) s)) (sym d.0) d.1;
-  part = λ one. (17, (failed one).1);
-  words_are_bad = λ two. refl;
-  bad_words = λ is other without. absurd (without (done other).0);
-  sink_failed = λ one. (failed one).0;
-  sink_stood = λ other. (done other).2;
-}
+-- all that `print` tells of such an end: its status is that of no memory or of a failed output
+module _ (old new : Option (List ℕ)) (before now status : ℕ)
+    (done : status ≢ output_failed_status → (status ≡ no_memory_status) × Appends old new no_memory × (now ≡ before))
+    (failed : status ≡ output_failed_status → Rose before now × AppendsPart old new no_memory) where
+  -- behind bad words
+  pub bad_without_memory : (place : ℕ) (parsed : Result ServeWords ℕ) → parsed ≡ Err place → Serves parsed status old new before now
+  bad_without_memory place parsed bad = rw bad record {
+    done = λ other. let d = done other in subst (λ (s : ℕ). Appends old new (serve_text (Err place) s)) (sym d.0) d.1;
+    part = λ one. (no_memory_status, (failed one).1);
+    words_are_bad = λ two. refl;
+    bad_words = λ is other without. absurd (without (done other).0);
+    sink_failed = λ one. (failed one).0;
+    sink_stood = λ other. (done other).2;
+  }
 
--- behind good ones
-pub good_without_memory : (old new : Option (List ℕ)) (before now result : ℕ) → (result ≢ 1 → (result ≡ 17) × Appends old new no_memory × (now ≡ before))
-    → (result ≡ 1 → Rose before now × AppendsPart old new no_memory) → (words : ServeWords) → Serves (Ok words) result old new before now
-good_without_memory old new before now result done failed words = record {
-  done = λ other. let d = done other in subst (λ (s : ℕ). Appends old new (serve_text (Ok words) s)) (sym d.0) d.1;
-  part = λ one. (17, (failed one).1);
-  words_are_bad = λ two. let is = (done (λ one. cc)).0 in cc;
-  bad_words = λ is other without. absurd (without (done other).0);
-  sink_failed = λ one. (failed one).0;
-  sink_stood = λ other. (done other).2;
-}
+  -- behind good ones
+  pub good_without_memory : (words : ServeWords) → Serves (Ok words) status old new before now
+  good_without_memory words = record {
+    done = λ other. let d = done other in subst (λ (s : ℕ). Appends old new (serve_text (Ok words) s)) (sym d.0) d.1;
+    part = λ one. (no_memory_status, (failed one).1);
+    words_are_bad = λ two. let is = (done (λ one. cc)).0 in cc;
+    bad_words = λ is other without. absurd (without (done other).0);
+    sink_failed = λ one. (failed one).0;
+    sink_stood = λ other. (done other).2;
+  }
 
--- behind any
-pub without_memory : (old new : Option (List ℕ)) (before now result : ℕ) → (result ≢ 1 → (result ≡ 17) × Appends old new no_memory × (now ≡ before))
-    → (result ≡ 1 → Rose before now × AppendsPart old new no_memory) → (parsed : Result ServeWords ℕ) → Serves parsed result old new before now
-without_memory old new before now result done failed (Ok words) = good_without_memory old new before now result done failed words
-without_memory old new before now result done failed (Err place) = bad_without_memory place old new before now result done failed (Err place) refl
+  -- behind any
+  pub without_memory : (parsed : Result ServeWords ℕ) → Serves parsed status old new before now
+  without_memory (Ok words) = good_without_memory words
+  without_memory (Err place) = bad_without_memory place (Err place) refl

@@ -1,6 +1,6 @@
 -- How a stream of requests is served by a hub.
 use Rattle.std.specs.Prelude.{ℕ, ℤ, List, Option}
-use Rattle.hub_core.specs.Standing.{HeldHub, IsStanding}
+use Rattle.hub_core.specs.Standing.{HeldHub, StandsFrom}
 use Rattle.keeper_memory.specs.Kept.{KeptState}
 use Rattle.rest_provider.specs.Ends.{Ends, EndsBy}
 use Rattle.rest_provider.specs.Exchanges.{AreAt, CountsFailures, Exchange, TakesAll, replies_text, requests_of}
@@ -21,8 +21,7 @@ stage_of ends stands keeper_faults hub = record { ends = ends; stands = stands; 
 -- each state that may stand now comes of one that may have stood before, and for which the keeper stood if it stands
 -- for the other
 abbrev pub ComesFrom : Stage → Stage → (KeptState → KeptState → Type 0) → Type 0
-ComesFrom before now leads =
-    (after : KeptState) → IsStanding now.hub after → (kept : KeptState) × IsStanding before.hub kept × (now.stands after → before.stands kept) × leads kept after
+ComesFrom before now leads = StandsFrom before.stands now.stands before.hub now.hub leads
 
 -- what was made of a stream: its requests were taken in turn at the clock's moments by a run of the hub, with their
 -- replies, and the keeper's count rose with each failure in it

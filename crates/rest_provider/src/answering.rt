@@ -1,10 +1,9 @@
 //! Answers of a hub over its keeper.
 
 ghost use Rattle.std.specs.Prelude.{◌≡◌, ℕ, false, true};
-ghost use Rattle.hub_core.specs.Standing.{IsStanding, KeeperFits};
+ghost use Rattle.hub_core.specs.Standing.{KeeperFits, StandsFrom};
 ghost use Rattle.hub_spec.specs.requests.Requests.{wanted_by};
 ghost use Rattle.hub_spec.specs.rules.Wanted.{is_write};
-ghost use Rattle.keeper_memory.specs.Kept.{KeptState};
 ghost use Rattle.hub_core.specs.declared.hub_error.HubError.{HubError};
 ghost use Rattle.rest_provider.specs.Steps.{CountsFailed, DidReloadRequest, DidRequest, TakesRequest, error_reply};
 
@@ -50,8 +49,8 @@ fn answer_settled<H: HubKeeper>(
     ensures fits { KeeperFits (H.stands_for keeper.new) hub.new }
     ensures leads { H.leads keeper.old keeper.new }
     ensures step { (failed : ℕ) × CountsFailed (H.fault_count keeper.old) (H.fault_count keeper.new) failed
-        × ((after : KeptState) → IsStanding hub.new after → (before : KeptState) × IsStanding hub.old before × (H.stands_for keeper.new after → H.stands_for keeper.old before)
-        × TakesRequest request.now at result before after failed) }
+        × StandsFrom (H.stands_for keeper.old) (H.stands_for keeper.new) hub.old hub.new
+        (λ before after. TakesRequest request.now at result before after failed) }
     ensures did { DidRequest request.now at result hub.old hub.new (H.fault_count keeper.old) (H.fault_count keeper.new) }
 {
     if is_write(request.verb) {
@@ -77,8 +76,8 @@ pub fn answer<H: HubKeeper>(
     // What may stand after the call comes of what may have stood before it, by one step that takes the request and has
     // this reply.
     ensures step { (failed : ℕ) × CountsFailed (H.fault_count keeper.old) (H.fault_count keeper.new) failed
-        × ((after : KeptState) → IsStanding hub.new after → (before : KeptState) × IsStanding hub.old before × (H.stands_for keeper.new after → H.stands_for keeper.old before)
-        × TakesRequest request.now at result before after failed) }
+        × StandsFrom (H.stands_for keeper.old) (H.stands_for keeper.new) hub.old hub.new
+        (λ before after. TakesRequest request.now at result before after failed) }
     // Over a hub with no commit left open, what it made is the last commit, if anything.
     ensures did { hub.old.commit_open ≡ false → DidRequest request.now at result hub.old hub.new (H.fault_count keeper.old) (H.fault_count keeper.new) }
     ensures reloads { DidReloadRequest request.now at result hub.old hub.new (H.fault_count keeper.old) (H.fault_count keeper.new) }

@@ -3,7 +3,7 @@
 ghost use Rattle.std.specs.Prelude.{◌≡◌, ◌≤◌, ℕ, IfOk, false, true};
 ghost use Rattle.std.specs.Option.{ForSome};
 ghost use Rattle.gradebook_core.specs.Outcomes.{check_number, outcome_number};
-ghost use Rattle.hub_core.specs.Standing.{IsStanding, KeeperFits};
+ghost use Rattle.hub_core.specs.Standing.{IsStanding, KeeperFits, StandsFrom};
 ghost use Rattle.rest_paths.specs.Paths.{IsPath};
 ghost use Rattle.hub_spec.specs.requests.Requests.{wanted_by};
 ghost use Rattle.hub_spec.specs.rules.Answers as answers;
@@ -244,8 +244,8 @@ pub fn answer_write<H: HubKeeper>(
     ensures fits { KeeperFits (H.stands_for keeper.new) hub.new }
     ensures leads { H.leads keeper.old keeper.new }
     ensures step { (failed : ℕ) × CountsFailed (H.fault_count keeper.old) (H.fault_count keeper.new) failed
-        × ((after : KeptState) → IsStanding hub.new after → (before : KeptState) × IsStanding hub.old before × (H.stands_for keeper.new after → H.stands_for keeper.old before)
-        × TakesRequest request.now at result before after failed) }
+        × StandsFrom (H.stands_for keeper.old) (H.stands_for keeper.new) hub.old hub.new
+        (λ before after. TakesRequest request.now at result before after failed) }
     ensures did { DidRequest request.now at result hub.old hub.new (H.fault_count keeper.old) (H.fault_count keeper.new) }
 {
     match asked_in_turn(alloc, router, hub.table(), request) {

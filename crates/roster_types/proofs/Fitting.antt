@@ -10,7 +10,7 @@ use Rattle.roster_values.specs.declared.kind.Kind.TheVariants.{Orgs}
 use Rattle.roster_values.specs.declared.value.Value.{Value}
 use Rattle.roster_values.specs.declared.value.Value.TheVariants.{Id, Moment, Word}
 use Rattle.roster_values.specs.Fit.{fits, fits_form, fits_parts}
-use Rattle.roster_values.specs.Table.{Info, IdForm, MomentForm, WordForm, common, statuses, table}
+use Rattle.roster_values.specs.Table.{IdForm, Info, MomentForm, WordForm, common, common_fields, statuses, table}
 use Rattle.roster_types.specs.declared.metadata.Entry.{Entry}
 use Rattle.roster_types.specs.declared.status.Status.{Status}
 use Rattle.roster_types.specs.declared.status.Status.TheVariants.{Active, ToBeDeleted}
@@ -89,7 +89,7 @@ join : (kind : Kind) (id : List ℕ) (status : Status) (modified : ℤ) (vs : Li
 join kind id status modified vs a b c = rw (table-common kind) (joined (own_fields kind) id status modified vs a b c)
 
 -- the common fields taken from the end, one by one
-pub taken : (xs ts us vs : List (Option Value)) (a b c : Option Value) → 3 ≤ length xs → ts ≡ take 3 xs → c ≡ get_or ts (length ts - 1) None → us ≡ take (length ts - 1) ts → b ≡ get_or us (length us - 1) None
+pub taken : (xs ts us vs : List (Option Value)) (a b c : Option Value) → common_fields ≤ length xs → ts ≡ take common_fields xs → c ≡ get_or ts (length ts - 1) None → us ≡ take (length ts - 1) ts → b ≡ get_or us (length us - 1) None
     → vs ≡ take (length us - 1) us → a ≡ get_or vs (length vs - 1) None → (a ≡ get_or xs 0 None) × (b ≡ get_or xs 1 None) × (c ≡ get_or xs 2 None)
 taken [] ts us vs a b c l p q r s t u = absurd (omega arith)
 taken (x ∷ []) ts us vs a b c l p q r s t u = absurd (omega arith)
@@ -100,7 +100,7 @@ taken (x ∷ y ∷ z ∷ rest) ts us vs a b c l p q r s t u =
     (rw one at u, rw two at s, rw p at q)
 
 pub fitting_from : (kind made : Kind) (xs values : List (Option Value)) (metadata : List Entry) (id : List ℕ) (status : Status) (modified : ℤ) → fits_all (table kind) xs ≡ true → IsMetadata metadata
-    → made ≡ kind → id ≡ id_in (get_or xs 0 None) → modified ≡ moment_in (get_or xs 2 None) → values ≡ drop 3 xs
+    → made ≡ kind → id ≡ id_in (get_or xs 0 None) → modified ≡ moment_in (get_or xs 2 None) → values ≡ drop common_fields xs
     → IsFitting (record { kind = made; id = id; status = status; modified = modified; values = values; metadata = metadata })
 fitting_from kind made xs values metadata id status modified h m k i d v =
     let s = split kind xs h in
@@ -116,7 +116,7 @@ rejoin : (r : Record) (status : Status) (modified : ℤ) → fits_parts MomentFo
 rejoin r status modified m h =
     let s = split r.kind (all_values r) h.values in
     record {
-      values = join r.kind r.id status modified r.values (rw (sym (ap (λ (vs : List (Option Value)). get_or vs 0 None) s.is)) at s.id) m (rw (sym (ap (λ (vs : List (Option Value)). drop 3 vs) s.is)) at s.own_fit);
+      values = join r.kind r.id status modified r.values (rw (sym (ap (λ (vs : List (Option Value)). get_or vs 0 None) s.is)) at s.id) m (rw (sym (ap (λ (vs : List (Option Value)). drop common_fields vs) s.is)) at s.own_fit);
       metadata = h.metadata;
     }
 
@@ -131,23 +131,23 @@ rechanged r status modified m h = rejoin r status modified (in_moments modified 
 
 -- a fitting row's own values fit its own fields
 pub own_values_fit : (r : Record) → IsFitting r → fits_all (own_fields r.kind) r.values ≡ true
-own_values_fit r h = let s = split r.kind (all_values r) h.values in rw (sym (ap (λ (vs : List (Option Value)). drop 3 vs) s.is)) at s.own_fit
+own_values_fit r h = let s = split r.kind (all_values r) h.values in rw (sym (ap (λ (vs : List (Option Value)). drop common_fields vs) s.is)) at s.own_fit
 
-three_or_more : (own : List Info) (vs : List (Option Value)) → Split own vs → 3 ≤ length vs
+three_or_more : (own : List Info) (vs : List (Option Value)) → Split own vs → common_fields ≤ length vs
 three_or_more own vs s = rw s.is (omega arith)
 
 -- every kind has the three common fields
-pub at_least_three : (kind : Kind) (vs : List (Option Value)) → fits_all (table kind) vs ≡ true → 3 ≤ length vs
+pub at_least_three : (kind : Kind) (vs : List (Option Value)) → fits_all (table kind) vs ≡ true → common_fields ≤ length vs
 at_least_three kind vs h = three_or_more (own_fields kind) vs (split kind vs h)
 
 pub id_fit : (kind : Kind) (vs : List (Option Value)) → fits_all (table kind) vs ≡ true → fits_parts IdForm true (get_or vs 0 None) ≡ true
 id_fit kind vs h = let s = split kind vs h in rw s.is s.id
 
-pub own_fit : (kind : Kind) (vs : List (Option Value)) → fits_all (table kind) vs ≡ true → fits_all (own_fields kind) (drop 3 vs) ≡ true
+pub own_fit : (kind : Kind) (vs : List (Option Value)) → fits_all (table kind) vs ≡ true → fits_all (own_fields kind) (drop common_fields vs) ≡ true
 own_fit kind vs h = let s = split kind vs h in rw s.is s.own_fit
 
 pub record_is : (kind made : Kind) (xs values : List (Option Value)) (metadata : List Entry) (id : List ℕ) (status : Status) (modified : ℤ) → made ≡ kind → id ≡ id_in (get_or xs 0 None)
-    → status ≡ status_in (get_or xs 1 None) → modified ≡ moment_in (get_or xs 2 None) → values ≡ drop 3 xs
+    → status ≡ status_in (get_or xs 1 None) → modified ≡ moment_in (get_or xs 2 None) → values ≡ drop common_fields xs
     → record { kind = made; id = id; status = status; modified = modified; values = values; metadata = metadata } ≡ record_from kind xs metadata
 record_is kind made xs values metadata id status modified k i s d v = rw (k, i, s, d, v) refl
 

@@ -12,7 +12,7 @@ use Rattle.roster_values.specs.declared.value.Value.{Value}
 use Rattle.roster_values.specs.declared.value.Value.TheVariants.{Id, Moment, Word}
 use Rattle.roster_texts.specs.Texts.{is_id}
 use Rattle.roster_values.specs.Fit.{is_plain_text}
-use Rattle.roster_values.specs.Table.{Info, table}
+use Rattle.roster_values.specs.Table.{Info, common_fields, table}
 use Rattle.roster_types.specs.Shapes.{fits_all}
 
 -- a row
@@ -84,7 +84,7 @@ record_from kind values metadata = record {
   id = id_in (slice_index_or values 0 None);
   status = status_in (slice_index_or values 1 None);
   modified = moment_in (slice_index_or values 2 None);
-  values = drop 3 values;
+  values = drop common_fields values;
   metadata = metadata;
 }
 

@@ -4,11 +4,11 @@ use Rattle.roster_values.specs.declared.kind.Kind.{Kind}
 use Rattle.roster_values.specs.declared.value.Value.{Value}
 use Rattle.roster_values.specs.Fit.{fits}
 use Rattle.roster_values.specs.Shape.{Shape, shape_of, has_shape}
-use Rattle.roster_values.specs.Table.{Info, table}
+use Rattle.roster_values.specs.Table.{Info, common_fields, table}
 
 -- the fields of a kind behind the three that every kind has
 abbrev pub own_fields : Kind → List Info
-own_fields kind = drop 3 (table kind)
+own_fields kind = drop common_fields (table kind)
 
 -- a value of the shape, or nothing where none is required
 abbrev pub fits_shape : Bool → Shape → Option Value → Bool

@@ -5,6 +5,7 @@ ghost use Rattle.std.specs.Prelude.{take};
 ghost use Rattle.std.specs.Bool.{Decides};
 ghost use Rattle.roster_types.specs.Shapes.{own_fields, shapes_fit};
 ghost use Rattle.roster_types.specs.Structs.{kind_of, values_of};
+ghost use Rattle.roster_values.specs.Table.{common_fields};
 ghost use Rattle.roster_values.specs.Value.{shown};
 
 use crate::academic_sessions::AcademicSession;
@@ -114,11 +115,11 @@ impl Fields {
         kind: Kind,
         values: &mut Vec<Option<Value>>,
     ) -> Result<Fields, NoMemory>
-        requires within { 3 ≤ length values.old.items }
-        requires shapes { shapes_fit (own_fields kind) (drop 3 values.old.items) ≡ true }
-        ensures values { IfOk result (λ f. values_of f ≡ drop 3 values.old.items) }
+        requires within { common_fields ≤ length values.old.items }
+        requires shapes { shapes_fit (own_fields kind) (drop common_fields values.old.items) ≡ true }
+        ensures values { IfOk result (λ f. values_of f ≡ drop common_fields values.old.items) }
         ensures kind { IfOk result (λ f. kind_of f ≡ kind) }
-        ensures left { OnOk result (values.new.items ≡ take 3 values.old.items) }
+        ensures left { OnOk result (values.new.items ≡ take common_fields values.old.items) }
     {
         let fields = Fields::made_of(alloc, kind, &mut values[COMMON_FIELDS..])?;
         values.truncate(COMMON_FIELDS);

@@ -7,6 +7,7 @@ use Rattle.std.proofs.lemmas.List.{get_or-append-add, length-reverse, reverse-ap
 use Rattle.std.proofs.lemmas.List.Folds.{list_all-append}
 use Rattle.std.specs.List.{list_all}
 use Rattle.roster_values.specs.Lists.{is_filled}
+use Rattle.roster_texts.specs.Signs.{space}
 use Rattle.roster_texts.specs.Texts.{has_plain_ends}
 use Rattle.roster_texts.specs.Trim.{is_space, trimmed, without_end, without_front}
 use Rattle.roster_texts.proofs.Spaces.{last_is, trimmed_plain_text}
@@ -15,18 +16,18 @@ pub use Rattle.roster_texts.proofs.Spaces.{first_of_plain, last_of_plain}
 pub filled_long : (t : List ℕ) → is_filled t ≡ true → 0 < length t
 filled_long t h = grind (arith, nat_tests)
 
-pub plain_from : (t : List ℕ) → get_or t 0 0 ≢ 32 → get_or t (length t - 1) 0 ≢ 32 → has_plain_ends t ≡ true
+pub plain_from : (t : List ℕ) → get_or t 0 0 ≢ space → get_or t (length t - 1) 0 ≢ space → has_plain_ends t ≡ true
 plain_from t h k = grind (arith, nat_tests)
 
 pub trimmed_same : (t : List ℕ) → is_filled t ≡ true → has_plain_ends t ≡ true → trimmed t ≡ t
 trimmed_same t filled h = trimmed_plain_text t (filled_long t filled) h
 
-head_step : (b : ℕ) (t : List ℕ) (r : Bool) → is_space b ≡ r → (0 < length (without_front t) → get_or (without_front t) 0 0 ≢ 32)
-    → 0 < length (cond r (without_front t) (b ∷ t)) → get_or (cond r (without_front t) (b ∷ t)) 0 0 ≢ 32
+head_step : (b : ℕ) (t : List ℕ) (r : Bool) → is_space b ≡ r → (0 < length (without_front t) → get_or (without_front t) 0 0 ≢ space)
+    → 0 < length (cond r (without_front t) (b ∷ t)) → get_or (cond r (without_front t) (b ∷ t)) 0 0 ≢ space
 head_step b t true e below = below
-head_step b t false e below = λ long same. eqb-false b 32 e same
+head_step b t false e below = λ long same. eqb-false b space e same
 
-front_head : (t : List ℕ) → 0 < length (without_front t) → get_or (without_front t) 0 0 ≢ 32
+front_head : (t : List ℕ) → 0 < length (without_front t) → get_or (without_front t) 0 0 ≢ space
 front_head [] = λ h. absurd (omega arith)
 front_head (b ∷ t) = head_step b t (is_space b) refl (front_head t)
 
@@ -53,7 +54,7 @@ end_first u long =
     let cut = end_prefix u in
     sym (head_append (without_end u) cut.0 long) ∙ ap (λ x. get_or x 0 0) (sym cut.1)
 
-end_last : (u : List ℕ) → 0 < length (without_end u) → get_or (without_end u) (length (without_end u) - 1) 0 ≢ 32
+end_last : (u : List ℕ) → 0 < length (without_end u) → get_or (without_end u) (length (without_end u) - 1) 0 ≢ space
 end_last u long e =
     let front_long : 0 < length (without_front (reverse u)) = omega (arith, length-reverse (without_front (reverse u))) in
     front_head (reverse u) front_long
@@ -67,7 +68,7 @@ unfolding trimmed
 trimmed_plain t filled =
     let u : List ℕ = without_front t in
     let long : 0 < length (without_end (without_front t)) = filled_long (without_end (without_front t)) filled in
-    let first : get_or (without_end (without_front t)) 0 0 ≢ 32 = λ e. front_head t (front_longer (without_front t) long) (sym (end_first (without_front t) long) ∙ e) in
+    let first : get_or (without_end (without_front t)) 0 0 ≢ space = λ e. front_head t (front_longer (without_front t) long) (sym (end_first (without_front t) long) ∙ e) in
     plain_from (without_end (without_front t)) first (end_last (without_front t) long)
 
 front_all_step : (p : ℕ → Bool) (b : ℕ) (t : List ℕ) (r : Bool) → list_all p (b ∷ t) ≡ true → list_all p (without_front t) ≡ true → list_all p (cond r (without_front t) (b ∷ t)) ≡ true
@@ -97,5 +98,5 @@ filled_from : (t : List ℕ) → 0 < length t → is_filled t ≡ true
 filled_from t h = grind (arith, nat_tests)
 
 -- a text with a first and a last byte that are no spaces
-pub plain_text_from : (t : List ℕ) → 0 < length t → get_or t 0 0 ≢ 32 → get_or t (length t - 1) 0 ≢ 32 → (is_filled t && has_plain_ends t) ≡ true
+pub plain_text_from : (t : List ℕ) → 0 < length t → get_or t 0 0 ≢ space → get_or t (length t - 1) 0 ≢ space → (is_filled t && has_plain_ends t) ≡ true
 plain_text_from t h first last = and_from (is_filled t) (has_plain_ends t) (filled_from t h) (plain_from t first last)

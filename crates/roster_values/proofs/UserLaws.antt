@@ -10,6 +10,7 @@ use Rattle.std.specs.List.{after_first, before_first, join_with_byte, list_all, 
 use Rattle.roster_values.specs.CellText.{user_id_text}
 use Rattle.roster_values.specs.Fit.{is_item, is_no_comma, is_plain_text, is_user_id_of}
 use Rattle.roster_values.specs.Lists.{is_colon, is_filled, read_all, user_id_in, user_id_of, user_ids_of}
+use Rattle.roster_texts.specs.Signs.{close_brace, colon, comma, open_brace}
 use Rattle.roster_texts.specs.Texts.{has_plain_ends}
 use Rattle.roster_texts.specs.Trim.{trimmed}
 use Rattle.roster_values.specs.UserIds.{inner, is_braced, is_identifier_byte, is_type_byte, is_user_id, user_id_from}
@@ -49,31 +50,31 @@ weaker p q step [] h = refl
 weaker p q step (b ∷ t) h = and_from (q b) (list_all q t) (step b (and_parts (p b) (list_all p t) h).0) (weaker p q step t (and_parts (p b) (list_all p t) h).1)
 
 type_no_comma : (b : ℕ) → is_type_byte b ≡ true → is_no_comma b ≡ true
-type_no_comma b h = (and_parts (not (nat_eq b 44)) (not (nat_eq b 123) && not (nat_eq b 125)) (and_parts (not (nat_eq b 58)) (is_identifier_byte b) h).1).0
+type_no_comma b h = (and_parts (not (nat_eq b comma)) (not (nat_eq b open_brace) && not (nat_eq b close_brace)) (and_parts (not (nat_eq b colon)) (is_identifier_byte b) h).1).0
 
 identifier_no_comma : (b : ℕ) → is_identifier_byte b ≡ true → is_no_comma b ≡ true
-identifier_no_comma b h = (and_parts (not (nat_eq b 44)) (not (nat_eq b 123) && not (nat_eq b 125)) h).0
+identifier_no_comma b h = (and_parts (not (nat_eq b comma)) (not (nat_eq b open_brace) && not (nat_eq b close_brace)) h).0
 
 type_no_colon : (b : ℕ) → is_type_byte b ≡ true → not (is_colon b) ≡ true
-type_no_colon b h = (and_parts (not (nat_eq b 58)) (is_identifier_byte b) h).0
+type_no_colon b h = (and_parts (not (nat_eq b colon)) (is_identifier_byte b) h).0
 
 abbrev body : List ℕ → List ℕ → List ℕ
-body form identifier = form ++ 58 ∷ identifier
+body form identifier = form ++ colon ∷ identifier
 
 -- the text between its and_from braces
-shape : (form identifier : List ℕ) → form ++ 58 ∷ (identifier ++ 125 ∷ []) ≡ body form identifier ++ 125 ∷ []
-shape form identifier = sym (append_assoc form (58 ∷ identifier) (125 ∷ []))
+shape : (form identifier : List ℕ) → form ++ colon ∷ (identifier ++ close_brace ∷ []) ≡ body form identifier ++ close_brace ∷ []
+shape form identifier = sym (append_assoc form (colon ∷ identifier) (close_brace ∷ []))
 
-last_brace : (u : UserIdParts) → get_or (user_id_text u) (length (user_id_text u) - 1) 0 ≡ 125
+last_brace : (u : UserIdParts) → get_or (user_id_text u) (length (user_id_text u) - 1) 0 ≡ close_brace
 last_brace u =
-    ap (λ t. get_or (123 ∷ t) (length (123 ∷ t) - 1) 0) (shape u.form u.identifier) ∙ last_append (123 ∷ body u.form u.identifier) (125 ∷ []) (omega arith)
+    ap (λ t. get_or (open_brace ∷ t) (length (open_brace ∷ t) - 1) 0) (shape u.form u.identifier) ∙ last_append (open_brace ∷ body u.form u.identifier) (close_brace ∷ []) (omega arith)
 
 no_commas : (u : UserIdParts) → IsGood u.form u.identifier → list_all is_no_comma (user_id_text u) ≡ true
 no_commas u g =
     let form = weaker is_type_byte is_no_comma type_no_comma u.form g.form_bytes in
     let identifier = weaker is_identifier_byte is_no_comma identifier_no_comma u.identifier g.identifier_bytes in
-    let rest : list_all is_no_comma (u.identifier ++ 125 ∷ []) ≡ true = list_all-append is_no_comma u.identifier (125 ∷ []) ∙ and_from (list_all is_no_comma u.identifier) true identifier refl in
-    list_all-append is_no_comma u.form (58 ∷ (u.identifier ++ 125 ∷ [])) ∙ and_from (list_all is_no_comma u.form) (list_all is_no_comma (u.identifier ++ 125 ∷ [])) form rest
+    let rest : list_all is_no_comma (u.identifier ++ close_brace ∷ []) ≡ true = list_all-append is_no_comma u.identifier (close_brace ∷ []) ∙ and_from (list_all is_no_comma u.identifier) true identifier refl in
+    list_all-append is_no_comma u.form (colon ∷ (u.identifier ++ close_brace ∷ [])) ∙ and_from (list_all is_no_comma u.form) (list_all is_no_comma (u.identifier ++ close_brace ∷ [])) form rest
 
 user_item : (u : UserIdParts) → is_user_id_of u ≡ true → is_item (user_id_text u) ≡ true
 user_item u h =
@@ -101,14 +102,14 @@ before : (form rest : List ℕ) → take (length form) (form ++ rest) ≡ form
 before form rest = take-append-le (length form) form rest (omega arith) ∙ take_all (length form) form (omega arith)
 
 before_colon : (form identifier : List ℕ) → list_all is_type_byte form ≡ true → before_first is_colon (body form identifier) ≡ form
-before_colon form identifier h = rw (colon_at form identifier h) (before form (58 ∷ identifier))
+before_colon form identifier h = rw (colon_at form identifier h) (before form (colon ∷ identifier))
 
 after_colon : (form identifier : List ℕ) → list_all is_type_byte form ≡ true → after_first is_colon (body form identifier) ≡ identifier
 after_colon form identifier h = rw (colon_at form identifier h, add-one) (past form identifier)
 
 in_body : (form identifier : List ℕ) → list_all is_type_byte form ≡ true → nat_lt (position_or_len is_colon (body form identifier)) (length (body form identifier)) ≡ true
 in_body form identifier h =
-    let long = length-append form (58 ∷ identifier) in
+    let long = length-append form (colon ∷ identifier) in
     rw (colon_at form identifier h) (grind (arith, nat_tests, long))
 
 body_read : (u : UserIdParts) → is_user_id_of u ≡ true → user_id_in (body u.form u.identifier) ≡ Ok u
@@ -122,17 +123,17 @@ body_read u h =
 inner_is : (u : UserIdParts) → inner (user_id_text u) ≡ body u.form u.identifier
 inner_is u =
     let lengths : length (user_id_text u) - 1 - 1 ≡ length (body u.form u.identifier) =
-    omega (arith, ap length (shape u.form u.identifier), length-append (body u.form u.identifier) (125 ∷ [])) in
-    ap (λ n. take n (u.form ++ 58 ∷ (u.identifier ++ 125 ∷ []))) lengths
+    omega (arith, ap length (shape u.form u.identifier), length-append (body u.form u.identifier) (close_brace ∷ [])) in
+    ap (λ n. take n (u.form ++ colon ∷ (u.identifier ++ close_brace ∷ []))) lengths
     ∙ ap (λ t. take (length (body u.form u.identifier)) t) (shape u.form u.identifier)
-    ∙ before (body u.form u.identifier) (125 ∷ [])
+    ∙ before (body u.form u.identifier) (close_brace ∷ [])
 
-braced_from : (t : List ℕ) → 2 ≤ length t → get_or t 0 0 ≡ 123 → get_or t (length t - 1) 0 ≡ 125 → is_braced t ≡ true
+braced_from : (t : List ℕ) → 2 ≤ length t → get_or t 0 0 ≡ open_brace → get_or t (length t - 1) 0 ≡ close_brace → is_braced t ≡ true
 braced_from t h first last = grind (arith, nat_tests)
 
 is_between : (u : UserIdParts) → is_braced (user_id_text u) ≡ true
 is_between u =
-    braced_from (user_id_text u) (omega (arith, ap length (shape u.form u.identifier), length-append (body u.form u.identifier) (125 ∷ []))) refl (last_brace u)
+    braced_from (user_id_text u) (omega (arith, ap length (shape u.form u.identifier), length-append (body u.form u.identifier) (close_brace ∷ []))) refl (last_brace u)
 
 user_read : (u : UserIdParts) → is_user_id_of u ≡ true → user_id_of (user_id_text u) ≡ Ok u
 unfolding user_id_of
@@ -144,6 +145,6 @@ users_read [] h = refl
 users_read (u ∷ us) h =
     rw (user_read u (and_parts (is_user_id_of u) (list_all is_user_id_of us) h).0, users_read us (and_parts (is_user_id_of u) (list_all is_user_id_of us) h).1) refl
 
-pub user_ids_read : (us : List UserIdParts) → list_all is_user_id_of us ≡ true → user_ids_of (join_with_byte 44 (map user_id_text us)) ≡ Ok us
+pub user_ids_read : (us : List UserIdParts) → list_all is_user_id_of us ≡ true → user_ids_of (join_with_byte comma (map user_id_text us)) ≡ Ok us
 unfolding user_ids_of
 user_ids_read us h = ap (read_all user_id_of) (joined_read (map user_id_text us) (user_items us h)) ∙ users_read us h

@@ -115,7 +115,7 @@ row_made kind xs metadata made fit order e =
       | true ↦ λ long e. cc
       | false ↦ λ short e.
           let same : whole ≡ made = cc in
-          subst IsRow same (record { fitting = fitting_from kind kind xs (drop 3 xs) metadata (id_in (get_or xs 0 None)) (status_in (get_or xs 1 None)) (moment_in (get_or xs 2 None)) fit order refl refl refl refl; short = grind (arith, nat_tests) })
+          subst IsRow same (record { fitting = fitting_from kind kind xs (drop common_fields xs) metadata (id_in (get_or xs 0 None)) (status_in (get_or xs 1 None)) (moment_in (get_or xs 2 None)) fit order refl refl refl refl; short = grind (arith, nat_tests) })
     ] refl e
 
 same_row : (id : List ℕ) (named : Option Value) (made row : Record) → unless_other id named made ≡ Ok row → made ≡ row

@@ -27,7 +27,7 @@ use Rattle.roster_values.proofs.TrimLaws.{trimmed_same}
 use Rattle.roster_values.specs.Fit.{fits, fits_form}
 use Rattle.roster_values.specs.Kinds.{plural_of, single_of}
 use Rattle.roster_values.specs.Lists.{is_filled}
-use Rattle.roster_values.specs.Table.{Form, Info, NumberForm, RefForm, RefsForm, common, info_in, table}
+use Rattle.roster_values.specs.Table.{Form, Info, NumberForm, RefForm, RefsForm, common, common_fields, info_in, table}
 use Rattle.roster_values.specs.UserIds.{UserIdParts}
 use Rattle.roster_types.specs.declared.metadata.Entry.{Entry}
 use Rattle.roster_types.specs.declared.status.Status.{Status}
@@ -168,15 +168,15 @@ FitIn place [] (v ∷ vs) = ⊥
 FitIn place (i ∷ is) [] = ⊥
 FitIn place (i ∷ is) (v ∷ vs) = (fits (info_in Delta place i) v ≡ true) × FitIn (place + 1) is vs
 
-own-fits : (place : ℕ) (i : Info) (v : Option Value) → nat_lt place 3 ≡ false → fits i v ≡ true → fits (info_in Delta place i) v ≡ true
+own-fits : (place : ℕ) (i : Info) (v : Option Value) → nat_lt place common_fields ≡ false → fits i v ≡ true → fits (info_in Delta place i) v ≡ true
 own-fits place i None past h = by i.required h
   where
-    by : (b : Bool) → not b ≡ true → not (b || nat_lt place 3) ≡ true
+    by : (b : Bool) → not b ≡ true → not (b || nat_lt place common_fields) ≡ true
     by false h = rw past refl
     by true h = cc h
 own-fits place i (Some v) past h = h
 
-own-fit : (place : ℕ) (is : List Info) (vs : List (Option Value)) → 3 ≤ place → fits_all is vs ≡ true → FitIn place is vs
+own-fit : (place : ℕ) (is : List Info) (vs : List (Option Value)) → common_fields ≤ place → fits_all is vs ≡ true → FitIn place is vs
 own-fit place [] [] past h = tt
 own-fit place [] (v ∷ vs) past h = cc h
 own-fit place (i ∷ is) [] past h = cc h
@@ -189,7 +189,7 @@ common-fit own r h =
     let a = and_parts _ _ h in
     let b = and_parts _ _ a.1 in
     let c = and_parts _ _ b.1 in
-    (a.0, (b.0, (c.0, own-fit 3 own r.values (omega arith) c.1)))
+    (a.0, (b.0, (c.0, own-fit common_fields own r.values (omega arith) c.1)))
 
 values-back : (place : ℕ) (is : List Info) (vs : List (Option Value)) (ms : Members) → Holds is vs ms → FitIn place is vs → values_in Delta place is (object ms) ≡ Ok vs
 unfolding values_in

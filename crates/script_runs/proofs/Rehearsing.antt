@@ -1,6 +1,6 @@
 -- What is written by a rehearsal.
 use Rattle.std.proofs.Common.{◌≡◌, ◌≢◌, ◌++◌, ℕ, List, [], Option, Some, None, Ok, inl, inr, length, refl, subst, sym}
-use Rattle.std.proofs.Common.{arith}
+use Rattle.std.proofs.Common.{arith, true}
 use Rattle.std.specs.Io.KnownBytes.{Appends}
 use Rattle.hub_commands.proofs.Telling.{writes_as}
 use Rattle.hub_commands.specs.Answers.{IsPrinted, end_text, status_of, text_of}
@@ -20,6 +20,8 @@ use Rattle.script_runs.specs.Runs as runs
 use Rattle.script_runs.specs.declared.run.ScriptEnd.{ScriptEnd}
 use Rattle.script_runs.specs.declared.run.ScriptEnd.TheVariants as script
 use Rattle.world_scripts.specs.declared.script.Line.{Line}
+use Rattle.hub_words.specs.Statuses.{bad_words_status, copy_failed_status, folder_failed_status, hub_failed_status, output_failed_status}
+use Rattle.hub_words.proofs.Quiet.{is_quiet, unlike}
 
 -- an answer's line, behind a text that was written before it
 module _ (status : ℕ) (old mid new : Option (List ℕ)) (before now : ℕ) (done : List ℕ) (end : End) (wrote : Appends old mid done) where
@@ -55,17 +57,17 @@ module _ (files : Option (List Stored)) (folder : Faults) (lines : List Line) wh
 
     pub run_told : (e : ScriptEnd) → runs.Writes files lines old mid e → (e ≡ script.Folder → HaveRisen folder) → (e ≡ script.Done → HaveStood folder) → (e ≡ script.Sink → Rose before between)
         → (e ≢ script.Sink → between ≡ before) → ((ended : End) → end_in e ≡ Some ended → Writes status mid new between now (IsPrinted (record { done = []; end = ended })))
-        → (end_in e ≡ None → (status ≡ 1) × (new ≡ mid) × (now ≡ between)) → Writes status old new before now Ends
+        → (end_in e ≡ None → (status ≡ output_failed_status) × (new ≡ mid) × (now ≡ between)) → Writes status old new before now Ends
     run_told script.Done (run, wrote) risen rests rose stood told none =
-        writes_as status old new before now (IsPrinted (record { done = runs.printed run.stages; end = Done })) Ends (printed_whole (runs.printed run.stages) (run, refl, rests refl))
+        writes_as old new (printed_whole (runs.printed run.stages) (run, refl, rests refl))
         (told_end (runs.printed run.stages) Done wrote (stood (λ e. cc e)) (told Done refl))
     run_told script.Folder (count, few, run, wrote) risen rests rose stood told none =
         let first : PrintsFirst files lines (runs.printed run.stages) = (count, omega (arith, few), run, refl) in
-        writes_as status old new before now (IsPrinted (record { done = runs.printed run.stages; end = FolderFailed })) Ends (printed_first (runs.printed run.stages) FolderFailed first (first, risen refl))
+        writes_as old new (printed_first (runs.printed run.stages) FolderFailed first (first, risen refl))
         (told_end (runs.printed run.stages) FolderFailed wrote (stood (λ e. cc e)) (told FolderFailed refl))
     run_told script.NoMemory (count, few, run, wrote) risen rests rose stood told none =
         let first : PrintsFirst files lines (runs.printed run.stages) = (count, few, run, refl) in
-        writes_as status old new before now (IsPrinted (record { done = runs.printed run.stages; end = NoMemory })) Ends (printed_first (runs.printed run.stages) NoMemory first first)
+        writes_as old new (printed_first (runs.printed run.stages) NoMemory first first)
         (told_end (runs.printed run.stages) NoMemory wrote (stood (λ e. cc e)) (told NoMemory refl))
     run_told script.Sink (count, few, run, part) risen rests rose stood told none =
         let done : List ℕ = runs.printed run.stages in
@@ -116,20 +118,31 @@ rehearse_done files folder file done (ScriptRefused line) answer is = absurd (cc
 rehearse_done files folder file done end (inl (none, stops)) is = absurd stops
 rehearse_done files folder file done end (inr (lines, of, ends)) is = absurd ends
 
--- what the status of an end says of the folder, and that it is none of 2, 5 and 6
+-- what the status of an end says of the folder, and that it blames neither the words nor the hub's keeper or the copy's
 pub record RehearseSays (folder : Faults) (end : End) : Type 0 where
-  pub words : status_of end ≢ 2
-  pub folder_rose : status_of end ≡ 3 → HaveRisen folder
-  pub keeper : status_of end ≢ 5
-  pub copy : status_of end ≢ 6
+  pub words : status_of end ≢ bad_words_status
+  pub folder_rose : status_of end ≡ folder_failed_status → HaveRisen folder
+  pub keeper : status_of end ≢ hub_failed_status
+  pub copy : status_of end ≢ copy_failed_status
+
+quiet_rehearse : (folder : Faults) (end : End) → is_quiet (status_of end) ≡ true → RehearseSays folder end
+quiet_rehearse folder end quiet = record {
+  words = unlike (status_of end) bad_words_status quiet refl;
+  folder_rose = λ e. absurd (unlike (status_of end) folder_failed_status quiet refl e);
+  keeper = unlike (status_of end) hub_failed_status quiet refl;
+  copy = unlike (status_of end) copy_failed_status quiet refl;
+}
+
+risen_rehearse : (folder : Faults) → HaveRisen folder → RehearseSays folder FolderFailed
+risen_rehearse folder risen = record { words = λ e. cc e; folder_rose = λ e. risen; keeper = λ e. cc e; copy = λ e. cc e }
 
 pub rehearse_says : (files : Option (List Stored)) (folder : Faults) (file done : List ℕ) (end : End) → IsRehearseAnswer files folder file done end → RehearseSays folder end
-rehearse_says files folder file done Done answer = record { words = λ e. cc e; folder_rose = λ e. cc e; keeper = λ e. cc e; copy = λ e. cc e }
-rehearse_says files folder file done NoMemory answer = record { words = λ e. cc e; folder_rose = λ e. cc e; keeper = λ e. cc e; copy = λ e. cc e }
-rehearse_says files folder file done (MissingFile name) answer = record { words = λ e. cc e; folder_rose = λ e. cc e; keeper = λ e. cc e; copy = λ e. cc e }
-rehearse_says files folder file done (FileTooLarge name) answer = record { words = λ e. cc e; folder_rose = λ e. cc e; keeper = λ e. cc e; copy = λ e. cc e }
-rehearse_says files folder file done (ScriptRefused line) answer = record { words = λ e. cc e; folder_rose = λ e. cc e; keeper = λ e. cc e; copy = λ e. cc e }
-rehearse_says files folder file done FolderFailed (inl (none, stops)) = record { words = λ e. cc e; folder_rose = λ e. stops; keeper = λ e. cc e; copy = λ e. cc e }
-rehearse_says files folder file done FolderFailed (inr (lines, is, ends)) = record { words = λ e. cc e; folder_rose = λ e. ends.1; keeper = λ e. cc e; copy = λ e. cc e }
+rehearse_says files folder file done Done answer = quiet_rehearse folder _ refl
+rehearse_says files folder file done NoMemory answer = quiet_rehearse folder _ refl
+rehearse_says files folder file done (MissingFile name) answer = quiet_rehearse folder _ refl
+rehearse_says files folder file done (FileTooLarge name) answer = quiet_rehearse folder _ refl
+rehearse_says files folder file done (ScriptRefused line) answer = quiet_rehearse folder _ refl
+rehearse_says files folder file done FolderFailed (inl (none, stops)) = risen_rehearse folder stops
+rehearse_says files folder file done FolderFailed (inr (lines, is, ends)) = risen_rehearse folder ends.1
 rehearse_says files folder file done end (inl (none, stops)) = absurd stops
 rehearse_says files folder file done end (inr (lines, is, ends)) = absurd ends

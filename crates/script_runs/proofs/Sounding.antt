@@ -87,7 +87,6 @@ read_agrees read old new text (link, copy, calls, told) agree =
 
 line_agrees : (files : Option (List Stored)) (l : Line) (old new : Play) (text : List ℕ) → IsHub new.link.hub → IsCopy new.copy.copy → LineStep files l old new text → Agrees old → Agrees new
 line_agrees files (line.Keep keep) old new text hub copy (same, silent) agree = subst Agrees (sym same) agree
-line_agrees files (line.Clock at) old new text hub copy step agree = becomes_agrees _ old new text refl step agree
 line_agrees files (line.Hub l) old new text hub copy step agree = act_agrees files l old new text step agree
 line_agrees files (line.At exchange l) old new text hub copy (act, is, step) agree = becomes_agrees _ old new text (event_told exchange _ old.link) step agree
 line_agrees files (line.Sync task) old new text hub copy (a, step) agree = sync_agrees task a old new text hub copy step
@@ -96,13 +95,10 @@ line_agrees files (line.Enter task) old new text hub copy (inr (end, is, same, t
 line_agrees files (line.Send task) old new text hub copy step agree = send_agrees task old new text hub copy step
 line_agrees files line.Outbox old new text hub copy step agree = read_agrees _ old new text step agree
 line_agrees files (line.ListHeld kind) old new text hub copy step agree = read_agrees _ old new text step agree
-line_agrees files (line.LoseRequest exchange) old new text hub copy step agree = becomes_agrees _ old new text refl step agree
-line_agrees files (line.LoseReply exchange) old new text hub copy step agree = becomes_agrees _ old new text refl step agree
 line_agrees files (line.Late request exchange) old new text hub copy step agree = becomes_agrees _ old new text (event_told exchange _ old.link) step agree
-line_agrees files (line.Stale reply exchange) old new text hub copy step agree = becomes_agrees _ old new text refl step agree
-line_agrees files (line.HubFails acted commit) old new text hub copy step agree = becomes_agrees _ old new text refl step agree
 line_agrees files (line.CopyFails acted commit) old new text hub copy (becomes, silent) agree = subst Agrees (sym becomes) agree
 line_agrees files line.Exchanges old new text hub copy (same, told) agree = subst Agrees (sym same) agree
+line_agrees files other old new text hub copy step agree = becomes_agrees _ old new text refl step agree
 
 -- ---- what calls give
 

@@ -57,41 +57,39 @@ pub record Gone (files : Option (List Stored)) (lines : List Line) (i : ℕ) (wo
 pub gone_none : (files : Option (List Stored)) (lines : List Line) (world : Play) (old : Option (List ℕ)) → Opens (keep_in lines) world → Sound world → Gone files lines 0 world old old
 gone_none files lines world old opens sound = record { first = record { begin = world; opens = opens; stages = []; run = tt }; at = refl; sound = sound; wrote = appends_none old }
 
-module _ (files : Option (List Stored)) (lines : List Line) (i : ℕ) (world new : Play) (old mid : Option (List ℕ)) (l d : Line) (text : List ℕ) where
+-- one line more makes this of the world, and prints that
+module _ {files : Option (List Stored)} {lines : List Line} {i : ℕ} {world new : Play} {old mid : Option (List ℕ)} {l : Line} (d : Line) (text : List ℕ) (gone : Gone files lines i world old mid) (within : i < length lines)
+    (is : l ≡ get_or lines i d) (sound : Sound new) (step : LineStep files l world new text) where
+  abbrev next : Stage
+  next = record { world = new; text = text }
+
   -- the run over one line more
-  pub run_more : Gone files lines i world old mid → i < length lines → l ≡ get_or lines i d → LineStep files l world new text → Sound new → RunsFirst files lines (i + 1)
-  run_more gone within is step sound =
-      record {
-        begin = gone.first.begin;
-        opens = gone.first.opens;
-        stages = gone.first.stages ++ record { world = new; text = text } ∷ [];
-        run = subst (λ (ls : List Line). IsRun files gone.first.begin ls (gone.first.stages ++ record { world = new; text = text } ∷ []))
-            (ap (λ (x : Line). take i lines ++ x ∷ []) is ∙ sym (take_next lines i d within))
-            (run_on files gone.first.begin (take i lines) gone.first.stages l (record { world = new; text = text }) gone.first.run
-            (subst (λ (w : Play). LineStep files l w new text) (sym gone.at) step) sound);
-      }
+  pub run_more : RunsFirst files lines (i + 1)
+  run_more = record {
+    begin = gone.first.begin;
+    opens = gone.first.opens;
+    stages = gone.first.stages ++ next ∷ [];
+    run = subst (λ (ls : List Line). IsRun files gone.first.begin ls (gone.first.stages ++ next ∷ [])) (ap (λ (x : Line). take i lines ++ x ∷ []) is ∙ sym (take_next lines i d within))
+        (run_on files gone.first.begin (take i lines) gone.first.stages l next gone.first.run (subst (λ (w : Play). LineStep files l w new text) (sym gone.at) step) sound);
+  }
 
   -- what it prints
-  pub printed_more : (gone : Gone files lines i world old mid) (within : i < length lines) (is : l ≡ get_or lines i d) (step : LineStep files l world new text) (sound : Sound new)
-      → printed (run_more gone within is step sound).stages ≡ printed gone.first.stages ++ text
+  pub printed_more : printed run_more.stages ≡ printed gone.first.stages ++ text
   unfolding run_more
-  printed_more gone within is step sound = printed_on gone.first.stages (record { world = new; text = text })
+  printed_more = printed_on gone.first.stages next
 
-  pub gone_on : (now : Option (List ℕ)) → Gone files lines i world old mid → i < length lines → l ≡ get_or lines i d → LineStep files l world new text → Sound new → Appends mid now text
-      → Gone files lines (i + 1) new old now
+  pub gone_on : (now : Option (List ℕ)) → Appends mid now text → Gone files lines (i + 1) new old now
   unfolding run_more
-  gone_on now gone within is step sound wrote = record {
-    first = run_more gone within is step sound;
+  gone_on now wrote = record {
+    first = run_more;
     sound = sound;
-    at = behind_on gone.first.begin gone.first.stages (record { world = new; text = text });
-    wrote = rw (printed_more gone within is step sound) (appends_both old mid now (printed gone.first.stages) text gone.wrote wrote);
+    at = behind_on gone.first.begin gone.first.stages next;
+    wrote = rw printed_more (appends_both old mid now (printed gone.first.stages) text gone.wrote wrote);
   }
 
   -- a part of what it prints
-  pub part_on : (now : Option (List ℕ)) → Gone files lines i world old mid → i < length lines → l ≡ get_or lines i d → LineStep files l world new text → Sound new → AppendsPart mid now text
-      → Writes files lines old now end.Sink
-  part_on now gone within is step sound part =
-      (i + 1, omega (arith, within), run_more gone within is step sound, rw (printed_more gone within is step sound) (part_behind old mid now (printed gone.first.stages) text gone.wrote part))
+  pub part_on : (now : Option (List ℕ)) → AppendsPart mid now text → Writes files lines old now end.Sink
+  part_on now part = (i + 1, omega (arith, within), run_more, rw printed_more (part_behind old mid now (printed gone.first.stages) text gone.wrote part))
 
 -- the line behind those that were gone through ends the script
 pub gone_stops : (files : Option (List Stored)) (lines : List Line) (i : ℕ) (world : Play) (old now : Option (List ℕ)) (stop : Stop) → i < length lines → Gone files lines i world old now

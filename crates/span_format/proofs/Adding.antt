@@ -9,6 +9,7 @@ use Rattle.version_core.specs.Changes.{AreChanges}
 use Rattle.version_core.specs.Grants.{caller_of}
 use Rattle.version_core.specs.declared.change.Change.{Change}
 use Rattle.version_core.specs.declared.hub_tables.HubTables.{HubTables}
+use Rattle.hub_format.specs.Areas.{grants_area, names_area, spans_area, versions_area}
 use Rattle.hub_format.specs.Format.{grants_under, of_changes, own_grants, own_version, version_entry}
 use Rattle.hub_format.proofs.Acts.{Act, Map, both, next, put_act, put_map, puts_act, puts_map}
 use Rattle.hub_format.proofs.Adding.{of_changes-push, own_differ}
@@ -21,10 +22,10 @@ use Rattle.span_format.proofs.Labels.{names_differ, spans_differ}
 module _ (change : Change) where
   -- what a change adds to the map of each area
   abbrev does : ℕ → Map → Map
-  does = next (put_map 3 (version_entry change)) (next (next (puts_map 7 (own_spans change)) (puts_map 8 (own_names change))) (puts_map 5 (own_grants change)))
+  does = next (put_map versions_area (version_entry change)) (next (next (puts_map spans_area (own_spans change)) (puts_map names_area (own_names change))) (puts_map grants_area (own_grants change)))
 
   acts : Act (added change) does
-  acts = both (put_act 3 (version_entry change)) (both (both (puts_act 7 (own_spans change)) (puts_act 8 (own_names change))) (puts_act 5 (own_grants change)))
+  acts = both (put_act versions_area (version_entry change)) (both (both (puts_act spans_area (own_spans change)) (puts_act names_area (own_names change))) (puts_act grants_area (own_grants change)))
 
   pub added_is : (base : List Span) (t : HubTables) → AreChanges change.rows → ForSome change.grants (RiseBy caller_of)
       → after (added change) (items_in base t) ≡ items_in base (record t { changes = t.changes ++ change ∷ [] })

@@ -15,6 +15,7 @@ use Rattle.version_core.specs.declared.change.Change.{Change}
 use Rattle.version_core.specs.declared.hub_tables.HubTables.{HubTables}
 use Rattle.version_core.specs.declared.mark.MarkRow.{MarkRow}
 use Rattle.version_core.specs.declared.row_change.RowChange.{RowChange}
+use Rattle.hub_format.specs.Areas.{grants_area, names_area, spans_area, state_area, versions_area}
 use Rattle.hub_format.specs.Format.{Entry, of_changes, own_version, state_entry, where_label}
 use Rattle.hub_format.specs.Pieces.{key_label}
 use Rattle.hub_format.proofs.Acts.{Act, Map, both, clear_act, clear_map, next, put_act, put_map}
@@ -38,15 +39,15 @@ chosen : (b : Bool) (version : ℕ) (row : RowChange) (rows : List RowChange) (m
 chosen true version row rows m = refl
 chosen false version row rows m = refl
 
-hide_on : (version : ℕ) (rows : List RowChange) (m : Items) (area : ℕ) → after_edits (map (hidden_by version) rows) m area ≡ (if area == 7 then hidden_map version rows (m area) else m area)
-hide_on version [] m area = same (area == 7)
+hide_on : (version : ℕ) (rows : List RowChange) (m : Items) (area : ℕ) → after_edits (map (hidden_by version) rows) m area ≡ (if area == spans_area then hidden_map version rows (m area) else m area)
+hide_on version [] m area = same (area == spans_area)
   where
     same : (b : Bool) → m area ≡ (if b then m area else m area)
     same true = refl
     same false = refl
-hide_on version (row ∷ rows) m area = hide_on version rows (after_edit (hidden_by version row) m) area ∙ chosen (area == 7) version row rows (m area)
+hide_on version (row ∷ rows) m area = hide_on version rows (after_edit (hidden_by version row) m) area ∙ chosen (area == spans_area) version row rows (m area)
 
-hide_act : (version : ℕ) (rows : List RowChange) → Act (map (hidden_by version) rows) (λ area m. if area == 7 then hidden_map version rows m else m)
+hide_act : (version : ℕ) (rows : List RowChange) → Act (map (hidden_by version) rows) (λ area m. if area == spans_area then hidden_map version rows m else m)
 hide_act version rows = record { on = hide_on version rows }
 
 hidden_is : (version : ℕ) (rows : List RowChange) (es : List Entry) → hidden_map version rows (from_entries es) ≡ from_entries (where_label (are_shown version rows) es)
@@ -97,14 +98,14 @@ module _ (keep : ℕ) (spans : List Span) (base : BaseVersion) (oldest : Change)
   new_tables = record { keep = keep; base = after base oldest; changes = rest; marks = marks }
 
   abbrev does : ℕ → Map → Map
-  does = next (put_map 1 (state_entry keep (after base oldest)))
-      (next (next (λ area m. if area == 7 then hidden_map oldest.version oldest.rows m else m) (λ area m. if area == 5 then moved_in oldest.version base.grants oldest.grants m else m))
-      (next (clear_map 3 oldest.version) (next (clear_map 8 oldest.version) (clear_map 5 base.number))))
+  does = next (put_map state_area (state_entry keep (after base oldest)))
+      (next (next (λ area m. if area == spans_area then hidden_map oldest.version oldest.rows m else m) (λ area m. if area == grants_area then moved_in oldest.version base.grants oldest.grants m else m))
+      (next (clear_map versions_area oldest.version) (next (clear_map names_area oldest.version) (clear_map grants_area base.number))))
 
   acts : Act (folded keep base oldest) does
-  acts = both (put_act 1 (state_entry keep (after base oldest)))
+  acts = both (put_act state_area (state_entry keep (after base oldest)))
       (both (both (hide_act oldest.version oldest.rows) (moved_act oldest.version base.grants oldest.grants))
-      (both (clear_act 3 oldest.version) (both (clear_act 8 oldest.version) (clear_act 5 base.number))))
+      (both (clear_act versions_area oldest.version) (both (clear_act names_area oldest.version) (clear_act grants_area base.number))))
 
   fits_oldest : oldest.version + 1 < 2 ^ 64
   fits_oldest = let le = later.0.1 in omega (arith, le)

@@ -14,6 +14,7 @@ use Rattle.version_core.specs.Version.{last_version}
 use Rattle.version_core.specs.declared.change.Change.{Change}
 use Rattle.version_core.specs.declared.hub_tables.HubTables.{HubTables}
 use Rattle.version_core.specs.declared.row_change.RowChange.{RowChange}
+use Rattle.hub_format.specs.Areas.{names_area}
 use Rattle.hub_format.specs.Format.{of_changes, where_label}
 use Rattle.hub_format.specs.Pieces.{key_label, number}
 use Rattle.hub_format.proofs.EntryMaps.{where-append, where_all}
@@ -45,7 +46,7 @@ names_rise version (row ∷ rows) are =
         (ap is_lt (ordered (number version) (change_key row) (change_key other)) ∙ parts.0) (below others parts.1)
 
 pub oldest_named : (base : List Span) (t : HubTables) (oldest : Change) (rest : List Change) → AreTables t → t.changes ≡ oldest ∷ rest
-    → listed 8 (number oldest.version) (number (oldest.version + 1)) (items_in base t) ≡ own_names oldest
+    → listed names_area (number oldest.version) (number (oldest.version + 1)) (items_in base t) ≡ own_names oldest
 oldest_named base t oldest rest are is =
     let lead = subst (LeadOn t.base.number) is are.lead in
     let small = subst (AllByRecursion (λ change. change.version ≤ last_version)) is (small_from t.base t.changes are.versions) in

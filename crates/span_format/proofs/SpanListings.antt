@@ -24,8 +24,9 @@ use Rattle.version_core.specs.declared.hub_tables.HubTables.{HubTables}
 use Rattle.version_core.specs.declared.row_change.RowChange.{RowChange}
 use Rattle.version_core.proofs.OrderLemmas.{passed as holds}
 use Rattle.version_core.proofs.TableLemmas.{base_meets}
+use Rattle.hub_format.specs.Areas.{spans_area}
 use Rattle.hub_format.specs.Format.{Entry, of_changes, where_label}
-use Rattle.hub_format.specs.Pieces.{key_label, number}
+use Rattle.hub_format.specs.Pieces.{key_label, labels_end, number}
 use Rattle.hub_format.proofs.Acts.{Map}
 use Rattle.hub_format.proofs.EntryMaps.{retained, where-append, where_all, where_none}
 use Rattle.hub_format.proofs.Listing.{listed_where}
@@ -147,15 +148,15 @@ own_plain n fits change plains = go change.rows plains
     go (row ∷ rows) plains = (record { id = plains.0; first = fits }, go rows plains.1)
 
 -- the labels of all spans lie below 255
-below_ends : (spans : List Span) → AllByRecursion (λ e. is_between [] (255 ∷ []) e.0 ≡ true) (map span_entry spans)
+below_ends : (spans : List Span) → AllByRecursion (λ e. is_between [] labels_end e.0 ≡ true) (map span_entry spans)
 below_ends [] = tt
 below_ends (s ∷ spans) = (row_below s.change.row.kind (s.change.row.id ++ 0 ∷ number s.first), below_ends spans)
 
-changes_below : (changes : List Change) → where_label (is_between [] (255 ∷ [])) (of_changes own_spans changes) ≡ of_changes own_spans changes
+changes_below : (changes : List Change) → where_label (is_between [] labels_end) (of_changes own_spans changes) ≡ of_changes own_spans changes
 changes_below [] = refl
 changes_below (change ∷ changes) =
-    where-append (is_between [] (255 ∷ [])) (of_changes own_spans changes) (own_spans change)
-    ∙ (λ i. changes_below changes i ++ where_all (is_between [] (255 ∷ [])) (own_spans change) (below_ends (spans_from change.version change.rows)) i)
+    where-append (is_between [] labels_end) (of_changes own_spans changes) (own_spans change)
+    ∙ (λ i. changes_below changes i ++ where_all (is_between [] labels_end) (own_spans change) (below_ends (spans_from change.version change.rows)) i)
 
 -- what passes a test among the entries of a map
 back : (m : Map) → from_entries (entries m) ≡ m
@@ -176,15 +177,15 @@ module _ (base : List Span) (t : HubTables) (are : AreTables t) (spans : AreSpan
   base_plain : AllByRecursion IsPlain base
   base_plain = let le = base_small in spans_plain t.base.number (omega (arith, le)) base (subst (AllByRecursion HasPlainId) (sym spans.rows) plain.base) spans.firsts
 
-  all_below : where_label (is_between [] (255 ∷ [])) all ≡ all
+  all_below : where_label (is_between [] labels_end) all ≡ all
   all_below =
-      where-append (is_between [] (255 ∷ [])) (of_changes own_spans t.changes) (map span_entry base)
-      ∙ (λ i. changes_below t.changes i ++ where_all (is_between [] (255 ∷ [])) (map span_entry base) (below_ends base) i)
+      where-append (is_between [] labels_end) (of_changes own_spans t.changes) (map span_entry base)
+      ∙ (λ i. changes_below t.changes i ++ where_all (is_between [] labels_end) (map span_entry base) (below_ends base) i)
 
-  told : (p : List ℕ → Bool) (es : List Entry) → where_label p all ≡ es → is_sorted bytes_cmp es ≡ true → where_label p (listed 7 [] (255 ∷ []) (items_in base t)) ≡ es
+  told : (p : List ℕ → Bool) (es : List Entry) → where_label p all ≡ es → is_sorted bytes_cmp es ≡ true → where_label p (listed spans_area [] labels_end (items_in base t)) ≡ es
   told p es is up =
-      passed p (retain_keys (items_in base t 7) (is_between [] (255 ∷ [])))
-      ∙ ap (λ m. entries (retain_keys m p)) (retained (is_between [] (255 ∷ [])) all ∙ ap (from_entries {R = bytes_cmp}) all_below)
+      passed p (retain_keys (items_in base t spans_area) (is_between [] labels_end))
+      ∙ ap (λ m. entries (retain_keys m p)) (retained (is_between [] labels_end) all ∙ ap (from_entries {R = bytes_cmp}) all_below)
       ∙ listed_where p all es is up
 
   base_came : (others : List Span) → AllByRecursion IsPlain others → AllByRecursion (λ s. s.first ≤ t.base.number) others → AllByRecursion (λ e. came_within 0 t.base.number e.0 ≡ true) (map span_entry others)
@@ -199,7 +200,7 @@ module _ (base : List Span) (t : HubTables) (are : AreTables t) (spans : AreSpan
   base_by (s ∷ others) plains firsts = let le = firsts.0 in let is = came_is (span_key s) s.first plains.0.first in (omega (arith, is, le), base_by others plains.1 firsts.1)
 
   -- the spans of the base
-  pub base_told : where_label (came_within 0 t.base.number) (listed 7 [] (255 ∷ []) (items_in base t)) ≡ map span_entry base
+  pub base_told : where_label (came_within 0 t.base.number) (listed spans_area [] labels_end (items_in base t)) ≡ map span_entry base
   base_told =
       told (came_within 0 t.base.number) (map span_entry base)
       (where-append (came_within 0 t.base.number) (of_changes own_spans t.changes) (map span_entry base)
@@ -209,7 +210,7 @@ module _ (base : List Span) (t : HubTables) (are : AreTables t) (spans : AreSpan
 
   each_told : (changes : List Change) → AreSmall changes → AllByRecursion (λ change. AreChanges change.rows) changes → AllByRecursion HasPlainIds changes
       → AllByRecursion (λ change. where_label (came_within change.version change.version) all ≡ own_spans change) changes
-      → AllByRecursion (λ change. where_label (came_within change.version change.version) (listed 7 [] (255 ∷ []) (items_in base t)) ≡ own_spans change) changes
+      → AllByRecursion (λ change. where_label (came_within change.version change.version) (listed spans_area [] labels_end (items_in base t)) ≡ own_spans change) changes
   each_told [] small rise plains there = tt
   each_told (change ∷ changes) small rise plains there =
       let le = small.0 in (
@@ -220,7 +221,7 @@ module _ (base : List Span) (t : HubTables) (are : AreTables t) (spans : AreSpan
       )
 
   -- and those of each change
-  pub changes_told : AllByRecursion (λ change. where_label (came_within change.version change.version) (listed 7 [] (255 ∷ []) (items_in base t)) ≡ own_spans change) t.changes
+  pub changes_told : AllByRecursion (λ change. where_label (came_within change.version change.version) (listed spans_area [] labels_end (items_in base t)) ≡ own_spans change) t.changes
   changes_told =
       let small = small_from t.base t.changes are.versions in
       each_told t.changes small are.changes plain.changes (each_there t.base.number t.changes (map span_entry base) are.lead small (base_by base base_plain spans.firsts))

@@ -14,7 +14,7 @@ use Rattle.hub_format.specs.Areas.{base_rows_area, change_rows_area, format_area
 use Rattle.hub_format.specs.Areas.{state_area, versions_area}
 use Rattle.hub_format.specs.Edits.{clear_version, mark_edits, moved, put_at, puts}
 use Rattle.hub_format.specs.Format.{Entry, format_entry, own_grants, state_entry, version_entry, written_format}
-use Rattle.hub_format.specs.Pieces.{key_label, labels_end, number}
+use Rattle.hub_format.specs.Pieces.{key_label, labels_end, number, number_size}
 use Rattle.span_format.specs.Format.{Span, own_names, own_spans, span_entry, span_key, spans_from}
 
 -- the format, and the state of version 0
@@ -36,7 +36,7 @@ hidden_by version row = hidden_under version (key_label (change_key row))
 
 -- the same for keys that stand behind a version's number
 abbrev pub hidden_names : ℕ → List Entry → List Edit
-hidden_names version names = map (λ e. hidden_under version (drop 8 e.0)) names
+hidden_names version names = map (λ e. hidden_under version (drop number_size e.0)) names
 
 -- the oldest change goes into the base: no row is put anew
 abbrev pub folded : ℕ → BaseVersion → Change → List Edit

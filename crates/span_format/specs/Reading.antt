@@ -1,12 +1,12 @@
 -- In which version a span came, read off its label.
 use Rattle.std.specs.Prelude.{◌-◌, ◌<◌, ◌^◌, ◌&&◌, ℕ, Bool, List, drop, length, nat_le}
 use Rattle.std.specs.Int.{w64, from_be_bytes}
-use Rattle.hub_format.specs.Pieces.{IsReadBack}
+use Rattle.hub_format.specs.Pieces.{IsReadBack, number_size}
 use Rattle.span_format.specs.Format.{Span}
 
 -- the number at the end of a label
 abbrev pub came : List ℕ → ℕ
-came label = from_be_bytes w64 (drop (length label - 8) label)
+came label = from_be_bytes w64 (drop (length label - number_size) label)
 
 -- it came in one of these versions
 abbrev pub came_within : ℕ → ℕ → List ℕ → Bool

@@ -8,13 +8,13 @@ ghost use Rattle.hub_format.specs.Areas.{grants_area, names_area, versions_area}
 ghost use Rattle.hub_format.specs.Edits.{clear_version};
 ghost use Rattle.hub_format.specs.Format.{grants_under};
 ghost use Rattle.hub_format.specs.Moves.{grants_moved};
-ghost use Rattle.hub_format.specs.Pieces.{change_body};
+ghost use Rattle.hub_format.specs.Pieces.{change_body, number_size};
 ghost use Rattle.span_format.specs.Edits.{folded, hidden_by, hidden_names, hidden_under};
 ghost use Rattle.span_format.specs.Format.{own_names};
 
 use crate::keys::{label_from, name_label};
 use hub_format::{
-    HubArea, behind, change_body, change_parts, clear_version, push_grants, put_state,
+    HubArea, NUMBER_SIZE, behind, change_body, change_parts, clear_version, push_grants, put_state,
 };
 use item_maps::{Edit, Item};
 use roster_base::NoMemory;
@@ -35,9 +35,9 @@ fn hide(alloc: Global, version: u64, key: &[u8]) -> Result<Edit, NoMemory>
 
 // The same for a name, whose key stands behind a version's number.
 fn hide_name(alloc: Global, version: u64, name: &Item) -> Result<Edit, NoMemory>
-    ensures { IfOk result (λ edit. edit ≡ hidden_under version (drop 8 (entry_of name.now).0)) }
+    ensures { IfOk result (λ edit. edit ≡ hidden_under version (drop number_size (entry_of name.now).0)) }
 {
-    hide(alloc, version, behind(name.label.as_slice(), 8))
+    hide(alloc, version, behind(name.label.as_slice(), NUMBER_SIZE))
 }
 
 // Adds the edits that take away what the keys of these names had before a version.
@@ -60,7 +60,7 @@ fn hide_row(alloc: Global, version: u64, row: &RowChange) -> Result<Edit, NoMemo
     ensures { IfOk result (λ edit. edit ≡ hidden_by version row.now) }
 {
     let name = name_label(alloc, 0, row.row.kind(), row.row.id())?;
-    hide(alloc, version, behind(name.as_slice(), 8))
+    hide(alloc, version, behind(name.as_slice(), NUMBER_SIZE))
 }
 
 // Adds the edits that take away what the keys of these rows had before a version, where the rows aren't stored yet.

@@ -14,7 +14,7 @@ use Rattle.sqlite.specs.Closing.{IsCopied}
 use Rattle.sqlite.proofs.Callers.{finds_again}
 use Rattle.item_store.specs.Stands.{StandsFor}
 use Rattle.sqlite.specs.declared.types.Value.{Value}
-use Rattle.sqlite.specs.declared.types.Value.TheVariants.{Null, Int, Real, Text, Blob}
+use Rattle.sqlite.specs.declared.types.Value.TheVariants.{Null, Int, Text}
 use Rattle.sqlite.specs.Order.{Row, column}
 use Rattle.sqlite.specs.Table.{Table}
 use Rattle.sqlite.specs.Tree.{Trees}
@@ -85,12 +85,10 @@ same_index row tables i only a b = go (column row 4) (subst (λ t. IsDefined t i
 
     go : (v : Value) → IsDefined item_table item_index v → IsDefined item_table i v → i ≡ item_index
     go Null x y = let key = one_key y.0 y.1 y.2 in y.3 ∙ ap₂ (λ (n : ℕ) (k : List ℕ). automatic item_table n k i.tree) key.0 key.1 ∙ ap (λ (t : ℕ). automatic item_table 0 (1 ∷ 2 ∷ []) t) trees
-    go (Int n) x y = absurd y
-    go (Real n) x y = absurd y
-    go (Blob n) x y = absurd y
     go (Text sql) x y =
         let made : y.0 ≡ x.0 = made_same (sym y.1 ∙ x.1) in
         y.2 ∙ ap₂ (λ (m : Index) (t : ℕ). record m { tree = t; table = item_table.tree }) made trees ∙ sym x.2
+    go other x y = absurd y
 
 pub same_items_schema : (old new : Database) → old.schema ≡ item_schema → IsDatabase old → IsDatabase new → new.trees ≡ old.trees → new.schema ≡ item_schema
 same_items_schema old new has p q same =

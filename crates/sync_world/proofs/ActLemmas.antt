@@ -18,6 +18,7 @@ use Rattle.hub_spec.specs.rules.Runs.{SetGrants, Steps, Wants, WantsMemory, fail
 use Rattle.hub_spec.specs.rules.States.{IsCommand, IsHub}
 use Rattle.hub_spec.specs.rules.Verdicts.{newest_in}
 use Rattle.keeper_memory.proofs.PartLemmas.{follows}
+use Rattle.keeper_memory.specs.Calls.{CallsLead}
 use Rattle.keeper_memory.specs.Commits.{followed_by}
 use Rattle.keeper_memory.specs.Kept.{KeptState, newest_kept, oldest_kept}
 use Rattle.keeper_memory.specs.Parts.{IsPartOf}
@@ -31,8 +32,8 @@ use Rattle.version_core.specs.HubStates.{HubState, newest_number, oldest_number}
 use Rattle.version_core.specs.declared.change.BaseVersion.{BaseVersion}
 use Rattle.sync_world.proofs.WholeLemmas.{is_next, oldest_is, reaches_oldest, same_with_oldest, whole_next}
 use Rattle.sync_world.proofs.WholeLemmas.{whole_with_oldest}
-use Rattle.sync_world.specs.Acts.{IsMade}
-use Rattle.sync_world.specs.Worlds.{IsWhole, whole_state, with_oldest}
+use Rattle.sync_world.specs.Acts.{IsMade, Makes}
+use Rattle.sync_world.specs.Worlds.{HeldWorld, IsWhole, whole_state, with_oldest}
 
 -- a command that makes something of the newest version
 pub record IsMaking (command : Command) (asks : BaseVersion → Outcome → Type 0) : Type 0 where
@@ -48,14 +49,22 @@ publishing set at is = record { is = is; does = λ state outcome asked. (outcome
 pub granting : (list : List GrantEntry) (at : ℤ) → IsCommand (SetGrants list at) → IsMaking (SetGrants list at) (λ version. GrantsMake version list at)
 granting list at is = record { is = is; does = λ state outcome asked. (outcome, asked, refl, refl); fails = refl; wants = refl; rests = λ state. refl }
 
--- what became of the state
-pub record Came (command : Command) (given : Result Published HubError) (before : HubState) (gone : List BaseVersion) (kept : KeptState) (faults faults' : ℕ) : Type 0 where
-  pub whole : IsWhole gone kept
+-- the step that was made, and the answer to it
+pub record Told (command : Command) (given : Result Published HubError) (before after : HubState) (faults faults' : ℕ) : Type 0 where
   pub answer : Answer
   pub failed : ℕ
   pub count : CountsFailed faults faults' failed
-  pub step : Steps command before answer (whole_state gone kept) failed
-  pub is : IsMade given answer (whole_state gone kept)
+  pub step : Steps command before answer after failed
+  pub made : IsMade given answer after
+
+-- as the clause of a call says it
+pub told_makes : {command : Command} {given : Result Published HubError} {before after : HeldWorld} → Told command given before.state after.state before.faults after.faults → CallsLead before.plan after.plan → Makes command given before after
+told_makes told calls = record { answer = told.answer; failed = told.failed; count = told.count; step = told.step; calls = calls; is = told.made }
+
+-- what became of the state
+pub record Came (command : Command) (given : Result Published HubError) (before : HubState) (gone : List BaseVersion) (kept : KeptState) (faults faults' : ℕ) : Type 0 where
+  pub whole : IsWhole gone kept
+  pub told : Told command given before (whole_state gone kept) faults faults'
 
 module _ (command : Command) (asks : BaseVersion → Outcome → Type 0) (m : IsMaking command asks) (gone : List BaseVersion) (kept : KeptState) (whole : IsWhole gone kept) (reach : (oldest_kept kept.versions).number < length gone) (faults faults' : ℕ) where
   abbrev state : HubState
@@ -95,41 +104,67 @@ module _ (command : Command) (asks : BaseVersion → Outcome → Type 0) (m : Is
     pub same_after : whole_state gone kept' ≡ after
     same_after = is_next gone kept kept' whole after hub_after part_after (step_grows command state (Made (Leads next)) after 0 led).grew within
 
-  rested : (kept' : KeptState) → kept' ≡ kept → (given : Result Published HubError) (answer : Answer) (failed : ℕ) → CountsFailed faults faults' failed → Steps command state answer state failed → IsMade given answer state
-      → Came command given state gone kept' faults faults'
-  rested kept' same given answer failed count step is =
-      subst (λ (k : KeptState). Came command given state gone k faults faults') (sym same) (record { whole = whole; answer = answer; failed = failed; count = count; step = step; is = is })
+  rested : (kept' : KeptState) → kept' ≡ kept → (given : Result Published HubError) → Told command given state state faults faults' → Came command given state gone kept' faults faults'
+  rested kept' same given told = subst (λ (k : KeptState). Came command given state gone k faults faults') (sym same) (record { whole = whole; told = told })
 
-  moved : (given : Result Published HubError) (next : BaseVersion) (kept' : KeptState) (answer : Answer) (failed : ℕ) → (ask : asks (newest_kept kept.versions) (Leads next)) (added : kept' ≡ followed_by kept next)
-      → CountsFailed faults faults' failed → Steps command state answer (state_with state (Leads next)) failed → IsMade given answer (state_with state (Leads next)) → Came command given state gone kept' faults faults'
-  moved given next kept' answer failed ask added count step is =
+  moved : (given : Result Published HubError) (next : BaseVersion) (kept' : KeptState) → (ask : asks (newest_kept kept.versions) (Leads next)) (added : kept' ≡ followed_by kept next)
+      → Told command given state (state_with state (Leads next)) faults faults' → Came command given state gone kept' faults faults'
+  moved given next kept' ask added told =
       let same = sym (same_after next ask kept' added) in
-      record {
-        whole = whole_after next ask kept' added;
-        answer = answer;
-        failed = failed;
-        count = count;
-        step = subst (λ (s : HubState). Steps command state answer s failed) same step;
-        is = subst (IsMade given answer) same is;
-      }
+      record { whole = whole_after next ask kept' added; told = subst (λ (s : HubState). Told command given state s faults faults') same told }
 
   newest_told : (newest_kept kept.versions).number ≡ newest_number state
   newest_told = ap (λ (v : BaseVersion). v.number) newest_same ∙ newest_has state whole.hub.state
 
   pub came : (given : Result Published HubError) (kept' : KeptState) → MakesNext asks given kept kept' → CountsFault faults faults' given → Came command given state gone kept' faults faults'
   came (Ok (published.New number)) kept' (next, adds, is) count =
-      moved (Ok (published.New number)) next kept' (Made (Leads next)) 0 adds.asked adds.added (inl (refl, count)) (Acts (m.does state (Leads next) (asked (Leads next) adds.asked)) refl) (next, refl, is)
+      moved (Ok (published.New number)) next kept' adds.asked adds.added (record {
+        answer = Made (Leads next);
+        failed = 0;
+        count = inl (refl, count);
+        step = Acts (m.does state (Leads next) (asked (Leads next) adds.asked)) refl;
+        made = (next, refl, is);
+      })
   came (Ok (published.Same number)) kept' (ask, same, is) count =
-      rested kept' same (Ok (published.Same number)) (Made Unchanged) 0 (inl (refl, count)) (Acts (m.does state Unchanged (asked Unchanged ask)) refl) (refl, is ∙ newest_told)
+      rested kept' same (Ok (published.Same number)) (record {
+        answer = Made Unchanged;
+        failed = 0;
+        count = inl (refl, count);
+        step = Acts (m.does state Unchanged (asked Unchanged ask)) refl;
+        made = (refl, is ∙ newest_told);
+      })
   came (Err (error.Refused fault)) kept' (ask, same) count =
-      rested kept' same (Err (error.Refused fault)) (Made (Refuses fault)) 0 (inl (refl, count)) (Acts (m.does state (Refuses fault) (asked (Refuses fault) ask)) refl) refl
+      rested kept' same (Err (error.Refused fault)) (record {
+        answer = Made (Refuses fault);
+        failed = 0;
+        count = inl (refl, count);
+        step = Acts (m.does state (Refuses fault) (asked (Refuses fault) ask)) refl;
+        made = refl;
+      })
   came (Err error.Keeper) kept' (inl same) count =
-      rested kept' same (Err error.Keeper) KeeperFailed 1 (inr (refl, count)) (Fails (inl refl) (sym m.fails) refl) refl
+      rested kept' same (Err error.Keeper) (record {
+        answer = KeeperFailed;
+        failed = 1;
+        count = inr (refl, count);
+        step = Fails (inl refl) (sym m.fails) refl;
+        made = refl;
+      })
   came (Err error.Keeper) kept' (inr (next, adds)) count =
-      moved (Err error.Keeper) next kept' KeeperFailed 1 adds.asked adds.added (inr (refl, count))
-      (Fails (inr (Made (Leads next), m.does state (Leads next) (asked (Leads next) adds.asked))) (sym m.fails) refl) refl
+      moved (Err error.Keeper) next kept' adds.asked adds.added (record {
+        answer = KeeperFailed;
+        failed = 1;
+        count = inr (refl, count);
+        step = Fails (inr (Made (Leads next), m.does state (Leads next) (asked (Leads next) adds.asked))) (sym m.fails) refl;
+        made = refl;
+      })
   came (Err error.NoMemory) kept' same count =
-      rested kept' same (Err error.NoMemory) OutOfMemory 0 (inl (refl, count)) (WantsMemory (m.rests state) (sym m.wants) refl) refl
+      rested kept' same (Err error.NoMemory) (record {
+        answer = OutOfMemory;
+        failed = 0;
+        count = inl (refl, count);
+        step = WantsMemory (m.rests state) (sym m.wants) refl;
+        made = refl;
+      })
 
 -- once the oldest version is held
 module _ (command : Command) (asks : BaseVersion → Outcome → Type 0) (m : IsMaking command asks) (gone : List BaseVersion) (kept : KeptState) (whole : IsWhole gone kept) (faults faults' : ℕ) where
@@ -146,23 +181,29 @@ module _ (command : Command) (asks : BaseVersion → Outcome → Type 0) (m : Is
       (with_oldest_came given kept' (subst (λ (k : KeptState). MakesNext asks given k kept') same makes) count)
 
   -- the keeper failed, or memory ran out, before the hub did anything
-  pub held_not : (e : KeeperError) → CountsError faults faults' e → (answer : Answer) × (failed : ℕ) × CountsFailed faults faults' failed × Steps command (whole_state gone kept) answer (whole_state gone kept) failed
-      × IsMade (Err (error_of_keeper e)) answer (whole_state gone kept)
-  held_not keeper.Failed count = (KeeperFailed, 1, inr (refl, count), Fails (inl refl) (sym m.fails) refl, refl)
-  held_not keeper.NoMemory count = (OutOfMemory, 0, inl (refl, count), WantsMemory (m.rests (whole_state gone kept)) (sym m.wants) refl, refl)
+  pub held_not : (e : KeeperError) → CountsError faults faults' e → Told command (Err (error_of_keeper e)) (whole_state gone kept) (whole_state gone kept) faults faults'
+  held_not keeper.Failed count = record {
+    answer = KeeperFailed;
+    failed = 1;
+    count = inr (refl, count);
+    step = Fails (inl refl) (sym m.fails) refl;
+    made = refl;
+  }
+  held_not keeper.NoMemory count = record {
+    answer = OutOfMemory;
+    failed = 0;
+    count = inl (refl, count);
+    step = WantsMemory (m.rests (whole_state gone kept)) (sym m.wants) refl;
+    made = refl;
+  }
 
   -- the same, of what was held then
   pub held_failed : (e : KeeperError) (h : HubError) (gone' : List BaseVersion) (mid : KeptState) → h ≡ error_of_keeper e → gone' ≡ gone → mid ≡ kept → CountsError faults faults' e
-      → (answer : Answer) × (failed : ℕ) × CountsFailed faults faults' failed × Steps command (whole_state gone kept) answer (whole_state gone' mid) failed × IsMade (Err h) answer (whole_state gone' mid)
+      → Told command (Err h) (whole_state gone kept) (whole_state gone' mid) faults faults'
   held_failed e h gone' mid is held same count =
-      let (answer, failed, counts, step, made) = held_not e count in
-      let state : whole_state gone kept ≡ whole_state gone' mid = λ i. whole_state (sym held i) (sym same i) in (
-        answer,
-        failed,
-        counts,
-        subst (λ (s : HubState). Steps command (whole_state gone kept) answer s failed) state step,
-        subst (λ (r : HubError). IsMade (Err r) answer (whole_state gone' mid)) (sym is) (subst (IsMade (Err (error_of_keeper e)) answer) state made),
-      )
+      let state : whole_state gone kept ≡ whole_state gone' mid = λ i. whole_state (sym held i) (sym same i) in
+      subst (λ (r : HubError). Told command (Err r) (whole_state gone kept) (whole_state gone' mid) faults faults') (sym is)
+      (subst (λ (s : HubState). Told command (Err (error_of_keeper e)) (whole_state gone kept) s faults faults') state (held_not e count))
 
 -- what a hub's call says of what its keeper keeps
 pub keeper_makes : (asks : BaseVersion → Outcome → Type 0) (given : Result Published HubError) (hub hub' : HeldHub) (kept kept' : KeptState) → KeeperFits (λ k. k ≡ kept') hub'
@@ -171,3 +212,12 @@ pub keeper_makes : (asks : BaseVersion → Outcome → Type 0) (given : Result P
 keeper_makes asks given hub hub' kept kept' fits told =
     let (before, stood, same, makes) = told kept' (fits kept' refl) in
     subst (λ (k : KeptState). MakesNext asks given k kept') (same refl) makes
+
+-- what became of the state, from what the calls say that hold the oldest version and have the hub make something
+pub called_came : {command : Command} {asks : BaseVersion → Outcome → Type 0} {gone gone' : List BaseVersion} {kept mid kept' : KeptState} {before held now : ℕ} {given : Result Published HubError} {hub hub' : HeldHub}
+    → IsMaking command asks → IsWhole gone kept → KeeperFits (λ k. k ≡ kept') hub'
+    → ((after : KeptState) → IsStanding hub' after → (from : KeptState) × IsStanding hub from × (after ≡ kept' → from ≡ mid) × MakesNext asks given from after)
+    → mid ≡ kept → gone' ≡ with_oldest (oldest_kept kept.versions) gone → held ≡ before → CountsFault held now given → Came command given (whole_state gone kept) gone' kept' before now
+called_came {command} {asks} {gone} {gone'} {kept} {mid} {kept'} {before} {held} {now} {given} {hub} {hub'} m whole fits told same holds quiet count =
+    held_came command asks m gone kept whole before now given gone' mid kept' same holds (keeper_makes asks given hub hub' mid kept' fits told)
+    (subst (λ (n : ℕ). CountsFault n now given) quiet count)

@@ -50,7 +50,7 @@ none_so_far at bytes kept world said none = record {
   wire = begins (bytes_left bytes) kept none;
 }
 
-module _ (at : ℤ) (bytes left left' kept kept' : List ℕ) (count : ℕ) (before mid now : HeldWorld) (said said' said'' : List Saying) (so_far : SoFar at bytes left kept count before mid said said') where
+module _ {at : ℤ} {bytes left left' kept kept' : List ℕ} {count : ℕ} {before mid now : HeldWorld} {said said' said'' : List Saying} (so_far : SoFar at bytes left kept count before mid said said') where
   module _ (request : Request) (read : IsRead (bytes_left left) (bytes_left left') kept kept' request) (acted : Acted (IsTaken request at) mid now said' said'') where
     abbrev reply : Reply
     reply = acted.is.0
@@ -142,15 +142,8 @@ left_none number (x ∷ xs) ys none = absurd (omega (arith, none))
 -- ---- one turn
 
 source_stop : (e : WireFault) (before now : ℕ) → SourceCause {T = Request} before now (Err e) → SourceStop (Some e) before now
-source_stop fault.End before now cause = cause
-source_stop fault.Cut before now cause = cause
-source_stop fault.Head before now cause = cause
-source_stop fault.HeadTooLong before now cause = cause
-source_stop fault.Length before now cause = cause
-source_stop fault.BodyTooLong before now cause = cause
-source_stop fault.Chunked before now cause = cause
 source_stop fault.Source before now cause = cause.1
-source_stop fault.NoMemory before now cause = cause
+source_stop other before now cause = cause
 
 -- no request can be read of bytes in memory
 pub is_stopped : (left left' taken : List ℕ) (old new : Held) (e : WireFault) → old.fault ≡ None → OnStream old.fault (prepend_known old.kept (Some left)) (prepend_known new.kept (Some left')) (Err e)

@@ -1,26 +1,26 @@
 -- What becomes of the request of an exchange.
-use Rattle.std.proofs.Common.{◌≡◌, ℕ, ℤ, ◌-◌, ◌^◌, ◌≤◌, List, Option, Some, None, Result, Ok, Err, sym, subst}
+use Rattle.std.proofs.Common.{◌≡◌, ℕ, ℤ, List, Option, Some, None, Result, Ok, Err, sym, subst}
 use Rattle.hub_spec.specs.requests.Requests.{wanted_by}
-use Rattle.hub_spec.specs.rules.Runs.{Replied, Steps, Take}
+use Rattle.hub_spec.specs.rules.Runs.{Replied, Take}
 use Rattle.keeper_memory.specs.Calls.{CallsLead}
 use Rattle.outside_ports.specs.declared.failed.IoError.{IoError}
 use Rattle.outside_ports.specs.declared.failed.IoError.TheVariants as io_error
-use Rattle.rest_provider.specs.Steps.{CountsFailed}
 use Rattle.status_info.specs.declared.reply.Reply.{Reply}
 use Rattle.status_info.specs.declared.request.Request.{Request}
 use Rattle.sync_world.proofs.WalkLemmas.{by_step}
+use Rattle.sync_world.specs.Acts.{TakesOne}
 use Rattle.sync_world.specs.Deliveries.{Becomes, Carried, Delivered, Gives, IsCome, Notes, OnCome, Scene, coming}
 use Rattle.sync_world.specs.Happenings.{Passed}
 use Rattle.sync_world.specs.Own.{IsOwnText}
 use Rattle.sync_world.specs.Planned.{events_aside, events_at}
-use Rattle.sync_world.specs.Worlds.{HeldWorld}
+use Rattle.sync_world.specs.Worlds.{HeldWorld, IsCounted}
 use Rattle.sync_world.specs.declared.past.Past.{Past}
 use Rattle.sync_world.specs.declared.traffic.Exchange.{Exchange}
 use Rattle.sync_world.specs.declared.traffic.Fate.{Fate}
 
 -- the hub's own reply to a request that it took
-pub gives : (request : Request) (at : ℤ) (reply : Reply) (text : List ℕ) (before after : HeldWorld) → before.faults ≤ 2 ^ 64 - 1
-    → (failed : ℕ) × CountsFailed before.faults after.faults failed × Steps (Take (wanted_by request) at) before.state (Replied reply) after.state failed → CallsLead before.plan after.plan → IsOwnText reply text
+pub gives : (request : Request) (at : ℤ) (reply : Reply) (text : List ℕ) (before after : HeldWorld) → IsCounted before
+    → TakesOne request at reply before after → CallsLead before.plan after.plan → IsOwnText reply text
     → Gives request at before after text
 gives request at reply text before after fits (failed, count, step) calls own = (reply, by_step (Take (wanted_by request) at) (Replied reply) before after failed fits count step calls, own.text_is)
 

@@ -35,6 +35,11 @@ use Rattle.sync_world.proofs.WalkLemmas.{walk_grew}
 use Rattle.sync_world.specs.Walks.{Walks}
 use Rattle.sync_world.specs.Worlds.{HeldWorld}
 
+-- by whether the reply of another exchange comes
+pub by_stale : {P : Type 0} (stale : Bool) → (stale ≡ true → P) → (stale ≡ false → P) → P
+by_stale true late own = late refl
+by_stale false late own = own refl
+
 rises : (before now failed : ℕ) → CountsFailed before now failed → failed ≡ 1 → Rose before now
 rises before now failed (inl (none, same)) once = absurd (omega (arith, none, once))
 rises before now failed (inr (one, more)) once = omega (arith, more)
@@ -72,10 +77,10 @@ on_ok A B (Ok done) here = inl here
 on_ok A B (Err e) here = tt
 
 -- what came is an exchange
-pub exchanged : (q : Request) (result : Result (Unit {0}) IoError) (rose : Type 0) (kept : List ℕ) (sent sent' : List Request) (before now : HeldWorld) (after : LinkState) → Walks before now
+pub exchanged : {q : Request} {result : Result (Unit {0}) IoError} {rose : Type 0} {kept : List ℕ} {sent sent' : List Request} {before now : HeldWorld} {after : LinkState} → Walks before now
     → (sent' ≡ q ∷ sent) ⊎ ((result ≡ Err io_error.NoMemory) × (sent' ≡ sent)) → OnOk result (IsOwn (world_state sent before) (world_state sent' now) q kept ⊎ (rose × IsLate sent kept))
     → after ≡ world_state sent' now → Exchanged q result rose kept (world_state sent before) after
-exchanged q result rose kept sent sent' before now after walks sends replies same =
+exchanged {q} {result} {rose} {kept} {sent} {sent'} {before} {now} {after} walks sends replies same =
     subst (Exchanged q result rose kept (world_state sent before)) (sym same) (record { grew = walk_grew before now walks; sent = sends; counts = walks.by.counts; replies = replies })
 
 -- ---- what others did before
@@ -137,10 +142,7 @@ own_late xs before after q sent text can own = by_echo q.echo refl can.echo
 pub reply_late : {V E : Type 0} (items : V → List ℕ) (r : Result V E) (stale : Bool) (xs : List Request) (before after : HeldWorld) (q : Request) (sent : List Request) → CanSend q
     → (stale ≡ false → IfOk r (λ v. IsOwn (world_state xs before) (world_state xs after) q (items v))) → (stale ≡ true → IfOk r (λ v. IsLate sent (items v))) → IfOk r (λ v. IsLate (q ∷ sent) (items v))
 reply_late items (Ok v) stale xs before after q sent can own late =
-    elim stale as (λ b. stale ≡ b → IsLate (q ∷ sent) (items v)) [
-      | true ↦ λ e. late_more sent q (items v) (late e)
-      | false ↦ λ e. own_late xs before after q sent (items v) can (own e)
-    ] refl
+    by_stale stale (λ e. late_more sent q (items v) (late e)) (λ e. own_late xs before after q sent (items v) can (own e))
 reply_late items (Err e) stale xs before after q sent can own late = tt
 
 -- what is so of the reply is so of what came of it
@@ -173,29 +175,41 @@ pub noted_or : (past past' : List Past) (q : Request) (broken broken' : Type 0) 
 noted_or past past' q broken broken' into (inl sent) = inl sent
 noted_or past past' q broken broken' into (inr (is, same)) = inr (into is, ap requests_in same)
 
+-- what every exchange of a link leaves
+pub record GoesOn (old new : HeldLink) : Type 0 where
+  pub walks : Walks (world_of old) (world_of new)
+  pub clock : new.clock ≡ old.clock
+  pub fates : new.fates ≡ old.fates
+
+-- what was carried with the number and the fate that were planned
+carried_as : (old new : HeldLink) (q : Request) (came : Option (List ℕ)) (fate : Fate) (number : ℕ) → number ≡ new.asked → fate ≡ fate_at old.fates new.asked
+    → Carried (record { number = number; at = old.clock; fate = fate }) q (scene_of old) (scene_of new) came
+    → Carried (record { number = new.asked; at = old.clock; fate = fate_at old.fates new.asked }) q (scene_of old) (scene_of new) came
+carried_as old new q came fate number is_number is_fate carried =
+    subst (λ (f : Fate). Carried (record { number = new.asked; at = old.clock; fate = f }) q (scene_of old) (scene_of new) came) is_fate
+    (subst (λ (n : ℕ). Carried (record { number = n; at = old.clock; fate = fate }) q (scene_of old) (scene_of new) came) is_number carried)
+
 -- one that wanted no memory
-pub came_leads : (old new : HeldLink) (q : Request) (came : Option (List ℕ)) (fate : Fate) (number : ℕ) → number ≡ one_more old.asked → new.asked ≡ one_more old.asked → fate ≡ fate_at old.fates number → Walks (world_of old) (world_of new)
-    → new.sent ≡ q ∷ old.sent → new.clock ≡ old.clock → new.fates ≡ old.fates → new.wanted ≡ old.wanted
+pub came_leads : {old new : HeldLink} {q : Request} {came : Option (List ℕ)} {fate : Fate} {number : ℕ} → GoesOn old new → number ≡ one_more old.asked → new.asked ≡ one_more old.asked
+    → fate ≡ fate_at old.fates number → new.sent ≡ q ∷ old.sent → new.wanted ≡ old.wanted
     → Carried (record { number = number; at = old.clock; fate = fate }) q (scene_of old) (scene_of new) came → Keeps (is_stale fate) came old new → LinkLeads old new
-came_leads old new q came fate number is_number asked is_fate walks sent clock fates wanted carried keeps =
+came_leads {old} {new} {q} {came} {fate} {number} on is_number asked is_fate sent wanted carried keeps =
     let same : number ≡ new.asked = is_number ∙ sym asked in
     let planned : fate ≡ fate_at old.fates new.asked = is_fate ∙ ap (fate_at old.fates) same in
     let round : Round old new = record {
       asked = asked;
       request = q;
       came = came;
-      carried = subst (λ (f : Fate). Carried (record { number = new.asked; at = old.clock; fate = f }) q (scene_of old) (scene_of new) came) planned
-          (subst (λ (n : ℕ). Carried (record { number = n; at = old.clock; fate = fate }) q (scene_of old) (scene_of new) came) same carried);
+      carried = carried_as old new q came fate number same planned carried;
       keeps = subst (λ (f : Fate). Keeps (is_stale f) came old new) planned keeps;
-      clock = clock;
-      fates = fates;
+      clock = on.clock;
+      fates = on.fates;
     } in
-    record { walks = walks; more = q ∷ []; sent = sent; clock = clock; fates = fates; rounds = λ none. (sym wanted ∙ none, (new ∷ [], (round, refl))) }
+    record { walks = on.walks; more = q ∷ []; sent = sent; clock = on.clock; fates = on.fates; rounds = λ none. (sym wanted ∙ none, (new ∷ [], (round, refl))) }
 
 -- and one that wanted memory
-pub broken_leads : (old new : HeldLink) (q : Request) (broken : Type 0) → Walks (world_of old) (world_of new) → (new.sent ≡ q ∷ old.sent) ⊎ (broken × (new.sent ≡ old.sent)) → new.clock ≡ old.clock → new.fates ≡ old.fates → new.wanted ≡ true
-    → LinkLeads old new
-broken_leads old new q broken walks (inl sent) clock fates wanted =
-    record { walks = walks; more = q ∷ []; sent = sent; clock = clock; fates = fates; rounds = λ none. absurd (cc (none, wanted)) }
-broken_leads old new q broken walks (inr (is, same)) clock fates wanted =
-    record { walks = walks; more = []; sent = same; clock = clock; fates = fates; rounds = λ none. absurd (cc (none, wanted)) }
+pub broken_leads : {old new : HeldLink} {q : Request} {broken : Type 0} → GoesOn old new → (new.sent ≡ q ∷ old.sent) ⊎ (broken × (new.sent ≡ old.sent)) → new.wanted ≡ true → LinkLeads old new
+broken_leads {old} {new} {q} {broken} on (inl sent) wanted =
+    record { walks = on.walks; more = q ∷ []; sent = sent; clock = on.clock; fates = on.fates; rounds = λ none. absurd (cc (none, wanted)) }
+broken_leads {old} {new} {q} {broken} on (inr (is, same)) wanted =
+    record { walks = on.walks; more = []; sent = same; clock = on.clock; fates = on.fates; rounds = λ none. absurd (cc (none, wanted)) }

@@ -1,21 +1,20 @@
 -- What comes to pass at an exchange, event by event.
-use Rattle.std.proofs.Common.{◌≡◌, ℕ, ℤ, ◌-◌, ◌^◌, ◌≤◌, Bool, true, false, cond, List, [], ◌∷◌, ◌++◌, Option, Some}
+use Rattle.std.proofs.Common.{◌≡◌, ℕ, ℤ, Bool, true, false, cond, List, [], ◌∷◌, ◌++◌, Option, Some}
 use Rattle.std.proofs.Common.{None, refl, sym, ap, subst, ◌∙◌}
 use Rattle.std.proofs.lemmas.Grind.{flat_map-append}
 use Rattle.std.proofs.lemmas.List.{append_assoc, append-nil}
 use Rattle.std.specs.Prelude.{filter, not}
 use Rattle.hub_spec.specs.requests.Requests.{wanted_by}
-use Rattle.hub_spec.specs.rules.Runs.{Replied, Step, Steps, Take}
+use Rattle.hub_spec.specs.rules.Runs.{Replied, Step, Take}
 use Rattle.keeper_memory.specs.Calls.{CallsLead}
-use Rattle.rest_provider.specs.Steps.{CountsFailed}
 use Rattle.status_info.specs.declared.reply.Reply.{Reply}
 use Rattle.status_info.specs.declared.request.Request.{Request}
 use Rattle.sync_world.proofs.WalkLemmas.{by_step}
-use Rattle.sync_world.specs.Acts.{Acted, Done, once}
+use Rattle.sync_world.specs.Acts.{Acted, Done, TakesOne, once}
 use Rattle.sync_world.specs.Happenings.{AreHappenings, IsHappening, IsTakenAgain, Passed, said_of, steps_of}
 use Rattle.sync_world.specs.Planned.{IsTakenOut, events_aside, events_at, is_at}
 use Rattle.sync_world.specs.Walks.{WalksBy, by_both, by_none}
-use Rattle.sync_world.specs.Worlds.{HeldWorld}
+use Rattle.sync_world.specs.Worlds.{HeldWorld, IsCounted}
 use Rattle.sync_world.specs.declared.acts.Saying.{Saying}
 use Rattle.sync_world.specs.declared.past.Past.{Past}
 use Rattle.sync_world.specs.declared.traffic.Event.{Event}
@@ -23,8 +22,8 @@ use Rattle.sync_world.specs.declared.traffic.Event.{Event}
 -- ---- one event
 
 -- a request that was sent is taken again
-pub taken_again : (at : ℤ) (asked : Option Request) (request : Request) (reply : Reply) (before after : HeldWorld) (said : List Saying) → before.faults ≤ 2 ^ 64 - 1 → asked ≡ Some request
-    → (failed : ℕ) × CountsFailed before.faults after.faults failed × Steps (Take (wanted_by request) at) before.state (Replied reply) after.state failed → CallsLead before.plan after.plan
+pub taken_again : (at : ℤ) (asked : Option Request) (request : Request) (reply : Reply) (before after : HeldWorld) (said : List Saying) → IsCounted before → asked ≡ Some request
+    → TakesOne request at reply before after → CallsLead before.plan after.plan
     → Acted (IsTakenAgain at asked) before after said said
 taken_again at asked request reply before after said fits is (failed, count, step) calls = subst (λ (o : Option Request). Acted (IsTakenAgain at o) before after said said) (sym is) (record {
   done = once (Take (wanted_by request) at) (Replied reply) after.state [];
@@ -89,9 +88,9 @@ all_aside p (x ∷ xs) none =
       | false ↦ λ e. ap (λ ys. x ∷ ys) (all_aside p xs e)
     ] none
 
-module _ (past : List Past) (at : ℤ) (exchange : ℕ) (first now next : List Event) (before mid after : HeldWorld) (said said' said'' : List Saying) (so : SoPassed past at exchange first now before mid said said') where
-  pub so_on : (event : Event) → IsTakenOut exchange now next (Some event) → Acted (IsHappening past at event.happening) mid after said' said'' → SoPassed past at exchange first next before after said said''
-  so_on event out acted = record {
+module _ {past : List Past} {at : ℤ} {exchange : ℕ} {first now : List Event} {before mid : HeldWorld} {said said' : List Saying} (so : SoPassed past at exchange first now before mid said said') where
+  pub so_on : {next : List Event} {after : HeldWorld} {said'' : List Saying} (event : Event) → IsTakenOut exchange now next (Some event) → Acted (IsHappening past at event.happening) mid after said' said'' → SoPassed past at exchange first next before after said said''
+  so_on {next} {after} {said''} event out acted = record {
     front = so.front ++ event ∷ [];
     split = so.split ∙ ap (λ (events : List Event). so.front ++ events) out.0 ∙ sym (append_assoc so.front (event ∷ []) (events_at exchange next));
     aside = out.1 ∙ so.aside;
@@ -99,8 +98,8 @@ module _ (past : List Past) (at : ℤ) (exchange : ℕ) (first now next : List E
   }
 
   -- none is left
-  pub all_passed : IsTakenOut exchange now next None → Passed past at (events_at exchange first) before mid said said'
+  pub all_passed : {next : List Event} → IsTakenOut exchange now next None → Passed past at (events_at exchange first) before mid said said'
   all_passed out = subst (λ (events : List Event). Passed past at events before mid said said') (sym (so.split ∙ ap (λ (events : List Event). so.front ++ events) out.0 ∙ append-nil so.front)) so.passed
 
-  pub all_left : IsTakenOut exchange now next None → next ≡ events_aside exchange first
+  pub all_left : {next : List Event} → IsTakenOut exchange now next None → next ≡ events_aside exchange first
   all_left out = out.1 ∙ sym (all_aside (is_at exchange) now out.0) ∙ so.aside

@@ -14,16 +14,16 @@ use Rattle.rest_provider.proofs.Running.{counts_one}
 use Rattle.rest_provider.specs.Steps.{CountsFailed}
 use Rattle.status_info.specs.declared.reply.Reply.{Reply}
 use Rattle.status_info.specs.declared.request.Request.{Request}
-use Rattle.sync_world.specs.Acts.{Makes}
+use Rattle.sync_world.specs.Acts.{Makes, TakesOne}
 use Rattle.sync_world.specs.Walks.{Walks, WalksBy}
-use Rattle.sync_world.specs.Worlds.{HeldWorld}
+use Rattle.sync_world.specs.Worlds.{HeldWorld, IsCounted}
 
 -- a count of keeper's failures doesn't fall
 pub counts_on : (before now failed : ℕ) → before ≤ 2 ^ 64 - 1 → CountsFailed before now failed → before ≤ now
 counts_on before now failed fits (inl (none, same)) = omega (arith, same)
 counts_on before now failed fits (inr (one, more)) = omega (arith, more, fits)
 
-pub by_step : (command : Command) (answer : Answer) (before after : HeldWorld) (failed : ℕ) → before.faults ≤ 2 ^ 64 - 1 → CountsFailed before.faults after.faults failed
+pub by_step : (command : Command) (answer : Answer) (before after : HeldWorld) (failed : ℕ) → IsCounted before → CountsFailed before.faults after.faults failed
     → Steps command before.state answer after.state failed → CallsLead before.plan after.plan → WalksBy (record { command = command; answer = answer; after = after.state } ∷ []) before after
 by_step command answer before after failed fits count step calls = record {
   failed = failed;
@@ -34,22 +34,22 @@ by_step command answer before after failed fits count step calls = record {
   calls = calls;
 }
 
-walk_step : (command : Command) (answer : Answer) (before after : HeldWorld) (failed : ℕ) → before.faults ≤ 2 ^ 64 - 1 → CountsFailed before.faults after.faults failed
+walk_step : (command : Command) (answer : Answer) (before after : HeldWorld) (failed : ℕ) → IsCounted before → CountsFailed before.faults after.faults failed
     → Steps command before.state answer after.state failed → CallsLead before.plan after.plan → Walks before after
 walk_step command answer before after failed fits count step calls =
     record { steps = record { command = command; answer = answer; after = after.state } ∷ []; by = by_step command answer before after failed fits count step calls }
 
 -- a request is taken
-pub walk_take : (request : Request) (at : ℤ) (reply : Reply) (before after : HeldWorld) → before.faults ≤ 2 ^ 64 - 1
-    → (failed : ℕ) × CountsFailed before.faults after.faults failed × Steps (Take (wanted_by request) at) before.state (Replied reply) after.state failed → CallsLead before.plan after.plan → Walks before after
+pub walk_take : (request : Request) (at : ℤ) (reply : Reply) (before after : HeldWorld) → IsCounted before
+    → TakesOne request at reply before after → CallsLead before.plan after.plan → Walks before after
 walk_take request at reply before after fits (failed, count, step) calls = walk_step (Take (wanted_by request) at) (Replied reply) before after failed fits count step calls
 
 -- a set is published, or grants are changed
-pub walk_makes : (command : Command) (given : Result Published HubError) (before after : HeldWorld) → before.faults ≤ 2 ^ 64 - 1 → Makes command given before after → Walks before after
+pub walk_makes : (command : Command) (given : Result Published HubError) (before after : HeldWorld) → IsCounted before → Makes command given before after → Walks before after
 walk_makes command given before after fits makes = walk_step command makes.answer before after makes.failed fits makes.count makes.step makes.calls
 
 -- the hub is opened again
-pub walk_reopens : (given : Result (Unit {0}) HubError) (before after : HeldWorld) → before.faults ≤ 2 ^ 64 - 1 → after.state ≡ before.state → CountsFault before.faults after.faults given → RefusesNothing given
+pub walk_reopens : (given : Result (Unit {0}) HubError) (before after : HeldWorld) → IsCounted before → after.state ≡ before.state → CountsFault before.faults after.faults given → RefusesNothing given
     → CallsLead before.plan after.plan → Walks before after
 walk_reopens (Ok done) before after fits same count none calls = walk_step Reopen Reopened before after 0 fits (inl (refl, count)) (Acts (refl, same) refl) calls
 walk_reopens (Err error.Keeper) before after fits same count none calls = walk_step Reopen KeeperFailed before after 1 fits (inr (refl, count)) (Fails (inl same) refl refl) calls

@@ -12,6 +12,7 @@ pub mod KindCounts
 pub mod LookUps
 pub mod MarkLemmas
 pub mod MergeLemmas
+pub mod MovedLists
 pub mod NamingLemmas
 pub mod NamingRows
 pub mod Next

@@ -1,6 +1,6 @@
 //! Sets and grants that are published one after another, over a keeper of which calls fail.
 
-use crate::runs::{Turn, told_over};
+use crate::runs::{Failing, Turn, told_over};
 use std::test::Fail;
 
 // Rows without dates get that of the call, where they differ from those that stand.
@@ -66,13 +66,22 @@ const BOTH: &[Turn] = &[
     Turn::Set("sis", "delta", "a,active,1970-01-01T00:00:01Z,Quiz\n"),
 ];
 
+const NOTHING_FAILS: Failing = Failing {
+    before: 0,
+    after: 0,
+    load: 0,
+};
+
 // How many versions are kept, the calls that fail, the turns, and what is told.
-static RUNS: [(u32, (u64, u64, u64), &[Turn], &str); 7] = [
-    (1, (0, 0, 0), SETS, SETS_TOLD),
-    (9, (0, 0, 0), GRANTS, GRANTS_TOLD),
+static RUNS: [(u32, Failing, &[Turn], &str); 7] = [
+    (1, NOTHING_FAILS, SETS, SETS_TOLD),
+    (9, NOTHING_FAILS, GRANTS, GRANTS_TOLD),
     (
         1,
-        (1, 0, 0),
+        Failing {
+            before: 1,
+            ..NOTHING_FAILS
+        },
         BOTH,
         "failed 0, new 1, new 2, new 3, new 4, same 4, \
 from 3: a active 1000 Quiz sis, b active 2000 Test sis, east east-1 1 s1 since 3, ; \
@@ -81,7 +90,11 @@ a active 1000 Quiz sis, b active 2000 Test sis, c active 3000 Exam sis, east eas
     // The load behind the failed commit fails too.
     (
         0,
-        (0, 1, 2),
+        Failing {
+            after: 1,
+            load: 2,
+            ..NOTHING_FAILS
+        },
         BOTH,
         "failed 0, failed 0, new 2, new 3, new 4, same 4, \
 from 4: a active 1000 Quiz sis, b active 2000 Test sis, c active 3000 Exam sis, east east-1 1 s1 since 3, ; faults 2",
@@ -89,25 +102,39 @@ from 4: a active 1000 Quiz sis, b active 2000 Test sis, c active 3000 Exam sis, 
     // The grants fail, before and after they are kept.
     (
         0,
-        (3, 0, 0),
+        Failing {
+            before: 3,
+            ..NOTHING_FAILS
+        },
         BOTH,
         "new 1, same 1, new 2, failed 0, new 3, same 3, \
 from 3: a active 1000 Quiz sis, b active 2000 Test sis, c active 3000 Exam sis, ; faults 1",
     ),
     (
         0,
-        (0, 3, 0),
+        Failing {
+            after: 3,
+            ..NOTHING_FAILS
+        },
         BOTH,
         "new 1, same 1, new 2, failed 0, new 4, same 4, \
 from 4: a active 1000 Quiz sis, b active 2000 Test sis, c active 3000 Exam sis, east east-1 1 s1 since 3, ; faults 1",
     ),
-    (0, (0, 0, 1), BOTH, "not opened, from 0: ; faults 1"),
+    (
+        0,
+        Failing {
+            load: 1,
+            ..NOTHING_FAILS
+        },
+        BOTH,
+        "not opened, from 0: ; faults 1",
+    ),
 ];
 
 #[test]
 fn sets_and_grants_are_told(rt: HostRuntime) -> Result<(), Fail> {
-    for (keep, plan, turns, want) in &RUNS {
-        let told = told_over(&rt, rt.alloc(), *keep, *plan, turns)?;
+    for (keep, failing, turns, want) in &RUNS {
+        let told = told_over(&rt, rt.alloc(), *keep, *failing, turns)?;
         assert_eq!(rt; told.as_str(), *want);
     }
     Ok(())

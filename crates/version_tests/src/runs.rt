@@ -173,19 +173,27 @@ fn told<H: HubKeeper>(
     Ok(told)
 }
 
-/// What is told over a keeper in memory that keeps so many versions beside the newest: the answers to all turns, what
-/// is kept then, and how many calls of the keeper failed. The plan has the numbers, from 1, of the commit that fails
-/// before it acts, of the one that fails after it has acted, and of the load that fails; 0 is none.
+/// The calls of a keeper that fail, by their numbers from 1: a commit before it acts, one after it has acted, and a
+/// load; 0 is none.
+#[derive(Clone, Copy)]
+pub struct Failing {
+    pub before: u64,
+    pub after: u64,
+    pub load: u64,
+}
+
+/// What is told over a keeper in memory that keeps so many versions beside the newest, of which these calls fail: the
+/// answers to all turns, what is kept then, and how many of its calls failed.
 pub fn told_over(
     rt: &impl Abort,
     alloc: Global,
     keep: u32,
-    plan: (u64, u64, u64),
+    failing: Failing,
     turns: &[Turn],
 ) -> Result<String, Fail> {
-    let before = vec![in alloc; plan.0]?;
-    let after = vec![in alloc; plan.1]?;
-    let loads = vec![in alloc; plan.2]?;
+    let before = vec![in alloc; failing.before]?;
+    let after = vec![in alloc; failing.after]?;
+    let loads = vec![in alloc; failing.load]?;
     let mut keeper = MemHub::new(alloc, keep).with_failures(before, after, loads);
     let told = told(rt, alloc, &mut keeper, turns);
     drop(keeper);

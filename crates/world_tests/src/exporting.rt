@@ -4,6 +4,7 @@ use crate::files::made;
 use crate::hubs::Fault::Nothing;
 use crate::hubs::Place::{District, Library, Reader, Region};
 use crate::hubs::{Hubs, Step, assert_alike, assert_scene, assert_steps, new_hubs, run};
+use hub_words::statuses::{DONE, NOTHING_HELD, REFUSED};
 use outside_ports::MemFolder;
 use roster_values::Kind;
 use std::alloc::Global;
@@ -47,19 +48,19 @@ const GONE: &str =
 // The set's category has no date there, so that an export since the set always tells it.
 #[rattlefmt::skip]
 static PRINTED: [Step; 13] = [
-    (District, Nothing, "publish sis=lake", 0, "sis version 1\n"),
-    (District, Nothing, "grant g.csv", 0, "grants version 2\n"),
-    (Region, Nothing, "export orgs", 21, "nothing held\n"),
-    (Region, Nothing, "export orgs since lake", 21, "nothing held\n"),
-    (Region, Nothing, "export orgs since none", 4, "refused: manifest.csv: missing file\n"),
-    (Region, Nothing, "export manifest bulk", 0, BULK),
-    (Region, Nothing, "export manifest delta", 0, DELTA),
-    (Region, Nothing, "sync tok-e 100 1", 0, "complete 2\n"),
-    (Region, Nothing, "export orgs", 0, ORGS),
-    (Region, Nothing, "export categories", 0, CATEGORIES),
-    (Region, Nothing, "export categories since lake", 0, CATEGORIES),
-    (Region, Nothing, "export enrollments since lake", 0, GONE),
-    (Region, Nothing, "export enrollments since none", 4, "refused: manifest.csv: missing file\n"),
+    (District, Nothing, "publish sis=lake", DONE, "sis version 1\n"),
+    (District, Nothing, "grant g.csv", DONE, "grants version 2\n"),
+    (Region, Nothing, "export orgs", NOTHING_HELD, "nothing held\n"),
+    (Region, Nothing, "export orgs since lake", NOTHING_HELD, "nothing held\n"),
+    (Region, Nothing, "export orgs since none", REFUSED, "refused: manifest.csv: missing file\n"),
+    (Region, Nothing, "export manifest bulk", DONE, BULK),
+    (Region, Nothing, "export manifest delta", DONE, DELTA),
+    (Region, Nothing, "sync tok-e 100 1", DONE, "complete 2\n"),
+    (Region, Nothing, "export orgs", DONE, ORGS),
+    (Region, Nothing, "export categories", DONE, CATEGORIES),
+    (Region, Nothing, "export categories since lake", DONE, CATEGORIES),
+    (Region, Nothing, "export enrollments since lake", DONE, GONE),
+    (Region, Nothing, "export enrollments since none", REFUSED, "refused: manifest.csv: missing file\n"),
 ];
 
 #[test]
@@ -75,7 +76,7 @@ fn exported(rt: &impl Abort, alloc: Global, hubs: &mut Hubs) -> Result<MemFolder
         let line = format!(in alloc; "export {}", kind.plural())?;
         let (status, sink) = run(rt, alloc, hubs, Region, Nothing, line.as_str())?;
         let text = str::from_utf8(sink.written())?;
-        assert_eq!(rt; status, 0, "{line}");
+        assert_eq!(rt; status, DONE, "{line}");
         files.push(file(alloc, "out", kind.file_name(), text)?)?;
     }
     Ok(MemFolder::new(files, Vec::new(alloc)))
@@ -84,17 +85,17 @@ fn exported(rt: &impl Abort, alloc: Global, hubs: &mut Hubs) -> Result<MemFolder
 // The region copies two sets of the district.
 #[rattlefmt::skip]
 static COPIED: [Step; 3] = [
-    (District, Nothing, "publish sis=lake sis=odd", 0, "sis version 1\nsis version 2\n"),
-    (District, Nothing, "grant g.csv", 0, "grants version 3\n"),
-    (Region, Nothing, "sync tok-a 100 1", 0, "complete 3\n"),
+    (District, Nothing, "publish sis=lake sis=odd", DONE, "sis version 1\nsis version 2\n"),
+    (District, Nothing, "grant g.csv", DONE, "grants version 3\n"),
+    (Region, Nothing, "sync tok-a 100 1", DONE, "complete 3\n"),
 ];
 
 // The library publishes the exports of that copy, and the reader copies them from it.
 #[rattlefmt::skip]
 static PUBLISHED: [Step; 3] = [
-    (Library, Nothing, "publish up=out", 0, "up version 1\n"),
-    (Library, Nothing, "grant g.csv", 0, "grants version 2\n"),
-    (Reader, Nothing, "sync tok-a 100 1", 0, "complete 2\n"),
+    (Library, Nothing, "publish up=out", DONE, "up version 1\n"),
+    (Library, Nothing, "grant g.csv", DONE, "grants version 2\n"),
+    (Reader, Nothing, "sync tok-a 100 1", DONE, "complete 2\n"),
 ];
 
 // The copy of a hub that publishes the exports of a copy holds the same rows as that copy.

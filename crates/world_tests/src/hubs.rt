@@ -44,13 +44,15 @@ pub enum Place {
 }
 
 /// What fails in a run: an exchange, by its number in the run, or a commit of the copy or of the hub, by its number
-/// among all of them, before it acts or behind that.
+/// among all of them, before it acts or once it has acted.
 #[derive(Clone, Copy)]
 pub enum Fault {
     Nothing,
     Exchange(Fate, u64),
-    Copy(bool, u64),
-    Hub(bool, u64),
+    CopyBefore(u64),
+    CopyBehind(u64),
+    HubBefore(u64),
+    HubBehind(u64),
 }
 
 /// A place, what fails in a run there, its words, its status, and what it writes.
@@ -99,8 +101,10 @@ fn plan(lower: &mut Kept, link: &mut WorldLink, fault: Fault) -> Result<(), Fail
     match fault {
         Fault::Nothing => Ok(()),
         Fault::Exchange(fate, number) => Ok(link.meet(number, fate)?),
-        Fault::Copy(acted, number) => Ok(lower.copy.list_commit(acted, number)?),
-        Fault::Hub(acted, number) => Ok(lower.hub.list_commit(acted, number)?),
+        Fault::CopyBefore(number) => Ok(lower.copy.list_commit(false, number)?),
+        Fault::CopyBehind(number) => Ok(lower.copy.list_commit(true, number)?),
+        Fault::HubBefore(number) => Ok(lower.hub.list_commit(false, number)?),
+        Fault::HubBehind(number) => Ok(lower.hub.list_commit(true, number)?),
     }
 }
 

@@ -3,6 +3,7 @@
 use crate::hubs::Fault::Nothing;
 use crate::hubs::Place::{District, Region};
 use crate::hubs::{Step, assert_scene};
+use hub_words::statuses::{DONE, NOTHING_HELD, REFUSED, UNKNOWN_TOKEN};
 use std::test::Fail;
 
 const SEEN: &str =
@@ -10,29 +11,29 @@ const SEEN: &str =
 
 #[rattlefmt::skip]
 static CASCADED: [Step; 10] = [
-    (District, Nothing, "publish sis=lake", 0, "sis version 1\n"),
-    (District, Nothing, "grant g.csv", 0, "grants version 2\n"),
-    (Region, Nothing, "cascade up", 21, "nothing held\n"),
-    (Region, Nothing, "sync tok-e 100 1", 0, "complete 2\n"),
-    (Region, Nothing, "cascade up", 0, "up version 1\n"),
-    (Region, Nothing, "grant gd.csv", 0, "grants version 2\n"),
-    (Region, Nothing, "cascade up", 0, "up unchanged 2\n"),
-    (Region, Nothing, "publish other=dup", 4, "refused: orgs s1 is owned by feed up\n"),
-    (Region, Nothing, "publish other=extra", 4, "refused: users u2 orgs s2: missing\n"),
-    (Region, Nothing, "ask users.http", 0, SEEN),
+    (District, Nothing, "publish sis=lake", DONE, "sis version 1\n"),
+    (District, Nothing, "grant g.csv", DONE, "grants version 2\n"),
+    (Region, Nothing, "cascade up", NOTHING_HELD, "nothing held\n"),
+    (Region, Nothing, "sync tok-e 100 1", DONE, "complete 2\n"),
+    (Region, Nothing, "cascade up", DONE, "up version 1\n"),
+    (Region, Nothing, "grant gd.csv", DONE, "grants version 2\n"),
+    (Region, Nothing, "cascade up", DONE, "up unchanged 2\n"),
+    (Region, Nothing, "publish other=dup", REFUSED, "refused: orgs s1 is owned by feed up\n"),
+    (Region, Nothing, "publish other=extra", REFUSED, "refused: users u2 orgs s2: missing\n"),
+    (Region, Nothing, "ask users.http", DONE, SEEN),
 ];
 
 #[rattlefmt::skip]
 static FOLLOWED: [Step; 9] = [
-    (District, Nothing, "publish sis=lake", 0, "sis version 1\n"),
-    (District, Nothing, "grant g.csv", 0, "grants version 2\n"),
-    (Region, Nothing, "follow tok-x 100 1 up", 9, "unknown token\n"),
-    (Region, Nothing, "follow tok-e 100 1 up", 0, "complete 2\nup version 1\n"),
-    (Region, Nothing, "grant gd.csv", 0, "grants version 2\n"),
-    (Region, Nothing, "ask users.http", 0, SEEN),
-    (Region, Nothing, "follow tok-e 100 1 up", 0, "complete 2\nup unchanged 2\n"),
-    (Region, Nothing, "publish other=extra", 4, "refused: users u2 orgs s2: missing\n"),
-    (Region, Nothing, "follow tok-e 100 1 other", 4, "complete 2\nrefused: orgs d1 is owned by feed up\n"),
+    (District, Nothing, "publish sis=lake", DONE, "sis version 1\n"),
+    (District, Nothing, "grant g.csv", DONE, "grants version 2\n"),
+    (Region, Nothing, "follow tok-x 100 1 up", UNKNOWN_TOKEN, "unknown token\n"),
+    (Region, Nothing, "follow tok-e 100 1 up", DONE, "complete 2\nup version 1\n"),
+    (Region, Nothing, "grant gd.csv", DONE, "grants version 2\n"),
+    (Region, Nothing, "ask users.http", DONE, SEEN),
+    (Region, Nothing, "follow tok-e 100 1 up", DONE, "complete 2\nup unchanged 2\n"),
+    (Region, Nothing, "publish other=extra", REFUSED, "refused: users u2 orgs s2: missing\n"),
+    (Region, Nothing, "follow tok-e 100 1 other", REFUSED, "complete 2\nrefused: orgs d1 is owned by feed up\n"),
 ];
 
 #[test]

@@ -1,4 +1,4 @@
-use Rattle.std.proofs.Common.{arith, ◌≡◌, ◌-◌, Some, Ok, Err, sym, subst, ap, ◌∙◌, inl}
+use Rattle.std.proofs.Common.{arith, ◌≡◌, ◌-◌, ◌≤◌, Some, Ok, Err, sym, subst, ap, ◌∙◌, inl}
 use Rattle.std.proofs.lemmas.Option.{none-some}
 use Rattle.std.specs.Prelude.{Result}
 use Rattle.exchange_link.proofs.AskLemmas.{asks_refl}
@@ -6,10 +6,14 @@ use Rattle.exchange_link.proofs.AskedLemmas.{sends_refl, sends_weaker}
 use Rattle.exchange_link.proofs.FitLemmas.{copy_on}
 use Rattle.exchange_link.specs.Agreement.{CopyFits}
 use Rattle.exchange_link.specs.Asked.{SendsOn}
+use Rattle.exchange_link.specs.Causes.{RoseBy}
 use Rattle.exchange_link.specs.Exchanges.{LinkState}
-use Rattle.exchange_link.specs.Places.{kind_at, kinds_of}
+use Rattle.exchange_link.specs.Pairs.{LinkFrom}
+use Rattle.exchange_link.specs.Places.{next_kind}
+use Rattle.exchange_link.specs.Requests.{Asks}
 use Rattle.keeper_memory.specs.copy.Copies.{Copy, held_list}
 use Rattle.roster_base.specs.Faults.{Rose}
+use Rattle.consumer_sync.specs.Requests.{IsUnmarked}
 use Rattle.consumer_deltas.proofs.DeltaAgreeLemmas.{may_ask}
 use Rattle.consumer_deltas.proofs.DeltaFillLemmas.{broken_ends, broken_halts, broken_replies, can_stage, fills_refl}
 use Rattle.consumer_deltas.proofs.DeltaFillLemmas.{gathered_on, go_ends, go_stage, kind_fills, merge_ends, merge_halts}
@@ -20,7 +24,7 @@ use Rattle.consumer_deltas.proofs.DeltaStopLemmas.{halt_replies, halts_map, page
 use Rattle.consumer_deltas.proofs.DeltaStopLemmas.{stops_gone, stops_halt}
 use Rattle.consumer_deltas.specs.DeltaAnswers.{HasBase}
 use Rattle.consumer_deltas.specs.DeltaFilling.{IsPinGone, StagesKind, StandsOn, first_place, pin_in}
-use Rattle.consumer_deltas.specs.DeltaGathering.{IsGathered}
+use Rattle.consumer_deltas.specs.DeltaGathering.{IsGathered, Stops}
 use Rattle.consumer_deltas.specs.DeltaRequests.{IsDeltaUnder}
 use Rattle.consumer_deltas.specs.DeltaTelling.{MayAsk, PagesTold}
 use Rattle.consumer_deltas.specs.declared.answer.DeltaAnswer.{DeltaAnswer}
@@ -29,7 +33,7 @@ use Rattle.consumer_deltas.specs.declared.gathering.Delta.{Delta}
 use Rattle.exchange_link.specs.declared.answer.SyncAnswer.TheVariants as answer
 use Rattle.consumer_deltas.specs.declared.judging.Place.{Place}
 use Rattle.consumer_deltas.proofs.filling.fill_kind.Given.{Over}
-use Rattle.consumer_deltas.proofs.filling.fill_kind.Goals.{After-gather, In-Ok-gather}
+use Rattle.consumer_deltas.proofs.filling.fill_kind.Goals.{After-gather, In-Err-gather, In-Ok-gather}
 use Rattle.consumer_deltas.proofs.filling.fill_kind.Goals as goal
 
 err_same : {a b : DeltaAnswer} → (let x : Result Delta DeltaAnswer = Err a in let y : Result Delta DeltaAnswer = Err
@@ -72,6 +76,10 @@ module _ (g : Over) (c : After-gather g) where
       (subst (λ p. PagesTold before after token p c.args.by.tries n c.gather.result) place_is
       (tells (subst (λ p. MayAsk before.hub token p c.in-Ok.held) (sym place_is) may)))
 
+  asked : LinkFrom (g.L.Link.tells c.args.link.now) (g.L.Link.tells c.gather.new.link)
+      (Asks c.args.by.run c.args.count.now c.gather.new.count IsUnmarked)
+  asked after tells = let asks = c.gather.ensures.told after tells in (asks.0, asks.1, asks.2)
+
   -- each request is for a page of what differs from the base on
   sends : (wants : Type 0) → ((let out : Result Delta DeltaAnswer = Err (Ended answer.NoMemory) in c.gather.result ≡
       out) → wants)
@@ -96,6 +104,15 @@ module _ (g : Over) (c : In-Ok-gather g) where
       subst (λ p. IsGathered p c.in-Ok.held c.in-Ok-gather.delta) c.first_page-place.ensures.place
       c.in-Ok-gather.ensures.whole
 
+-- the pages stopped, at the place of the next kind
+module _ (g : Over) (c : In-Err-gather g) where
+  stopped : Stops (g.L.Link.kept c.gather.new.link) c.args.by.run c.gather.new.count
+      ((c.args.by.tries ≤ g.L.Link.missed c.gather.new.link) × (c.args.by.tries ≤ c.gather.new.count)
+      × RoseBy c.args.by.tries (g.L.Link.fault_count c.args.link.now) (g.L.Link.fault_count c.gather.new.link))
+      (first_place c.args.stage.now c.args.by.base c.args.by.limit) c.in-Ok.held c.in-Err-gather.answer
+  stopped = stops_at _ _ _ _ _ _ c.in-Ok.held c.in-Err-gather.answer c.first_page-place.ensures.place
+      c.in-Err-gather.ensures.cause
+
 pub gather-requires-clause-limit : goal.gather-requires-clause-limit
 gather-requires-clause-limit g c =
     let is = ap (λ (p : Place). p.limit) c.first_page-place.ensures.place in
@@ -107,13 +124,13 @@ gather-requires-clause-base g c =
 
 pub stage_kind-requires-clause-gathered : goal.stage_kind-requires-clause-gathered
 stage_kind-requires-clause-gathered g c =
-    can_stage (first_place c.args.stage.now c.args.by.base c.args.by.limit) c.in-Ok.held c.in-Ok-gather.delta
-    (gathered g (goal.at.stage_kind-requires-clause-gathered g c).In-Ok-gather)
+    let at = goal.at.stage_kind-requires-clause-gathered g c in
+    can_stage (next_place g at.After-gather) c.in-Ok.held c.in-Ok-gather.delta (gathered g at.In-Ok-gather)
 
 pub stage_kind-requires-clause-held : goal.stage_kind-requires-clause-held
 stage_kind-requires-clause-held g c copy stands =
     let at = goal.at.stage_kind-requires-clause-held g c in
-    let place = first_place c.args.stage.now c.args.by.base c.args.by.limit in
+    let place = next_place g at.After-gather in
     gathered_on place c.in-Ok.held (held_list copy place.kind) c.in-Ok-gather.delta (gathered g at.In-Ok-gather)
     (shown g at.After-gather copy stands)
 
@@ -189,11 +206,11 @@ returns-in-Err-gather-clause-page g c e = absurd (none-some _ (sym e))
 
 pub returns-in-Err-gather-clause-copy : goal.returns-in-Err-gather-clause-copy
 returns-in-Err-gather-clause-copy g c after stands =
+    let at = goal.at.returns-in-Err-gather-clause-copy g c in
     let from = c.let_go.ensures.told after stands in
-    let place = first_place c.args.stage.now c.args.by.base c.args.by.limit in
+    let place = next_place g at.After-gather in
     let given = c.in-Err-gather.answer in
-    let stops = stops_at _ _ _ _ _ place c.in-Ok.held given c.first_page-place.ensures.place
-    c.in-Err-gather.ensures.cause in (
+    let stops = stopped g at.In-Err-gather in (
       from.0,
       c.held.ensures.same from.0 from.1,
       (
@@ -207,10 +224,8 @@ returns-in-Err-gather-clause-copy g c after stands =
 pub returns-in-Err-gather-clause-cause : goal.returns-in-Err-gather-clause-cause
 returns-in-Err-gather-clause-cause g c =
     let at = goal.at.returns-in-Err-gather-clause-cause g c in
-    let place = first_place c.args.stage.now c.args.by.base c.args.by.limit in
+    let place = next_place g at.After-gather in
     let given = c.in-Err-gather.answer in
-    let stops = stops_at _ _ _ _ _ place c.in-Ok.held given c.first_page-place.ensures.place
-    c.in-Err-gather.ensures.cause in
     let still : (copy : Copy) → g.C.CopyKeeper.stands_for c.let_go.new.copy copy → c.in-Ok.held ≡ held_list copy
     place.kind =
     λ copy stands.
@@ -220,19 +235,17 @@ returns-in-Err-gather-clause-cause g c =
     halts_map _ _ _ _ _ _ _ _ place c.let_go.result (λ m. m)
     (λ (rose : Rose (g.C.CopyKeeper.fault_count c.held.new.self) (g.C.CopyKeeper.fault_count c.let_go.new.copy)).
     omega (arith, rose, c.held.ensures.later))
-    (stops_halt _ _ _ _ _ _ place c.in-Ok.held given c.let_go.result still stops c.let_go.ensures.ends)
+    (stops_halt _ _ _ _ _ place c.in-Ok.held given c.let_go.result (stopped g at.In-Err-gather) c.let_go.ensures.ends _
+    still)
 
 pub returns-in-Err-gather-clause-exact : goal.returns-in-Err-gather-clause-exact
 returns-in-Err-gather-clause-exact g c w own =
-    let place = first_place c.args.stage.now c.args.by.base c.args.by.limit in
-    let given = c.in-Err-gather.answer in
-    let stops = stops_at _ _ _ _ _ place c.in-Ok.held given c.first_page-place.ensures.place
-    c.in-Err-gather.ensures.cause in
-    halt_replies _ _ _ _ _ place c.in-Ok.held given c.let_go.result stops c.let_go.ensures.ends w own
+    let at = goal.at.returns-in-Err-gather-clause-exact g c in
+    halt_replies _ _ _ _ _ (next_place g at.After-gather) c.in-Ok.held c.in-Err-gather.answer c.let_go.result
+    (stopped g at.In-Err-gather) c.let_go.ensures.ends w own
 
 pub returns-in-Err-gather-clause-link : goal.returns-in-Err-gather-clause-link
-returns-in-Err-gather-clause-link g c after tells = let asks = c.gather.ensures.told after tells in
-    (asks.0, asks.1, asks.2)
+returns-in-Err-gather-clause-link g c = asked g (goal.at.returns-in-Err-gather-clause-link g c).After-gather
 
 pub returns-in-Err-gather-clause-asks : goal.returns-in-Err-gather-clause-asks
 returns-in-Err-gather-clause-asks g c =
@@ -276,14 +289,14 @@ returns-in-None-clause-page g c e = c.in-Ok-gather.ensures.page
 pub returns-in-None-clause-copy : goal.returns-in-None-clause-copy
 returns-in-None-clause-copy g c after stands =
     let from = c.stage_kind.ensures.told after stands in
-    let kind = kind_at (kinds_of c.args.stage.now) in
+    let kind = next_kind c.args.stage.now in
     let fills = kind_fills c.in-Ok-gather.delta kind c.args.stage.now c.args.by.token.now c.stage_kind.result from.0
     after
     from.2 in
     (from.0, c.held.ensures.same from.0 from.1, (fills, inl fills.stage))
 
 pub returns-in-None-clause-link : goal.returns-in-None-clause-link
-returns-in-None-clause-link g c after tells = let asks = c.gather.ensures.told after tells in (asks.0, asks.1, asks.2)
+returns-in-None-clause-link g c = asked g (goal.at.returns-in-None-clause-link g c).After-gather
 
 pub returns-in-None-clause-asks : goal.returns-in-None-clause-asks
 returns-in-None-clause-asks g c =
@@ -294,7 +307,7 @@ pub returns-in-None-clause-told : goal.returns-in-None-clause-told
 returns-in-None-clause-told g c after t stands tells =
     let at = (goal.at.returns-in-None-clause-told g c).After-gather in
     let delta = c.in-Ok-gather.delta in
-    let kind = kind_at (kinds_of c.args.stage.now) in
+    let kind = next_kind c.args.stage.now in
     let from = c.stage_kind.ensures.told after stands in
     let asks = c.gather.ensures.told t tells in (
       from.0,
@@ -325,7 +338,7 @@ returns-in-Some-clause-page g c e = absurd (none-some _ (sym e))
 pub returns-in-Some-clause-copy : goal.returns-in-Some-clause-copy
 returns-in-Some-clause-copy g c after stands =
     let from = c.stage_kind.ensures.told after stands in
-    let kind = kind_at (kinds_of c.args.stage.now) in
+    let kind = next_kind c.args.stage.now in
     let fills = kind_fills c.in-Ok-gather.delta kind c.args.stage.now c.args.by.token.now c.stage_kind.result from.0
     after
     from.2 in
@@ -339,7 +352,7 @@ pub returns-in-Some-clause-cause : goal.returns-in-Some-clause-cause
 returns-in-Some-clause-cause g c =
     let at = goal.at.returns-in-Some-clause-cause g c in
     let delta = c.in-Ok-gather.delta in
-    let place = first_place c.args.stage.now c.args.by.base c.args.by.limit in
+    let place = next_place g at.After-gather in
     let whole = gathered g at.In-Ok-gather in
     let stands : (copy : Copy) → g.C.CopyKeeper.stands_for c.stage_kind.new.copy copy
     → StandsOn (held_list copy place.kind) delta = λ copy stands.
@@ -355,10 +368,11 @@ returns-in-Some-clause-cause g c =
 
 pub returns-in-Some-clause-exact : goal.returns-in-Some-clause-exact
 returns-in-Some-clause-exact g c w own =
-    page_replies (first_place c.args.stage.now c.args.by.base c.args.by.limit) w _ (c.in-Ok-gather.ensures.page w own)
+    page_replies (next_place g (goal.at.returns-in-Some-clause-exact g c).After-gather) w _
+    (c.in-Ok-gather.ensures.page w own)
 
 pub returns-in-Some-clause-link : goal.returns-in-Some-clause-link
-returns-in-Some-clause-link g c after tells = let asks = c.gather.ensures.told after tells in (asks.0, asks.1, asks.2)
+returns-in-Some-clause-link g c = asked g (goal.at.returns-in-Some-clause-link g c).After-gather
 
 pub returns-in-Some-clause-asks : goal.returns-in-Some-clause-asks
 returns-in-Some-clause-asks g c =
@@ -369,7 +383,7 @@ pub returns-in-Some-clause-told : goal.returns-in-Some-clause-told
 returns-in-Some-clause-told g c after t stands tells =
     let at = (goal.at.returns-in-Some-clause-told g c).After-gather in
     let delta = c.in-Ok-gather.delta in
-    let kind = kind_at (kinds_of c.args.stage.now) in
+    let kind = next_kind c.args.stage.now in
     let from = c.stage_kind.ensures.told after stands in
     let asks = c.gather.ensures.told t tells in (
       from.0,

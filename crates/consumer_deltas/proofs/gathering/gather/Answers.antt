@@ -38,6 +38,7 @@ use Rattle.version_core.specs.HubStates.{HubState}
 use Rattle.consumer_deltas.proofs.gathering.gather.Given.{Over}
 use Rattle.consumer_deltas.proofs.gathering.gather.Goals.{After-next_act, In-Ok, In-Take}
 use Rattle.consumer_deltas.proofs.gathering.gather.Goals as goal
+use Rattle.keeper_memory.specs.copy.Copies.{largest_limit}
 
 -- ---- the next page was asked for
 
@@ -81,7 +82,7 @@ module _ (g : Over) (c : In-Ok g) where
   some : 0 < c.pages.here.limit
   some = let i = c.pages.invariant in omega (arith, i.limit, c.requires.limit.0)
 
-  few : c.pages.here.limit ≤ 1000
+  few : c.pages.here.limit ≤ largest_limit
   few = let i = c.pages.invariant in omega (arith, i.limit, c.requires.limit.1)
 
   came : count_in c.pages.sofar ≤ entry_limit
@@ -225,7 +226,7 @@ pages-preserved g c =
           let from = i.told last.0 last.1 in (
             from.0,
             from.1,
-            asks_trans _ _ _ _ _ _ _ _ from.2 last.2,
+            asks_trans from.2 last.2,
             λ ready may.
                 let own = last.3 (from.2.ready ready) in
                 let sofar_told = from.3 ready may in
@@ -286,7 +287,7 @@ returns-in-Err-clause-told g c after tells =
     let from = c.pages.invariant.told last.0 last.1 in (
       from.0,
       from.1,
-      asks_trans _ _ _ _ _ _ _ _ from.2 last.2,
+      asks_trans from.2 last.2,
       λ ready may.
           let sofar_told = from.3 ready may in
           record {
@@ -336,7 +337,7 @@ returns-in-Err-add-clause-told g c after tells =
     let from = c.pages.invariant.told last.0 last.1 in (
       from.0,
       from.1,
-      asks_trans _ _ _ _ _ _ _ _ from.2 last.2,
+      asks_trans from.2 last.2,
       λ ready may.
           let sofar_told = from.3 ready may in
           record {
@@ -408,7 +409,7 @@ returns-then-whole-clause-told g c after tells =
     let from = i.told last.0 last.1 in (
       from.0,
       from.1,
-      asks_trans _ _ _ _ _ _ _ _ from.2 last.2,
+      asks_trans from.2 last.2,
       λ ready may.
           let sofar_told = from.3 ready may in
           let own = last.3 (from.2.ready ready) in
@@ -470,7 +471,7 @@ returns-in-Close-clause-told g c after tells =
     let from = i.told last.0 last.1 in (
       from.0,
       from.1,
-      asks_trans _ _ _ _ _ _ _ _ from.2 last.2,
+      asks_trans from.2 last.2,
       λ ready may.
           let sofar_told = from.3 ready may in
           let own = last.3 (from.2.ready ready) in
@@ -537,7 +538,7 @@ returns-in_default-clause-told g c after tells =
     let from = c.pages.invariant.told last.0 last.1 in (
       from.0,
       from.1,
-      asks_trans _ _ _ _ _ _ _ _ from.2 last.2,
+      asks_trans from.2 last.2,
       λ ready may.
           let sofar_told = from.3 ready may in
           let own = last.3 (from.2.ready ready) in

@@ -1,6 +1,6 @@
 use Rattle.std.proofs.Common.{◌≡◌, List, length, map, inr, refl, sym, ap, subst, ◌∙◌}
 use Rattle.std.proofs.lemmas.List.{length-map}
-use Rattle.exchange_link.specs.Places.{kind_at, kinds_of}
+use Rattle.exchange_link.specs.Places.{next_kind}
 use Rattle.keeper_memory.specs.copy.Lists.{IsList}
 use Rattle.roster_types.specs.Records.{Record}
 use Rattle.roster_values.specs.declared.kind.Kind.{Kind}
@@ -17,7 +17,7 @@ merged_rows-requires g c = subst (λ (k : Kind). MayCome k c.args.entries.now) (
 
 pub stage_list-requires : goal.stage_list-requires
 stage_list-requires g c =
-    let kind = kind_at (kinds_of c.args.stage.now) in
+    let kind = next_kind c.args.stage.now in
     let come = c.requires.entries.come in
     let is : map (λ row. row.now) c.as_slice.result.now ≡ merged c.args.entries.now.held c.args.entries.now.puts c.args.entries.now.gone =
     ap (map (λ row. row.now)) c.as_slice.ensures.value ∙ c.in-Ok.ensures in
@@ -40,7 +40,7 @@ returns-in-Err-clause-ends g c = Wants refl
 
 pub returns-in-Ok-clause-told : goal.returns-in-Ok-clause-told
 returns-in-Ok-clause-told g c after stands =
-    let kind = kind_at (kinds_of c.args.stage.now) in
+    let kind = next_kind c.args.stage.now in
     let rows : List Record = map (λ row. row.now) c.as_slice.result.now in
     let is : rows ≡ merged c.args.entries.now.held c.args.entries.now.puts c.args.entries.now.gone = ap (map (λ row. row.now)) c.as_slice.ensures.value ∙ c.in-Ok.ensures in
     let x = c.stage_list.ensures.told after stands in
@@ -48,7 +48,7 @@ returns-in-Ok-clause-told g c after stands =
 
 pub returns-in-Ok-clause-ends : goal.returns-in-Ok-clause-ends
 returns-in-Ok-clause-ends g c =
-    let kind = kind_at (kinds_of c.args.stage.now) in
+    let kind = next_kind c.args.stage.now in
     let rows : List Record = map (λ row. row.now) c.as_slice.result.now in
     let is : rows ≡ merged c.args.entries.now.held c.args.entries.now.puts c.args.entries.now.gone = ap (map (λ row. row.now)) c.as_slice.ensures.value ∙ c.in-Ok.ensures in
     let many : length rows ≡ length c.as_slice.result.now = length-map c.as_slice.result.now (λ row. row.now) in

@@ -30,9 +30,9 @@ use Rattle.consumer_sync.proofs.SyncLemmas.{swap_sync, unentered_cause}
 use Rattle.consumer_sync.specs.Faulted.{SaysGone}
 use Rattle.consumer_sync.specs.Filling.{Ends, HasToken, PinLaw}
 use Rattle.consumer_sync.specs.Requests.{IsUnmarked}
-use Rattle.consumer_sync.specs.Starting.{Drops, SwapsIn, unentered}
+use Rattle.consumer_sync.specs.Starting.{Drops, SwapsIn, run_begun, unentered}
 use Rattle.consumer_deltas.proofs.DeltaDoneLemmas.{done_of}
-use Rattle.consumer_deltas.proofs.DeltaRunLemmas.{some_held, all_ends, begun, bounded_map, broken_cause, broken_done}
+use Rattle.consumer_deltas.proofs.DeltaRunLemmas.{some_held, all_ends, bounded_map, broken_cause, broken_done}
 use Rattle.consumer_deltas.proofs.DeltaRunLemmas.{broken_faults, broken_last, broken_law, broken_leaves, broken_sync}
 use Rattle.consumer_deltas.proofs.DeltaRunLemmas.{broken_told, delta_marks, drop_leaves, base_stands, has_token}
 use Rattle.consumer_deltas.proofs.DeltaRunLemmas.{one_base, end_faults, end_last, end_law, end_leaves, end_pin, end_run}
@@ -72,7 +72,7 @@ record NotDropped (token : List ℕ) (state : CopyState) (a : SyncAnswer) (after
 
 -- the kinds begin with this copy: the run is entered, and no stage stands under another token
 record Begins (token : List ℕ) (run : ℕ) (stage : Option StageState) (start before : Copy) : Type 0 where
-  pub is : start ≡ begun token before
+  pub is : start ≡ run_begun token before
   pub run_is : run ≡ before.run + 1
   pub stage_is : stage ≡ own_state token (stage_of before)
 
@@ -81,7 +81,7 @@ begun_run : (token : List ℕ) (run : ℕ) (stage : Option StageState) (start be
 begun_run token run stage start before begins = ap (λ (copy : Copy). copy.run) begins.is ∙ sym begins.run_is
 
 -- it holds the same
-begun_base : (base : ℕ) (token : List ℕ) (before start : Copy) → start ≡ begun token before → HasBase base token before
+begun_base : (base : ℕ) (token : List ℕ) (before start : Copy) → start ≡ run_begun token before → HasBase base token before
     → HasBase base token start
 begun_base base token before start is has = subst (λ copy. HasBase base token copy) (sym is) has
 
@@ -1061,14 +1061,15 @@ returns-in-Some-clause-complete g c agree link copy after tells stands told =
       said.old,
       λ low hub stage_stands other held other_stands.
           let same : other ≡ base = one_base other base token from.before held from.has in
-          done_of _ _ _ _ _ _ cause.0 c.in-Some.answer token c.in-Ok-drop_other.begun said.state tells
-          (g.met.L.Link.is_hub c.fill.new.link tells told) cause.5 said.fill.cause said.fill.gone
+          done_of _ _ _ _ _ _ cause.0 token c.in-Ok-drop_other.begun said.state tells
+          (g.met.L.Link.is_hub c.fill.new.link tells told)
           (λ missed. link (let rose = missed.2 in omega (arith, rose, c.requires.tries.0)))
           (λ rose. copy (omega (arith, rose, begun_later g at.After-fill)))
           hub (subst (λ n. n < length hub_now.published) (sym cause.2) published)
           (subst (λ (o : Option StageState). StandsAt (first_pin o hub_now) token tells.hub) (sym stage_is)
           stage_stands)
-          (subst (λ n. StandsAt n token tells.hub) (same ∙ sym cause.2) other_stands),
+          (subst (λ n. StandsAt n token tells.hub) (same ∙ sym cause.2) other_stands)
+          c.in-Some.answer cause.5 said.fill.cause said.fill.gone,
     )
 
 pub returns-clause-complete : goal.returns-clause-complete

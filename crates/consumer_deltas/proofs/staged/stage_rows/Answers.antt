@@ -5,7 +5,7 @@ use Rattle.std.specs.List.{All}
 use Rattle.std.proofs.Math.Seq.{take-add}
 use Rattle.std.proofs.lemmas.List.{length-drop, length-map, take_all, take-append-drop}
 use Rattle.std.proofs.lemmas.List.Elements.{All-drop, All-take}
-use Rattle.consumer_sync.specs.Judging.{opened, paged}
+use Rattle.consumer_sync.specs.Judging.{kind_done}
 use Rattle.consumer_sync.specs.Staging.{IsBroken, Taking}
 use Rattle.exchange_link.specs.Agreement.{IsFrontOf}
 use Rattle.exchange_link.specs.Places.{kinds_of, last_of, staged_of}
@@ -84,7 +84,7 @@ pages-preserved g c =
     record {
       within = omega (arith, i.within, c.pages-test.true);
       holds = c.stage_page.ensures.holds c.in-None.is;
-      ended = ap (λ (o : Option StageState). paged (opened o pin token) [] 0 true) on ∙ ended_same stage pin token rows
+      ended = ap (λ (o : Option StageState). kind_done o pin token) on ∙ ended_same stage pin token rows
           total
           ∙ i.ended;
       kinds = ap kinds_of on ∙ paged_kinds stage pin token rows total ∙ i.kinds;

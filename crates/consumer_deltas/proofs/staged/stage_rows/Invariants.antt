@@ -1,10 +1,9 @@
 use Rattle.std.proofs.Common.{◌≡◌, ◌+◌, ◌-◌, ◌^◌, ◌<◌, ◌≤◌, [], List, true, drop, length, map, take}
 use Rattle.consumer_deltas.proofs.DeltaStageLemmas.{Sofar}
-use Rattle.consumer_sync.specs.Judging.{opened, paged}
-use Rattle.exchange_link.specs.Places.{kinds_of, last_of, staged_of}
+use Rattle.consumer_sync.specs.Judging.{kind_done}
+use Rattle.exchange_link.specs.Places.{IsStaged, kinds_of, last_of, staged_of}
 use Rattle.keeper_memory.specs.copy.Copies.{Copy}
 use Rattle.keeper_memory.specs.copy.Lists.{ascends}
-use Rattle.keeper_memory.specs.copy.States.{stage_of}
 use Rattle.roster_types.specs.Records.{Record}
 use Rattle.consumer_deltas.proofs.staged.stage_rows.Given as goal
 
@@ -15,8 +14,8 @@ invariant-pages g l =
     let all : List Record = map (λ row. row.now) l.behind in
     record {
       within : l.from ≤ length l.behind;
-      holds : (c : Copy) → S l.copy c → stage_of c ≡ l.stage;
-      ended : paged (opened l.stage l.list.pin l.list.token.now) [] 0 true ≡ paged (opened l.fn.stage l.list.pin l.list.token.now) [] 0 true;
+      holds : IsStaged (S l.copy) l.stage;
+      ended : kind_done l.stage l.list.pin l.list.token.now ≡ kind_done l.fn.stage l.list.pin l.list.token.now;
       kinds : kinds_of l.stage ≡ kinds_of l.fn.stage;
       up : ascends (last_of l.stage) (drop l.from all) ≡ true;
       few : staged_of l.stage + (length l.behind - l.from) < 2 ^ 64;

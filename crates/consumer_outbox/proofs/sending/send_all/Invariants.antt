@@ -1,5 +1,5 @@
 use Rattle.std.proofs.Common.{◌-◌, ◌*◌, ◌≤◌}
-use Rattle.keeper_memory.specs.copy.Copies.{Copy}
+use Rattle.keeper_memory.specs.copy.Copies.{Copy, largest_tries}
 use Rattle.keeper_memory.specs.declared.copy.state.TheConstants.{LAST}
 use Rattle.exchange_link.specs.Asked.{IsWriteUnder, SendsOn}
 use Rattle.exchange_link.specs.Causes.{IsMore, IsOwnReply}
@@ -17,7 +17,7 @@ invariant-entries g l =
     record {
       walked : (c : Copy) → S l.copy c → SettledTo l.after c.entries;
       few : l.settled ≤ l.after;
-      room : l.count ≤ 100 * l.settled;
+      room : l.count ≤ largest_tries * l.settled;
       bound : l.count ≤ l.by.tries * l.settled;
       asked : IsMore (g.L.Link.asked l.fn.link) l.count (g.L.Link.asked l.link);
       kept : (w : WireReply) → IsOwnReply (g.L.Link.kept l.link) l.by.run l.count w → Settled w;

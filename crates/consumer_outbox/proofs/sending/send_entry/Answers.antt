@@ -72,7 +72,7 @@ returns-in-Own-clause-complete g c entry link copy d t stands tells =
     (y.0, y.1, λ quiet can. taken_fine y.0 t token c.args.entry c.in-Own.reply said c.take_reply.result (g.met.L.Link.is_hub c.ask_for.new.link t tells) quiet can yet (λ e. copy (c.take_reply.ensures.cause e)) c.take_reply.ensures.answer)
 
 pub returns-in-Own-clause-cause : goal.returns-in-Own-clause-cause
-returns-in-Own-clause-cause g c = taken_cause c.args.entry.number c.in-Own.reply _ c.args.by.run c.ask_for.new.count _ _ c.take_reply.result c.in-Own.ensures.own c.take_reply.ensures.answer c.take_reply.ensures.cause
+returns-in-Own-clause-cause g c = taken_cause _ c.args.by.run c.ask_for.new.count _ _ c.args.entry.number c.in-Own.reply c.take_reply.result c.in-Own.ensures.own c.take_reply.ensures.answer c.take_reply.ensures.cause
 
 pub returns-in-Own-clause-exact : goal.returns-in-Own-clause-exact
 returns-in-Own-clause-exact g c w own =

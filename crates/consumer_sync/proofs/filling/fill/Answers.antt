@@ -10,7 +10,7 @@ use Rattle.exchange_link.specs.Bounds.{Bounded, HasPin}
 use Rattle.exchange_link.specs.Exchanges.{LinkState}
 use Rattle.exchange_link.specs.Owning.{IsOwnRead}
 use Rattle.exchange_link.specs.Pairs.{AtEach, LinkFrom}
-use Rattle.exchange_link.specs.Places.{kind_at, kinds_of, next_page, staged_of}
+use Rattle.exchange_link.specs.Places.{kinds_of, next_kind, next_page, staged_of}
 use Rattle.exchange_link.specs.Requests.{Asks, IsReady, Moved}
 use Rattle.exchange_link.specs.declared.answer.SyncAnswer.{SyncAnswer}
 use Rattle.exchange_link.specs.declared.answer.SyncAnswer.TheVariants as answer
@@ -31,6 +31,7 @@ use Rattle.exchange_link.proofs.AskLemmas.{asks_trans, missed_other, none_other,
 use Rattle.exchange_link.proofs.AskedLemmas.{sends_weaker}
 use Rattle.exchange_link.proofs.FitLemmas.{copy_on}
 use Rattle.exchange_link.specs.Asked.{IsPageUnder, SendsOn, TriedFor}
+use Rattle.exchange_link.specs.Between.{call_with}
 use Rattle.exchange_link.specs.Causes.{IsMore, IsPageStatus, kept_of}
 use Rattle.consumer_sync.proofs.BoundLemmas.{StandingIf, bound_done, bound_end, bound_on, call_pin, pin_performs}
 use Rattle.consumer_sync.proofs.BoundLemmas.{pin_same, standing_if}
@@ -121,7 +122,7 @@ module _ (g : Over) (c : After-fetch g) where
   asked_since after tells =
       let mid = c.fetch.ensures.told after tells in
       let start = c.rounds.invariant.link mid.0 mid.1 in
-      (start.0, start.1, asks_trans _ _ _ _ _ _ _ _ start.2 mid.2)
+      (start.0, start.1, asks_trans start.2 mid.2)
 
   -- the requests since then; the last may be left out where the request wanted memory
   sends_on : (left_out : Type 0) (tried : LinkState → Type 0) → (c.fetch.result ≡ outcome.NoMemory → left_out)
@@ -178,7 +179,7 @@ act g c = judged c.rounds.stage c.args.by.limit c.in-Own.reply
 
 -- the answer that it gives
 abbrev given : (g : Over) → After-take_reply g → Option SyncAnswer
-given g c = answer_of (act g c) (kind_at (kinds_of c.rounds.stage)) (staged_of c.rounds.stage)
+given g c = answer_of (act g c) (next_kind c.rounds.stage) (staged_of c.rounds.stage)
 
 -- the request for the page
 abbrev page_asked : (g : Over) → After-take_reply g → LastAsked
@@ -390,7 +391,7 @@ returns-in-Missed-clause-asks g c =
       counted g here,
       sends_on g here _
           (λ after. TriedFor (answer.Interrupted c.kind-in-Missed.result c.staged-in-Missed.result)
-          c.args.by.token.now c.args.by.limit c.args.by.run c.fetch.new.count c.args.by.tries after.sent)
+          (call_with c.args.by.token.now c.args.by.limit c.args.by.tries) c.args.by.run c.fetch.new.count after.sent)
           (λ e. absurd (missed_other (sym c.in-Missed.is ∙ e)))
           (λ after tells. tried_page c.args.by.token.now c.args.by.limit c.args.by.run c.rounds.count
           c.fetch.new.count c.args.by.tries c.rounds.stage _ _ _ _ _
@@ -491,7 +492,7 @@ rounds-preserved g c =
           let start = c.rounds.invariant.link mid.0 mid.1 in (
             start.0,
             start.1,
-            asks_trans _ _ _ _ _ _ _ _ start.2 mid.2,
+            asks_trans start.2 mid.2,
             λ small ready.
                 let said = hub_said g here mid.0 after small (mid.3 ((start.2).ready ready)) in
                 let stands = own_page mid.0 after c.rounds.stage c.args.by.token.now c.args.by.limit c.in-Own.reply
@@ -629,7 +630,7 @@ returns-in_default-clause-cause g c =
       c.fetch.new.count,
       counted g (fetched g here),
       cause g here _ _ (λ e. let rose = c.take_reply.ensures.cause e in omega (arith, rose, c.rounds.invariant.later)),
-      λ w other. exact_own c.rounds.stage c.args.by.limit _ _ _ c.in-Own.reply w (kind_at (kinds_of c.rounds.stage))
+      λ w other. exact_own c.rounds.stage c.args.by.limit _ _ _ c.in-Own.reply w (next_kind c.rounds.stage)
           (staged_of c.rounds.stage) c.take_reply.result own other c.take_reply.ensures.answer,
       λ some other. c.fetch.ensures.last (in_memory g here),
       λ on. (
@@ -647,11 +648,12 @@ returns-in_default-clause-asks g c =
       c.fetch.new.count,
       counted g (fetched g here),
       sends_on g (fetched g here) _
-          (λ after. TriedIf c.take_reply.result c.args.by.token.now c.args.by.limit c.args.by.run c.fetch.new.count
-          c.args.by.tries after.sent)
+          (λ after. TriedIf c.take_reply.result
+          (call_with c.args.by.token.now c.args.by.limit c.args.by.tries) c.args.by.run c.fetch.new.count after.sent)
           (λ e. absurd (in_memory g here e))
-          (λ after tells. tried_own c.rounds.stage c.take_reply.result (act g here) c.args.by.token.now
-          c.args.by.limit c.args.by.run c.fetch.new.count c.args.by.tries after.sent c.take_reply.ensures.answer),
+          (λ after tells. tried_own c.rounds.stage c.take_reply.result (act g here)
+          (call_with c.args.by.token.now c.args.by.limit c.args.by.tries) c.args.by.run c.fetch.new.count after.sent
+          c.take_reply.ensures.answer),
     )
 
 pub returns-in_default-clause-ends : goal.returns-in_default-clause-ends

@@ -1,13 +1,12 @@
-use Rattle.std.proofs.Common.{◌≡◌, ◌+◌, ◌*◌, ◌≤◌}
-use Rattle.keeper_memory.specs.copy.Copies.{Copy}
+use Rattle.std.proofs.Common.{◌+◌, ◌*◌, ◌≤◌}
+use Rattle.keeper_memory.specs.copy.Copies.{largest_tries}
 use Rattle.keeper_memory.specs.copy.Lists.{kind_count}
-use Rattle.keeper_memory.specs.copy.States.{stage_of}
 use Rattle.exchange_link.specs.Agreement.{CopyFits}
 use Rattle.exchange_link.specs.Asked.{IsPageUnder, SendsOn}
 use Rattle.exchange_link.specs.Causes.{IsLast, IsMore, IsOwnReply, IsPageStatus}
 use Rattle.exchange_link.specs.Exchanges.{LinkState}
 use Rattle.exchange_link.specs.Pairs.{AtEach, CopyFrom, LinkFrom}
-use Rattle.exchange_link.specs.Places.{kinds_of}
+use Rattle.exchange_link.specs.Places.{IsStaged, kinds_of}
 use Rattle.http_wire.specs.declared.reply_reading.WireReply.{WireReply}
 use Rattle.keeper_memory.specs.declared.copy.state.StageState.{StageState}
 use Rattle.std.specs.Prelude.{Option}
@@ -21,11 +20,11 @@ invariant-rounds g l =
     let S = g.C.CopyKeeper.stands_for in
     let T = g.L.Link.tells in
     record {
-      holds : (c : Copy) → S l.copy c → stage_of c ≡ l.stage;
+      holds : IsStaged (S l.copy) l.stage;
       token : HasToken l.by.token.now l.stage;
       few : kinds_of l.stage ≤ kind_count;
       small : IsSmall l.fn.stage → IsSmall l.stage;
-      room : l.count + 100 * weight l.stage ≤ 2000000000;
+      room : l.count + largest_tries * weight l.stage ≤ 2000000000;
       copy : CopyFrom (S l.fn.copy) (S l.copy) (Fills l.by.token.now);
       link : (after : LinkState) → T l.link after → (before : LinkState) × T l.fn.link before × Asks l.by.run 0 l.count IsUnmarked before after
           × (IsSmall l.fn.stage → IsReady l.by.run 0 before.sent → PinLaw l.fn.stage before.hub l.stage);

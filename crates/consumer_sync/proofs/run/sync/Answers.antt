@@ -1,23 +1,21 @@
 use Rattle.std.proofs.Common.{arith, ◌≡◌, ◌+◌, ◌≤◌, ◌⊎◌, sym, subst, None, Some, ◌∙◌, ap, inl, inr}
 use Rattle.std.proofs.lemmas.Option.{none-some, same_Some}
 use Rattle.std.specs.Prelude.{Option}
-use Rattle.keeper_memory.specs.copy.Changes.{copy_after}
 use Rattle.keeper_memory.specs.copy.Copies.{Copy}
 use Rattle.keeper_memory.specs.copy.Lists.{kind_count}
 use Rattle.keeper_memory.specs.copy.States.{stage_of}
-use Rattle.keeper_memory.specs.declared.copy.change.CopyChange.TheVariants.{Run}
 use Rattle.keeper_memory.specs.declared.copy.state.StageState.{StageState}
 use Rattle.exchange_link.specs.Agreement.{StagesAgree}
 use Rattle.exchange_link.specs.Bounds.{Bounded, HasPin, IsCallPin}
 use Rattle.exchange_link.specs.Causes.{AnswersTo, AsksOn, CauseOf, IsAside, LastLaw, RoseBy, ToldCause, kept_of}
 use Rattle.exchange_link.specs.Completeness.{IsDone, StandsAt, first_pin}
-use Rattle.exchange_link.specs.Places.{kinds_of, pin_of}
+use Rattle.exchange_link.specs.Places.{IsStaged, kinds_of, pin_of}
 use Rattle.exchange_link.specs.Synchronised.{Leaves, Synchronised, own_state}
 use Rattle.exchange_link.specs.declared.answer.SyncAnswer.{SyncAnswer}
 use Rattle.exchange_link.specs.declared.answer.SyncAnswer.TheVariants as answer
 use Rattle.roster_base.specs.Faults.{Rose}
 use Rattle.consumer_sync.specs.Filling.{AreReady, Ends, HasToken, IsSmall, PinLaw, last_asked}
-use Rattle.consumer_sync.specs.Starting.{without_other}
+use Rattle.consumer_sync.specs.Starting.{run_begun}
 use Rattle.consumer_sync.proofs.FaultLemmas.{abort_faults, enter_faults, fill_faults, swap_faults}
 use Rattle.consumer_sync.proofs.FillLemmas.{small_fits, small_own}
 use Rattle.consumer_sync.proofs.BoundLemmas.{bounded_map, bounded_zero, swap_pin}
@@ -32,6 +30,7 @@ use Rattle.consumer_sync.proofs.SyncLemmas.{unentered_cause}
 use Rattle.consumer_sync.proofs.TriedLemmas.{tried_entered, tried_start}
 use Rattle.exchange_link.proofs.AskedLemmas.{sends_refl, sends_weaker}
 use Rattle.exchange_link.specs.Asked.{IsPageUnder, TriedFor}
+use Rattle.exchange_link.specs.Between.{call_with}
 use Rattle.exchange_link.proofs.RunLemmas.{ready_from}
 use Rattle.consumer_sync.proofs.run.sync.Given.{Over}
 use Rattle.consumer_sync.proofs.run.sync.Goals.{After-fill, After-finish}
@@ -42,7 +41,7 @@ record Entered (g : Over) (c : After-fill g) (begun : Copy) : Type 0 where
   pub first : Copy
   pub stood : g.C.CopyKeeper.stands_for c.args.copy.now first
   pub run_is : c.in-Ok.state.run ≡ first.run + 1
-  pub begun_is : begun ≡ without_other c.args.token.now (copy_after (Run (first.run + 1)) first)
+  pub begun_is : begun ≡ run_begun c.args.token.now first
   pub begun_run : begun.run ≡ c.in-Ok.state.run
   pub stage_is : c.in-Ok-drop_other.begun ≡ own_state c.args.token.now (stage_of first)
 
@@ -80,7 +79,7 @@ module _ (g : Over) (c : After-fill g) where
 
 module _ (g : Over) (c : After-finish g) where
   -- this is the stage then
-  staged : (copy : Copy) → g.C.CopyKeeper.stands_for c.fill.new.copy copy → stage_of copy ≡ Some c.in-Some-stage.s
+  staged : IsStaged (g.C.CopyKeeper.stands_for c.fill.new.copy) (Some c.in-Some-stage.s)
   staged copy stands = c.fill.ensures.holds c.in_default.is copy stands ∙ c.in-Some-stage.is
 
   -- and it is whole
@@ -547,9 +546,9 @@ returns-in-Err-clause-asks g c after tells = (
     runs = λ some. absurd (omega (arith, some));
     counts = record { least = omega arith; most = omega arith };
     pages = sends_refl (IsPageUnder c.args.token.now c.args.limit) 0 0 _ after.sent;
-    tried = subst (λ (a : SyncAnswer). TriedFor a c.args.token.now c.args.limit 0 0 c.args.tries after.sent)
-        (sym c.unentered.ensures) (tried_entered c.in-Err.error c.args.token.now c.args.limit 0 0 c.args.tries
-        after.sent);
+    tried = subst (λ (a : SyncAnswer). TriedFor a (call_with c.args.token.now c.args.limit c.args.tries) 0 0 after.sent)
+        (sym c.unentered.ensures) (tried_entered c.in-Err.error
+        (call_with c.args.token.now c.args.limit c.args.tries) 0 0 after.sent);
   },
 )
 
@@ -563,7 +562,7 @@ returns-in-Err-drop_other-clause-asks g c after tells = (
     runs = λ some. absurd (omega (arith, some));
     counts = record { least = omega arith; most = omega arith };
     pages = sends_refl (IsPageUnder c.args.token.now c.args.limit) 0 0 _ after.sent;
-    tried = tried_start _ c.in-Err-drop_other.answer c.args.token.now c.args.limit 0 0 c.args.tries after.sent
+    tried = tried_start _ c.in-Err-drop_other.answer (call_with c.args.token.now c.args.limit c.args.tries) 0 0 after.sent
         (c.in-Err-drop_other.ensures.cause).1;
   },
 )
@@ -606,8 +605,8 @@ returns-clause-asks g c after tells =
         counts = asks.1;
         pages = sends_weaker pages pages c.in-Ok.state.run 0 asks.0 _ _ _ _ (λ n q h. h) (λ e. absurd (none-some _ e))
             sent.2;
-        tried = finish_by (λ a. TriedFor a c.args.token.now c.args.limit c.in-Ok.state.run asks.0 c.args.tries
-            after.sent) c.finish.result c.in-Some-stage.s.pin c.finish.ensures.answers tt (λ e. tt) tt;
+        tried = finish_by (λ a. TriedFor a (call_with c.args.token.now c.args.limit c.args.tries) c.in-Ok.state.run
+            asks.0 after.sent) c.finish.result c.in-Some-stage.s.pin c.finish.ensures.answers tt (λ e. tt) tt;
       },
     )
 

@@ -28,12 +28,12 @@ loop-i-init g c = record {
 }
 
 pub returns-in-Err-clause-told : goal.returns-in-Err-clause-told
-returns-in-Err-clause-told g c after tells = let y = c.loop-i.invariant.told after tells in (y.0, y.1, y.2, λ ready. tt)
+returns-in-Err-clause-told g c after tells = let so_far = c.loop-i.invariant.told after tells in (so_far.0, so_far.1, so_far.2, λ ready. tt)
 
 pub returns-in-Err-clause-asks : goal.returns-in-Err-clause-asks
 returns-in-Err-clause-asks g c after tells =
-    let y = c.loop-i.invariant.sends after tells in
-    (y.0, y.1, sends_weaker (IsTry (numbered c.args.request)) (IsTry (numbered c.args.request)) _ _ _ ⊥ _ _ _ (λ n q h. h) (λ h. absurd h) y.2)
+    let so_far = c.loop-i.invariant.sends after tells in
+    (so_far.0, so_far.1, sends_weaker (IsTry (numbered c.args.request)) (IsTry (numbered c.args.request)) _ _ _ ⊥ _ _ _ (λ n q h. h) (λ h. absurd h) so_far.2)
 
 -- what is sent in a turn: the request under the next number, as its text
 module _ (g : Over) (c : After-as_slice g) where
@@ -75,66 +75,63 @@ returns-in_default g c =
       later = omega (arith, c.loop-i.invariant.later, c.once.ensures.later);
       link_leads = g.met.L.Link.leads_on _ _ _ c.loop-i.invariant.leads c.once.ensures.link_leads;
       own = own_map c.once.result _ (IsOwnReply (g.L.Link.kept c.once.new.link) c.args.run (c.loop-i.count + 1))
-          (λ w x. record { text = x.0; number = x.1; from = omega arith }) c.once.ensures.own;
-      none = λ e. let x = c.once.ensures.none e in (omega arith, x.0, x.1);
+          (λ w own. record { text = own.0; number = own.1; from = omega arith }) c.once.ensures.own;
+      none = λ e. let none = c.once.ensures.none e in (omega arith, none.0, none.1);
       missed = λ e. absurd (c.in_default.not-Missed e);
       told = λ after tells.
-          let x = c.once.ensures.told q (is g here) after tells in
-          let y = c.loop-i.invariant.told x.0 x.1 in (
-            y.0,
-            y.1,
-            asks_on c.args.run _ c.loop-i.count _ (IsNumbered c.args.request) q _ _ _ _ refl (omega arith)
-                (under g here, refl) y.2 x.2,
+          let once = c.once.ensures.told q (is g here) after tells in
+          let so_far = c.loop-i.invariant.told once.0 once.1 in (
+            so_far.0,
+            so_far.1,
+            asks_on q after refl (omega arith) so_far.2 c.once.result (under g here, refl) once.2,
             λ ready.
-                own_on c.args.run _ c.loop-i.count _ (IsNumbered c.args.request) q _ _ _ _ refl (omega arith) y.2 x.2
-                ready (own_map c.once.result _ _ (λ w z. z.1) c.once.ensures.own),
+                own_on q after refl (omega arith) so_far.2 c.once.result once.2 ready (own_map c.once.result _ _ (λ w own. own.1) c.once.ensures.own),
           );
       last = λ ne after tells.
-          let x = c.once.ensures.told q (is g here) after tells in
-          sent_last q c.once.result x.0 after x.2 ne;
+          let once = c.once.ensures.told q (is g here) after tells in
+          sent_last q c.once.result once.0 after once.2 ne;
       asks = λ after tells.
-          let x = c.once.ensures.told q (is g here) after tells in
-          let y = c.loop-i.invariant.sends x.0 x.1 in
-          (y.0, y.1, sends_trans (IsTry (numbered c.args.request)) c.args.run _ c.loop-i.count _ ⊥ _ _ _ _ (λ h. h) y.2 (sends_once (IsTry (numbered c.args.request)) c.args.run c.loop-i.count _ q c.once.result x.0 after refl refl x.2));
+          let once = c.once.ensures.told q (is g here) after tells in
+          let so_far = c.loop-i.invariant.sends once.0 once.1 in
+          (so_far.0, so_far.1, sends_trans (IsTry (numbered c.args.request)) c.args.run _ c.loop-i.count _ ⊥ _ _ _ _ (λ h. h) so_far.2 (sends_once (IsTry (numbered c.args.request)) c.args.run c.loop-i.count _ q c.once.result once.0 after refl refl once.2));
     }
 
 pub loop-i-preserved : goal.loop-i-preserved
 loop-i-preserved g c =
     let here : After-as_slice g = (goal.at.loop-i-preserved g c).After-as_slice in
     let q : Request = sent g here in
-    let m = c.once.ensures.missed c.in-Missed.is in
+    let missed = c.once.ensures.missed c.in-Missed.is in
     record {
       count = omega (arith, c.loop-i.invariant.count);
       request = same g here;
-      missed = let r = c.once.ensures.misses.again m.0 in omega (arith, r, c.loop-i.invariant.missed, c.requires.tries.1, c.loop-i-test.true);
+      missed = let r = c.once.ensures.misses.again missed.0 in omega (arith, r, c.loop-i.invariant.missed, c.requires.tries.1, c.loop-i-test.true);
       asked = record {
         least = omega (arith, c.loop-i.invariant.asked.least, c.once.ensures.asked.least);
         most = omega (arith, c.loop-i.invariant.asked.most, c.once.ensures.asked.most);
       };
       later = omega (arith, c.loop-i.invariant.later, c.once.ensures.later);
       leads = g.met.L.Link.leads_on _ _ _ c.loop-i.invariant.leads c.once.ensures.link_leads;
-      rose = let r = m.0 in omega (arith, r, c.loop-i.invariant.rose);
-      none = λ p w text echo. m.1 w text echo;
+      rose = let r = missed.0 in omega (arith, r, c.loop-i.invariant.rose);
+      none = λ p w text echo. missed.1 w text echo;
       told = λ after tells.
-          let x = c.once.ensures.told q (is g here) after tells in
-          let y = c.loop-i.invariant.told x.0 x.1 in (
-            y.0,
-            y.1,
-            asks_on c.args.run _ c.loop-i.count _ (IsNumbered c.args.request) q _ _ _ _ refl (omega arith)
-                (under g here, refl) y.2 x.2,
+          let once = c.once.ensures.told q (is g here) after tells in
+          let so_far = c.loop-i.invariant.told once.0 once.1 in (
+            so_far.0,
+            so_far.1,
+            asks_on q after refl (omega arith) so_far.2 c.once.result (under g here, refl) once.2,
           );
       sends = λ after tells.
-          let x = c.once.ensures.told q (is g here) after tells in
-          let y = c.loop-i.invariant.sends x.0 x.1 in
-          let one = sends_once (IsTry (numbered c.args.request)) c.args.run c.loop-i.count _ q c.once.result x.0 after refl refl x.2 in (
-            y.0,
-            y.1,
-            sends_trans (IsTry (numbered c.args.request)) c.args.run _ c.loop-i.count _ ⊥ ⊥ _ _ _ (λ h. h) y.2
+          let once = c.once.ensures.told q (is g here) after tells in
+          let so_far = c.loop-i.invariant.sends once.0 once.1 in
+          let one = sends_once (IsTry (numbered c.args.request)) c.args.run c.loop-i.count _ q c.once.result once.0 after refl refl once.2 in (
+            so_far.0,
+            so_far.1,
+            sends_trans (IsTry (numbered c.args.request)) c.args.run _ c.loop-i.count _ ⊥ ⊥ _ _ _ (λ h. h) so_far.2
                 (sends_weaker (IsTry (numbered c.args.request)) (IsTry (numbered c.args.request)) _ _ _ _ ⊥ _ _ (λ n q h. h) (λ e. missed_other (sym c.in-Missed.is ∙ e)) one),
           );
       last = λ p after tells.
-          let x = c.once.ensures.told q (is g here) after tells in
-          sent_last q c.once.result x.0 after x.2 (λ e. missed_other (sym c.in-Missed.is ∙ e));
+          let once = c.once.ensures.told q (is g here) after tells in
+          sent_last q c.once.result once.0 after once.2 (λ e. missed_other (sym c.in-Missed.is ∙ e));
     }
 
 pub returns-clause-missed : goal.returns-clause-missed
@@ -144,9 +141,9 @@ returns-clause-missed g c e =
     (omega (arith, all, c.loop-i.invariant.count), omega (arith, all, c.loop-i.invariant.missed), omega (arith, all, c.loop-i.invariant.rose), c.loop-i.invariant.none some)
 
 pub returns-clause-told : goal.returns-clause-told
-returns-clause-told g c after tells = let y = c.loop-i.invariant.told after tells in (y.0, y.1, y.2, λ ready. tt)
+returns-clause-told g c after tells = let so_far = c.loop-i.invariant.told after tells in (so_far.0, so_far.1, so_far.2, λ ready. tt)
 
 pub returns-clause-asks : goal.returns-clause-asks
 returns-clause-asks g c after tells =
-    let y = c.loop-i.invariant.sends after tells in
-    (y.0, y.1, sends_weaker (IsTry (numbered c.args.request)) (IsTry (numbered c.args.request)) _ _ _ ⊥ _ _ _ (λ n q h. h) (λ h. absurd h) y.2)
+    let so_far = c.loop-i.invariant.sends after tells in
+    (so_far.0, so_far.1, sends_weaker (IsTry (numbered c.args.request)) (IsTry (numbered c.args.request)) _ _ _ ⊥ _ _ _ (λ n q h. h) (λ h. absurd h) so_far.2)

@@ -1,6 +1,6 @@
 use Rattle.std.proofs.Common.{refl}
 use Rattle.exchange_link.specs.Between.{copy_between, link_between}
-use Rattle.hub_cli.proofs.Ending.{leads-bad-words}
+use Rattle.hub_cli.proofs.Wanting.{leads-bad-words}
 use Rattle.script_runs.proofs.Below.Telling.{writes_as}
 use Rattle.script_runs.specs.Below.Outside.{faults_between, outside_between}
 use Rattle.hub_cli.proofs.run.run_spelled.Goals as goal
@@ -8,7 +8,7 @@ use Rattle.hub_cli.proofs.run.run_spelled.Goals as goal
 pub returns-in-Err : goal.returns-in-Err
 returns-in-Err g c =
     rw c.in-Err.is
-    (writes_as _ _ _ _ _ _ _
+    (writes_as _ _
     (λ a printed. leads-bad-words
     (outside_between g.F.Folder.files g.F.Folder.faults c.args.folder.now c.args.folder.now (g.K.Clock.moment c.args.clock.now) (faults_between g.H.HubKeeper.fault_count c.args.keeper.now c.args.keeper.now))
     (copy_between g.C.CopyKeeper.stands_for g.C.CopyKeeper.fault_count c.args.copy.now c.args.copy.now)

@@ -27,7 +27,8 @@ returns-clause-reloads g c =
     let asked = c.ready-asked.ensures in
     let left : before.commit_open ≡ true = sym c.has_open_commit.ensures.is ∙ c.if-not-has_open_commit.false in
     let outcome = asked_outcome c.ready-asked.result before after k k' c.if-is_out_of_memory.ensures left (c.has_open_commit.ensures.left c.if-not-has_open_commit.false) (asked.told after.kept (inl refl)).0 asked.last asked.keeps asked.settled asked.err asked.cause asked.refused in
+    let put = c.settle-publisher in
     elim c.if-done.branch [
-      | then-done w ↦ rw w.told-is (asked_reloads c.args.publisher c.settle-publisher.result.0 before after c.settle-publisher.new.hub k k' c.requires.none left asked.last c.settle-publisher.result.1 outcome c.settle-publisher.ensures.pushed c.ready-asked.result c.if-is_out_of_memory.ensures asked.settled asked.refused w.if-done.true c.settle-publisher.ensures.hub)
-      | else-done w ↦ rw w.told-is (busy_reloads c.args.publisher c.settle-publisher.result.0 before after c.settle-publisher.new.hub k k' c.requires.none left asked.last c.settle-publisher.result.1 outcome c.settle-publisher.ensures.pushed)
+      | then-done w ↦ rw w.told-is (asked_reloads c.args.publisher put.result.0 c.requires.none left asked.last put.result.1 outcome put.ensures.pushed c.ready-asked.result c.if-is_out_of_memory.ensures asked.settled asked.refused w.if-done.true put.ensures.hub)
+      | else-done w ↦ rw w.told-is (busy_reloads c.args.publisher put.result.0 c.requires.none left asked.last put.result.1 outcome put.ensures.pushed put.new.hub)
     ]

@@ -2,4 +2,4 @@ use Rattle.real_run.proofs.RealLemmas.{runs-wanting}
 use Rattle.real_run.proofs.run.run_parsed.Goals as goal
 
 pub returns-in-Err : goal.returns-in-Err
-returns-in-Err g c = runs-wanting _ _ _ _ _ _ c.print.ensures.done c.print.ensures.fault
+returns-in-Err g c = runs-wanting c.print.ensures.done c.print.ensures.fault

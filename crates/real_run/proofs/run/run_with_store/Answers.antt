@@ -4,6 +4,6 @@ use Rattle.real_run.proofs.run.run_with_store.Goals as goal
 
 pub returns : goal.returns
 returns g c =
-    runs-as _ _ _ _ _ _ _ _
-    (λ a from. real-stored _ _ _ _ _ _ _ _ a c.requires (λ same. ap g.C.CopyKeeper.fault_count same) from)
+    runs-as
+    (λ a from. real-stored a c.requires (λ same. ap g.C.CopyKeeper.fault_count same) from)
     c.run_over_keepers.ensures

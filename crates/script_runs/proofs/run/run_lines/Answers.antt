@@ -15,10 +15,9 @@ pub returns-then-is_err-clause-written : goal.returns-then-is_err-clause-written
 returns-then-is_err-clause-written g c =
     let within : c.loop-line.line-index < length c.args.lines.now = omega arith in
     let err : IsErr c.print.result = search rules in
-    part_on (g.F.Folder.files c.args.folder.now) c.args.lines.now c.loop-line.line-index c.loop-line.play c.run_line.new.self (g.O.Sink.written c.args.out.now) (g.O.Sink.written c.loop-line.out) c.line-item.result _ (string_bytes c.in-Ok.text)
-    (g.O.Sink.written c.print.new.out) c.loop-line.invariant.gone within c.line-item.is
-    (subst (λ fs. LineStep fs c.line-item.result c.loop-line.play c.run_line.new.self (string_bytes c.in-Ok.text)) c.loop-line.invariant.files c.in-Ok.ensures.step) c.in-Ok.ensures.sound
-    (part_of _ _ _ c.print.result err (rw c.as_str.ensures.value at c.print.ensures.bytes))
+    part_on _ (string_bytes c.in-Ok.text) c.loop-line.invariant.gone within c.line-item.is c.in-Ok.ensures.sound
+    (subst (λ fs. LineStep fs c.line-item.result c.loop-line.play c.run_line.new.self (string_bytes c.in-Ok.text)) c.loop-line.invariant.files c.in-Ok.ensures.step)
+    (g.O.Sink.written c.print.new.out) (part_of _ _ _ c.print.result err (rw c.as_str.ensures.value at c.print.ensures.bytes))
 
 pub loop-line-preserved : goal.loop-line-preserved
 loop-line-preserved g c =
@@ -26,10 +25,9 @@ loop-line-preserved g c =
     record {
       gone =
           let ok : ¬ (IsErr c.print.result) = search rules in
-          gone_on (g.F.Folder.files c.args.folder.now) c.args.lines.now c.loop-line.line-index c.loop-line.play c.run_line.new.self (g.O.Sink.written c.args.out.now) (g.O.Sink.written c.loop-line.out) c.line-item.result _ (string_bytes c.in-Ok.text)
-          (g.O.Sink.written c.print.new.out) c.loop-line.invariant.gone within c.line-item.is
-          (subst (λ fs. LineStep fs c.line-item.result c.loop-line.play c.run_line.new.self (string_bytes c.in-Ok.text)) c.loop-line.invariant.files c.in-Ok.ensures.step) c.in-Ok.ensures.sound
-          (whole_of _ _ _ c.print.result ok (rw c.as_str.ensures.value at c.print.ensures.bytes));
+          gone_on _ (string_bytes c.in-Ok.text) c.loop-line.invariant.gone within c.line-item.is c.in-Ok.ensures.sound
+          (subst (λ fs. LineStep fs c.line-item.result c.loop-line.play c.run_line.new.self (string_bytes c.in-Ok.text)) c.loop-line.invariant.files c.in-Ok.ensures.step)
+          (g.O.Sink.written c.print.new.out) (whole_of _ _ _ c.print.result ok (rw c.as_str.ensures.value at c.print.ensures.bytes));
       files = c.in-Ok.ensures.files ∙ c.loop-line.invariant.files;
       folder = c.in-Ok.ensures.stood ∙ c.loop-line.invariant.folder;
       sink = search rules;

@@ -2,6 +2,7 @@ use Rattle.std.proofs.Common.{◌≡◌, ◌++◌, ◌∷◌, [], length, append
 use Rattle.std.proofs.lemmas.List.{nil_from_length}
 use Rattle.std.specs.List.{AllByRecursion}
 use Rattle.std.specs.Vec.Iter.{into_iter_items}
+use Rattle.hub_format.specs.Areas.{spans_area}
 use Rattle.hub_format.specs.Edits.{puts}
 use Rattle.version_core.proofs.VersionLemmas.{AllByRecursion-push}
 use Rattle.span_format.specs.Format.{HasPlainId, span_entry, spans_from}
@@ -31,6 +32,6 @@ returns c =
     let empty : into_iter_items at.row-iterator ≡ [] = nil_from_length (into_iter_items at.row-iterator) (sym at.invariant.left ∙ none.0) in
     let whole : at.yielded ≡ c.args.rows = sym (append-nil at.yielded) ∙ rw empty at at.invariant.whole in
     record {
-      edits = at.invariant.edits ∙ ap (λ rows. c.args.edits.now.items ++ puts 7 (map span_entry (spans_from c.args.first rows))) whole;
+      edits = at.invariant.edits ∙ ap (λ rows. c.args.edits.now.items ++ puts spans_area (map span_entry (spans_from c.args.first rows))) whole;
       plain = subst (AllByRecursion HasPlainId) whole at.invariant.plain;
     }

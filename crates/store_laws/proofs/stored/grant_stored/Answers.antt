@@ -1,9 +1,9 @@
 use Rattle.std.proofs.Common.{sym, subst}
 use Rattle.sqlite.specs.Held.{state}
 use Rattle.item_store.specs.Stands.{StandsFor}
-use Rattle.keeper_sqlite.proofs.HoldingLemmas.{stored_tells, trusted_still}
 use Rattle.keeper_sqlite.specs.hub.Keeping.{KeepOrNew}
 use Rattle.keeper_sqlite.specs.hub.Telling.{KeepSome}
+use Rattle.store_laws.proofs.ToldLemmas.{both_told, told_after}
 use Rattle.store_laws.proofs.stored.grant_stored.Goals as goal
 
 pub returns-clause-found : goal.returns-clause-found
@@ -17,7 +17,4 @@ returns-clause-granted g c quiet =
     let new = c.set_grants-granted.new.keeper in
     let leads = c.set_grants-granted.ensures.leads in
     let first = subst (λ items. KeepSome (KeepOrNew new.2) (StandsFor (view items.store.connection))) (sym leads.0) (subst (λ keep. KeepSome (KeepOrNew keep) (StandsFor (view old.1.store.connection))) (sym leads.1) c.requires.sound.0) in
-    let sure = trusted_still (view old.0.store.connection) (view new.0.store.connection) c.requires.sound.1 quiet leads.2 in
-    let after = stored_tells (KeepOrNew new.2) (StandsFor (view new.1.store.connection)) (view new.0.store.connection) new.0.lost first sure (c.keeps.ensures first sure) in
-    let back = returns-clause-found g c after.0 after.1 in
-    (back.0, after.0, back.1, after.1, back.2)
+    both_told (told_after (KeepOrNew new.2) (view new.1.store.connection) (view old.0.store.connection) (view new.0.store.connection) new.0.lost first c.requires.sound.1 quiet leads.2 c.keeps.ensures) (returns-clause-found g c)

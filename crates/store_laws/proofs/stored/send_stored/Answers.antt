@@ -4,10 +4,10 @@ use Rattle.item_store.specs.Stands.{StandsFor}
 use Rattle.exchange_link.specs.Exchanges.{LinkState}
 use Rattle.exchange_link.specs.Marks.{Agree}
 use Rattle.exchange_link.specs.SentTold.{WasSent}
-use Rattle.keeper_sqlite.proofs.HoldingLemmas.{stored_tells, trusted_still}
 use Rattle.keeper_sqlite.specs.copy.Keeping.{KeepOrNew}
 use Rattle.keeper_sqlite.specs.hub.Telling.{KeepSome}
 use Rattle.sync_world.specs.Links.{link_state}
+use Rattle.store_laws.proofs.ToldLemmas.{both_told, told_after}
 use Rattle.store_laws.proofs.stored.send_stored.Goals as goal
 
 pub returns-clause-found : goal.returns-clause-found
@@ -23,7 +23,4 @@ returns-clause-sent g c quiet =
     let new = c.send-answer.new.copy in
     let leads = c.send-answer.ensures.copy_leads in
     let first = subst (λ items. KeepSome KeepOrNew (StandsFor (view items.store.connection))) (sym leads.0) c.requires.sound.0 in
-    let sure = trusted_still (view old.0.store.connection) (view new.0.store.connection) c.requires.sound.1 quiet leads.1 in
-    let after = stored_tells KeepOrNew (StandsFor (view new.1.store.connection)) (view new.0.store.connection) new.0.lost first sure (c.keeps.ensures first sure) in
-    let back = returns-clause-found g c after.0 after.1 in
-    (back.0, after.0, back.1, after.1, back.2)
+    both_told (told_after KeepOrNew (view new.1.store.connection) (view old.0.store.connection) (view new.0.store.connection) new.0.lost first c.requires.sound.1 quiet leads.1 c.keeps.ensures) (returns-clause-found g c)

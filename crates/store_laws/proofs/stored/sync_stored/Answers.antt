@@ -5,10 +5,10 @@ use Rattle.exchange_link.specs.Exchanges.{LinkState}
 use Rattle.exchange_link.specs.Agreement.{StageAgrees}
 use Rattle.exchange_link.specs.Synchronised.{HeldTold, Synchronised}
 use Rattle.exchange_link.specs.declared.answer.SyncAnswer.{SyncAnswer}
-use Rattle.keeper_sqlite.proofs.HoldingLemmas.{stored_tells, trusted_still}
 use Rattle.keeper_sqlite.specs.copy.Keeping.{KeepOrNew}
 use Rattle.keeper_sqlite.specs.hub.Telling.{KeepSome}
 use Rattle.sync_world.specs.Links.{link_state}
+use Rattle.store_laws.proofs.ToldLemmas.{both_told, told_after}
 use Rattle.store_laws.proofs.stored.sync_stored.Goals as goal
 
 pub returns-clause-found : goal.returns-clause-found
@@ -24,10 +24,7 @@ returns-clause-synchronised g c quiet =
     let new = c.sync-answer.new.copy in
     let leads = c.sync-answer.ensures.copy_leads in
     let first = subst (λ items. KeepSome KeepOrNew (StandsFor (view items.store.connection))) (sym leads.0) c.requires.sound.0 in
-    let sure = trusted_still (view old.0.store.connection) (view new.0.store.connection) c.requires.sound.1 quiet leads.1 in
-    let after = stored_tells KeepOrNew (StandsFor (view new.1.store.connection)) (view new.0.store.connection) new.0.lost first sure (c.keeps.ensures first sure) in
-    let back = returns-clause-found g c after.0 after.1 in
-    (back.0, after.0, back.1, after.1, back.2)
+    both_told (told_after KeepOrNew (view new.1.store.connection) (view old.0.store.connection) (view new.0.store.connection) new.0.lost first c.requires.sound.1 quiet leads.1 c.keeps.ensures) (returns-clause-found g c)
 
 pub returns-clause-exact : goal.returns-clause-exact
 returns-clause-exact g c version is after stands =

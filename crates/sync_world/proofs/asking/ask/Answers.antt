@@ -19,20 +19,20 @@ asking-preserved c =
     let (request, read, closes, acted) = c.in-Answered-false.ensures.turns in
     record {
       walks = walks_on _ _ _ c.asking.invariant.walks c.take_turn.ensures.walks;
-      so_far = more_so_far _ _ _ _ _ _ _ _ _ _ _ _ _ c.asking.invariant.so_far request read acted _ c.saturating_add-taken.ensures (closes ∙ c.in-Answered-false.close-test);
+      so_far = more_so_far c.asking.invariant.so_far request read acted _ c.saturating_add-taken.ensures (closes ∙ c.in-Answered-false.close-test);
       fresh = c.in-Answered-false.ensures.fresh _ refl;
     }
 
 pub returns-in-Answered-true-clause-acted : goal.returns-in-Answered-true-clause-acted
 returns-in-Answered-true-clause-acted c =
     let (request, read, closes, acted) = c.in-Answered-true.ensures.turns in
-    if_done c.say_left.result (λ told. closed _ _ _ _ _ _ _ _ _ _ _ _ _ c.asking.invariant.so_far request read acted _ _ (closes ∙ c.in-Answered-true.close-test) c.saturating_add.ensures told)
+    if_done c.say_left.result (λ told. closed c.asking.invariant.so_far request read acted _ _ (closes ∙ c.in-Answered-true.close-test) c.saturating_add.ensures told)
     (c.say_left.ensures _ _ c.kept.ensures c.left.ensures)
 
 pub returns-in-Stopped-clause-acted : goal.returns-in-Stopped-clause-acted
 returns-in-Stopped-clause-acted c =
     let (stops, same, silent) = c.in-Stopped.ensures.turns in
-    if_done c.say_stop.result (λ told. stopped _ _ _ _ _ _ _ _ _ _ _ _ _ c.asking.invariant.so_far _ _ stops same silent c.saturating_add-in-Stopped.ensures _ told) c.say_stop.ensures
+    if_done c.say_stop.result (λ told. stopped c.asking.invariant.so_far _ _ stops same silent c.saturating_add-in-Stopped.ensures _ told) c.say_stop.ensures
 
 pub returns-in-Answered-true-clause-walks : goal.returns-in-Answered-true-clause-walks
 returns-in-Answered-true-clause-walks c = walks_on _ _ _ c.asking.invariant.walks c.take_turn.ensures.walks

@@ -8,19 +8,14 @@ events-init c = record { walks = walks_stay _; so = so_begins _ _ _ _ _ _ }
 pub events-preserved : goal.events-preserved
 events-preserved c = record {
   walks = walks_on _ _ _ c.events.invariant.walks c.happen.ensures.walks;
-  so = so_on c.args.past.now c.args.at c.args.exchange c.args.events.now.items c.events.events.items c.next_event.new.events.items c.args.world.now c.events.world c.happen.new.world c.args.said.now.items c.events.said.items c.happen.new.said.items c.events.invariant.so
-      c.in-Some.event c.in-Some.ensures.taken c.in_ok-happen.ensures.acted;
+  so = so_on c.events.invariant.so c.in-Some.event c.in-Some.ensures.taken c.in_ok-happen.ensures.acted;
 }
 
 pub returns-in_default-clause-passed : goal.returns-in_default-clause-passed
-returns-in_default-clause-passed c =
-    all_passed c.args.past.now c.args.at c.args.exchange c.args.events.now.items c.events.events.items c.next_event.new.events.items c.args.world.now c.events.world c.events.world c.args.said.now.items c.events.said.items c.events.said.items c.events.invariant.so
-    c.in_default.ensures.taken
+returns-in_default-clause-passed c = all_passed c.events.invariant.so c.in_default.ensures.taken
 
 pub returns-in_default-clause-aside : goal.returns-in_default-clause-aside
-returns-in_default-clause-aside c =
-    all_left c.args.past.now c.args.at c.args.exchange c.args.events.now.items c.events.events.items c.next_event.new.events.items c.args.world.now c.events.world c.events.world c.args.said.now.items c.events.said.items c.events.said.items c.events.invariant.so
-    c.in_default.ensures.taken
+returns-in_default-clause-aside c = all_left c.events.invariant.so c.in_default.ensures.taken
 
 pub returns-in_err-happen-clause-walks : goal.returns-in_err-happen-clause-walks
 returns-in_err-happen-clause-walks c = walks_on _ _ _ c.events.invariant.walks c.happen.ensures.walks

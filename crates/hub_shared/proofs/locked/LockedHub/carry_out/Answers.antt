@@ -9,5 +9,5 @@ pub returns-clause-worked : goal.returns-clause-worked
 returns-clause-worked g c =
     let old = c.self.view_is in
     let fails = g.W.Work.fails c.args.work in
-    worked_along (g.W.Work.asks c.args.work) (fails error.Keeper) (fails error.NoMemory) g.N.Naming.opening c.take-publisher.result c.carry_out-publisher.result.0 _ _ c.self.inside.hub _ (g.H.HubKeeper.fault_count c.self.inside.keeper) _ _ (answer_of fails c.carry_out-publisher.result.1)
+    worked_along (g.W.Work.asks c.args.work) (fails error.Keeper) (fails error.NoMemory) g.N.Naming.opening _ (answer_of fails c.carry_out-publisher.result.1)
     (sym (ap (λ v. v.log) old) ∙ ap published_of c.take-publisher.ensures.taken) (ap published_of c.put.ensures) (sym (ap (λ v. v.hub) old)) (sym (ap (λ v. g.H.HubKeeper.fault_count v.keeper) old)) c.carry_out-publisher.ensures.worked

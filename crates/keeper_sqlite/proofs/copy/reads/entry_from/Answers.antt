@@ -1,7 +1,6 @@
-use Rattle.copy_format.specs.Format.{Keep}
 use Rattle.keeper_sqlite.specs.copy.Keeping.{KeepEither, KeepOrNew}
 use Rattle.keeper_sqlite.proofs.HubKeepingLemmas.{keeps_on, on_each}
-use Rattle.keeper_sqlite.proofs.CopyKeepingLemmas.{keeps_either, keeps_or_new, some_keeps}
+use Rattle.keeper_sqlite.proofs.CopyKeepingLemmas.{read_kept, read_ready, read_whole, some_keeps}
 use Rattle.keeper_sqlite.proofs.copy.reads.entry_from.Goals as goal
 
 pub returns-clause-shown : goal.returns-clause-shown
@@ -11,7 +10,7 @@ pub returns-clause-kept : goal.returns-clause-kept
 returns-clause-kept g c copy this sure =
     let s = g.S.StoredItems.stands_for in
     let ready = c.in_ok-prepare.ensures.ok copy this (c.ready_entry.ensures.trust sure) in
-    keeps_or_new (s c.ready_entry.new.store) copy (keeps_on Keep (s c.prepare.new.store) (s c.ready_entry.new.store) copy ready (c.ready_entry.ensures.same ready.items ready.stands))
+    read_kept (s c.prepare.new.store) (s c.ready_entry.new.store) copy ready c.ready_entry.ensures.same
 
 pub returns-in_err-prepare-clause-kept : goal.returns-in_err-prepare-clause-kept
 returns-in_err-prepare-clause-kept g c copy this sure =
@@ -27,13 +26,13 @@ pub returns-clause-turned : goal.returns-clause-turned
 returns-clause-turned g c copy this sure =
     let s = g.S.StoredItems.stands_for in
     let ready = c.in_ok-prepare.ensures.ok copy this (c.ready_entry.ensures.trust sure) in
-    on_each c.ready_entry.result (keeps_on Keep (s c.prepare.new.store) (s c.ready_entry.new.store) copy ready (c.ready_entry.ensures.same ready.items ready.stands))
+    on_each c.ready_entry.result (read_ready (s c.prepare.new.store) (s c.ready_entry.new.store) copy ready c.ready_entry.ensures.same)
 
 pub returns-clause-whole : goal.returns-clause-whole
 returns-clause-whole g c copy this sure =
     let s = g.S.StoredItems.stands_for in
     let ready = c.in_ok-prepare.ensures.ok copy (some_keeps (s c.args.store.now) copy this) (c.ready_entry.ensures.trust sure) in
-    keeps_either (s c.ready_entry.new.store) copy (keeps_on Keep (s c.prepare.new.store) (s c.ready_entry.new.store) copy ready (c.ready_entry.ensures.same ready.items ready.stands))
+    read_whole (s c.prepare.new.store) (s c.ready_entry.new.store) copy ready c.ready_entry.ensures.same
 
 pub returns-in_err-prepare-clause-whole : goal.returns-in_err-prepare-clause-whole
 returns-in_err-prepare-clause-whole g c copy this sure =

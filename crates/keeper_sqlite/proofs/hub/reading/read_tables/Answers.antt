@@ -5,6 +5,7 @@ use Rattle.hub_format.proofs.TableListings.{base_grants_told}
 use Rattle.keeper_sqlite.proofs.HubKeepingLemmas.{listed_alike, tables_stay}
 use Rattle.keeper_sqlite.proofs.RowsLemmas.{changes_later}
 use Rattle.keeper_sqlite.proofs.hub.reading.read_tables.Goals as goal
+use Rattle.hub_format.specs.Areas.{grants_area}
 
 pub returns-clause-tables : goal.returns-clause-tables
 returns-clause-tables g c t has sure =
@@ -22,8 +23,8 @@ returns-clause-tables g c t has sure =
     let one = c.in_ok-state.ensures.same m tables.stands in
     let rows = c.in_ok-rows.ensures.rows m t.base one tables.fit.rows bases has.base at_rows in
     let two = c.in_ok-rows.ensures.same m one in
-    let listed = listed_alike 5 (number c.in_ok-state.state.base) (number (c.in_ok-state.state.base + 1)) m (items_of t) tables.grants in
-    let grants = c.in_ok-grants.ensures.grants m t.base.grants two tables.fit.grants (listed ∙ ap (λ n. listed_of 5 n (items_of t)) bases ∙ base_grants_told t tables.are tables.fit ∙ ap (λ n. grants_under n t.base.grants) (sym bases)) at_grants in
+    let listed = listed_alike grants_area (number c.in_ok-state.state.base) (number (c.in_ok-state.state.base + 1)) m (items_of t) tables.grants in
+    let grants = c.in_ok-grants.ensures.grants m t.base.grants two tables.fit.grants (listed ∙ ap (λ n. listed_of grants_area n (items_of t)) bases ∙ base_grants_told t tables.are tables.fit ∙ ap (λ n. grants_under n t.base.grants) (sym bases)) at_grants in
     let later = changes_later (s c.args.store.now) (s c.grants_at.new.store) c.args.stored c.in_ok-rows.later t c.in_ok-state.state.base bases
     (λ n stands. c.in_ok-grants.ensures.same n (c.in_ok-rows.ensures.same n (c.in_ok-state.ensures.same n stands))) has.changes (c.in_ok-rows.ensures.later m one at_rows) in
     let changes = c.in_ok-changes.ensures.changes t later bases keeps at_changes in

@@ -2,9 +2,8 @@ use Rattle.std.proofs.Common.{◌≡◌, ◌+◌, ◌≤◌, ◌||◌, List, ℕ
 use Rattle.hub_spec.specs.views.Seen.{leads_up}
 use Rattle.query_pages.specs.Ancestors.{IsClosed, has_id}
 use Rattle.query_pages.proofs.Adding.{added_all, adding_more, closed_end, closed_known, closed_turns, put_of, was_in}
-use Rattle.query_pages.proofs.Adding.{Adding, was_out}
+use Rattle.query_pages.proofs.Adding.{Adding, Putting, was_out}
 use Rattle.reference_rules.specs.Parents.{parent_of}
-use Rattle.roster_types.specs.Keys.{count_of}
 use Rattle.roster_types.specs.Records.{Record}
 use Rattle.roster_values.specs.declared.kind.Kind.TheVariants.{Orgs}
 use Rattle.query_pages.proofs.seen.ancestors.add_chain.Given.{Over}
@@ -31,23 +30,22 @@ module _ (g : Over) (c : In_ok-insert g) where
   fresh = was_out c.loop-turn.ids c.as_str.result.now current c.in_ok-insert.field-0 c.as_str.ensures.text
       c.in_ok-insert.ensures.added
 
+  putting : Putting rows c.args.school.now c.args.ids.now c.loop-turn.ids c.insert.new.self c.loop-turn._turn current
+  putting = record { put = put; adding = c.loop-turn.invariant }
+
   known_closed : c.in_ok-insert.field-0 ≡ false → IsClosed rows c.insert.new.self
-  known_closed old = closed_known rows c.args.school.now c.args.ids.now c.loop-turn.ids c.insert.new.self
-      c.loop-turn._turn current put c.loop-turn.invariant (known old)
+  known_closed old = closed_known putting (known old)
 
   end_closed : None ≡ parent_of rows Orgs current → IsClosed rows c.insert.new.self
-  end_closed = closed_end rows c.args.school.now c.args.ids.now c.loop-turn.ids c.insert.new.self
-      c.loop-turn._turn current put c.loop-turn.invariant
+  end_closed = closed_end putting
 
   added : c.loop-turn._turn ≤ c.args.turns → IsClosed rows c.insert.new.self → (id : List ℕ)
       → has_id c.insert.new.self id ≡ (has_id c.args.ids.now id || leads_up rows id c.args.turns c.args.school.now)
-  added = added_all rows c.args.school.now c.args.ids.now c.loop-turn.ids c.insert.new.self
-      c.loop-turn._turn current put c.loop-turn.invariant c.args.turns
+  added = added_all putting c.args.turns
 
   more : c.in_ok-insert.field-0 ≡ true → (next : List ℕ) → Some next ≡ parent_of rows Orgs current
       → Adding rows c.args.school.now c.args.ids.now c.insert.new.self (c.loop-turn._turn + 1) next
-  more new = adding_more rows c.args.school.now c.args.ids.now c.loop-turn.ids c.insert.new.self
-      c.loop-turn._turn current put c.loop-turn.invariant (fresh new)
+  more new = adding_more putting (fresh new)
 
 -- the chain has come to an id that was in before
 pub returns-then-not-branch-clause-closed : goal.returns-then-not-branch-clause-closed
@@ -81,20 +79,18 @@ module _ (g : Over) (c : In_ok-insert-2 g) where
   last_put = put_of c.loop-turn.ids c.insert-2.new.self c.as_str-2.result c.loop-turn.current.now
       c.as_str-2.ensures.text c.in_ok-insert-2.ensures.updates
 
-  last_closed : c.loop-turn._turn ≡ count_of Orgs (g.R.Rows.rows c.args.rows.now)
-      → IsClosed (g.R.Rows.rows c.args.rows.now) c.insert-2.new.self
-  last_closed = closed_turns (g.R.Rows.rows c.args.rows.now) c.args.school.now c.args.ids.now c.loop-turn.ids
-      c.insert-2.new.self c.loop-turn._turn c.loop-turn.current.now last_put c.loop-turn.invariant
+  last_putting : Putting (g.R.Rows.rows c.args.rows.now) c.args.school.now c.args.ids.now c.loop-turn.ids
+      c.insert-2.new.self c.loop-turn._turn c.loop-turn.current.now
+  last_putting = record { put = last_put; adding = c.loop-turn.invariant }
 
 pub returns-clause-closed : goal.returns-clause-closed
 returns-clause-closed g c =
     let turns = c.requires.turns in
-    last_closed g (goal.at.returns-clause-closed g c).In_ok-insert-2 (omega (arith, turns))
+    closed_turns (last_putting g (goal.at.returns-clause-closed g c).In_ok-insert-2) (omega (arith, turns))
 
 pub returns-clause-added : goal.returns-clause-added
 returns-clause-added g c =
     let here = (goal.at.returns-clause-added g c).In_ok-insert-2 in
+    let last = last_putting g here in
     let turns = c.requires.turns in
-    added_all (g.R.Rows.rows c.args.rows.now) c.args.school.now c.args.ids.now c.loop-turn.ids c.insert-2.new.self
-    c.loop-turn._turn c.loop-turn.current.now (last_put g here) c.loop-turn.invariant c.args.turns (omega arith)
-    (last_closed g here (omega (arith, turns)))
+    added_all last c.args.turns (omega arith) (closed_turns last (omega (arith, turns)))

@@ -2,7 +2,7 @@ use Rattle.std.proofs.Common.{◌≡◌, ◌-◌, ℕ, List, Option, None, ap, �
 use Rattle.std.proofs.lemmas.List.{length-take}
 use Rattle.roster_values.specs.declared.kind.Kind.{Kind}
 use Rattle.roster_values.specs.declared.value.Value.{Value}
-use Rattle.roster_values.specs.Table.{table}
+use Rattle.roster_values.specs.Table.{common_fields, table}
 use Rattle.roster_types.specs.declared.metadata.Entry.{Entry}
 use Rattle.std.specs.Arc.{arc_value}
 use Rattle.roster_types.specs.Records.{id_in, moment_in, record_from, status_in}
@@ -14,8 +14,8 @@ use Rattle.roster_types.proofs.parts.RowParts.take_from.Goals.{After-take_last-3
 use Rattle.roster_types.proofs.parts.RowParts.take_from.Goals as goal
 
 -- the values of the common fields are left
-three : (kind : Kind) (xs ts : List (Option Value)) → fits_all (table kind) xs ≡ true → ts ≡ take 3 xs → length ts ≡ 3
-three kind xs ts fit is = let n = at_least_three kind xs fit in omega (arith, n, ap length is, length-take 3 xs)
+three : (kind : Kind) (xs ts : List (Option Value)) → fits_all (table kind) xs ≡ true → ts ≡ take common_fields xs → length ts ≡ common_fields
+three kind xs ts fit is = let n = at_least_three kind xs fit in omega (arith, n, ap length is, length-take common_fields xs)
 
 -- the last is taken
 one_less : (ts us : List (Option Value)) → us ≡ take (length ts - 1) ts → length us ≡ length ts - 1
@@ -34,7 +34,7 @@ module _ (c : After-take_last-3) where
 pub take_from-requires : goal.take_from-requires
 take_from-requires c = record {
   within = at_least_three c.args.kind c.args.values.now.items c.requires;
-  shapes = shapes_fit_from_fits_all (own_fields c.args.kind) (drop 3 c.args.values.now.items) (own_fit c.args.kind c.args.values.now.items c.requires);
+  shapes = shapes_fit_from_fits_all (own_fields c.args.kind) (drop common_fields c.args.values.now.items) (own_fit c.args.kind c.args.values.now.items c.requires);
 }
 
 pub take_last-requires : goal.take_last-requires

@@ -1,10 +1,8 @@
-use Rattle.std.proofs.Common.{ℕ, subst}
 use Rattle.version_changes.specs.sets.Applying.{Applies, Outcome}
 use Rattle.version_core.specs.declared.change.BaseVersion.{BaseVersion}
-use Rattle.hub_core.specs.Steps.{CountsFault}
 use Rattle.keeper_memory.specs.Calls.{calls_on}
 use Rattle.hub_spec.specs.rules.Runs.{Command, Publish}
-use Rattle.sync_world.proofs.ActLemmas.{Came, IsMaking, held_came, held_failed, keeper_makes, publishing}
+use Rattle.sync_world.proofs.ActLemmas.{Came, IsMaking, called_came, held_failed, publishing, told_makes}
 use Rattle.sync_world.specs.Worlds.{whole_state}
 use Rattle.sync_world.proofs.world.World.publish.Goals.{After-hold_oldest, After-publish}
 use Rattle.sync_world.proofs.world.World.publish.Goals as goal
@@ -28,17 +26,8 @@ module _ (c : After-publish) where
   came : Came (command here) c.publish.result (whole_state c.self.inside.gone.items c.self.inside.keeper.kept)
       c.hold_oldest.new.gone.items c.publish.new.keeper.kept c.self.inside.keeper.plan.faults
       c.publish.new.keeper.plan.faults
-  came =
-      let world = c.self.inside in
-      let held = c.hold_oldest.new in
-      let after = c.publish.new.keeper in
-      let makes = keeper_makes (asks here) c.publish.result world.hub c.publish.new.self held.keeper.kept after.kept
-      c.publish.ensures.fits c.publish.ensures.told in
-      let count = subst (λ (n : ℕ). CountsFault n after.plan.faults c.publish.result) c.in-Ok.ensures.cause
-      c.publish.ensures.cause in
-      held_came (command here) (asks here) (making here) world.gone.items world.keeper.kept
-      c.self.invariant.whole world.keeper.plan.faults after.plan.faults c.publish.result held.gone.items
-      held.keeper.kept after.kept c.in-Ok.ensures.kept c.in-Ok.ensures.ok makes count
+  came = called_came (making here) c.self.invariant.whole c.publish.ensures.fits c.publish.ensures.told c.in-Ok.ensures.kept c.in-Ok.ensures.ok
+      c.in-Ok.ensures.cause c.publish.ensures.cause
 
 pub invariant_of-self : goal.invariant_of-self
 invariant_of-self c =
@@ -49,29 +38,15 @@ pub returns-in-Ok : goal.returns-in-Ok
 returns-in-Ok c =
     let done = came (goal.at.returns-in-Ok c).After-publish in
     let calls = calls_on _ _ _ c.in-Ok.ensures.calls c.publish.ensures.leads in
-    rw (← c.self.view_is) (record {
-      answer = done.answer;
-      failed = done.failed;
-      count = done.count;
-      step = done.step;
-      calls = calls;
-      is = done.is;
-    })
+    rw (← c.self.view_is) (told_makes done.told calls)
 
 pub returns-in-Err : goal.returns-in-Err
 returns-in-Err c =
     let here = (goal.at.returns-in-Err c).After-hold_oldest in
     let world = c.self.inside in
     let held = c.hold_oldest.new in
-    let (answer, failed, count, step, is) = held_failed (command here) (asks here) (making here) world.gone.items
+    let told = held_failed (command here) (asks here) (making here) world.gone.items
     world.keeper.kept c.self.invariant.whole world.keeper.plan.faults held.keeper.plan.faults c.in-Err.error
     c.from.result held.gone.items held.keeper.kept c.from.ensures c.in-Err.ensures.err c.in-Err.ensures.kept
     c.in-Err.ensures.cause in
-    rw (← c.self.view_is) (record {
-      answer = answer;
-      failed = failed;
-      count = count;
-      step = step;
-      calls = c.in-Err.ensures.calls;
-      is = is;
-    })
+    rw (← c.self.view_is) (told_makes told c.in-Err.ensures.calls)
